@@ -1,0 +1,5 @@
+pub mod Causes
+pub mod Media
+pub mod MemorySink
+pub mod MemorySource
+pub mod Written

@@ -1,0 +1,35 @@
+//! What all layers speak of: the traits of the outside, plain bytes and lists, refusals, reasons and moves.
+//!
+//! 1. A trait of the outside tells its content or doesn't: a clause on content holds where it is told.
+//! 2. Each has a count of faults that never falls, and a call answers its fault only where the count
+//!    rose in that call.
+//! 3. Want of memory (`NoMemory`) is the one answer that no clause ties to a cause.
+#![tactic(auto)]
+
+mod bytes;
+mod gate;
+mod idle_sink;
+mod items;
+mod kind;
+mod media;
+mod memory_sink;
+mod memory_source;
+mod moves;
+mod refusal;
+mod sink;
+mod source;
+#[cfg(test)]
+mod tests;
+
+pub use bytes::{Bytes, NoMemory};
+pub use gate::{Gate, NoGate};
+pub use idle_sink::IdleSink;
+pub use items::Items;
+pub use kind::{Addr, Kind, Space};
+pub use media::{Media, MediaFault, NoMedia};
+pub use memory_sink::MemorySink;
+pub use memory_source::MemorySource;
+pub use moves::Move;
+pub use refusal::{Reason, Refusal};
+pub use sink::{Sink, SinkFault, write_all};
+pub use source::{Source, SourceFault};
