@@ -1,0 +1,2 @@
+pub mod StringsLemmas
+pub mod NamesLemmas

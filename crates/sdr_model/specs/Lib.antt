@@ -1,0 +1,4 @@
+pub mod Dry
+pub mod Names
+pub mod Step
+pub mod World

@@ -1,0 +1,44 @@
+// The history of transactions, by rising lock number.
+use crate::{Answer, Close, Event};
+use sdr_base::{Bytes, Items, Move};
+
+/// The moves of a call, in order.
+pub type Moves = Items<Move>;
+
+/// One event of a transaction and its answer.
+#[derive(Drop, Debug)]
+pub struct Said {
+    /// The line of the statement, from 1.
+    pub line: u64,
+    pub event: Event,
+    pub answer: Answer,
+    /// The bytes that the call gave.
+    pub bytes: Bytes,
+    pub moves: Moves,
+}
+
+/// The events of a transaction, from its first begin to its closing event.
+pub type Saids = Items<Said>;
+
+/// What an entry is of.
+#[derive(Drop, Debug)]
+pub enum What {
+    /// A transaction, and how it closed.
+    Work { said: Saids, close: Close },
+}
+
+/// An entry of the journal.
+#[derive(Drop, Debug)]
+pub struct Entry {
+    /// The lock number.
+    pub number: u64,
+    pub daemon: u8,
+    /// The disk's moment as the closing event was made.
+    pub begun: u64,
+    /// The disk's moment as the closing event returned: from then on the entry is acknowledged.
+    pub done: u64,
+    pub what: What,
+}
+
+/// The entries by rising lock number.
+pub type Journal = Items<Entry>;

@@ -1,0 +1,108 @@
+// The catalogue.
+ghost use Rattle.std.specs.Prelude.{◌≡◌, ◌==◌, List, OnOk, OnErr, None, ◌++◌, ◌∷◌, [], take, length};
+ghost use Rattle.std.specs.List.{list_any};
+ghost use Rattle.std.specs.Option.{option_map};
+ghost use Rattle.indexmap.specs.IndexMap.{values};
+ghost use Rattle.sdr_model.specs.Names.{name_of, named_of};
+
+use indexmap::IndexMap;
+use sdr_base::{Addr, Bytes, NoMemory};
+use std::alloc::Global;
+use std::marker::Model;
+
+/// An entry of the catalogue.
+#[derive(Drop, Debug)]
+pub struct Name {
+    /// The address of the entry's own block.
+    pub block: Addr,
+    pub name: Bytes,
+    /// The type, a number of the user's.
+    pub kind: u32,
+    /// The object, a plain number.
+    pub object: u64,
+}
+
+/// An entry of the catalogue without its name.
+#[derive(Clone, Copy, Debug)]
+pub struct Named {
+    /// The address of the entry's own block.
+    pub block: Addr,
+    pub kind: u32,
+    pub object: u64,
+}
+
+/// The catalogue. Contracts see the list of its entries, oldest first.
+#[derive(Drop)]
+pub struct Names {
+    entries: IndexMap<Vec<u8>, Named>,
+}
+
+impl Model for Names {
+    ghost use Rattle.std.specs.Prelude.{List};
+    ghost use Rattle.std.specs.Coded.{coded_list};
+    ghost use Rattle.sdr_model.specs.Names.{coded_name, names_in};
+    ghost use Rattle.sdr_model.specs.declared.names.Name.{Name};
+
+    ghost Value = { List Name };
+
+    ghost coded = { coded_list coded_name };
+
+    ghost view = { λ s. names_in s.entries.entries };
+}
+
+// Whether one of the entries has its block there.
+fn has_block(entries: &IndexMap<Vec<u8>, Named>, addr: Addr) -> bool
+    ensures { result ≡ list_any (λ e. e.block == addr) (values entries.now) }
+{
+    entries.values().any(|entry| entry.block == addr)
+}
+
+impl Names {
+    /// An empty catalogue. It takes no memory.
+    pub fn new(alloc: Global) -> Names
+        ensures { result ≡ [] }
+    {
+        Names {
+            entries: IndexMap::new(alloc),
+        }
+    }
+
+    pub fn len(&self) -> usize
+        ensures { result ≡ length self.now }
+    {
+        self.entries.len()
+    }
+
+    /// The entry of a name.
+    pub fn get(&self, name: &[u8]) -> Option<Named>
+        ensures { result ≡ option_map named_of (name_of self.now name.now) }
+    {
+        self.entries.get(name).copied()
+    }
+
+    /// Whether an entry's own block begins at an address.
+    pub fn has_block(&self, addr: Addr) -> bool
+        ensures { result ≡ list_any (λ n. n.block == addr) self.now }
+    {
+        has_block(&self.entries, addr)
+    }
+
+    /// Adds an entry at the end. Want of memory leaves the catalogue as before.
+    pub fn push(&mut self, alloc: Global, name: &[u8], entry: Named) -> Result<(), NoMemory>
+        requires { name_of self.old name.now ≡ None }
+        ensures ok { OnOk result (self.new ≡ self.old
+            ++ record { block = entry.block; name = name.now; kind = entry.kind; object = entry.object } ∷ []) }
+        ensures err { OnErr result (self.new ≡ self.old) }
+    {
+        let key = Vec::from_slice(alloc, name)?;
+        self.entries.insert(key, entry)?;
+        Ok(())
+    }
+
+    /// Keeps the first `len` entries.
+    pub fn truncate(&mut self, len: usize)
+        ensures { self.new ≡ take len self.old }
+    {
+        self.entries.truncate(len);
+    }
+}
