@@ -1,2 +1,6 @@
-pub mod StringsLemmas
+pub mod Cases
+pub mod CountLemmas
+pub mod DraftLemmas
+pub mod MachineLemmas
 pub mod NamesLemmas
+pub mod StringsLemmas

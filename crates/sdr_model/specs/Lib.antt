@@ -1,4 +1,9 @@
+pub mod Core
+pub mod Draft
 pub mod Dry
+pub mod Machine
 pub mod Names
+pub mod Plain
 pub mod Step
+pub mod Transaction
 pub mod World

@@ -10,19 +10,26 @@
 mod answer;
 mod call;
 mod calls;
+mod draft;
 mod event;
 mod holder;
 mod journal;
+mod lock;
 mod names;
+mod plain;
 mod strings;
+mod transaction;
 mod world;
 
 pub use answer::{Answer, Close, Reply};
 pub use call::Call;
 pub use calls::apply;
+use draft::Draft;
 pub use event::Event;
 pub use holder::Holder;
 pub use journal::{Entry, Journal, Moves, Said, Saids, What};
+use lock::Lock;
 pub use names::{Name, Named, Names};
+pub use plain::Plain;
 pub use strings::Strings;
 pub use world::World;

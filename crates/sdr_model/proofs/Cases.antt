@@ -1,0 +1,12 @@
+-- Facts that go by cases, taken apart.
+use Rattle.std.proofs.Common.{Bool, true, false, Option, Some, None, MatchBool, MatchOption}
+
+-- what follows from both sides of a test
+pub in_bool : {P Q R : Type 0} (b : Bool) → MatchBool b P Q → (P → R) → (Q → R) → R
+in_bool true h f g = f h
+in_bool false h f g = g h
+
+-- what follows from both sides of an option
+pub in_option : {T P R : Type 0} {Q : T → Type 0} (o : Option T) → MatchOption o P Q → (P → R) → ((x : T) → Q x → R) → R
+in_option None h f g = f h
+in_option (Some x) h f g = g x h

@@ -1,0 +1,10 @@
+use Rattle.std.proofs.Common.{refl, ◌==◌, false, ◌≡◌, arith}
+use Rattle.std.proofs.lemmas.Bool.Decides.{nat_tests}
+use Rattle.sdr_model.proofs.MachineLemmas.{works, on_false}
+use Rattle.sdr_model.proofs.lock.Lock.begin.Goals as goal
+
+pub returns : goal.returns
+returns c =
+    let inner : (c.args.holder.depth == 0) ≡ false = grind (arith, nat_tests) in
+    on_false _ _ _ inner (works c.args.self.now c.put.new.self c.args.holder c.deepen-answer.new.holder c.args.self.now.current _ _ _
+    c.deepen-answer.ensures.daemon c.deepen-answer.ensures.number (c.deepen-answer.ensures.deepens c.args.self.now.current) c.put.ensures)

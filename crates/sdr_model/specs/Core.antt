@@ -1,0 +1,98 @@
+-- A core run: the machine, and the journal that is kept of it.
+use Rattle.std.specs.Prelude.{◌≡◌, ℕ, List, [], ◌∷◌, ◌++◌, Bool, true, false, not, ◌==◌, filter, flat_map, if◌then◌else◌}
+use Rattle.sdr_base.specs.declared.refusal.Refusal.TheVariants as refusals
+use Rattle.sdr_model.specs.Machine.{Machine, MachineStep, event_moves, first_machine, served_number}
+use Rattle.sdr_model.specs.declared.answer.Answer.{Answer}
+use Rattle.sdr_model.specs.declared.answer.Answer.TheVariants as answers
+use Rattle.sdr_model.specs.declared.answer.Reply.{Reply}
+use Rattle.sdr_model.specs.declared.answer.Reply.TheVariants as replies
+use Rattle.sdr_model.specs.declared.event.Event.{Event}
+use Rattle.sdr_model.specs.declared.event.Event.TheVariants as events
+use Rattle.sdr_model.specs.declared.journal.Entry.{Entry}
+use Rattle.sdr_model.specs.declared.journal.Said.{Said}
+use Rattle.sdr_model.specs.declared.journal.What.TheVariants as whats
+use Rattle.sdr_model.specs.declared.world.World.{World}
+
+-- what a daemon has said in its open transaction
+pub record Work : Type 0 where
+  pub daemon : ℕ
+  pub said : List Said
+
+-- the machine, the open transactions, and the journal so far
+pub record Core : Type 0 where
+  pub machine : Machine
+  pub works : List Work
+  pub journal : List Entry
+
+-- the core before any event
+abbrev pub first_core : List ℕ → Core
+first_core daemons = record { machine = first_machine daemons; works = []; journal = [] }
+
+-- the open transactions, where the daemon has said this too, at its begin as the first
+abbrev pub with_said : List Work → ℕ → Said → List Work
+with_said [] daemon said = record { daemon = daemon; said = said ∷ [] } ∷ []
+with_said (w ∷ works) daemon said =
+    if w.daemon == daemon then record w { said = w.said ++ said ∷ [] } ∷ works else w ∷ with_said works daemon said
+
+-- all that the daemon has said in its open transaction
+abbrev pub said_by : List Work → ℕ → List Said
+said_by works daemon = flat_map (λ w. w.said) (filter (λ w. w.daemon == daemon) works)
+
+-- the open transactions but the daemon's
+abbrev pub without_work : List Work → ℕ → List Work
+without_work works daemon = filter (λ w. not (w.daemon == daemon)) works
+
+-- an event stands in no entry where it is a request, or is refused to a daemon outside a transaction or not served
+abbrev pub is_passed_over : Event → Answer → Bool
+is_passed_over events.Request answer = true
+is_passed_over event (answers.Reply (replies.Refused refusals.NotBegun)) = true
+is_passed_over event (answers.Reply (replies.Refused (refusals.Suspended serving mine))) = true
+is_passed_over event answer = false
+
+-- the open transactions after a daemon said this in one
+abbrev pub works_after : Answer → List Work → ℕ → Said → List Work
+works_after (answers.Closed close) works daemon said = without_work works daemon
+works_after answer works daemon said = with_said works daemon said
+
+-- the journal after it: a transaction that closes is an entry under its number (with no disk there is but one moment)
+abbrev pub journal_after : Answer → Core → ℕ → Said → List Entry
+journal_after (answers.Closed close) c daemon said =
+    let all = said_by (with_said c.works daemon said) daemon in
+    c.journal ++ record { number = served_number c.machine.holders; daemon = daemon; begun = 0; done = 0; what = whats.Work all close } ∷ []
+journal_after answer c daemon said = c.journal
+
+-- the bytes that an answered call gave, none where the event is no answered call
+abbrev pub given_bytes : Answer → World → List ℕ
+given_bytes (answers.Reply (replies.Refused refusal)) w = []
+given_bytes (answers.Reply reply) w = w.shown
+given_bytes answer w = []
+
+-- an event of a daemon, of a statement on a line, with its answer and the bytes that it gave
+pub record Made : Type 0 where
+  pub line : ℕ
+  pub daemon : ℕ
+  pub event : Event
+  pub answer : Answer
+  pub bytes : List ℕ
+
+-- what an entry keeps of an event
+abbrev pub said_of : Core → Made → Said
+said_of c e = record { line = e.line; event = e.event; answer = e.answer; bytes = e.bytes; moves = event_moves c.machine e.event e.answer }
+
+-- the core after an event, from which the machine went on to m
+abbrev pub core_after : Core → Made → Machine → Core
+core_after c e m =
+    if is_passed_over e.event e.answer
+    then record c { machine = m }
+    else record { machine = m; works = works_after e.answer c.works e.daemon (said_of c e); journal = journal_after e.answer c e.daemon (said_of c e) }
+
+-- From c, the event may be made so, and the core goes on to c'.
+pub record CoreStep (c : Core) (e : Made) (c' : Core) : Type 0 where
+  pub machine : MachineStep c.machine e.daemon e.event e.answer (event_moves c.machine e.event e.answer) c'.machine
+  pub bytes : e.bytes ≡ given_bytes e.answer c'.machine.current
+  pub history : c' ≡ core_after c e c'.machine
+
+-- From c, these events may be made so, one after another, and the core goes on to c'.
+abbrev pub RunsCore : Core → List Made → Core → Type 0
+RunsCore c [] c' = c' ≡ c
+RunsCore c (e ∷ made) c' = (mid : Core) × CoreStep c e mid × RunsCore mid made c'

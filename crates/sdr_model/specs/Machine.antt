@@ -1,0 +1,135 @@
+-- The machine at the lock: daemons draw numbers, the least number that isn't done is served, and its daemon's transaction goes on.
+use Rattle.std.specs.Prelude.{◌≡◌, ℕ, ◌+◌, List, [], ◌∷◌, ◌++◌, Bool, false, Option, None, Some, ◌==◌, drop, find, MatchBool, MatchOption, refl}
+use Rattle.std.specs.Coded.{Coded, code_by, coded×, coded_ℕ, coded_list}
+use Rattle.std.specs.List.{list_any}
+use Rattle.sdr_base.specs.declared.moves.Move.{Move}
+use Rattle.sdr_base.specs.declared.refusal.Refusal.{Refusal}
+use Rattle.sdr_base.specs.declared.refusal.Refusal.TheVariants as refusals
+use Rattle.sdr_model.specs.Dry.{dry_moves}
+use Rattle.sdr_model.specs.Transaction.{Transaction, transaction_of, Transacts, is_opening, is_closing, closing, left_by, refused}
+use Rattle.sdr_model.specs.World.{empty_world}
+use Rattle.sdr_model.specs.contracts.holder.Holder as holder
+use Rattle.sdr_model.specs.contracts.world.World as world
+use Rattle.sdr_model.specs.declared.answer.Answer.{Answer}
+use Rattle.sdr_model.specs.declared.answer.Answer.TheVariants as answers
+use Rattle.sdr_model.specs.declared.call.Call.{Call}
+use Rattle.sdr_model.specs.declared.event.Event.{Event}
+use Rattle.sdr_model.specs.declared.event.Event.TheVariants as events
+use Rattle.sdr_model.specs.declared.holder.Holder.{Holder}
+use Rattle.sdr_model.specs.declared.world.World.{World}
+
+-- who may come, who holds a number, and the worlds before and in the served transaction
+pub record Machine : Type 0 where
+  pub daemons : List ℕ
+  pub drawn : ℕ
+  -- by rising number, so the first is served
+  pub holders : List Holder
+  -- after the transactions that ended
+  pub world : World
+  -- with what the served transaction has done
+  pub current : World
+
+-- a machine as its parts
+abbrev pub coded_machine : Coded Machine
+coded_machine = code_by (List ℕ × (ℕ × (List Holder × (World × World))))
+    (coded× (coded_list coded_ℕ) (coded× coded_ℕ (coded× (coded_list holder.the_row.coded) (coded× world.the_row.coded world.the_row.coded))))
+    (λ m. (m.daemons, (m.drawn, (m.holders, (m.world, m.current)))))
+    (λ p. record { daemons = p.0; drawn = p.1.0; holders = p.1.1.0; world = p.1.1.1.0; current = p.1.1.1.1 })
+    (λ _. refl)
+
+-- the machine before any event
+abbrev pub first_machine : List ℕ → Machine
+first_machine daemons = record { daemons = daemons; drawn = 0; holders = []; world = empty_world; current = empty_world }
+
+-- the number that is served, 0 where none is
+abbrev pub served_number : List Holder → ℕ
+served_number [] = 0
+served_number (h ∷ holders) = h.number
+
+-- an event with no moves is answered so, and the machine is then this
+abbrev pub Goes : Answer → List Move → Machine → Answer → Machine → Type 0
+Goes answer moves m' given next = (answer ≡ given) × (moves ≡ []) × (m' ≡ next)
+
+-- a daemon draws the next number, at this depth
+abbrev pub Draws : Machine → ℕ → ℕ → Answer → List Move → Machine → Type 0
+Draws m daemon depth answer moves m' =
+    let number = m.drawn + 1 in
+    Goes answer moves m' (answers.Lock number)
+    (record m { drawn = number; holders = m.holders ++ record { daemon = daemon; number = number; depth = depth; doom = None } ∷ [] })
+
+-- a daemon without a number draws one by a request or a begin
+abbrev pub Comes : Machine → ℕ → Event → Answer → List Move → Machine → Type 0
+Comes m daemon events.Request answer moves m' = Draws m daemon 0 answer moves m'
+Comes m daemon events.Begin answer moves m' = Draws m daemon 1 answer moves m'
+Comes m daemon event answer moves m' = Goes answer moves m' (refused refusals.NotBegun) m
+
+-- the machine with the served holder's transaction come to this
+abbrev pub with_transaction : Machine → Holder → Transaction → Machine
+with_transaction m h t =
+    record m { holders = record h { depth = t.depth; doom = t.doom } ∷ drop 1 m.holders; current = t.world }
+
+-- The served transaction goes on.
+pub record Works (m : Machine) (h : Holder) (event : Event) (answer : Answer) (moves : List Move) (m' : Machine) : Type 0 where
+  pub after : Transaction
+  pub transacts : Transacts (transaction_of h m.current) event answer moves after
+  pub others : m' ≡ with_transaction m h after
+
+-- The served transaction begins: the daemon drew its number before.
+abbrev pub Opens : Machine → Holder → Answer → List Move → Machine → Type 0
+Opens m h answer moves m' =
+    Goes answer moves m' (answers.Lock h.number) (with_transaction m h (record (transaction_of h m.current) { depth = 1 }))
+
+-- the machine without the served holder, whose transaction left this world
+abbrev pub with_next : Machine → World → Machine
+with_next m w = record m { holders = drop 1 m.holders; world = w; current = w }
+
+-- The served transaction closes, and its number is done.
+abbrev pub Closes : Machine → Holder → Answer → List Move → Machine → Type 0
+Closes m h answer moves m' =
+    let close = closing (transaction_of h m.current) in
+    Goes answer moves m' (answers.Closed close) (with_next m (left_by close m.world m.current))
+
+-- one event of the served holder
+abbrev pub Serves : Machine → Holder → Event → Answer → List Move → Machine → Type 0
+Serves m h event answer moves m' =
+    let t = transaction_of h m.current in
+    MatchBool (is_opening t event) (Opens m h answer moves m')
+    (MatchBool (is_closing t event) (Closes m h answer moves m') (Works m h event answer moves m'))
+
+-- the daemon has a number, but is in no transaction
+abbrev pub is_outside : Holder → Event → Bool
+is_outside h events.Begin = false
+is_outside h event = h.depth == 0
+
+-- A holder outside a transaction is refused all but a begin, and one whose number isn't served is suspended.
+abbrev pub Waits : Machine → Holder → Event → Answer → List Move → Machine → Type 0
+Waits m h event answer moves m' =
+    MatchBool (is_outside h event)
+    (Goes answer moves m' (refused refusals.NotBegun) m)
+    (MatchBool (served_number m.holders == h.number)
+    (Serves m h event answer moves m')
+    (Goes answer moves m' (refused (refusals.Suspended (served_number m.holders) h.number)) m))
+
+-- one event of a holder: a request changes nothing
+abbrev pub Holds : Machine → Holder → Event → Answer → List Move → Machine → Type 0
+Holds m h events.Request answer moves m' = Goes answer moves m' (answers.Lock h.number) m
+Holds m h event answer moves m' = Waits m h event answer moves m'
+
+-- From m, the machine may answer the daemon's event so, with these moves, and go on to m'.
+abbrev pub MachineStep : Machine → ℕ → Event → Answer → List Move → Machine → Type 0
+MachineStep m daemon event answer moves m' =
+    MatchBool (list_any (λ d. d == daemon) m.daemons)
+    (MatchOption (find (λ h. h.daemon == daemon) m.holders)
+    (Comes m daemon event answer moves m')
+    (λ h. Holds m h event answer moves m'))
+    (Goes answer moves m' (refused refusals.NotBegun) m)
+
+-- the moves of a call that was answered so
+abbrev pub says_moves : World → Call → Answer → List Move
+says_moves w call (answers.Reply reply) = dry_moves w call reply
+says_moves w call answer = []
+
+-- the moves of an event that was answered so
+abbrev pub event_moves : Machine → Event → Answer → List Move
+event_moves m (events.Say call) answer = says_moves m.current call answer
+event_moves m event answer = []

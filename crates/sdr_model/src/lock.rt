@@ -1,0 +1,233 @@
+// The lock of a plain machine: numbers are drawn, and the least that isn't done is served.
+ghost use Rattle.std.specs.Prelude.{◌≡◌, ◌<◌, ◌^◌, ◌==◌, IfOk, OnErr, find, length, drop, [], ◌∷◌};
+ghost use Rattle.std.specs.List.{list_any};
+ghost use Rattle.sdr_model.specs.Machine.{MachineStep, Draws, Comes, Opens, Serves, Closes, Waits, Holds, event_moves, says_moves, first_machine, served_number, is_outside};
+
+use crate::transaction::{close, deepen, refused, rise, say};
+use crate::{Answer, Call, Draft, Event, Holder, World};
+use sdr_base::{NoMemory, Refusal};
+use std::alloc::Global;
+use std::marker::Model;
+
+/// Who may come, who holds a number, and the world of the served transaction.
+#[derive(Drop)]
+pub struct Lock {
+    daemons: Vec<u8>,
+    /// How many numbers were drawn.
+    drawn: u64,
+    /// By rising number, so the first is served.
+    holders: Vec<Holder>,
+    draft: Draft,
+}
+
+impl Model for Lock {
+    ghost use Rattle.sdr_model.specs.Machine.{Machine, coded_machine};
+
+    ghost Value = { Machine };
+
+    ghost coded = { coded_machine };
+
+    ghost view = { λ s. record {
+      daemons = s.daemons.items;
+      drawn = s.drawn;
+      holders = s.holders.items;
+      world = s.draft.begun;
+      current = s.draft.now;
+    } };
+}
+
+fn is_daemon(daemons: &[u8], daemon: u8) -> bool
+    ensures { result ≡ list_any (λ d. d == daemon) daemons.now }
+{
+    daemons.contains(&daemon)
+}
+
+fn holder_of(holders: &[Holder], daemon: u8) -> Option<Holder>
+    ensures { result ≡ find (λ h. h.daemon == daemon) holders.now }
+{
+    for holder in holders {
+        if holder.daemon == daemon {
+            return Some(*holder);
+        }
+    }
+    None
+}
+
+fn served_number(holders: &[Holder]) -> u64
+    ensures { result ≡ served_number holders.now }
+{
+    match holders {
+        [] => 0,
+        [first, ..] => first.number,
+    }
+}
+
+fn is_outside(holder: &Holder, event: &Event) -> bool
+    ensures { result ≡ is_outside holder.now event.now }
+{
+    match event {
+        Event::Begin => false,
+        _ => holder.depth == 0,
+    }
+}
+
+impl Lock {
+    /// No number drawn, and a world without things.
+    pub fn new(alloc: Global, daemons: &[u8]) -> Result<Lock, NoMemory>
+        ensures { IfOk result (λ lock. lock ≡ first_machine daemons.now) }
+    {
+        Ok(Lock {
+            daemons: Vec::from_slice(alloc, daemons)?,
+            drawn: 0,
+            holders: Vec::new(alloc),
+            draft: Draft::new(alloc),
+        })
+    }
+
+    /// The world of the served transaction.
+    pub fn world(&self) -> &World
+        ensures { result.now ≡ self.now.current }
+    {
+        self.draft.world()
+    }
+
+    fn draw(&mut self, daemon: u8, depth: u64) -> Result<Answer, NoMemory>
+        requires { self.old.drawn < 2 ^ 60 }
+        ensures draws { IfOk result (λ answer. Draws self.old daemon depth answer [] self.new) }
+        ensures err { OnErr result (self.new ≡ self.old) }
+    {
+        let number = self.drawn + 1;
+        self.holders.push(Holder {
+            daemon,
+            number,
+            depth,
+            doom: None,
+        })?;
+        self.drawn = number;
+        Ok(Answer::Lock { number })
+    }
+
+    // An event of a daemon without a number.
+    fn comes(&mut self, daemon: u8, event: &Event) -> Result<Answer, NoMemory>
+        requires { self.old.drawn < 2 ^ 60 }
+        ensures comes { IfOk result (λ answer. Comes self.old daemon event.now answer [] self.new) }
+        ensures err { OnErr result (self.new ≡ self.old) }
+    {
+        match event {
+            Event::Request => self.draw(daemon, 0),
+            Event::Begin => self.draw(daemon, 1),
+            Event::Say(_) | Event::End => Ok(refused(Refusal::NotBegun)),
+        }
+    }
+
+    // The served holder's transaction has come to this.
+    fn put(&mut self, holder: Holder)
+        requires { 0 < length self.old.holders }
+        ensures { self.new ≡ record self.old { holders = holder ∷ drop 1 self.old.holders } }
+    {
+        self.holders[0] = holder;
+    }
+
+    // Closes the served holder's transaction: its number is done.
+    fn finish(&mut self, holder: &Holder) -> Answer
+        requires { 0 < length self.old.holders }
+        ensures { Closes self.old holder.now result [] self.new }
+    {
+        let close = close(holder, &mut self.draft);
+        let _ = self.holders.remove(0);
+        Answer::Closed(close)
+    }
+
+    // The first begin of a holder that drew its number before.
+    fn open(&mut self, mut holder: Holder) -> Answer
+        requires { 0 < length self.old.holders }
+        ensures { Opens self.old holder result [] self.new }
+    {
+        holder.depth = 1;
+        let number = holder.number;
+        self.put(holder);
+        Answer::Lock { number }
+    }
+
+    // A begin of the served holder: the first one, or an inner one.
+    fn begin(&mut self, mut holder: Holder) -> Answer
+        requires { 0 < length self.old.holders }
+        ensures { Serves self.old holder Event.Begin result [] self.new }
+    {
+        if holder.depth == 0 {
+            return self.open(holder);
+        }
+        let answer = deepen(&mut holder);
+        self.put(holder);
+        answer
+    }
+
+    // A call of the served holder.
+    fn say(&mut self, mut holder: Holder, call: &Call) -> Result<Answer, NoMemory>
+        requires some { 0 < length self.old.holders }
+        requires taken { self.old.current.taken < 2 ^ 60 }
+        ensures serves { IfOk result (λ answer.
+            Serves self.old holder (Event.Say call.now) answer (says_moves self.old.current call.now answer) self.new) }
+        ensures err { OnErr result (self.new ≡ self.old) }
+    {
+        let answer = say(&mut holder, &mut self.draft, call)?;
+        self.put(holder);
+        Ok(answer)
+    }
+
+    // An end of the served holder: the outermost one, or an inner one.
+    fn end(&mut self, mut holder: Holder) -> Answer
+        requires { 0 < length self.old.holders }
+        ensures { Serves self.old holder Event.End result [] self.new }
+    {
+        if holder.depth <= 1 {
+            return self.finish(&holder);
+        }
+        let answer = rise(&mut holder);
+        self.put(holder);
+        answer
+    }
+
+    // One event of a daemon that holds a number.
+    fn hold(&mut self, holder: Holder, event: &Event) -> Result<Answer, NoMemory>
+        requires some { 0 < length self.old.holders }
+        requires taken { self.old.current.taken < 2 ^ 60 }
+        ensures holds { IfOk result (λ answer.
+            Holds self.old holder event.now answer (event_moves self.old event.now answer) self.new) }
+        ensures err { OnErr result (self.new ≡ self.old) }
+    {
+        let mine = holder.number;
+        if let Event::Request = event {
+            return Ok(Answer::Lock { number: mine });
+        }
+        if is_outside(&holder, event) {
+            return Ok(refused(Refusal::NotBegun));
+        }
+        let serving = served_number(&self.holders);
+        if serving != mine {
+            return Ok(refused(Refusal::Suspended { serving, mine }));
+        }
+        match event {
+            Event::Request | Event::Begin => Ok(self.begin(holder)),
+            Event::Say(call) => self.say(holder, call),
+            Event::End => Ok(self.end(holder)),
+        }
+    }
+
+    /// Makes an event. Want of memory leaves all as before.
+    pub fn event(&mut self, daemon: u8, event: &Event) -> Result<Answer, NoMemory>
+        requires drawn { self.old.drawn < 2 ^ 60 }
+        requires taken { self.old.current.taken < 2 ^ 60 }
+        ensures step { IfOk result (λ answer.
+            MachineStep self.old daemon event.now answer (event_moves self.old event.now answer) self.new) }
+        ensures err { OnErr result (self.new ≡ self.old) }
+    {
+        if !is_daemon(&self.daemons, daemon) {
+            return Ok(refused(Refusal::NotBegun));
+        }
+        match holder_of(&self.holders, daemon) {
+            None => self.comes(daemon, event),
+            Some(holder) => self.hold(holder, event),
+        }
+    }
+}
