@@ -1,0 +1,4 @@
+pub mod Bindings
+pub mod Script
+pub mod Statements
+pub mod Words
