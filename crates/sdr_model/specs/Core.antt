@@ -82,9 +82,12 @@ said_of c e = record { line = e.line; event = e.event; answer = e.answer; bytes 
 -- the core after an event, from which the machine went on to m
 abbrev pub core_after : Core → Made → Machine → Core
 core_after c e m =
-    if is_passed_over e.event e.answer
-    then record c { machine = m }
-    else record { machine = m; works = works_after e.answer c.works e.daemon (said_of c e); journal = journal_after e.answer c e.daemon (said_of c e) }
+    let passed_over = is_passed_over e.event e.answer in
+    record {
+      machine = m;
+      works = if passed_over then c.works else works_after e.answer c.works e.daemon (said_of c e);
+      journal = if passed_over then c.journal else journal_after e.answer c e.daemon (said_of c e);
+    }
 
 -- From c, the event may be made so, and the core goes on to c'.
 pub record CoreStep (c : Core) (e : Made) (c' : Core) : Type 0 where

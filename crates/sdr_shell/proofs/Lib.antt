@@ -1,1 +1,5 @@
+pub mod LineLemmas
+pub mod ScheduleLemmas
 mod ScriptExamples
+pub mod StillLemmas
+pub mod TextLemmas

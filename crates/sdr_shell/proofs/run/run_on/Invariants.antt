@@ -1,0 +1,13 @@
+use Rattle.std.proofs.Common.{◌≤◌, ◌<◌, ◌+◌, length}
+use Rattle.sdr_shell.proofs.ScheduleLemmas.{Running}
+use Rattle.sdr_shell.proofs.run.run_on.Given as goal
+
+abbrev pub invariant-loop-step : goal.invariant-loop-step
+invariant-loop-step g l = record {
+  running : Running l.fn.script l.rest l.bindings l.plain.machine (g.K.Sink.taken l.fn.out) (g.K.Sink.taken l.out);
+  later : g.K.Sink.faults l.fn.out ≤ g.K.Sink.faults l.out;
+  few : l.plain.events + length l.rest < 2_097_152;
+}
+
+abbrev pub decreases-loop-step : goal.decreases-loop-step
+decreases-loop-step g l = length l.rest

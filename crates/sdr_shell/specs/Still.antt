@@ -1,0 +1,69 @@
+-- What the still call answers: by status, what was read and what was written.
+use Rattle.std.specs.Prelude.{◌≡◌, ℕ, List, [], ◌∷◌, ◌++◌, ◌⊎◌, Option, Some, None, Result, Ok, Err, codes, decimal, ⊤}
+use Rattle.std.specs.Io.KnownBytes.{Appends, IsAtEnd}
+use Rattle.sdr_base.specs.Causes.{Rose}
+use Rattle.sdr_base.specs.Written.{AppendsPart}
+use Rattle.sdr_shell.specs.Schedule.{SomeRun}
+use Rattle.sdr_shell.specs.Script.{input_script}
+use Rattle.sdr_shell.specs.declared.script.ScriptError.{ScriptError}
+use Rattle.sdr_shell.specs.declared.script.ScriptError.TheVariants as errors
+use Rattle.sdr_shell.specs.declared.script.Step.{Step}
+use Rattle.sdr_shell.specs.declared.status.TheConstants.{DONE, INPUT_FAULT, OUTPUT_FAULT, REFUSED_LINE, NO_MEMORY}
+
+-- the text was written whole, or a part of it from the front where the sink's count of faults rose
+abbrev pub Writes : Option (List ℕ) → Option (List ℕ) → ℕ → ℕ → List ℕ → Type 0
+Writes old new before now text = Appends old new text ⊎ (Rose before now × AppendsPart old new text)
+
+-- where a source told what it had left, that was this input
+abbrev pub Had : Option (List ℕ) → List ℕ → Type 0
+Had None input = ⊤
+Had (Some left) input = left ≡ input
+
+-- the source's input spells the script
+pub record HadScript (left : Option (List ℕ)) (script : List Step) : Type 0 where
+  pub input : List ℕ
+  pub had : Had left input
+  pub spells : input_script input ≡ Ok script
+
+-- the first refused line of the source's input is this one
+pub record HadBadLine (left : Option (List ℕ)) (line : ℕ) : Type 0 where
+  pub input : List ℕ
+  pub had : Had left input
+  pub refused : input_script input ≡ Err line
+
+-- The source's input spelled a script, of which some run of the first steps went so.
+pub record HadRun (left : Option (List ℕ)) (P : List Step → List ℕ → Type 0) : Type 0 where
+  pub script : List Step
+  pub input : HadScript left script
+  pub run : SomeRun script P
+
+-- All of the source's input was read, all steps were made, and the lines of all answers were written.
+pub record IsDone (left left' old new : Option (List ℕ)) : Type 0 where
+  pub read : IsAtEnd left'
+  pub run : HadRun left (λ rest text. (rest ≡ []) × Appends old new text)
+
+-- the last line of a refused script
+abbrev pub line_refused : ℕ → List ℕ
+line_refused line = codes "line " ++ decimal line ++ codes "\n"
+
+-- A line of the script was refused, and its number was written.
+pub record IsRefused (left old new : Option (List ℕ)) (before now : ℕ) : Type 0 where
+  pub line : ℕ
+  pub input : HadBadLine left line
+  pub written : Writes old new before now (line_refused line)
+
+-- Memory was wanted: before a step was made, or behind some steps, whose answers stand before the last line.
+abbrev pub IsStarved : Option (List ℕ) → Option (List ℕ) → Option (List ℕ) → ℕ → ℕ → Type 0
+IsStarved left old new before now =
+    Writes old new before now (codes "no memory\n")
+    ⊎ HadRun left (λ rest text. Writes old new before now (text ++ codes "no memory\n"))
+
+-- the statuses with which a dry run ends
+abbrev pub IsDryStatus : ℕ → Type 0
+IsDryStatus status = (status ≡ DONE) ⊎ (status ≡ INPUT_FAULT) ⊎ (status ≡ OUTPUT_FAULT) ⊎ (status ≡ REFUSED_LINE) ⊎ (status ≡ NO_MEMORY)
+
+-- the status and the last line that tell why no script was read
+abbrev pub Tells : ScriptError → ℕ → Option (List ℕ) → Option (List ℕ) → ℕ → ℕ → Type 0
+Tells errors.Input status old new before now = (status ≡ INPUT_FAULT) × Writes old new before now (codes "input fault\n")
+Tells (errors.Line line) status old new before now = (status ≡ REFUSED_LINE) × Writes old new before now (line_refused line)
+Tells errors.NoMemory status old new before now = (status ≡ NO_MEMORY) × Writes old new before now (codes "no memory\n")

@@ -1,0 +1,177 @@
+// The calls that wait for nobody.
+ghost use Rattle.std.specs.Prelude.{◌≡◌, ◌≢◌, ◌≤◌, ◌↔◌, ◌⊎◌, ◌++◌, List, ℕ, codes, None, Some, [], IsOk, IsErr, length};
+ghost use Rattle.std.specs.Io.KnownBytes.{Appends};
+ghost use Rattle.sdr_base.specs.Causes.{Rose};
+ghost use Rattle.sdr_shell.specs.Form.{form_of};
+ghost use Rattle.sdr_shell.specs.Script.{input_script};
+ghost use Rattle.sdr_shell.specs.Schedule.{SomeRun};
+ghost use Rattle.sdr_shell.specs.Still.{Writes, HadRun, IsDone, IsRefused, IsDryStatus, IsStarved, Tells, line_refused};
+ghost use Rattle.sdr_base.specs.Written.{AppendsPart};
+
+use crate::form::{Form, form_of};
+use crate::line::Line;
+use crate::read::read_script;
+use crate::run::{RunError, run};
+use crate::script::{ScriptError, Step};
+use crate::status::{DONE, INPUT_FAULT, NO_MEMORY, OUTPUT_FAULT, REFUSED_LINE, USAGE};
+use crate::Outcome;
+use sdr_base::{Media, Sink, Source, write_all};
+use sdr_disk::Disk;
+use sdr_model::Journal;
+use std::alloc::Global;
+use std::rc::RcStr;
+
+// Writes the last line of a status, which stands whether or not the sink takes the line.
+fn last_line<K: Sink>(output: &mut K, line: &[u8])
+    ensures written { Writes (K.taken output.old) (K.taken output.new) (K.faults output.old) (K.faults output.new) line.now }
+    ensures later { K.faults output.old ≤ K.faults output.new }
+{
+    let _ = write_all(output, line);
+}
+
+// Writes the number of a refused line.
+fn refuse_line<K: Sink>(output: &mut K, line: u64)
+    ensures written { Writes (K.taken output.old) (K.taken output.new) (K.faults output.old) (K.faults output.new)
+        (line_refused line) }
+    ensures later { K.faults output.old ≤ K.faults output.new }
+{
+    let mut text = Line::new();
+    text.push(b"line ");
+    text.number(line);
+    text.push(b"\n");
+    last_line(output, text.as_slice());
+}
+
+// Runs a script.
+fn run_script<K: Sink>(alloc: Global, script: &[Step], output: &mut K) -> u8
+    requires { length script.now ≤ 1048577 }
+    ensures known { (result ≡ DONE) ⊎ (result ≡ OUTPUT_FAULT) ⊎ (result ≡ NO_MEMORY) }
+    ensures later { K.faults output.old ≤ K.faults output.new }
+    ensures done { result ≡ DONE → SomeRun script.now (λ rest text.
+        (rest ≡ []) × Appends (K.taken output.old) (K.taken output.new) text) }
+    ensures fault { result ≡ OUTPUT_FAULT → Rose (K.faults output.old) (K.faults output.new) }
+    ensures part { result ≡ OUTPUT_FAULT → SomeRun script.now (λ rest text.
+        AppendsPart (K.taken output.old) (K.taken output.new) text) }
+    ensures starved { result ≡ NO_MEMORY → SomeRun script.now (λ rest text.
+        Writes (K.taken output.old) (K.taken output.new) (K.faults output.old) (K.faults output.new)
+            (text ++ codes "no memory\n")) }
+{
+    match run(alloc, script, output) {
+        Ok(()) => DONE,
+        Err(RunError::Output) => OUTPUT_FAULT,
+        Err(RunError::NoMemory) => {
+            last_line(output, b"no memory\n");
+            NO_MEMORY
+        }
+    }
+}
+
+// Tells why no script was read.
+fn tell<K: Sink>(error: &ScriptError, output: &mut K) -> u8
+    ensures later { K.faults output.old ≤ K.faults output.new }
+    ensures told { Tells error.now result (K.taken output.old) (K.taken output.new) (K.faults output.old) (K.faults output.new) }
+{
+    match error {
+        ScriptError::Input => {
+            last_line(output, b"input fault\n");
+            INPUT_FAULT
+        }
+        ScriptError::Line { line } => {
+            refuse_line(output, *line);
+            REFUSED_LINE
+        }
+        ScriptError::NoMemory => {
+            last_line(output, b"no memory\n");
+            NO_MEMORY
+        }
+    }
+}
+
+// A dry run of the input's script.
+fn dry<S: Source, K: Sink>(alloc: Global, input: &mut S, output: &mut K) -> u8
+    ensures known { IsDryStatus result }
+    ensures later { (S.faults input.old ≤ S.faults input.new) × (K.faults output.old ≤ K.faults output.new) }
+    ensures done { result ≡ DONE →
+        IsDone (S.left input.old) (S.left input.new) (K.taken output.old) (K.taken output.new) }
+    ensures input { result ≡ INPUT_FAULT → Rose (S.faults input.old) (S.faults input.new) }
+    ensures input_text { result ≡ INPUT_FAULT →
+        Writes (K.taken output.old) (K.taken output.new) (K.faults output.old) (K.faults output.new) (codes "input fault\n") }
+    ensures output { result ≡ OUTPUT_FAULT → Rose (K.faults output.old) (K.faults output.new) }
+    ensures part { result ≡ OUTPUT_FAULT → HadRun (S.left input.old) (λ rest text.
+        AppendsPart (K.taken output.old) (K.taken output.new) text) }
+    ensures refused { result ≡ REFUSED_LINE → IsRefused (S.left input.old)
+        (K.taken output.old) (K.taken output.new) (K.faults output.old) (K.faults output.new) }
+    ensures starved { result ≡ NO_MEMORY → IsStarved (S.left input.old)
+        (K.taken output.old) (K.taken output.new) (K.faults output.old) (K.faults output.new) }
+{
+    match read_script(alloc, input) {
+        Ok(script) => run_script(alloc, script.as_slice(), output),
+        Err(error) => tell(&error, output),
+    }
+}
+
+// What is given back where there is no journal.
+fn outcome<D, M>(alloc: Global, status: u8, disk: D, media: M) -> Outcome<D, M>
+    ensures status { result.status ≡ status }
+    ensures journal { result.journal ≡ [] }
+    ensures disk { result.disk ≡ disk }
+    ensures media { result.media ≡ media }
+{
+    let journal = Journal::new(alloc);
+    Outcome {
+        status,
+        journal,
+        disk,
+        media,
+    }
+}
+
+/// Answers the words, waits for nobody, and returns for every input.
+pub fn still<D: Disk, M: Media, S: Source, K: Sink>(
+    alloc: Global,
+    words: &[RcStr],
+    disk: D,
+    media: M,
+    input: &mut S,
+    output: &mut K,
+) -> Outcome<D, M>
+    ensures usage { (result.status ≡ USAGE) ↔ (form_of words.now ≡ None) }
+    ensures usage_text { result.status ≡ USAGE →
+        Writes (K.taken output.old) (K.taken output.new) (K.faults output.old) (K.faults output.new) (codes "usage\n") }
+    ensures known { result.status ≡ USAGE ⊎ IsDryStatus result.status }
+    ensures later { (S.faults input.old ≤ S.faults input.new) × (K.faults output.old ≤ K.faults output.new) }
+    ensures disk { result.disk ≡ disk }
+    ensures media { result.media ≡ media }
+    ensures journal { result.journal ≡ [] }
+    ensures done { result.status ≡ DONE →
+        IsDone (S.left input.old) (S.left input.new) (K.taken output.old) (K.taken output.new) }
+    ensures input { result.status ≡ INPUT_FAULT → Rose (S.faults input.old) (S.faults input.new) }
+    ensures input_text { result.status ≡ INPUT_FAULT →
+        Writes (K.taken output.old) (K.taken output.new) (K.faults output.old) (K.faults output.new) (codes "input fault\n") }
+    ensures output { result.status ≡ OUTPUT_FAULT → Rose (K.faults output.old) (K.faults output.new) }
+    ensures part { result.status ≡ OUTPUT_FAULT → HadRun (S.left input.old) (λ rest text.
+        AppendsPart (K.taken output.old) (K.taken output.new) text) }
+    ensures refused { result.status ≡ REFUSED_LINE → IsRefused (S.left input.old)
+        (K.taken output.old) (K.taken output.new) (K.faults output.old) (K.faults output.new) }
+    ensures starved { result.status ≡ NO_MEMORY → IsStarved (S.left input.old)
+        (K.taken output.old) (K.taken output.new) (K.faults output.old) (K.faults output.new) }
+    // A script that is refused is not run.
+    ensures exact { (bytes : List ℕ) → S.left input.old ≡ Some bytes → IsErr (input_script bytes) →
+        (result.status ≢ DONE) × (result.status ≢ OUTPUT_FAULT) }
+    // A script that is accepted is run to its end, unless there is a fault or no memory.
+    ensures complete { (bytes : List ℕ) → form_of words.now ≡ Some Form.Dry →
+        S.left input.old ≡ Some bytes → IsOk (input_script bytes) →
+        ¬ Rose (S.faults input.old) (S.faults input.new) → ¬ Rose (K.faults output.old) (K.faults output.new) →
+        (result.status ≡ DONE) ⊎ (result.status ≡ NO_MEMORY) }
+{
+    match form_of(words) {
+        Some(Form::Dry) => {
+            let status = dry(alloc, input, output);
+            outcome(alloc, status, disk, media)
+        }
+        None => {
+            last_line(output, b"usage\n");
+            outcome(alloc, USAGE, disk, media)
+        }
+    }
+}

@@ -1,0 +1,72 @@
+// Standard input and output as a source and a sink.
+ghost use Rattle.std.specs.Prelude.{◌≡◌};
+
+use sdr_base::{Sink, SinkFault, Source, SourceFault};
+use std::io::{Read, Write};
+
+/// A reader as a source. Each error is a fault, which it counts.
+#[derive(Drop)]
+pub struct StdSource<R> {
+    inner: R,
+    faults: u64,
+}
+
+impl<R: Read> StdSource<R> {
+    pub fn new(inner: R) -> StdSource<R>
+        ensures { ⟦<StdSource<R> as Source>⟧.faults result ≡ 0 }
+    {
+        StdSource { inner, faults: 0 }
+    }
+}
+
+impl<R: Read> Source for StdSource<R> {
+    ghost left = { λ s. R.remaining s.inner };
+
+    ghost faults = { λ s. s.faults };
+
+    fn read(&mut self, into: &mut [u8]) -> Result<u64, SourceFault> {
+        match self.inner.read(into) {
+            Ok(count) => Ok(count as u64),
+            Err(_) => {
+                self.faults = self.faults.saturating_add(1);
+                Err(SourceFault)
+            }
+        }
+    }
+}
+
+/// A writer as a sink. Each error, and each write that takes nothing, is a fault, which it counts.
+#[derive(Drop)]
+pub struct StdSink<W> {
+    inner: W,
+    faults: u64,
+}
+
+impl<W: Write> StdSink<W> {
+    pub fn new(inner: W) -> StdSink<W>
+        ensures { ⟦<StdSink<W> as Sink>⟧.faults result ≡ 0 }
+    {
+        StdSink { inner, faults: 0 }
+    }
+}
+
+impl<W: Write> Sink for StdSink<W> {
+    ghost taken = { λ s. W.contents s.inner };
+
+    ghost faults = { λ s. s.faults };
+
+    fn write(&mut self, from: &[u8]) -> Result<u64, SinkFault> {
+        match self.inner.write(from) {
+            Ok(count) => {
+                if count == 0 {
+                    self.faults = self.faults.saturating_add(1);
+                }
+                Ok(count as u64)
+            }
+            Err(_) => {
+                self.faults = self.faults.saturating_add(1);
+                Err(SinkFault)
+            }
+        }
+    }
+}
