@@ -1,3 +1,4 @@
-pub mod WrittenLemmas
 pub mod CellsLemmas
 pub mod FreshHeapLemmas
+pub mod PartsLemmas
+pub mod WrittenLemmas
