@@ -5,6 +5,7 @@
 mod error;
 mod empty;
 mod fresh;
+mod undo;
 mod zeros;
 
 pub use error::FormatError;
