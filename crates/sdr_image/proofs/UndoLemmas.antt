@@ -9,23 +9,9 @@ use Rattle.std.proofs.lemmas.Grind.{common_steps}
 use Rattle.std.proofs.lemmas.List.{drop_more}
 use Rattle.std.proofs.lemmas.List.Sums.{sum_by-cons}
 use Rattle.sdr_log.specs.Log.{is_named}
+use Rattle.sdr_log.proofs.RecordsLemmas.{is_named-push}
 use Rattle.sdr_log.specs.declared.record.Record.{Record}
 use Rattle.sdr_image.specs.Undo.{IsMarked}
-
-pub is_named-push : (olds : List Record) (r : Record) (line : ℕ) →
-    is_named (olds ++ r ∷ []) line ≡ (is_named olds line || r.line == line)
-is_named-push [] r line = or_false (r.line == line)
-  where
-    or_false : (b : Bool) → (b || false) ≡ (false || b)
-    or_false true = refl
-    or_false false = refl
-is_named-push (o ∷ olds) r line =
-    ap (λ (b : Bool). o.line == line || b) (is_named-push olds r line)
-    ∙ or_assoc (o.line == line) (is_named olds line) (r.line == line)
-  where
-    or_assoc : (a b c : Bool) → (a || (b || c)) ≡ (a || b || c)
-    or_assoc true b c = refl
-    or_assoc false b c = refl
 
 -- one mark less
 pub unmark_one : (marks : List Bool) (r : Record) (olds : List Record) (line : ℕ) → r.line < length marks →

@@ -5,8 +5,10 @@
 mod error;
 mod empty;
 mod fresh;
+mod image;
 mod undo;
 mod zeros;
 
 pub use error::FormatError;
 pub use empty::format;
+pub use image::Image;

@@ -1,5 +1,5 @@
 -- The heap that opening a disk gives.
-use Rattle.std.specs.Prelude.{ℕ, zero, suc, ◌+◌, ◌*◌, Bool, true, false, cond, not, ◌&&◌, ◌||◌, List, [], ◌∷◌, ◌++◌, length, take, drop, nat_lt, nat_le, ◌==◌, Option, Some, None, option_and_then, option_map, slice_index}
+use Rattle.std.specs.Prelude.{◌≡◌, ⊤, ℕ, zero, suc, ◌+◌, ◌*◌, Bool, true, false, cond, not, ◌&&◌, ◌||◌, List, [], ◌∷◌, ◌++◌, length, take, drop, nat_lt, nat_le, ◌==◌, Option, Some, None, option_and_then, option_map, slice_index}
 use Rattle.sdr_base.specs.declared.line.TheConstants.{LINE}
 use Rattle.sdr_disk.specs.Ranges.{overwrite, part}
 use Rattle.sdr_log.specs.Frame.{number, frame_of, heap_place, disk_bytes}
@@ -44,6 +44,11 @@ is_named (r ∷ records) line = r.line == line || is_named records line
 abbrev pub are_good : ℕ → List Record → Bool
 are_good lines [] = true
 are_good lines (r ∷ records) = nat_lt r.line lines && not (is_named records r.line) && are_good lines records
+
+-- each record has the bytes of a whole line
+abbrev pub AreLines : List Record → Type 0
+AreLines [] = ⊤
+AreLines (r ∷ records) = (length r.bytes ≡ LINE) × AreLines records
 
 -- the records' bytes in place of their lines
 abbrev pub put_records : List Record → List ℕ → List ℕ
