@@ -6,6 +6,7 @@ mod error;
 mod empty;
 mod fresh;
 mod image;
+mod region;
 mod undo;
 mod zeros;
 
