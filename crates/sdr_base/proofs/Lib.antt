@@ -1,1 +1,4 @@
+pub mod CellsLemmas
+pub mod FreshHeapLemmas
+pub mod PartsLemmas
 pub mod WrittenLemmas

@@ -1,6 +1,10 @@
 pub mod Causes
+pub mod Cells
+pub mod FreshHeap
 pub mod Media
 pub mod MemorySink
 pub mod MemorySource
+pub mod Parts
 pub mod Refusal
+pub mod Transaction
 pub mod Written

@@ -1,16 +1,21 @@
-//! What all layers speak of: the traits of the outside, plain bytes and lists, refusals, reasons and moves.
+//! What all layers speak of: the traits of the outside, plain bytes and lists, refusals, reasons and
+//! moves, and the cells and control words of a heap.
 //!
 //! 1. A trait of the outside tells its content or doesn't: a clause on content holds where it is told.
 //! 2. Each has a count of faults that never falls, and a call answers its fault only where the count
 //!    rose in that call.
 //! 3. Want of memory (`NoMemory`) is the one answer that no clause ties to a cause.
+//! 4. A heap stands on `Cells`: its bytes, read and written in a transaction that can be cancelled.
 #![tactic(auto)]
 
 mod bytes;
+mod cells;
+pub mod control;
 mod gate;
 mod idle_sink;
 mod items;
 mod kind;
+mod line;
 mod media;
 mod memory_sink;
 mod memory_source;
@@ -18,14 +23,17 @@ mod moves;
 mod refusal;
 mod sink;
 mod source;
+mod stop;
 #[cfg(test)]
 mod tests;
 
 pub use bytes::{Bytes, NoMemory};
+pub use cells::Cells;
 pub use gate::{Gate, NoGate};
 pub use idle_sink::IdleSink;
 pub use items::Items;
 pub use kind::{Addr, Kind, Space};
+pub use line::{LEAST_LINES, LINE, MOST_LINES, START_BITS, WORD};
 pub use media::{Media, MediaFault, NoMedia};
 pub use memory_sink::MemorySink;
 pub use memory_source::MemorySource;
@@ -33,3 +41,4 @@ pub use moves::Move;
 pub use refusal::{Reason, Refusal};
 pub use sink::{Sink, SinkFault, write_all};
 pub use source::{Source, SourceFault};
+pub use stop::Stop;

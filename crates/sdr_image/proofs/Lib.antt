@@ -1,0 +1,4 @@
+pub mod FormatLemmas
+pub mod ImageLemmas
+pub mod RegionLemmas
+pub mod UndoLemmas

@@ -1,0 +1,230 @@
+// An opened disk.
+ghost use Rattle.std.specs.Prelude.{◌≡◌, ◌≤◌, ◌<◌, ◌+◌, ◌-◌, ◌∷◌, [], ℕ, true, false, length, OnOk, OnErr, Some, is_some, refl};
+ghost use Rattle.std.specs.List.{range_with_len};
+ghost use Rattle.std.proofs.Common.{◌∙◌};
+ghost use Rattle.sdr_base.specs.Cells.{is_among, with_lines, lines_of};
+ghost use Rattle.sdr_base.specs.Parts.{overwrite};
+ghost use Rattle.sdr_base.specs.Transaction.{HasReason, IfRefused};
+ghost use Rattle.sdr_disk.specs.Told.{Told};
+ghost use Rattle.sdr_log.specs.Frame.{room_of, heap_place};
+ghost use Rattle.sdr_log.specs.Log.{put_back_of};
+ghost use Rattle.sdr_image.specs.Opened.{transaction_of, IsFailed};
+
+use crate::region::{Region, span};
+use crate::undo::Undo;
+use sdr_base::{Cells, LINE, Refusal, Stop};
+use sdr_disk::Disk;
+use sdr_log::{Frame, Record};
+use std::marker::Model;
+
+/// A disk with a heap on it, opened. The heap region stands in memory, and a transaction reaches the
+/// disk with its commit. No call takes memory.
+pub struct Image<D: Disk> {
+    disk: D,
+    frame: Frame,
+    /// The heap region now.
+    bytes: Region,
+    undo: Undo,
+    /// The touched lines by rising number, while they are committed.
+    rising: Vec<u32>,
+    is_open: bool,
+    /// Whether a call has answered `DiskFault`.
+    failed: bool,
+}
+
+impl<D: Disk> Model for Image<D> {
+    ghost use Rattle.std.specs.Prelude.{vec_capacity};
+    ghost use Rattle.sdr_log.specs.Log.{put_records};
+    ghost use Rattle.sdr_image.specs.Opened.{Opened, lines_named, IsImage};
+
+    ghost Value = { Opened D };
+
+    ghost view = { λ s. record {
+      disk = s.disk;
+      frame = s.frame;
+      bytes = s.bytes;
+      begun = put_records s.undo.olds s.bytes;
+      touched = lines_named s.undo.olds;
+      is_open = s.is_open;
+      failed = s.failed;
+    } };
+
+    ghost invariant = { λ s. IsImage (D.size s.disk) (D.bytes s.disk) s.frame s.bytes s.undo
+      (vec_capacity s.rising) s.is_open s.failed };
+}
+
+impl<D: Disk> Image<D> {
+    /// Begins a transaction.
+    pub fn begin(&mut self)
+        requires { self.old.is_open ≡ false }
+        ensures begun { self.new ≡ record self.old { is_open = true } }
+        ensures bytes { self.new.begun ≡ self.new.bytes }
+        ensures touched { self.new.touched ≡ [] }
+    {
+        self.is_open = true;
+    }
+
+    /// How many lines the transaction has touched.
+    pub fn touched(&self) -> u64
+        ensures { result ≡ length self.now.touched }
+    {
+        self.undo.olds().len() as u64
+    }
+
+    /// How many lines a transaction may touch.
+    pub fn room(&self) -> u64
+        ensures { result ≡ room_of self.now.frame }
+    {
+        self.frame.room()
+    }
+
+    /// How many lines opening has put back.
+    pub fn restored(&self) -> u64
+        ensures { result ≡ 0 }
+    {
+        0
+    }
+
+    /// The disk's moment.
+    pub fn now(&self) -> u64 {
+        self.disk.now()
+    }
+
+    // Touches a line.
+    fn touch(&mut self, line: u64)
+        requires below { line < self.old.frame.heap_lines }
+        requires room { is_among self.old.touched line ≡ false
+            → length self.old.touched < room_of self.old.frame }
+        ensures { self.new ≡ record self.old {
+            touched = with_lines self.old.touched (line ∷ []); is_open = true } }
+    {
+        self.is_open = true;
+        if !self.undo.is_touched(line) {
+            let line = line as u32;
+            let bytes = self.bytes.line_at(line);
+            self.undo.keep(Record { line, bytes });
+        }
+    }
+
+    // How many lines are touched with those from the first to the one before the end.
+    fn touched_with(&self, first: u64, end: u64) -> u64
+        requires order { first ≤ end }
+        requires below { end ≤ self.now.frame.heap_lines }
+        ensures { result
+            ≡ length (with_lines self.now.touched (range_with_len first (end - first))) }
+    {
+        self.touched() + self.undo.untouched(first, end)
+    }
+
+    // Touches the lines from the first to the one before the end.
+    fn touch_lines(&mut self, first: u64, end: u64)
+        requires order { first ≤ end }
+        requires below { end ≤ self.old.frame.heap_lines }
+        requires room { length (with_lines self.old.touched (range_with_len first (end - first)))
+            ≤ room_of self.old.frame }
+        ensures { self.new ≡ record self.old {
+            touched = with_lines self.old.touched (range_with_len first (end - first));
+            is_open = true } }
+    {
+        self.is_open = true;
+        for line in first..end {
+            self.touch(line);
+        }
+    }
+
+    // Writes bytes of lines that were touched.
+    fn put(&mut self, place: u64, from: &[u8])
+        requires inside { place + length from.now ≤ length self.old.bytes }
+        requires touched { (line : ℕ) → is_among (lines_of place (length from.now)) line ≡ true
+            → is_among self.old.touched line ≡ true }
+        ensures { self.new ≡ record self.old {
+            bytes = overwrite place from.now self.old.bytes } }
+    {
+        self.bytes.put(place, from);
+    }
+
+    /// Ends the transaction with the bytes as they were at its begin. Where none was begun, it is as
+    /// if one had been.
+    pub fn cancel(&mut self) -> Result<(), Stop>
+        ensures ended { OnOk result (self.new ≡ record self.old {
+            bytes = self.old.begun; touched = []; is_open = false }) }
+
+        ensures answered { IfRefused result (λ _. ⊥) }
+        ensures cause { HasReason (transaction_of D.faults self.old)
+            (transaction_of D.faults self.new) result }
+        ensures failed { OnErr result (IsFailed self.old self.new) }
+    {
+        if self.failed {
+            return Err(Stop::Failed);
+        }
+        self.bytes.put_back(self.undo.olds(), self.frame.heap_lines);
+        self.undo.clear();
+        self.is_open = false;
+        Ok(())
+    }
+
+    /// The disk. What was not committed is lost.
+    pub fn into_disk(self) -> D
+        ensures { result ≡ self.disk }
+    {
+        let Image {
+            disk,
+            frame: _,
+            bytes: _,
+            undo: _,
+            rising: _,
+            is_open: _,
+            failed: _,
+        } = self;
+        disk
+    }
+}
+
+impl<D: Disk> Cells for Image<D> {
+    ghost use Rattle.sdr_image.specs.Opened.{IsQuiet};
+
+    ghost bytes = { λ i. i.bytes };
+
+    ghost begun = { λ i. i.begun };
+
+    ghost transaction = { λ i. transaction_of D.faults i };
+
+    ghost quiet = { λ a b. IsQuiet a b };
+
+    fn size(&self) -> u64 {
+        LINE * self.frame.heap_lines
+    }
+
+    fn read(&mut self, place: u64, into: &mut [u8]) -> Result<(), Stop> {
+        if self.failed {
+            return Err(Stop::Failed);
+        }
+        self.bytes.read(place, into);
+        Ok(())
+    }
+
+    fn write(&mut self, place: u64, from: &[u8]) -> Result<(), Stop> {
+        if self.failed {
+            return Err(Stop::Failed);
+        }
+        let (first, end) = span(place, from.len() as u64);
+        let lines = self.touched_with(first, end);
+        let room = self.room();
+        if lines > room {
+            return Err(Stop::Refused(Refusal::LogFull { lines, room }));
+        }
+        self.touch_lines(first, end);
+        self.put(place, from);
+        Ok(())
+    }
+
+    ghost quiet_refl = { λ a. record { disk = refl; frame = refl; begun = refl } };
+
+    ghost quiet_trans = { λ a b c f g. record {
+      disk = g.disk ∙ f.disk;
+      frame = g.frame ∙ f.frame;
+      begun = g.begun ∙ f.begun;
+    } };
+
+    ghost quiet_begun = { λ a b f. f.begun };
+}
