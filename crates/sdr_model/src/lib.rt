@@ -18,6 +18,8 @@ mod lock;
 mod names;
 mod plain;
 mod strings;
+#[cfg(test)]
+mod tests;
 mod transaction;
 mod world;
 
