@@ -1,1 +1,2 @@
 mod ScriptExamples
+pub mod WordsLemmas

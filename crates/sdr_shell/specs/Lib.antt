@@ -1,4 +1,5 @@
 pub mod Bindings
+pub mod Draft
 pub mod Script
 pub mod Statements
 pub mod Words

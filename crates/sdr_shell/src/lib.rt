@@ -1,7 +1,9 @@
 //! The top call: words and a script in, printed answers and a status out.
 #![tactic(auto)]
 
+mod draft;
 mod script;
 mod statements;
+mod words;
 
 pub use script::{Script, ScriptError, Statement, Step, Value};
