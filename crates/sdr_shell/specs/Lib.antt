@@ -1,5 +1,6 @@
 pub mod Bindings
 pub mod Draft
+pub mod LineAnswers
 pub mod Script
 pub mod Statements
 pub mod Words
