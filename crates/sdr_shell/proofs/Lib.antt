@@ -1,2 +1,3 @@
 mod ScriptExamples
+pub mod StatementsLemmas
 pub mod WordsLemmas

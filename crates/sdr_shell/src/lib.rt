@@ -2,6 +2,7 @@
 #![tactic(auto)]
 
 mod draft;
+mod fields;
 mod script;
 mod statements;
 mod words;

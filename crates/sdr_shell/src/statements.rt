@@ -89,6 +89,25 @@ fn value_in(
     }
 }
 
+// The statement of `catlg` with its name, type and object.
+fn catlg_of(
+    alloc: Global,
+    draft: &Draft<'_>,
+    daemon: u8,
+    arguments: &[&[u8]],
+) -> Result<Statement, LineError>
+    ensures { GivesOr result (statement_of (is_bound_by draft.now.steps daemon) Verb.Catlg
+        (map (λ field. field.now) arguments.now)) }
+{
+    let [name, kind, object] = arguments else {
+        return Err(LineError::Refused);
+    };
+    let name = text_in(alloc, name)?;
+    let kind = words::kind_of(kind).ok_or(LineError::Refused)?;
+    let object = value_in(alloc, draft, daemon, object)?;
+    Ok(Statement::Catlg { name, kind, object })
+}
+
 /// The statement of a verb and its arguments in a line of this daemon.
 pub fn statement_of(
     alloc: Global,
@@ -100,27 +119,36 @@ pub fn statement_of(
     ensures { GivesOr result (statement_of (is_bound_by draft.now.steps daemon) verb
         (map (λ field. field.now) arguments.now)) }
 {
-    match (verb, arguments) {
-        (Verb::Begin, []) => Ok(Statement::Begin),
-        (Verb::End, []) => Ok(Statement::End),
-        (Verb::String, [text]) => {
+    match verb {
+        Verb::Begin => match arguments {
+            [] => Ok(Statement::Begin),
+            _ => Err(LineError::Refused),
+        },
+        Verb::End => match arguments {
+            [] => Ok(Statement::End),
+            _ => Err(LineError::Refused),
+        },
+        Verb::String => {
+            let [text] = arguments else {
+                return Err(LineError::Refused);
+            };
             let text = text_in(alloc, text)?;
             Ok(Statement::String { text })
         }
-        (Verb::StringRead, [addr]) => {
+        Verb::StringRead => {
+            let [addr] = arguments else {
+                return Err(LineError::Refused);
+            };
             let addr = value_in(alloc, draft, daemon, addr)?;
             Ok(Statement::StringRead { addr })
         }
-        (Verb::Catlg, [name, kind, object]) => {
-            let name = text_in(alloc, name)?;
-            let kind = words::kind_of(kind).ok_or(LineError::Refused)?;
-            let object = value_in(alloc, draft, daemon, object)?;
-            Ok(Statement::Catlg { name, kind, object })
-        }
-        (Verb::Find, [name]) => {
+        Verb::Catlg => catlg_of(alloc, draft, daemon, arguments),
+        Verb::Find => {
+            let [name] = arguments else {
+                return Err(LineError::Refused);
+            };
             let name = text_in(alloc, name)?;
             Ok(Statement::Find { name })
         }
-        _ => Err(LineError::Refused),
     }
 }
