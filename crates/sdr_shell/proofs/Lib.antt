@@ -1,3 +1,5 @@
+pub mod DraftLemmas
+pub mod LinesLemmas
 mod ScriptExamples
 pub mod StatementsLemmas
 pub mod WordsLemmas

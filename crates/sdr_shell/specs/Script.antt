@@ -26,9 +26,9 @@ fields_of line = filter (λ field. not (length field == 0)) (slice_split (λ b. 
 abbrev pub is_line_byte : ℕ → Bool
 is_line_byte b = nat_le 32 b && nat_le b 126
 
--- whether a line is skipped: its first byte is # or it has no field
+-- whether a line is skipped: it is empty or of spaces, or its first byte is #
 abbrev pub is_skipped : List ℕ → Bool
-is_skipped line = slice_index line 0 == 35 || length (fields_of line) == 0
+is_skipped line = list_all (λ b. b == 32) line || slice_index line 0 == 35
 
 -- a step, else its line is refused
 abbrev pub step_or_line : ℕ → Option Step → Result (Option Step) ℕ

@@ -1,7 +1,7 @@
 // The fields of a line.
-ghost use Rattle.std.specs.Prelude.{◌≡◌, IfOk, map, take, not, nat_le};
+ghost use Rattle.std.specs.Prelude.{◌≡◌, IfOk, map, take, ◌==◌};
 ghost use Rattle.std.specs.List.{list_all};
-ghost use Rattle.sdr_shell.specs.Script.{is_line_byte, fields_of};
+ghost use Rattle.sdr_shell.specs.Script.{is_line_byte, is_skipped, fields_of};
 
 use sdr_base::NoMemory;
 use std::alloc::Global;
@@ -24,4 +24,17 @@ pub fn are_line_bytes(line: &[u8]) -> bool
     ensures { result ≡ list_all is_line_byte line.now }
 {
     line.iter().all(|b| (32..=126).contains(b))
+}
+
+fn are_spaces(line: &[u8]) -> bool
+    ensures { result ≡ list_all (λ b. b == 32) line.now }
+{
+    line.iter().all(|b| *b == b' ')
+}
+
+/// Whether a line is skipped.
+pub fn is_skipped(line: &[u8]) -> bool
+    ensures { result ≡ is_skipped line.now }
+{
+    are_spaces(line) || line[0] == b'#'
 }

@@ -3,6 +3,7 @@
 
 mod draft;
 mod fields;
+mod lines;
 mod script;
 mod statements;
 mod words;

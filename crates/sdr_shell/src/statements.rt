@@ -71,12 +71,7 @@ fn text_in(alloc: Global, field: &[u8]) -> Result<Bytes, LineError>
 }
 
 /// The value that a field gives to a line of this daemon.
-fn value_in(
-    alloc: Global,
-    draft: &Draft<'_>,
-    daemon: u8,
-    field: &[u8],
-) -> Result<Value, LineError>
+fn value_in(alloc: Global, draft: &Draft<'_>, daemon: u8, field: &[u8]) -> Result<Value, LineError>
     ensures { GivesOr result (value_of (is_bound_by draft.now.steps daemon) field.now) }
 {
     if let Some(number) = words::number_of(field) {
