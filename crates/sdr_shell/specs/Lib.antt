@@ -1,6 +1,7 @@
 pub mod Bindings
 pub mod Draft
 pub mod LineAnswers
+pub mod Reading
 pub mod Script
 pub mod Statements
 pub mod Words

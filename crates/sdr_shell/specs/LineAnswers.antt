@@ -1,5 +1,5 @@
 -- What a function answers that reads a part of a line.
-use Rattle.std.specs.Prelude.{◌≡◌, ℕ, ◌+◌, ◌++◌, ◌∷◌, [], option_map, Result, Ok, Err, Option, Some, None}
+use Rattle.std.specs.Prelude.{◌≡◌, ℕ, List, ◌+◌, ◌++◌, ◌∷◌, [], option_map, Result, Ok, Err, Option, Some, None}
 use Rattle.sdr_shell.specs.Script.{Reading}
 use Rattle.sdr_shell.specs.declared.script.ScriptError.{ScriptError}
 use Rattle.sdr_shell.specs.declared.script.ScriptError.TheVariants as script_errors
@@ -23,9 +23,18 @@ AddsStep (Ok done) old new given = option_map (with_step old) given ≡ Some new
 AddsStep (Err errors.Refused) old new given = given ≡ None
 AddsStep (Err errors.NoMemory) old new given = Unit {0}
 
--- what the definition reads is what was read, or its refused line is the answer, or memory ran out
+-- the error says why the definition gives nothing, or that memory ran out
+abbrev pub Stops : {X : Type 0} → ScriptError → Result X ℕ → Type 0
+Stops script_errors.Input given = ⊥
+Stops (script_errors.Line line) given = given ≡ Err line
+Stops script_errors.NoMemory given = Unit {0}
+
+-- what was read is what the definition reads, or it stops there
 abbrev pub Reads : {X : Type 0} → Result X ScriptError → Reading → Result Reading ℕ → Type 0
 Reads (Ok done) new given = given ≡ Ok new
-Reads (Err script_errors.Input) new given = ⊥
-Reads (Err (script_errors.Line line)) new given = given ≡ Err line
-Reads (Err script_errors.NoMemory) new given = Unit {0}
+Reads (Err error) new given = Stops error given
+
+-- the script is the one that the definition gives, or it stops there
+abbrev pub GivesScript : Result (List Step) ScriptError → Result (List Step) ℕ → Type 0
+GivesScript (Ok steps) given = given ≡ Ok steps
+GivesScript (Err error) given = Stops error given

@@ -1,5 +1,5 @@
 // A script in the making: the steps of the lines so far.
-ghost use Rattle.std.specs.Prelude.{◌≡◌, ◌++◌, ◌∷◌, [], ◌+◌, ◌<◌, ◌^◌, OnOk, OnErr};
+ghost use Rattle.std.specs.Prelude.{◌≡◌, ◌++◌, ◌∷◌, [], ◌+◌, ◌<◌, ◌^◌, IfOk, OnOk, OnErr};
 ghost use Rattle.sdr_shell.specs.Statements.{is_bound_by};
 
 use crate::script::{Script, Step};
@@ -7,6 +7,9 @@ use sdr_base::{Items, NoMemory};
 use std::alloc::Global;
 use std::collections::HashSet;
 use std::marker::Model;
+
+/// No step has fewer bytes than `1: end` and the end of its line.
+const SHORTEST_STEP: usize = 7;
 
 /// Who binds a name.
 #[derive(Clone, Copy, Debug, PartialEq, Eq, Hash)]
@@ -39,14 +42,16 @@ impl<'a> Draft<'a> {
     ghost use Rattle.sdr_shell.specs.LineAnswers.{with_step};
     ghost use Rattle.sdr_shell.specs.Script.{nothing_read};
 
-    pub fn new(alloc: Global) -> Draft<'a>
-        ensures { result ≡ nothing_read }
+    /// Nothing read yet, with room for the steps of so many bytes.
+    pub fn new(alloc: Global, bytes: usize) -> Result<Draft<'a>, NoMemory>
+        requires { bytes < 2 ^ 32 }
+        ensures { IfOk result (λ draft. draft ≡ nothing_read) }
     {
-        Draft {
-            steps: Vec::new(alloc),
+        Ok(Draft {
+            steps: Vec::with_capacity(alloc, bytes / SHORTEST_STEP + 1)?,
             next: 1,
             binders: HashSet::new(alloc),
-        }
+        })
     }
 
     /// The number of the next line, counted from 1.

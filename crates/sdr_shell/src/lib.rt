@@ -4,8 +4,10 @@
 mod draft;
 mod fields;
 mod lines;
+mod read;
 mod script;
 mod statements;
 mod words;
 
+pub use read::read_script;
 pub use script::{Script, ScriptError, Statement, Step, Value};

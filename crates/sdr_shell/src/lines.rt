@@ -1,7 +1,7 @@
 // Reading a script line by line.
-ghost use Rattle.std.specs.Prelude.{◌≡◌, ◌≤◌, ◌<◌, ◌^◌, MatchOption, IfOk, OnErr, map, Some, None};
+ghost use Rattle.std.specs.Prelude.{◌≡◌, ◌≤◌, ◌<◌, ◌^◌, MatchOption, IfOk, IfSome, OnOk, OnErr, ◌+◌, ◌++◌, ◌∷◌, [], length, map, Some, None};
 ghost use Rattle.sdr_shell.specs.LineAnswers.{AddsStep, GivesOr, Reads};
-ghost use Rattle.sdr_shell.specs.Script.{fields_of, read_line};
+ghost use Rattle.sdr_shell.specs.Script.{fields_of, lines_of, ended_lines, read_line, read_lines};
 ghost use Rattle.sdr_shell.specs.Statements.{is_bound_by, name_and_rest, step_of, verb_and_arguments};
 
 use crate::draft::Draft;
@@ -9,6 +9,7 @@ use crate::fields::{are_line_bytes, fields_of, is_skipped};
 use crate::script::{ScriptError, Statement, Step};
 use crate::statements::{LineError, statement_of, verb_of};
 use crate::words::{daemon_of, is_name};
+use bstr::ByteSlice;
 use sdr_base::Bytes;
 use std::alloc::Global;
 
@@ -94,7 +95,8 @@ pub fn read_line<'a>(
     line: &'a [u8],
 ) -> Result<(), ScriptError>
     requires room { draft.old.next < 2 ^ 63 }
-    ensures { Reads result draft.new (read_line draft.old line.now) }
+    ensures line { Reads result draft.new (read_line draft.old line.now) }
+    ensures next { OnOk result (draft.new.next ≡ draft.old.next + 1) }
 {
     let number = draft.next_line();
     if !are_line_bytes(line) {
@@ -109,4 +111,35 @@ pub fn read_line<'a>(
         Err(LineError::Refused) => Err(ScriptError::Line { line: number }),
         Err(LineError::NoMemory) => Err(ScriptError::NoMemory),
     }
+}
+
+// The line at the front, and what stands behind its end; none where no line ends within the bytes.
+#[tactic(auto, using(crate::proofs::ReadingLemmas::cutting))]
+fn cut_line(bytes: &[u8]) -> Option<(&[u8], &[u8])>
+    ensures lines { MatchOption result (lines_of bytes.now ≡ bytes.now ∷ [])
+        (λ cut. lines_of bytes.now ≡ cut.0.now ∷ lines_of cut.1.now) }
+    ensures shorter { IfSome result (λ cut. length cut.1.now < length bytes.now) }
+{
+    let end = bytes.find_byte(b'\n')?;
+    Some((&bytes[..end], &bytes[end + 1..]))
+}
+
+/// Reads the lines that end within the bytes, and gives what stands behind the last of them.
+#[tactic(auto, using(crate::proofs::ReadingLemmas::reading))]
+pub fn read_ended<'a>(
+    alloc: Global,
+    draft: &mut Draft<'a>,
+    bytes: &'a [u8],
+) -> Result<&'a [u8], ScriptError>
+    requires room { draft.old.next + length bytes.now < 2 ^ 63 }
+    ensures ended { Reads result draft.new (read_lines draft.old (ended_lines bytes.now)) }
+    ensures last { IfOk result (λ last. lines_of bytes.now ≡ ended_lines bytes.now ++ last.now ∷ []) }
+    ensures room { OnOk result (draft.new.next < 2 ^ 63) }
+{
+    let mut rest = bytes;
+    while let Some((line, after)) = cut_line(rest) {
+        read_line(alloc, draft, line)?;
+        rest = after;
+    }
+    Ok(rest)
 }
