@@ -1,3 +1,4 @@
+pub mod BindingsLemmas
 pub mod DraftLemmas
 pub mod InputLemmas
 pub mod LinesLemmas

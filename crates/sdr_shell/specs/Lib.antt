@@ -1,4 +1,5 @@
 pub mod Bindings
+pub mod BoundKeys
 pub mod Draft
 pub mod LineAnswers
 pub mod Reading

@@ -1,6 +1,7 @@
 //! The top call: words and a script in, printed answers and a status out.
 #![tactic(auto)]
 
+mod bindings;
 mod draft;
 mod fields;
 mod lines;
@@ -9,5 +10,6 @@ mod script;
 mod statements;
 mod words;
 
+pub use bindings::Bindings;
 pub use read::read_script;
 pub use script::{Script, ScriptError, Statement, Step, Value};
