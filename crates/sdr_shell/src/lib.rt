@@ -7,6 +7,8 @@ mod fields;
 mod lines;
 mod read;
 mod script;
+#[cfg(test)]
+mod script_tests;
 mod statements;
 mod words;
 
