@@ -1,5 +1,12 @@
+pub mod BindingsLemmas
+pub mod DraftLemmas
+pub mod InputLemmas
 pub mod LineLemmas
+pub mod LinesLemmas
+pub mod ReadingLemmas
 pub mod ScheduleLemmas
 mod ScriptExamples
+pub mod StatementsLemmas
 pub mod StillLemmas
 pub mod TextLemmas
+pub mod WordsLemmas

@@ -33,7 +33,7 @@ value_in (b ∷ bindings) daemon name = if is_binding_of daemon name b then b.va
 -- the bindings with this one: in the place of the name's older one, else at the end
 abbrev pub with_binding : List Binding → Binding → List Binding
 with_binding [] new = new ∷ []
-with_binding (b ∷ bindings) new = if is_binding_of new.daemon new.name b then new ∷ bindings else b ∷ with_binding bindings new
+with_binding (b ∷ bindings) new = if is_binding_of new.daemon new.name b then record b { value = new.value } ∷ bindings else b ∷ with_binding bindings new
 
 -- the number that a reply gives to a name
 abbrev pub value_of_reply : Reply → ℕ

@@ -1,5 +1,9 @@
 pub mod Bindings
+pub mod BoundKeys
+pub mod Draft
 pub mod Form
+pub mod LineAnswers
+pub mod Reading
 pub mod Schedule
 pub mod Script
 pub mod Statements

@@ -1,5 +1,5 @@
 -- The script that an input spells.
-use Rattle.std.specs.Prelude.{ℕ, ◌+◌, ◌-◌, List, [], ◌∷◌, ◌++◌, length, take, filter, Bool, not, ◌&&◌, ◌||◌, ◌==◌, nat_le, if◌then◌else◌, slice_index, Option, Some, None, Result, Ok, Err, option_to_list}
+use Rattle.std.specs.Prelude.{ℕ, ◌+◌, List, [], ◌∷◌, ◌++◌, length, take, filter, Bool, not, ◌&&◌, ◌||◌, ◌==◌, nat_le, if◌then◌else◌, slice_index, Option, Some, None, Result, Ok, Err, option_to_list}
 use Rattle.std.specs.List.{list_all, slice_split}
 use Rattle.sdr_shell.specs.Statements.{step_of}
 use Rattle.sdr_shell.specs.declared.script.Step.{Step}
@@ -26,9 +26,9 @@ fields_of line = filter (λ field. not (length field == 0)) (slice_split (λ b. 
 abbrev pub is_line_byte : ℕ → Bool
 is_line_byte b = nat_le 32 b && nat_le b 126
 
--- whether a line is skipped: its first byte is # or it has no field
+-- whether a line is skipped: it is empty or of spaces, or its first byte is #
 abbrev pub is_skipped : List ℕ → Bool
-is_skipped line = slice_index line 0 == 35 || length (fields_of line) == 0
+is_skipped line = list_all (λ b. b == 32) line || slice_index line 0 == 35
 
 -- a step, else its line is refused
 abbrev pub step_or_line : ℕ → Option Step → Result (Option Step) ℕ
@@ -70,9 +70,15 @@ script_of input = do
   all ← read_lines nothing_read (lines_of input)
   Ok all.steps
 
+-- a list without its last item
+abbrev pub but_last : {A : Type 0} → List A → List A
+but_last [] = []
+but_last (x ∷ []) = []
+but_last (x ∷ y ∷ xs) = x ∷ but_last (y ∷ xs)
+
 -- the lines that end in the front of an input: all but the one in which the next byte stands
 abbrev pub ended_lines : List ℕ → List (List ℕ)
-ended_lines front = take (length (lines_of front) - 1) (lines_of front)
+ended_lines front = but_last (lines_of front)
 
 -- the first refused line of an input that goes on behind this front, where the next byte is refused with its line
 abbrev pub refused_behind : List ℕ → Result (List Step) ℕ

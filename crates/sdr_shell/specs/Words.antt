@@ -1,16 +1,14 @@
 -- The words of a script: numbers, names, texts and daemons.
-use Rattle.std.specs.Prelude.{ℕ, ◌-◌, ◌^◌, List, [], ◌∷◌, length, take, drop, Bool, false, not, ◌&&◌, ◌||◌, ◌==◌, nat_le, nat_lt, if◌then◌else◌, slice_index, Option, Some, None, option_and_then}
-use Rattle.std.specs.Char.{is_ascii_alphabetic, is_ascii_alphanumeric}
+use Rattle.std.specs.Prelude.{ℕ, ◌-◌, ◌^◌, List, [], ◌∷◌, length, take, slice_range, Bool, false, not, ◌&&◌, ◌||◌, ◌==◌, nat_le, nat_lt, if◌then◌else◌, slice_index, Option, Some, None, option_and_then}
+use Rattle.std.specs.Char.{is_ascii_digit, is_ascii_alphabetic, is_ascii_alphanumeric}
 use Rattle.std.specs.List.{list_all}
-use Rattle.std.specs.Str.{all_ascii_digits}
 use Rattle.std.specs.Str.Parse.{digits_value}
 use Rattle.sdr_shell.specs.declared.script.Value.{Value}
 use Rattle.sdr_shell.specs.declared.script.Value.TheVariants as values
 
 -- whether bytes are decimal digits without a leading zero, or the digit 0
 abbrev pub is_decimal : List ℕ → Bool
-is_decimal [] = false
-is_decimal (b ∷ bs) = all_ascii_digits (b ∷ bs) && (not (b == 48) || length bs == 0)
+is_decimal bytes = nat_lt 0 (length bytes) && list_all is_ascii_digit bytes && (length bytes == 1 || not (slice_index bytes 0 == 48))
 
 -- the number that a field is: decimal, and of 64 bits
 abbrev pub number_of : List ℕ → Option ℕ
@@ -24,14 +22,13 @@ at_most most n = if nat_le n most then Some n else None
 abbrev pub kind_of : List ℕ → Option ℕ
 kind_of field = option_and_then (at_most 4294967295) (number_of field)
 
--- whether a byte may stand in a name behind its first letter
+-- whether a byte may stand in a name
 abbrev pub is_name_byte : ℕ → Bool
 is_name_byte b = is_ascii_alphanumeric b || b == 95
 
 -- whether a field is a name: a letter, then letters, digits and _, at most 31 in all
 abbrev pub is_name : List ℕ → Bool
-is_name [] = false
-is_name (b ∷ bs) = is_ascii_alphabetic b && list_all is_name_byte bs && nat_le (length bs) 30
+is_name field = is_ascii_alphabetic (slice_index field 0) && list_all is_name_byte field && nat_le (length field) 31
 
 -- whether a byte may stand between quotation marks
 abbrev pub is_text_byte : ℕ → Bool
@@ -39,7 +36,7 @@ is_text_byte b = nat_le 33 b && nat_le b 126 && not (b == 34)
 
 -- the bytes but the first and the last
 abbrev pub inner : List ℕ → List ℕ
-inner field = drop 1 (take (length field - 1) field)
+inner field = slice_range field 1 (length field - 1)
 
 -- whether a field stands in quotation marks
 abbrev pub is_quoted : List ℕ → Bool

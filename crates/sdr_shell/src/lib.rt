@@ -1,21 +1,32 @@
 //! The top call: words and a script in, printed answers and a status out.
+//!
+//! 1. The words are a form, or the status is `USAGE`.
+//! 2. The input is read whole and parsed: a refused line is told before anything runs.
+//! 3. The script's lines run in order on a machine, and each answer is printed as it is made.
+//! 4. The status says what stopped this, if anything did; its last line says so too. A status that
+//!    stands survives a fault of the sink.
 #![tactic(auto)]
 
 mod bindings;
 mod commands;
+mod draft;
+mod fields;
 mod form;
 mod line;
+mod lines;
 mod outcome;
 mod read;
 mod run;
 mod script;
+#[cfg(test)]
+mod script_tests;
 mod statements;
 mod status;
-
 mod text;
 mod top_call;
+mod words;
 
-pub use outcome::Outcome;
 pub use commands::still;
-pub use top_call::top;
+pub use outcome::Outcome;
 pub use status::{DONE, INPUT_FAULT, NO_MEMORY, OUTPUT_FAULT, REFUSED_LINE, USAGE};
+pub use top_call::top;
