@@ -6,6 +6,7 @@ pub mod LinesLemmas
 pub mod ReadingLemmas
 pub mod ScheduleLemmas
 mod ScriptExamples
+pub mod ScriptRead
 pub mod StatementsLemmas
 pub mod StillLemmas
 pub mod TextLemmas

@@ -88,6 +88,7 @@ fn tell<K: Sink>(error: &ScriptError, output: &mut K) -> u8
 }
 
 // A dry run of the input's script.
+#[tactic(auto, using(crate::proofs::ScriptRead::read_scripts))]
 fn dry<S: Source, K: Sink>(alloc: Global, input: &mut S, output: &mut K) -> u8
     ensures known { IsDryStatus result }
     ensures later { (S.faults input.old ≤ S.faults input.new) × (K.faults output.old ≤ K.faults output.new) }
