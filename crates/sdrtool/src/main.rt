@@ -32,7 +32,7 @@ enum Words {
     NoMemory,
 }
 
-fn words(rt: &(impl Env + Alloc<A = Global>)) -> Words {
+fn command_line(rt: &(impl Env + Alloc<A = Global>)) -> Words {
     match env::args(rt) {
         Ok(args) => match shared(rt.alloc(), args.skip(1)) {
             Ok(words) => Words::Given(words),
@@ -52,26 +52,31 @@ fn shared(alloc: Global, args: Skip<Args<Global>>) -> Result<Vec<RcStr>, NoMemor
     Ok(words)
 }
 
+// The words behind the disk's, or nothing where that disk can't be opened.
+fn behind_disk(words: &[RcStr]) -> Option<&[RcStr]> {
+    match words {
+        [] => Some(words),
+        [disk, form @ ..] if disk.as_str() == "-" => Some(form),
+        _ => None,
+    }
+}
+
 fn main(rt: HostRuntime) -> ExitCode {
-    let words = match words(&rt) {
+    let words = match command_line(&rt) {
         Words::Given(words) => words,
         Words::NotText => Vec::new(rt.alloc()),
         Words::NoMemory => return ExitCode::from(NO_MEMORY),
     };
-    let rest = match words.as_slice() {
-        [] => [].as_slice(),
-        [first, rest @ ..] if first.as_str() == "-" => rest,
-        _ => {
-            let _ = eprintln!(rt; "sdrtool: cannot open");
-            return ExitCode::from(CANNOT_OPEN);
-        }
+    let Some(form) = behind_disk(words.as_slice()) else {
+        let _ = eprintln!(rt; "sdrtool: cannot open");
+        return ExitCode::from(CANNOT_OPEN);
     };
     let alloc = rt.alloc();
     let disk = MemoryDisk::new(Vec::new(alloc), Vec::new(alloc));
     let mut input = StdSource::new(rt.stdin());
     let mut output = StdSink::new(rt.stdout());
     let outcome = top(
-        &rt, alloc, rest, disk, NoMedia::new(), &mut input, &mut output, &NoGate,
+        &rt, alloc, form, disk, NoMedia::new(), &mut input, &mut output, &NoGate,
     );
     ExitCode::from(outcome.status)
 }
