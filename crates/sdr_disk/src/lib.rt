@@ -5,10 +5,14 @@
 //! 3. A call answers its fault only where the disk's count of faults rose in that call.
 #![tactic(auto)]
 
+mod change;
 mod disk;
+mod history;
+mod image;
 mod memory;
 #[cfg(test)]
 mod tests;
 
+pub use change::Torn;
 pub use disk::{Disk, DiskFault};
 pub use memory::MemoryDisk;

@@ -1,0 +1,7 @@
+pub mod HistoryLemmas
+pub mod ImageLemmas
+pub mod KeptLemmas
+pub mod MemoryDiskLemmas
+pub mod MomentsLemmas
+pub mod RangesLemmas
+pub mod ToldLemmas
