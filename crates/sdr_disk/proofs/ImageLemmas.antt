@@ -14,8 +14,8 @@ use Rattle.sdr_disk.specs.declared.change.Change.TheVariants.{Write, Sync}
 use Rattle.sdr_disk.specs.declared.change.Kept.{Kept}
 use Rattle.sdr_disk.specs.declared.change.Outcome.{Outcome}
 use Rattle.sdr_disk.specs.declared.change.Outcome.TheVariants.{Done, Failed}
-use Rattle.sdr_disk.specs.declared.change.Torn.{Torn}
-use Rattle.sdr_disk.specs.declared.change.Torn.TheVariants.{Old, New, Filled}
+use Rattle.sdr_disk.specs.declared.torn.Torn.{Torn}
+use Rattle.sdr_disk.specs.declared.torn.Torn.TheVariants.{Old, New, Filled}
 use Rattle.sdr_disk.proofs.HistoryLemmas.{after_all-push}
 use Rattle.sdr_disk.proofs.KeptLemmas.{changes_of-push, undone-written_over, undone_all-push}
 use Rattle.sdr_disk.proofs.RangesLemmas.{Agrees-more, Agrees-one_more, Agrees-overwrite, Agrees-refl, Agrees-sym, Agrees-trans, length-part}

@@ -5,8 +5,8 @@ use Rattle.sdr_disk.specs.declared.change.Change.{Change}
 use Rattle.sdr_disk.specs.declared.change.Change.TheVariants.{Write, Sync}
 use Rattle.sdr_disk.specs.declared.change.Outcome.{Outcome}
 use Rattle.sdr_disk.specs.declared.change.Outcome.TheVariants.{Done, Failed}
-use Rattle.sdr_disk.specs.declared.change.Torn.{Torn}
-use Rattle.sdr_disk.specs.declared.change.Torn.TheVariants.{Old, New, Filled}
+use Rattle.sdr_disk.specs.declared.torn.Torn.{Torn}
+use Rattle.sdr_disk.specs.declared.torn.Torn.TheVariants.{Old, New, Filled}
 
 -- the bytes that a disk began with, and the writes and syncs that were made, in order
 pub record History : Type 0 where

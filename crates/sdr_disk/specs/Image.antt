@@ -7,7 +7,7 @@ use Rattle.sdr_disk.specs.declared.change.Change.{Change}
 use Rattle.sdr_disk.specs.declared.change.Change.TheVariants.{Write, Sync}
 use Rattle.sdr_disk.specs.declared.change.Kept.{Kept}
 use Rattle.sdr_disk.specs.declared.change.Outcome.TheVariants.{Done, Failed}
-use Rattle.sdr_disk.specs.declared.change.Torn.{Torn}
+use Rattle.sdr_disk.specs.declared.torn.Torn.{Torn}
 
 -- a change wrote inside so many bytes, and as many are kept as it wrote
 abbrev pub Fits : ℕ → Change → List ℕ → Type 0

@@ -1,7 +1,4 @@
-// What a disk in memory keeps of its writes and syncs.
-ghost use Rattle.std.specs.Prelude.{◌≡◌, ◌+◌, ◌≤◌, ◌↔◌, length, IsTrue};
-ghost use Rattle.sdr_disk.specs.Ranges.{overwrite};
-
+// What a disk in memory remembers of its writes and syncs.
 use sdr_base::Bytes;
 
 /// How a write or a sync ended.
@@ -27,15 +24,4 @@ pub enum Change {
 pub struct Kept {
     pub change: Change,
     pub before: Bytes,
-}
-
-/// How much of each write that no sync has made last a crash leaves.
-#[derive(Clone, Copy, Debug, PartialEq, Eq)]
-pub enum Torn {
-    /// Nothing: what stood in its range at the last good sync.
-    Old,
-    /// All of it.
-    New,
-    /// Nothing, and this byte in all of its range.
-    Filled(u8),
 }

@@ -10,9 +10,11 @@ mod disk;
 mod history;
 mod image;
 mod memory;
+mod put;
 #[cfg(test)]
 mod tests;
+mod torn;
 
-pub use change::Torn;
 pub use disk::{Disk, DiskFault};
 pub use memory::MemoryDisk;
+pub use torn::Torn;

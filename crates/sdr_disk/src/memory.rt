@@ -1,13 +1,14 @@
 // A disk in memory.
-ghost use Rattle.std.specs.Prelude.{◌≡◌, ◌↔◌, ◌+◌, ◌≤◌, [], ◌∷◌, Contains, IfOk, IsErr, OnOk, Some, is_some, length, refl};
+ghost use Rattle.std.specs.Prelude.{◌≡◌, ◌↔◌, ◌+◌, ◌≤◌, [], ◌∷◌, length, refl};
+ghost use Rattle.std.specs.Prelude.{Contains, IfOk, IsErr, OnOk, Some, is_some};
 ghost use Rattle.sdr_base.specs.Causes.{HasCause, counted};
 ghost use Rattle.sdr_disk.specs.Moments.{IsAtEnd, Keeps, Only, Reads, RisesOrStays, Syncs, Writes};
 ghost use Rattle.sdr_disk.specs.Ranges.{Agrees, overwrite, part, range};
 ghost use Rattle.sdr_disk.specs.Told.{Both, Told};
 
-use crate::change::{Outcome, Torn};
+use crate::change::Outcome;
 use crate::history::History;
-use crate::{Disk, DiskFault};
+use crate::{Disk, DiskFault, Torn};
 use sdr_base::NoMemory;
 use std::marker::Model;
 
@@ -116,20 +117,20 @@ impl MemoryDisk {
 }
 
 impl Disk for MemoryDisk {
-    ghost use Rattle.sdr_disk.specs.History.{MayLeave, bytes_of, moment_of};
-    ghost use Rattle.sdr_disk.specs.MemoryDisk.{Answers, AnswersRead};
-    ghost use Rattle.sdr_disk.specs.declared.change.Change.TheVariants.{Write, Sync};
     ghost use Rattle.sdr_disk.specs.HistoryLaws.{told_read};
+    ghost use Rattle.sdr_disk.specs.MemoryDisk.{Answers, AnswersRead, CrashLeaves};
+    ghost use Rattle.sdr_disk.specs.MemoryDisk.{bytes_now, moment_now, size_now};
+    ghost use Rattle.sdr_disk.specs.declared.change.Change.TheVariants.{Write, Sync};
 
-    ghost size = { λ d. length (bytes_of d.history) };
+    ghost size = { size_now };
 
-    ghost bytes = { λ d. Some (bytes_of d.history) };
+    ghost bytes = { bytes_now };
 
     ghost faults = { λ d. d.faults };
 
-    ghost moment = { λ d. moment_of d.history };
+    ghost moment = { moment_now };
 
-    ghost may_leave = { λ d. MayLeave d.history };
+    ghost may_leave = { CrashLeaves };
 
     ghost told = { λ _. refl };
 
@@ -141,19 +142,20 @@ impl Disk for MemoryDisk {
         self.history.bytes().len() as u64
     }
 
-    /// It fails just where its number is listed.
     fn read_at(&mut self, place: u64, into: &mut [u8]) -> Result<(), DiskFault>
-        requires { place + length into.old ≤ length (bytes_of self.old.history) }
+        requires { place + length into.old ≤ size_now self.old }
 
-        ensures given { OnOk result (Told (Some (bytes_of self.old.history)) (λ x. into.new ≡ part place (length into.new) x)) }
+        ensures given { OnOk result (Told (bytes_now self.old)
+            (λ x. into.new ≡ part place (length into.new) x)) }
 
-        ensures same { Some (bytes_of self.new.history) ≡ Some (bytes_of self.old.history) }
-        ensures size { length (bytes_of self.new.history) ≡ length (bytes_of self.old.history) }
+        ensures same { bytes_now self.new ≡ bytes_now self.old }
+        ensures size { size_now self.new ≡ size_now self.old }
         ensures cause { HasCause self.old.faults self.new.faults result }
 
-        ensures time { moment_of self.new.history ≡ moment_of self.old.history }
-        ensures past { Keeps (moment_of self.old.history) (MayLeave self.old.history) (MayLeave self.new.history) }
+        ensures time { moment_now self.new ≡ moment_now self.old }
+        ensures past { Keeps (moment_now self.old) (CrashLeaves self.old) (CrashLeaves self.new) }
 
+        // It fails just where its number is listed.
         ensures answers { AnswersRead result self.old self.new }
     {
         if self.begin() == Outcome::Failed {
@@ -165,7 +167,29 @@ impl Disk for MemoryDisk {
     }
 
     #[tactic(auto, using(crate::proofs::MemoryDiskLemmas::writing))]
-    fn write_at(&mut self, place: u64, from: &[u8]) -> Result<(), DiskFault> {
+    fn write_at(&mut self, place: u64, from: &[u8]) -> Result<(), DiskFault>
+        requires { place + length from.now ≤ size_now self.old }
+
+        ensures written { OnOk result (Told (bytes_now self.old)
+            (λ x. bytes_now self.new ≡ Some (overwrite place from.now x))) }
+        ensures rises { OnOk result (moment_now self.new ≡ moment_now self.old + 2) }
+
+        ensures end { IsAtEnd (moment_now self.old) →
+            IsErr result × Reads bytes_now moment_now CrashLeaves self.old self.new }
+        ensures made { RisesOrStays bytes_now moment_now CrashLeaves self.old self.new }
+        ensures cause { HasCause self.old.faults self.new.faults result }
+
+        ensures others { Both (bytes_now self.old) (bytes_now self.new)
+            (Agrees (range place (length from.now) ∷ [])) }
+        ensures tells { is_some (bytes_now self.new) ≡ is_some (bytes_now self.old) }
+        ensures size { size_now self.new ≡ size_now self.old }
+
+        ensures moments { Writes moment_now CrashLeaves place (length from.now) self.old self.new }
+
+        // It fails just where its number is listed, at the end of the moments, and where its record
+        // found no memory.
+        ensures answers { Answers (Write place from.now) result self.old self.new }
+    {
         let outcome = self.begin();
         if self.history.is_at_end() {
             return Err(self.fault());
@@ -180,7 +204,25 @@ impl Disk for MemoryDisk {
     }
 
     #[tactic(auto, using(crate::proofs::MemoryDiskLemmas::syncing))]
-    fn sync(&mut self) -> Result<(), DiskFault> {
+    fn sync(&mut self) -> Result<(), DiskFault>
+        ensures rises { OnOk result (moment_now self.new ≡ moment_now self.old + 2) }
+
+        ensures end { IsAtEnd (moment_now self.old) →
+            IsErr result × Reads bytes_now moment_now CrashLeaves self.old self.new }
+        ensures made { RisesOrStays bytes_now moment_now CrashLeaves self.old self.new }
+        ensures cause { HasCause self.old.faults self.new.faults result }
+
+        ensures same { bytes_now self.new ≡ bytes_now self.old }
+        ensures size { size_now self.new ≡ size_now self.old }
+
+        ensures durable { OnOk result (Told (bytes_now self.new)
+            (λ x. Only x (CrashLeaves self.new (moment_now self.new)))) }
+        ensures moments { Syncs moment_now CrashLeaves self.old self.new }
+
+        // It fails just where its number is listed, at the end of the moments, and where its record
+        // found no memory.
+        ensures answers { Answers Sync result self.old self.new }
+    {
         let outcome = self.begin();
         if self.history.is_at_end() {
             return Err(self.fault());
