@@ -119,7 +119,7 @@ module _ (h : History) (place : ℕ) (from : List ℕ) (outcome : Outcome)
         left_before = MayLeave-now h (overwrite place old image) (record { long = whole.long; same = whole.same });
         agrees = Agrees-sym _ image (overwrite place old image)
             (subst (λ (n : ℕ). Agrees (range place n ∷ []) image (overwrite place old image)) many
-                (Agrees-overwrite place old image [] (omega (arith, many, f.long))));
+            (Agrees-overwrite place old image [] (omega (arith, many, f.long))));
       }
 
   pub Writes-push : Writes moment_of MayLeave place (length from) h (with_change write h)
@@ -177,8 +177,8 @@ pub Only-synced : (h : History)
     → Only (bytes_of (with_change (Sync Done) h)) (MayLeave (with_change (Sync Done) h) (moment_of (with_change (Sync Done) h)))
 Only-synced h image left =
     let f : Leaves (length (bytes_of (with_change (Sync Done) h))) (after (state_now h) (Sync Done)) image =
-        Leaves-moved _ _ _ _ image refl
-            (state_at-now (start h.first) (h.changes ++ Sync Done ∷ []) _ (omega arith)
-            ∙ after_all-push (start h.first) h.changes (Sync Done)) left in
+    Leaves-moved _ _ _ _ image refl
+    (state_at-now (start h.first) (h.changes ++ Sync Done ∷ []) _ (omega arith)
+    ∙ after_all-push (start h.first) h.changes (Sync Done)) left in
     Agrees-nil (bytes_of h) image (record { long = f.long ∙ ap length (bytes_of-sync h Done); same = f.same })
     ∙ sym (bytes_of-sync h Done)

@@ -55,9 +55,9 @@ SplitsAtSync-after kept count k some within at good since = record {
     settled : (first : List ℕ) → IsSettled (after_all (start first) (changes_of (take (count - 1) kept ++ k ∷ [])))
     settled first =
         let e : after_all (start first) (changes_of (take (count - 1) kept ++ k ∷ []))
-            ≡ after (after_all (start first) (changes_of (take (count - 1) kept))) k.change =
-            ap (after_all (start first)) (changes_of-push (take (count - 1) kept) k)
-            ∙ after_all-push (start first) (changes_of (take (count - 1) kept)) k.change in
+        ≡ after (after_all (start first) (changes_of (take (count - 1) kept))) k.change =
+        ap (after_all (start first)) (changes_of-push (take (count - 1) kept) k)
+        ∙ after_all-push (start first) (changes_of (take (count - 1) kept)) k.change in
         subst IsSettled (sym e) (settled-good_sync k.change (after_all (start first) (changes_of (take (count - 1) kept))) good)
 
 -- Changes that fit.
@@ -76,9 +76,10 @@ Fits-replaced size (Sync outcome) before s long replaces = tt
 
 pub AllFit-replaced : (size : ℕ) (s : State) (kept : List Kept) → length s.read ≡ size → AllReplace s kept → AllFit size kept
 AllFit-replaced size s [] long each = tt
-AllFit-replaced size s (k ∷ kept) long each =
-    (Fits-replaced size k.change k.before s long each.0,
-    AllFit-replaced size (after s k.change) kept (length-after k.change k.before s each.0 ∙ long) each.1)
+AllFit-replaced size s (k ∷ kept) long each = (
+  Fits-replaced size k.change k.before s long each.0,
+  AllFit-replaced size (after s k.change) kept (length-after k.change k.before s each.0 ∙ long) each.1,
+)
 
 pub AllFit-take : (size count : ℕ) (kept : List Kept) → AllFit size kept → AllFit size (take count kept)
 AllFit-take size zero [] fit = tt
@@ -100,7 +101,7 @@ length-after_all s (k ∷ kept) each = length-after_all (after s k.change) kept 
 pub AllFit-led : (first : List ℕ) (kept : List Kept) (now : List ℕ) → Leads first kept now → AllFit (length now) kept
 AllFit-led first kept now leads =
     AllFit-replaced (length now) (start first) kept
-        (sym (length-after_all (start first) kept leads.each) ∙ ap length leads.forth) leads.each
+    (sym (length-after_all (start first) kept leads.each) ∙ ap length leads.forth) leads.each
 
 -- the changes from a count on, as a slice has them
 pub AllFit-rest : (size count : ℕ) (kept : List Kept) → AllFit size kept
@@ -233,13 +234,13 @@ module _ (torn : Torn) (kept : List Kept) (now : List ℕ) (m count : ℕ)
   state-split =
       ap (λ (l : List Change). state_at (start first) l m) changes-split
       ∙ state_at-append (start first) (changes_of front) (changes_of back) m n
-          (omega (arith, returned_in_time, length-map front (λ (k : Kept). k.change), length-take-le count kept there))
+      (omega (arith, returned_in_time, length-map front (λ (k : Kept). k.change), length-take-le count kept there))
 
   settled : IsSettled s
   settled =
       subst (λ (l : List Kept). IsSettled (after_all (start first) (changes_of l)))
-          (take-take count (m / 2) kept returned_in_time)
-          (split.settled first)
+      (take-take count (m / 2) kept returned_in_time)
+      (split.settled first)
 
   -- nothing was written since: there is nothing to tear
   torn_in-settled : torn_in torn s ≡ s.read
@@ -252,8 +253,8 @@ module _ (torn : Torn) (kept : List Kept) (now : List ℕ) (m count : ℕ)
   since : AllByRecursion (λ k. is_good_sync k.change ≡ false) (returned_by n back)
   since =
       subst (AllByRecursion (λ k. is_good_sync k.change ≡ false))
-          (part-back (m / 2) (n / 2) (omega (arith, returned_in_time)) ∙ returned_by-take n back)
-          split.since
+      (part-back (m / 2) (n / 2) (omega (arith, returned_in_time)) ∙ returned_by-take n back)
+      split.since
 
   began : drop count (take (m / 2 + m % 2) kept) ≡ begun_by n back
   began = part-back (m / 2 + m % 2) (n / 2 + n % 2) (omega (arith, returned_in_time)) ∙ begun_by-take n back
@@ -261,12 +262,12 @@ module _ (torn : Torn) (kept : List Kept) (now : List ℕ) (m count : ℕ)
   undone-back : undone_all back now ≡ s.read
   undone-back =
       ap (undone_all back)
-          (sym leads.forth
-          ∙ ap (λ (l : List Change). (after_all (start first) l).read) changes-split
-          ∙ ap (λ (t : State). t.read) (after_all-append (start first) (changes_of front) (changes_of back)))
+      (sym leads.forth
+      ∙ ap (λ (l : List Change). (after_all (start first) l).read) changes-split
+      ∙ ap (λ (t : State). t.read) (after_all-append (start first) (changes_of front) (changes_of back)))
       ∙ read-undone_all s back
-          (AllReplace-drop (start first) front back
-              (subst (AllReplace (start first)) (sym (take-append-drop count kept)) leads.each))
+      (AllReplace-drop (start first) front back
+      (subst (AllReplace (start first)) (sym (take-append-drop count kept)) leads.each))
 
   pub image_of-made : tear_changes torn (changes_of (drop count (take (m / 2 + m % 2) kept))) (undone_all back now)
       ≡ image_of torn (history_of kept now) m
@@ -285,7 +286,7 @@ module _ (torn : Torn) (kept : List Kept) (now : List ℕ) (m count : ℕ)
       tears
       ∙ ap (λ (l : List Kept). tear_changes torn (changes_of l) undone') (take_rest begun count ∙ ap (drop count) are)
       ∙ ap (tear_changes torn (changes_of (drop count (take (m / 2 + m % 2) kept))))
-          (undoes ∙ ap (λ (l : List Kept). undone_all l now) (take_rest kept count))
+      (undoes ∙ ap (λ (l : List Kept). undone_all l now) (take_rest kept count))
       ∙ image_of-made
 
 -- An image that is made is one that a crash may leave.
@@ -337,7 +338,7 @@ Agrees-tear New w image inside = Agrees-overwrite w.place w.bytes image [] insid
 Agrees-tear (Filled byte) w image inside =
     let many : length (replicate (length w.bytes) byte) ≡ length w.bytes = length-replicate (length w.bytes) byte in
     subst (λ (n : ℕ). Agrees (range w.place n ∷ []) image (overwrite w.place (replicate (length w.bytes) byte) image)) many
-        (Agrees-overwrite w.place (replicate (length w.bytes) byte) image [] (omega (arith, many)))
+    (Agrees-overwrite w.place (replicate (length w.bytes) byte) image [] (omega (arith, many)))
 
 Agrees-tear_all : (torn : Torn) (written : List Written) (synced : List ℕ) → AllInside (length synced) written
     → Agrees (ranges_of written) synced (tear_all torn written synced)
@@ -346,13 +347,13 @@ Agrees-tear_all torn (w ∷ older) synced inside =
     let rest = Agrees-tear_all torn older synced inside.1 in
     let newest = Agrees-tear torn w (tear_all torn older synced) (omega (arith, rest.long, inside.0)) in
     Agrees-trans _ _ _ _
-        (Agrees-one_more (range w.place (length w.bytes)) (ranges_of older) _ _ rest)
-        (Agrees-more (range w.place (length w.bytes) ∷ []) _ _ _ (λ i o. (o.0, tt)) newest)
+    (Agrees-one_more (range w.place (length w.bytes)) (ranges_of older) _ _ rest)
+    (Agrees-more (range w.place (length w.bytes) ∷ []) _ _ _ (λ i o. (o.0, tt)) newest)
 
 Leaves-torn_in : (torn : Torn) (size : ℕ) (s : State) → IsSound size s → Leaves size s (torn_in torn s)
 Leaves-torn_in torn size s sound =
     let torn' = Agrees-tear_all torn s.written s.synced
-        (subst (λ (n : ℕ). AllInside n s.written) (sym (sound.agrees.long ∙ sound.long)) sound.inside) in
+    (subst (λ (n : ℕ). AllInside n s.written) (sym (sound.agrees.long ∙ sound.long)) sound.inside) in
     record {
       long = torn'.long ∙ sound.agrees.long ∙ sound.long;
       same = λ i o. torn'.same i o ∙ sound.agrees.same i o;
@@ -364,12 +365,12 @@ MayLeave-image_of torn kept now m leads =
     let first = undone_all kept now in
     let long : length first ≡ length (bytes_of (history_of kept now)) = sym (length-after_all (start first) kept leads.each) in
     Leaves-torn_in torn _ (state_at (start first) (changes_of kept) m)
-        (IsSound-state_at _ (start first) kept m leads.each
-            (record { long = long; agrees = Agrees-refl [] first; inside = tt }))
+    (IsSound-state_at _ (start first) kept m leads.each
+    (record { long = long; agrees = Agrees-refl [] first; inside = tt }))
 
 -- so is each image that equals it
 pub MayLeave-made : (torn : Torn) (kept : List Kept) (now : List ℕ) (m : ℕ) (h : History) (image : List ℕ)
     → Leads (undone_all kept now) kept now → history_of kept now ≡ h → image ≡ image_of torn h m → MayLeave h m image
 MayLeave-made torn kept now m h image leads is made =
     subst (MayLeave h m) (sym made)
-        (subst (λ (g : History). MayLeave g m (image_of torn g m)) is (MayLeave-image_of torn kept now m leads))
+    (subst (λ (g : History). MayLeave g m (image_of torn g m)) is (MayLeave-image_of torn kept now m leads))

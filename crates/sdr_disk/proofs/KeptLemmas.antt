@@ -71,12 +71,12 @@ pub Grows-write : (outcome : Outcome) (place : ℕ) (from from' before : List �
     → now' ≡ written_over outcome place from now → Grows (Write place from outcome) kept kept' now now'
 Grows-write outcome place from from' before kept kept' now now' leads inside same old is reads =
     Grows-moved _ kept _ kept' now _ now'
-        (is ∙ ap (λ (l : List ℕ). kept ++ record { change = Write place l outcome; before = before } ∷ []) same
-        ∙ ap (λ (l : List ℕ). kept ++ record { change = Write place from outcome; before = l } ∷ []) old)
-        reads
-        (Grows-push (record { change = Write place from outcome; before = part place (length from) now })
-            kept now (written_over outcome place from now) leads (inside, refl)
-            (λ s e. ap (written_over outcome place from) e) (undone-written_over outcome place from now inside))
+    (is ∙ ap (λ (l : List ℕ). kept ++ record { change = Write place l outcome; before = before } ∷ []) same
+    ∙ ap (λ (l : List ℕ). kept ++ record { change = Write place from outcome; before = l } ∷ []) old)
+    reads
+    (Grows-push (record { change = Write place from outcome; before = part place (length from) now })
+    kept now (written_over outcome place from now) leads (inside, refl)
+    (λ s e. ap (written_over outcome place from) e) (undone-written_over outcome place from now inside))
 
 read-sync : (outcome : Outcome) (s : State) → (after s (Sync outcome)).read ≡ s.read
 read-sync Done s = refl
@@ -87,5 +87,5 @@ pub Grows-sync : (outcome : Outcome) (before : List ℕ) (kept kept' : List Kept
     → Grows (Sync outcome) kept kept' now now
 Grows-sync outcome before kept kept' now leads is =
     Grows-moved _ kept _ kept' now now now is refl
-        (Grows-push (record { change = Sync outcome; before = before }) kept now now leads tt
-            (λ s e. read-sync outcome s ∙ e) refl)
+    (Grows-push (record { change = Sync outcome; before = before }) kept now now leads tt
+    (λ s e. read-sync outcome s ∙ e) refl)

@@ -32,7 +32,7 @@ module _ (place : ℕ) (from : List ℕ) (outcome : Outcome) (old new : History)
       let e : bytes_of old ≡ x = cc in
       let f : bytes_of new ≡ y = cc in
       subst (λ (a : List ℕ). Agrees (range place (length from) ∷ []) a y) e
-          (subst (Agrees (range place (length from) ∷ []) (bytes_of old)) f agrees)
+      (subst (Agrees (range place (length from) ∷ []) (bytes_of old)) f agrees)
 
   pub write_size : length (bytes_of new) ≡ length (bytes_of old)
   write_size = agrees.long
@@ -66,8 +66,8 @@ module _ (outcome : Outcome) (old new : History) (is : new ≡ with_change (Sync
   sync_durable done x told image left =
       let e : bytes_of new ≡ x = cc in
       subst (λ (h : History). Only (bytes_of h) (MayLeave h (moment_of h)))
-          (sym (is ∙ ap (λ (o : Outcome). with_change (Sync o) old) done))
-          (Only-synced old) image left
+      (sym (is ∙ ap (λ (o : Outcome). with_change (Sync o) old) done))
+      (Only-synced old) image left
       ∙ e
 
 pub ruleset writing = (write_written, write_others, write_size, write_moments)

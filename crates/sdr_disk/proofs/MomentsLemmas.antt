@@ -93,7 +93,7 @@ module _ {D : Type 0} (moment : D → ℕ) (may_leave : D → ℕ → List ℕ �
       → Syncs moment may_leave mid new → AtEach moment may_leave old new P
   at_synced old mid new P so_far s =
       at_more old mid new P so_far s.later s.past
-          (λ m image gt le left. so_far.each (moment mid) image so_far.later (omega arith) (s.waits m image gt le left))
+      (λ m image gt le left. so_far.each (moment mid) image so_far.later (omega arith) (s.waits m image gt le left))
 
   -- one write more, where an image from before it has P with any bytes in the range
   pub at_written : (old mid new : D) (P : List ℕ → Type 0) (place count : ℕ) → AtEach moment may_leave old mid P
@@ -102,7 +102,7 @@ module _ {D : Type 0} (moment : D → ℕ) (may_leave : D → ℕ → List ℕ �
       → AtEach moment may_leave old new P
   at_written old mid new P place count so_far w here =
       at_more old mid new P so_far w.later w.past
-          (λ m image gt le left. let t = w.torn m image gt le left in here t.whole image t.left_before t.agrees)
+      (λ m image gt le left. let t = w.torn m image gt le left in here t.whole image t.left_before t.agrees)
 
   -- reads more
   pub at_read : (old mid new : D) (P : List ℕ → Type 0) → AtEach moment may_leave old mid P

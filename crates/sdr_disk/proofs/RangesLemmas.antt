@@ -30,7 +30,7 @@ pub get_or-overwrite_after : (place : ℕ) (from x : List ℕ) (i : ℕ) → pla
 get_or-overwrite_after place from x i le ge =
     let long : length (take place x) ≡ place = length-take-le place x (omega arith) in
     get_or-append_right (take place x ++ from) (drop (place + length from) x) (place + length from) i 0
-        (omega (arith, long, length-append (take place x) from)) ge
+    (omega (arith, long, length-append (take place x) from)) ge
     ∙ get_or-drop (place + length from) x (i - (place + length from)) 0
     ∙ ap (λ (k : ℕ). get_or x k 0) (omega arith)
 
@@ -107,10 +107,10 @@ pub Agrees-part : (ranges : List Range) (place count : ℕ) (a b : List ℕ) →
 Agrees-part ranges place count a b le out f =
     let long : length (part place count b) ≡ count = length-part place count b (omega (arith, f.long)) in
     ext_get_or 0 (part place count b) (part place count a)
-        (long ∙ sym (length-part place count a le))
-        (λ i lt. get_or-part place count b i (omega (arith, long, lt))
-        ∙ f.same (place + i) (out (place + i) (omega arith) (omega (arith, long, lt)))
-        ∙ sym (get_or-part place count a i (omega (arith, long, lt))))
+    (long ∙ sym (length-part place count a le))
+    (λ i lt. get_or-part place count b i (omega (arith, long, lt))
+    ∙ f.same (place + i) (out (place + i) (omega arith) (omega (arith, long, lt)))
+    ∙ sym (get_or-part place count a i (omega (arith, long, lt))))
 
 -- a part is put back where it was, over anything: then its range need not agree before
 pub Agrees-part_back : (place count : ℕ) (a b : List ℕ) (ranges : List Range) → place + count ≤ length a
@@ -127,7 +127,7 @@ Agrees-part_back place count a b ranges le f =
         → get_or (overwrite place (part place count a) b) i 0 ≡ get_or a i 0
     at long i o (inl out) =
         get_or-overwrite_outside place (part place count a) b i (omega (arith, long, f.long))
-            (subst (λ (n : ℕ). (i < place) ⊎ (place + n ≤ i)) (sym long) out)
+        (subst (λ (n : ℕ). (i < place) ⊎ (place + n ≤ i)) (sym long) out)
         ∙ f.same i (out, o)
     at long i o (inr in') =
         get_or-overwrite_inside place (part place count a) b i (omega (arith, long, f.long)) in'.0 (omega (arith, long, in'.1))
@@ -139,11 +139,11 @@ pub overwrite-part : (place count : ℕ) (x : List ℕ) → place + count ≤ le
     → overwrite place (part place count x) x ≡ x
 overwrite-part place count x le =
     Agrees-nil x (overwrite place (part place count x) x)
-        (Agrees-part_back place count x x [] le (Agrees-refl (range place count ∷ []) x))
+    (Agrees-part_back place count x x [] le (Agrees-refl (range place count ∷ []) x))
 
 -- what bytes were put over comes back when it is put over them
 pub overwrite-overwrite : (place : ℕ) (from x : List ℕ) → place + length from ≤ length x
     → overwrite place (part place (length from) x) (overwrite place from x) ≡ x
 overwrite-overwrite place from x le =
     Agrees-nil x (overwrite place (part place (length from) x) (overwrite place from x))
-        (Agrees-part_back place (length from) x (overwrite place from x) [] le (Agrees-overwrite place from x [] le))
+    (Agrees-part_back place (length from) x (overwrite place from x) [] le (Agrees-overwrite place from x [] le))

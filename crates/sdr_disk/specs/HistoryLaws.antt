@@ -17,8 +17,8 @@ state_at-now s (y ∷ changes) (suc (suc m)) le = state_at-now (after s y) chang
 pub MayLeave-read : (h : History) → MayLeave h (moment_of h) (bytes_of h)
 MayLeave-read h =
     subst (λ (s : State). Leaves (length (bytes_of h)) s (bytes_of h))
-        (sym (state_at-now (start h.first) h.changes (moment_of h) (omega arith)))
-        (record { long = refl; same = λ i o. refl })
+    (sym (state_at-now (start h.first) h.changes (moment_of h) (omega arith)))
+    (record { long = refl; same = λ i o. refl })
 
 -- so are the bytes that the disk tells
 pub told_read : (h : History) → Told (Some (bytes_of h)) (MayLeave h (moment_of h))

@@ -11,8 +11,8 @@ use crate::put::put_at;
 use sdr_base::{Bytes, Items, NoMemory};
 use std::marker::Model;
 
-/// The bytes of a disk, with the changes that led to them. Contracts see the bytes that it began with,
-/// and the changes.
+/// The bytes of a disk, with the changes that led to them. Contracts see the bytes that it began
+/// with, and the changes.
 #[derive(Drop)]
 pub struct History {
     /// The bytes that a read gives.
@@ -101,12 +101,17 @@ impl History {
         ensures same { OnErr result (self.new ≡ self.old) }
     {
         let none = Bytes::new(*self.bytes.allocator());
-        keep(&mut self.changes, &mut self.moment, Change::Sync(outcome), none)?;
+        keep(
+            &mut self.changes,
+            &mut self.moment,
+            Change::Sync(outcome),
+            none,
+        )?;
         Ok(())
     }
 
-    /// The image of a crash at a moment that leaves so much of each write that was pending then. At a
-    /// moment later than now it is the image now.
+    /// The image of a crash at a moment that leaves so much of each write that had begun by then and
+    /// that no sync had made last. At a moment later than now it is the image now.
     pub fn image_at(&self, moment: u64, torn: Torn) -> Result<Vec<u8>, NoMemory>
         ensures image { IfOk result (λ image. image.items ≡ image_of torn self.now moment) }
         ensures left { IfOk result (λ image. MayLeave self.now moment image.items) }
@@ -125,7 +130,8 @@ fn keep(
     before: Bytes,
 ) -> Result<(), NoMemory>
     requires { moment.old + 2 < 2 ^ 64 }
-    ensures kept { OnOk result (changes.new ≡ changes.old ++ record { change = change; before = before } ∷ []) }
+    ensures kept { OnOk result
+        (changes.new ≡ changes.old ++ record { change = change; before = before } ∷ []) }
     ensures rises { OnOk result (moment.new ≡ moment.old + 2) }
     ensures same { OnErr result ((changes.new ≡ changes.old) × (moment.new ≡ moment.old)) }
 {

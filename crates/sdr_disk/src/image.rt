@@ -9,8 +9,8 @@ use crate::Torn;
 use crate::change::{Change, Kept, Outcome};
 use crate::put::{fill_at, put_at};
 
-/// Makes of the bytes now the image of a crash at a moment: the bytes at the last good sync that had
-/// returned, with each write that had begun since torn.
+/// Makes of the bytes now the image of a crash at a moment: the bytes at the last good sync that
+/// had returned, with each write that had begun since torn.
 pub fn crash(kept: &[Kept], moment: u64, torn: Torn, image: &mut [u8])
     requires { Leads (undone_all kept.now image.old) kept.now image.old }
     ensures { image.new ≡ image_of torn (history_of kept.now image.old) moment }

@@ -2,7 +2,8 @@
 ghost use Rattle.std.specs.Prelude.{◌≡◌, ◌↔◌, ◌+◌, ◌≤◌, [], ◌∷◌, length, refl};
 ghost use Rattle.std.specs.Prelude.{Contains, IfOk, IsErr, OnOk, Some, is_some};
 ghost use Rattle.sdr_base.specs.Causes.{HasCause, counted};
-ghost use Rattle.sdr_disk.specs.Moments.{IsAtEnd, Keeps, Only, Reads, RisesOrStays, Syncs, Writes};
+ghost use Rattle.sdr_disk.specs.Moments.{IsAtEnd, Keeps, Only, Reads};
+ghost use Rattle.sdr_disk.specs.Moments.{RisesOrStays, Syncs, Writes};
 ghost use Rattle.sdr_disk.specs.Ranges.{Agrees, overwrite, part, range};
 ghost use Rattle.sdr_disk.specs.Told.{Both, Told};
 
@@ -48,8 +49,12 @@ impl MemoryDisk {
         ensures bytes { ⟦<MemoryDisk as Disk>⟧.bytes result ≡ Some bytes.items }
         ensures faults { ⟦<MemoryDisk as Disk>⟧.faults result ≡ 0 }
         ensures fresh { result ≡ record {
-            history = record { first = bytes.items; changes = [] };
-            calls = 0; faults = 0; starved = 0; failing = failing.items } }
+          history = record { first = bytes.items; changes = [] };
+          calls = 0;
+          faults = 0;
+          starved = 0;
+          failing = failing.items;
+        } }
     {
         MemoryDisk {
             history: History::new(bytes),
@@ -60,11 +65,12 @@ impl MemoryDisk {
         }
     }
 
-    /// The image of a crash at a moment that leaves this much of each write since the last good
-    /// sync before it. At a moment later than now it is the image now.
+    /// The image of a crash at a moment that leaves so much of each write that had begun by then and
+    /// that no sync had made last. At a moment later than now it is the image now.
     pub fn image_at(&self, moment: u64, torn: Torn) -> Result<Vec<u8>, NoMemory>
         ensures image { IfOk result (λ image. image.items ≡ image_of torn self.now.history moment) }
-        ensures left { IfOk result (λ image. ⟦<MemoryDisk as Disk>⟧.may_leave self.now moment image.items) }
+        ensures left { IfOk result (λ image.
+            ⟦<MemoryDisk as Disk>⟧.may_leave self.now moment image.items) }
     {
         self.history.image_at(moment, torn)
     }
@@ -83,10 +89,11 @@ impl MemoryDisk {
         self.calls
     }
 
-    // Counts a call, and says how it ends.
+    // Counts a call, and says how it is to end.
     fn begin(&mut self) -> Outcome
         ensures called { self.new ≡ called self.old }
-        ensures listed { (result ≡ Outcome.Failed) ↔ Contains self.old.failing (counted self.old.calls) }
+        ensures listed { (result ≡ Outcome.Failed)
+            ↔ Contains self.old.failing (counted self.old.calls) }
     {
         self.calls = self.calls.saturating_add(1);
         if self.failing.contains(&self.calls) {
@@ -108,7 +115,9 @@ impl MemoryDisk {
     // Counts a growth that was refused, and a fault.
     fn starve(&mut self) -> DiskFault
         ensures counted { self.new ≡ record self.old {
-            faults = counted self.old.faults; starved = counted self.old.starved } }
+          faults = counted self.old.faults;
+          starved = counted self.old.starved;
+        } }
         ensures later { self.old.faults ≤ self.new.faults }
     {
         self.starved = self.starved.saturating_add(1);
@@ -147,10 +156,10 @@ impl Disk for MemoryDisk {
 
         ensures given { OnOk result (Told (bytes_now self.old)
             (λ x. into.new ≡ part place (length into.new) x)) }
+        ensures cause { HasCause self.old.faults self.new.faults result }
 
         ensures same { bytes_now self.new ≡ bytes_now self.old }
         ensures size { size_now self.new ≡ size_now self.old }
-        ensures cause { HasCause self.old.faults self.new.faults result }
 
         ensures time { moment_now self.new ≡ moment_now self.old }
         ensures past { Keeps (moment_now self.old) (CrashLeaves self.old) (CrashLeaves self.new) }

@@ -15,5 +15,5 @@ tear_all-requires c =
 pub returns : goal.returns
 returns c =
     image_of-crash c.args.torn c.args.kept.now c.args.image.now c.args.moment c.synced-last.result c.requires
-        (subst (λ (l : List Kept). SplitsAtSync l c.synced-last.result) c.returned.ensures c.synced-last.ensures)
-        _ _ _ c.begun.ensures c.undo_all.ensures c.tear_all.ensures
+    (subst (λ (l : List Kept). SplitsAtSync l c.synced-last.result) c.returned.ensures c.synced-last.ensures)
+    _ _ _ c.begun.ensures c.undo_all.ensures c.tear_all.ensures
