@@ -1,8 +1,8 @@
 -- One change more in the history of a disk in memory.
 use Rattle.std.proofs.Common.{◌≡◌, ℕ, zero, suc, ◌+◌, ◌-◌, ◌*◌, ◌<◌, ◌≤◌, ◌⊎◌, inl, inr, List, [], ◌∷◌, ◌++◌, length}
 use Rattle.std.proofs.Common.{get_or, refl, sym, ◌∙◌, ap, subst, arith, length-append}
-use Rattle.sdr_disk.specs.History.{History, Leaves, MayLeave, State, after, after_all, bytes_of, during, moment_of, ranges_of}
-use Rattle.sdr_disk.specs.History.{start, state_at, with_change, written_over}
+use Rattle.sdr_disk.specs.History.{History, Leaves, MayLeave, State, after, after_all, bytes_of, during}
+use Rattle.sdr_disk.specs.History.{moment_of, ranges_of, start, state_at, with_change, written_over}
 use Rattle.sdr_disk.specs.HistoryLaws.{state_at-now}
 use Rattle.sdr_disk.specs.Moments.{IsTorn, Keeps, Only, Syncs, Tears, Waits, Writes}
 use Rattle.sdr_disk.specs.Ranges.{Agrees, Range, overwrite, part, range}
@@ -10,8 +10,8 @@ use Rattle.sdr_disk.specs.declared.change.Change.{Change}
 use Rattle.sdr_disk.specs.declared.change.Change.TheVariants.{Write, Sync}
 use Rattle.sdr_disk.specs.declared.change.Outcome.{Outcome}
 use Rattle.sdr_disk.specs.declared.change.Outcome.TheVariants.{Done, Failed}
-use Rattle.sdr_disk.proofs.RangesLemmas.{Agrees-nil, Agrees-overwrite, Agrees-part_back, Agrees-refl, Agrees-sym, Agrees-trans}
-use Rattle.sdr_disk.proofs.RangesLemmas.{length-overwrite, length-part}
+use Rattle.sdr_disk.proofs.RangesLemmas.{Agrees-nil, Agrees-overwrite, Agrees-part_back, Agrees-refl}
+use Rattle.sdr_disk.proofs.RangesLemmas.{Agrees-sym, Agrees-trans, length-part}
 
 -- The states along a history.
 
@@ -40,7 +40,17 @@ state_at-push s (y ∷ changes) x zero gt = absurd (omega arith)
 state_at-push s (y ∷ changes) x (suc zero) gt = absurd (omega arith)
 state_at-push s (y ∷ changes) x (suc (suc m)) gt = state_at-push (after s y) changes x m (omega arith)
 
--- Images in one state.
+-- a sync changes nothing that a read gives
+pub read-sync : (outcome : Outcome) (s : State) → (after s (Sync outcome)).read ≡ s.read
+read-sync Done s = refl
+read-sync Failed s = refl
+
+-- whether a write is done or not, a read gives the same bytes outside its range
+pub Agrees-written_over : (outcome : Outcome) (place : ℕ) (from x : List ℕ) (ranges : List Range)
+    → place + length from ≤ length x
+    → Agrees (range place (length from) ∷ ranges) x (written_over outcome place from x)
+Agrees-written_over Done place from x ranges inside = Agrees-overwrite place from x ranges inside
+Agrees-written_over Failed place from x ranges inside = Agrees-refl (range place (length from) ∷ ranges) x
 
 -- an image of one state is an image of another at another length, where both are the same
 pub Leaves-moved : (size size' : ℕ) (s s' : State) (image : List ℕ) → size ≡ size' → s ≡ s'
@@ -86,13 +96,6 @@ moment_of-push h x = omega (arith, length-append h.changes (x ∷ []))
 pub bytes_of-push : (h : History) (x : Change) → bytes_of (with_change x h) ≡ (after (state_now h) x).read
 bytes_of-push h x = ap (λ (s : State). s.read) (after_all-push (start h.first) h.changes x)
 
--- whether a write is done or not, a read gives the same bytes outside its range
-pub Agrees-written_over : (outcome : Outcome) (place : ℕ) (from x : List ℕ) (ranges : List Range)
-    → place + length from ≤ length x
-    → Agrees (range place (length from) ∷ ranges) x (written_over outcome place from x)
-Agrees-written_over Done place from x ranges inside = Agrees-overwrite place from x ranges inside
-Agrees-written_over Failed place from x ranges inside = Agrees-refl (range place (length from) ∷ ranges) x
-
 -- One write more, inside the disk.
 module _ (h : History) (place : ℕ) (from : List ℕ) (outcome : Outcome)
     (inside : place + length from ≤ length (bytes_of h)) where
@@ -135,21 +138,17 @@ module _ (h : History) (place : ℕ) (from : List ℕ) (outcome : Outcome)
           → IsTorn (MayLeave h (moment_of h)) place (length from) image
       at image (inl f) = torn_from image (record { long = f.long; same = f.same })
       at image (inr f) =
-          let o = over (ranges_of (state_now h).written) in
-          torn_from image (Agrees-trans _ (bytes_of h) _ image o (record { long = f.long ∙ sym o.long; same = f.same }))
+          let done = over (ranges_of (state_now h).written) in
+          torn_from image
+          (Agrees-trans _ (bytes_of h) _ image done (record { long = f.long ∙ sym done.long; same = f.same }))
 
 -- One sync more.
 module _ (h : History) (outcome : Outcome) where
   abbrev sync : Change
   sync = Sync outcome
 
-  -- a sync changes nothing that a read gives
-  read-sync : (o : Outcome) → (after (state_now h) (Sync o)).read ≡ bytes_of h
-  read-sync Done = refl
-  read-sync Failed = refl
-
   pub bytes_of-sync : bytes_of (with_change sync h) ≡ bytes_of h
-  bytes_of-sync = bytes_of-push h sync ∙ read-sync outcome
+  bytes_of-sync = bytes_of-push h sync ∙ read-sync outcome (state_now h)
 
   -- what a crash leaves after a sync it leaves before it
   waited : (o : Outcome) (image : List ℕ) → Leaves (length (bytes_of h)) (after (state_now h) (Sync o)) image
@@ -174,11 +173,9 @@ module _ (h : History) (outcome : Outcome) where
 
 -- after a good sync a crash leaves what a read gives
 pub Only-synced : (h : History)
-    → Only (bytes_of (with_change (Sync Done) h)) (MayLeave (with_change (Sync Done) h) (moment_of (with_change (Sync Done) h)))
+    → let g = with_change (Sync Done) h in Only (bytes_of g) (MayLeave g (moment_of g))
 Only-synced h image left =
-    let f : Leaves (length (bytes_of (with_change (Sync Done) h))) (after (state_now h) (Sync Done)) image =
-    Leaves-moved _ _ _ _ image refl
-    (state_at-now (start h.first) (h.changes ++ Sync Done ∷ []) _ (omega arith)
-    ∙ after_all-push (start h.first) h.changes (Sync Done)) left in
-    Agrees-nil (bytes_of h) image (record { long = f.long ∙ ap length (bytes_of-sync h Done); same = f.same })
-    ∙ sym (bytes_of-sync h Done)
+    let now = state_at-now (start h.first) (h.changes ++ Sync Done ∷ []) _ (omega arith) in
+    let is = now ∙ after_all-push (start h.first) h.changes (Sync Done) in
+    let f = Leaves-moved _ _ _ _ image (ap length (bytes_of-sync h Done)) is left in
+    Agrees-nil (bytes_of h) image (record { long = f.long; same = f.same }) ∙ sym (bytes_of-sync h Done)

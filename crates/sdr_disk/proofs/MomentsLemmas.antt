@@ -98,7 +98,8 @@ module _ {D : Type 0} (moment : D → ℕ) (may_leave : D → ℕ → List ℕ �
   -- one write more, where an image from before it has P with any bytes in the range
   pub at_written : (old mid new : D) (P : List ℕ → Type 0) (place count : ℕ) → AtEach moment may_leave old mid P
       → Writes moment may_leave place count mid new
-      → ((whole image : List ℕ) → may_leave mid (moment mid) whole → Agrees (range place count ∷ []) whole image → P image)
+      → ((whole image : List ℕ) → may_leave mid (moment mid) whole
+      → Agrees (range place count ∷ []) whole image → P image)
       → AtEach moment may_leave old new P
   at_written old mid new P place count so_far w here =
       at_more old mid new P so_far w.later w.past

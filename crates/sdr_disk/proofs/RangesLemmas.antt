@@ -1,7 +1,8 @@
 -- Parts of lists of bytes, and lists that differ in ranges alone.
-use Rattle.std.proofs.Common.{◌≡◌, ℕ, ◌+◌, ◌-◌, ◌<◌, ◌≤◌, ◌⊎◌, inl, inr, List, [], ◌∷◌, ◌++◌, length, take, drop, get_or}
-use Rattle.std.proofs.Common.{refl, sym, ◌∙◌, ap, subst, arith, length-append, length-drop, length-take}
-use Rattle.std.proofs.lemmas.List.{ext_get_or, get_or-take, get_or-drop, get_or_append_left, get_or-append_right, length-take-le}
+use Rattle.std.proofs.Common.{◌≡◌, ℕ, ◌+◌, ◌-◌, ◌<◌, ◌≤◌, ◌⊎◌, inl, inr, List, [], ◌∷◌, ◌++◌, length, take, drop}
+use Rattle.std.proofs.Common.{get_or, refl, sym, ◌∙◌, ap, subst, arith, length-append, length-drop, length-take}
+use Rattle.std.proofs.lemmas.List.{ext_get_or, get_or-take, get_or-drop, get_or_append_left, get_or-append_right}
+use Rattle.std.proofs.lemmas.List.{length-take-le}
 use Rattle.sdr_disk.specs.Ranges.{Agrees, IsOutside, Range, overwrite, part, range}
 
 -- What stands at a place after bytes were put into a list.
@@ -14,7 +15,8 @@ pub get_or-overwrite_before : (place : ℕ) (from x : List ℕ) (i : ℕ) → pl
     → get_or (overwrite place from x) i 0 ≡ get_or x i 0
 get_or-overwrite_before place from x i le lt =
     let long : length (take place x) ≡ place = length-take-le place x (omega arith) in
-    get_or_append_left (take place x ++ from) (drop (place + length from) x) 0 i (omega (arith, long, length-append (take place x) from))
+    let front : i < length (take place x ++ from) = omega (arith, long, length-append (take place x) from) in
+    get_or_append_left (take place x ++ from) (drop (place + length from) x) 0 i front
     ∙ get_or_append_left (take place x) from 0 i (omega (arith, long))
     ∙ get_or-take place x i 0 lt
 
@@ -22,7 +24,8 @@ pub get_or-overwrite_inside : (place : ℕ) (from x : List ℕ) (i : ℕ) → pl
     → place ≤ i → i < place + length from → get_or (overwrite place from x) i 0 ≡ get_or from (i - place) 0
 get_or-overwrite_inside place from x i le ge lt =
     let long : length (take place x) ≡ place = length-take-le place x (omega arith) in
-    get_or_append_left (take place x ++ from) (drop (place + length from) x) 0 i (omega (arith, long, length-append (take place x) from))
+    let front : i < length (take place x ++ from) = omega (arith, long, length-append (take place x) from) in
+    get_or_append_left (take place x ++ from) (drop (place + length from) x) 0 i front
     ∙ get_or-append_right (take place x) from place i 0 long ge
 
 pub get_or-overwrite_after : (place : ℕ) (from x : List ℕ) (i : ℕ) → place + length from ≤ length x
@@ -85,7 +88,10 @@ pub Agrees-overwrite_both : (place count : ℕ) (from a b : List ℕ) (ranges : 
     → length from ≡ count → place + count ≤ length a → Agrees (range place count ∷ ranges) a b
     → Agrees ranges (overwrite place from a) (overwrite place from b)
 Agrees-overwrite_both place count from a b ranges is le f = record {
-  long = length-overwrite place from b (omega (arith, f.long)) ∙ f.long ∙ sym (length-overwrite place from a (omega arith));
+  long =
+      length-overwrite place from b (omega (arith, f.long))
+      ∙ f.long
+      ∙ sym (length-overwrite place from a (omega arith));
   same = λ i o. at i o (outside_or_in place count i);
 }
   where
@@ -130,7 +136,8 @@ Agrees-part_back place count a b ranges le f =
         (subst (λ (n : ℕ). (i < place) ⊎ (place + n ≤ i)) (sym long) out)
         ∙ f.same i (out, o)
     at long i o (inr in') =
-        get_or-overwrite_inside place (part place count a) b i (omega (arith, long, f.long)) in'.0 (omega (arith, long, in'.1))
+        get_or-overwrite_inside place (part place count a) b i (omega (arith, long, f.long)) in'.0
+        (omega (arith, long, in'.1))
         ∙ get_or-part place count a (i - place) (omega (arith, in'.0, in'.1))
         ∙ ap (λ (n : ℕ). get_or a n 0) (omega (arith, in'.0))
 

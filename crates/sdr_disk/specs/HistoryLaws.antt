@@ -1,7 +1,8 @@
 -- The bytes as read are one of the images now.
 use Rattle.std.specs.Prelude.{◌≡◌, ℕ, zero, suc, ◌*◌, ◌≤◌, Some, List, [], ◌∷◌, length, refl}
 use Rattle.std.proofs.Common.{arith, subst, sym}
-use Rattle.sdr_disk.specs.History.{History, Leaves, MayLeave, State, after, after_all, bytes_of, moment_of, start, state_at}
+use Rattle.sdr_disk.specs.History.{History, Leaves, MayLeave, State, after, after_all, bytes_of}
+use Rattle.sdr_disk.specs.History.{moment_of, start, state_at}
 use Rattle.sdr_disk.specs.Told.{Told}
 use Rattle.sdr_disk.specs.declared.change.Change.{Change}
 

@@ -26,7 +26,8 @@ history_of kept now = record { first = undone_all kept now; changes = changes_of
 
 -- a change wrote inside these bytes, and what stood there is kept
 abbrev pub Replaces : Change → List ℕ → List ℕ → Type 0
-Replaces (Write place from outcome) before read = (place + length from ≤ length read) × (before ≡ part place (length from) read)
+Replaces (Write place from outcome) before read =
+    (place + length from ≤ length read) × (before ≡ part place (length from) read)
 Replaces (Sync outcome) before read = ⊤
 
 -- so did each change from this state on

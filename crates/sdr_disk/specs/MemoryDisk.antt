@@ -8,7 +8,8 @@ use Rattle.sdr_disk.specs.declared.change.Change.{Change}
 use Rattle.sdr_disk.specs.declared.change.Outcome.{Outcome}
 use Rattle.sdr_disk.specs.declared.change.Outcome.TheVariants.{Done, Failed}
 
--- its bytes and changes, its calls and faults so far, the growths of its record that were refused, and the numbers of the calls that fail
+-- its bytes and changes, its calls and faults so far, how many growths of its record were refused,
+-- and the numbers of the calls that fail
 pub record Memory : Type 0 where
   pub history : History
   pub calls : ℕ

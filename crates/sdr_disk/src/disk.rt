@@ -47,8 +47,8 @@ pub trait Disk {
         ensures time { moment self.new ≡ moment self.old }
         ensures past { Keeps (moment self.old) (may_leave self.old) (may_leave self.new) };
 
-    /// Writes bytes from a place on. Until a sync succeeds a crash may leave any bytes in their range,
-    /// and so it may where the write fails.
+    /// Writes bytes from a place on. Until a sync succeeds a crash may leave any bytes in their
+    /// range, and so it may where the write fails.
     fn write_at(&mut self, place: u64, from: &[u8]) -> Result<(), DiskFault>
         requires { place + length from.now ≤ size self.old }
 
@@ -69,8 +69,8 @@ pub trait Disk {
 
         ensures moments { Writes moment may_leave place (length from.now) self.old self.new };
 
-    /// Makes all that was written last. Where it fails, a crash may still leave any bytes in the ranges
-    /// that were written since the last sync that succeeded.
+    /// Makes all that was written last. Where it fails, a crash may still leave any bytes in the
+    /// ranges that were written since the last sync that succeeded.
     fn sync(&mut self) -> Result<(), DiskFault>
         ensures rises { OnOk result (moment self.new ≡ moment self.old + 2) }
 

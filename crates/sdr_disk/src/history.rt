@@ -110,8 +110,8 @@ impl History {
         Ok(())
     }
 
-    /// The image of a crash at a moment that leaves so much of each write that had begun by then and
-    /// that no sync had made last. At a moment later than now it is the image now.
+    /// The image of a crash at a moment that leaves so much of each write that had begun by then
+    /// and that no sync had made last. At a moment later than now it is the image now.
     pub fn image_at(&self, moment: u64, torn: Torn) -> Result<Vec<u8>, NoMemory>
         ensures image { IfOk result (λ image. image.items ≡ image_of torn self.now moment) }
         ensures left { IfOk result (λ image. MayLeave self.now moment image.items) }

@@ -44,7 +44,8 @@ impl MemoryDisk {
     ghost use Rattle.sdr_disk.specs.History.{image_of};
     ghost use Rattle.sdr_disk.specs.MemoryDisk.{Memory, called};
 
-    /// A disk of these bytes, whose calls of read, write and sync with the numbers in `failing` fail.
+    /// A disk of these bytes, whose calls of read, write and sync fail where their numbers, counted
+    /// from 1, are in `failing`.
     pub fn new(bytes: Vec<u8>, failing: Vec<u64>) -> MemoryDisk
         ensures bytes { ⟦<MemoryDisk as Disk>⟧.bytes result ≡ Some bytes.items }
         ensures faults { ⟦<MemoryDisk as Disk>⟧.faults result ≡ 0 }
@@ -65,8 +66,8 @@ impl MemoryDisk {
         }
     }
 
-    /// The image of a crash at a moment that leaves so much of each write that had begun by then and
-    /// that no sync had made last. At a moment later than now it is the image now.
+    /// The image of a crash at a moment that leaves so much of each write that had begun by then
+    /// and that no sync had made last. At a moment later than now it is the image now.
     pub fn image_at(&self, moment: u64, torn: Torn) -> Result<Vec<u8>, NoMemory>
         ensures image { IfOk result (λ image. image.items ≡ image_of torn self.now.history moment) }
         ensures left { IfOk result (λ image.

@@ -10,7 +10,9 @@ undo_all-requires c = AllFit-rest _ _ _ (AllFit-led _ _ _ c.requires)
 
 pub tear_all-requires : goal.tear_all-requires
 tear_all-requires c =
-    AllFit-rest _ _ _ (subst (AllFit _) (sym c.begun.ensures) (AllFit-take _ _ _ (rw c.undo_all.auto.image (AllFit-led _ _ _ c.requires))))
+    AllFit-rest _ _ _
+    (subst (AllFit _) (sym c.begun.ensures)
+    (AllFit-take _ _ _ (rw c.undo_all.auto.image (AllFit-led _ _ _ c.requires))))
 
 pub returns : goal.returns
 returns c =

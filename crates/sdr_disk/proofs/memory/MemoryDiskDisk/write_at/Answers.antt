@@ -5,16 +5,18 @@ use Rattle.sdr_disk.proofs.memory.MemoryDiskDisk.write_at.Goals as goal
 
 pub returns-in-Done-clause-others : goal.returns-in-Done-clause-others
 returns-in-Done-clause-others c =
-    write_others c.args.place c.args.from.now c.begin-outcome.result c.args.self.now.history c.write.new.self (grind arith) c.requires
+    write_others _ _ _ _ _ c.in-Ok.ensures.ok (grind arith) c.args.self.now
+    (record c.args.self.now { history = c.write.new.self }) (grind arith) refl
 
 pub returns-in-Done-clause-moments : goal.returns-in-Done-clause-moments
 returns-in-Done-clause-moments c =
-    write_moments c.args.place c.args.from.now c.begin-outcome.result c.args.self.now.history c.write.new.self (grind arith) c.requires _ _ refl refl
+    write_moments _ _ _ _ _ c.in-Ok.ensures.ok (grind arith) _ _ (grind arith) (grind arith)
 
 pub returns-in-Failed-clause-others : goal.returns-in-Failed-clause-others
 returns-in-Failed-clause-others c =
-    write_others c.args.place c.args.from.now c.begin-outcome.result c.args.self.now.history c.fault-in-Failed.new.self.history (grind arith) c.requires
+    write_others _ _ _ _ _ c.in-Ok.ensures.ok (grind arith) c.args.self.now c.fault-in-Failed.new.self
+    (grind arith) (grind arith)
 
 pub returns-in-Failed-clause-moments : goal.returns-in-Failed-clause-moments
 returns-in-Failed-clause-moments c =
-    write_moments c.args.place c.args.from.now c.begin-outcome.result c.args.self.now.history c.fault-in-Failed.new.self.history (grind arith) c.requires _ _ refl refl
+    write_moments _ _ _ _ _ c.in-Ok.ensures.ok (grind arith) _ _ (grind arith) (grind arith)
