@@ -1,10 +1,10 @@
 -- One change more in the history of a disk in memory.
-use Rattle.std.proofs.Common.{◌≡◌, ℕ, zero, suc, ◌+◌, ◌-◌, ◌*◌, ◌<◌, ◌≤◌, ◌⊎◌, inl, inr, List, [], ◌∷◌, ◌++◌, length}
-use Rattle.std.proofs.Common.{get_or, refl, sym, ◌∙◌, ap, subst, arith, length-append}
+use Rattle.std.proofs.Common.{◌≡◌, ℕ, zero, suc, ◌+◌, ◌*◌, ◌<◌, ◌≤◌, ◌⊎◌, inl, inr, List, [], ◌∷◌, ◌++◌, length}
+use Rattle.std.proofs.Common.{refl, sym, ◌∙◌, ap, subst, arith, length-append}
 use Rattle.sdr_disk.specs.History.{History, Leaves, MayLeave, State, after, after_all, bytes_of, during}
 use Rattle.sdr_disk.specs.History.{moment_of, ranges_of, start, state_at, with_change, written_over}
 use Rattle.sdr_disk.specs.HistoryLaws.{state_at-now}
-use Rattle.sdr_disk.specs.Moments.{IsTorn, Keeps, Only, Syncs, Tears, Waits, Writes}
+use Rattle.sdr_disk.specs.Moments.{IsTorn, Keeps, Only, Syncs, Writes}
 use Rattle.sdr_disk.specs.Ranges.{Agrees, Range, overwrite, part, range}
 use Rattle.sdr_disk.specs.declared.change.Change.{Change}
 use Rattle.sdr_disk.specs.declared.change.Change.TheVariants.{Write, Sync}

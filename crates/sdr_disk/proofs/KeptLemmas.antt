@@ -2,7 +2,7 @@
 use Rattle.std.proofs.Common.{◌≡◌, ℕ, ◌+◌, ◌≤◌, List, [], ◌∷◌, ◌++◌, length, refl, sym, ◌∙◌, ap, subst}
 use Rattle.std.proofs.Common.{length-append}
 use Rattle.std.proofs.lemmas.List.{map-append}
-use Rattle.sdr_disk.specs.History.{History, State, after, after_all, start, with_change, written_over}
+use Rattle.sdr_disk.specs.History.{State, after, after_all, start, with_change, written_over}
 use Rattle.sdr_disk.specs.Kept.{AllReplace, Leads, Replaces, changes_of, history_of, undone, undone_all}
 use Rattle.sdr_disk.specs.Ranges.{overwrite, part}
 use Rattle.sdr_disk.specs.declared.change.Change.{Change}

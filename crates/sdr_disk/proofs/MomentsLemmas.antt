@@ -1,5 +1,5 @@
 -- What stays of the images at each moment as a run of calls goes on.
-use Rattle.std.proofs.Common.{◌≡◌, ℕ, ◌<◌, ◌≤◌, ◌⊎◌, inl, inr, List, [], ◌∷◌, refl, sym, ◌∙◌, arith, subst}
+use Rattle.std.proofs.Common.{◌≡◌, ℕ, ◌<◌, ◌≤◌, ◌⊎◌, inl, inr, List, [], ◌∷◌, refl, ◌∙◌, arith, subst}
 use Rattle.std.specs.declared.option.Option.{Option}
 use Rattle.sdr_disk.specs.Moments.{AtEach, Keeps, Reads, Syncs, Writes}
 use Rattle.sdr_disk.specs.Ranges.{Agrees, range}

@@ -1,5 +1,5 @@
 -- The image is that of the last good sync, with what was written since torn.
-use Rattle.std.proofs.Common.{List, length, subst, sym, ◌∙◌}
+use Rattle.std.proofs.Common.{List, subst, sym}
 use Rattle.sdr_disk.specs.Image.{AllFit, SplitsAtSync}
 use Rattle.sdr_disk.specs.declared.change.Kept.{Kept}
 use Rattle.sdr_disk.proofs.ImageLemmas.{AllFit-led, AllFit-rest, AllFit-take, image_of-crash}
