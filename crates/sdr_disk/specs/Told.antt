@@ -6,6 +6,10 @@ use Rattle.std.specs.declared.option.Option.{Option}
 abbrev pub Told : Option (List ℕ) → (List ℕ → Type 0) → Type 0
 Told bytes P = (x : List ℕ) → bytes ≡ Some x → P x
 
+-- where the disk tells its bytes before and after, they have P
+abbrev pub Both : Option (List ℕ) → Option (List ℕ) → (List ℕ → List ℕ → Type 0) → Type 0
+Both old new P = (x : List ℕ) → old ≡ Some x → (y : List ℕ) → new ≡ Some y → P x y
+
 -- told bytes are so many
 abbrev pub IsLong : Option (List ℕ) → ℕ → Type 0
 IsLong None size = ⊤

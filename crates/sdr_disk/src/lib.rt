@@ -1,14 +1,26 @@
-//! The disk under a heap: bytes that are read, written and synced, and a disk in memory.
+//! The disk under a heap: bytes that are read, written and synced, what a crash may leave of them
+//! at each moment, and a disk in memory that shows it.
 //!
 //! 1. A disk has a fixed number of bytes. Where it tells them, they are a list of that length.
 //! 2. A read gives the bytes as last written, and a sync changes none of them.
 //! 3. A call answers its fault only where the disk's count of faults rose in that call.
+//! 4. The moment rises by one when a write or a sync begins and by one when it returns. Reads leave
+//!    it as it is.
+//! 5. A crash leaves the bytes as read, but for the ranges written since the last sync that
+//!    succeeded: these may hold any bytes, whether their writes succeeded or not.
+//! 6. No call changes what a crash may leave at a moment up to the one at which it began.
 #![tactic(auto)]
 
+mod change;
 mod disk;
+mod history;
+mod image;
 mod memory;
+mod put;
 #[cfg(test)]
 mod tests;
+mod torn;
 
 pub use disk::{Disk, DiskFault};
 pub use memory::MemoryDisk;
+pub use torn::Torn;

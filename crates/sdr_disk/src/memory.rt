@@ -1,92 +1,252 @@
 // A disk in memory.
-ghost use Rattle.std.specs.Prelude.{◌≡◌, ◌+◌, ◌≤◌, Some, length, refl};
-ghost use Rattle.sdr_disk.specs.Ranges.{overwrite};
+ghost use Rattle.std.specs.Prelude.{◌≡◌, ◌↔◌, ◌+◌, ◌≤◌, [], ◌∷◌, length, refl};
+ghost use Rattle.std.specs.Prelude.{Contains, IfOk, IsErr, OnOk, Some, is_some};
+ghost use Rattle.sdr_base.specs.Causes.{HasCause, counted};
+ghost use Rattle.sdr_disk.specs.Moments.{IsAtEnd, Keeps, Only, Reads};
+ghost use Rattle.sdr_disk.specs.Moments.{RisesOrStays, Syncs, Writes};
+ghost use Rattle.sdr_disk.specs.Ranges.{Agrees, overwrite, part, range};
+ghost use Rattle.sdr_disk.specs.Told.{Both, Told};
 
-use crate::{Disk, DiskFault};
+use crate::change::Outcome;
+use crate::history::History;
+use crate::{Disk, DiskFault, Torn};
+use sdr_base::NoMemory;
+use std::marker::Model;
 
-/// A disk that tells its bytes, and fails at listed calls.
+/// A disk that tells its bytes, keeps a record of its writes and syncs, and fails at listed calls
+/// and where its record can't grow.
 #[derive(Drop)]
 pub struct MemoryDisk {
-    bytes: Vec<u8>,
+    history: History,
     /// Calls of read, write and sync so far.
     calls: u64,
     faults: u64,
+    starved: u64,
     /// The numbers of the calls that fail, counted from 1.
     failing: Vec<u64>,
-    moment: u64,
+}
+
+impl Model for MemoryDisk {
+    ghost use Rattle.sdr_disk.specs.MemoryDisk.{Memory};
+
+    ghost Value = { Memory };
+
+    ghost view = { λ d. record {
+      history = d.history;
+      calls = d.calls;
+      faults = d.faults;
+      starved = d.starved;
+      failing = d.failing.items;
+    } };
 }
 
 impl MemoryDisk {
-    /// A disk of these bytes, whose calls of read, write and sync with the numbers in `failing` fail.
+    ghost use Rattle.sdr_disk.specs.History.{image_of};
+    ghost use Rattle.sdr_disk.specs.MemoryDisk.{Memory, called};
+
+    /// A disk of these bytes, whose calls of read, write and sync fail where their numbers, counted
+    /// from 1, are in `failing`.
     pub fn new(bytes: Vec<u8>, failing: Vec<u64>) -> MemoryDisk
         ensures bytes { ⟦<MemoryDisk as Disk>⟧.bytes result ≡ Some bytes.items }
         ensures faults { ⟦<MemoryDisk as Disk>⟧.faults result ≡ 0 }
+        ensures fresh { result ≡ record {
+          history = record { first = bytes.items; changes = [] };
+          calls = 0;
+          faults = 0;
+          starved = 0;
+          failing = failing.items;
+        } }
     {
         MemoryDisk {
-            bytes,
+            history: History::new(bytes),
             calls: 0,
             faults: 0,
+            starved: 0,
             failing,
-            moment: 0,
         }
     }
-}
 
-// Puts bytes at a place.
-#[tactic(auto, using(std::proofs::lemmas::Slice::overwrites))]
-fn put(bytes: &mut [u8], place: usize, from: &[u8])
-    requires { place + length from.now ≤ length bytes.old }
-    ensures { bytes.new ≡ overwrite place from.now bytes.old }
-{
-    bytes[place..place + from.len()].copy_from_slice(from);
+    /// The image of a crash at a moment that leaves so much of each write that had begun by then
+    /// and that no sync had made last. At a moment later than now it is the image now.
+    pub fn image_at(&self, moment: u64, torn: Torn) -> Result<Vec<u8>, NoMemory>
+        ensures image { IfOk result (λ image. image.items ≡ image_of torn self.now.history moment) }
+        ensures left { IfOk result (λ image.
+            ⟦<MemoryDisk as Disk>⟧.may_leave self.now moment image.items) }
+    {
+        self.history.image_at(moment, torn)
+    }
+
+    /// How many growths of its record were refused. Each of them is a fault, and fails its call.
+    pub fn starved(&self) -> u64
+        ensures { result ≡ self.now.starved }
+    {
+        self.starved
+    }
+
+    /// The number of its calls so far, which stays at the end of its type.
+    pub fn calls(&self) -> u64
+        ensures { result ≡ self.now.calls }
+    {
+        self.calls
+    }
+
+    // Counts a call, and says how it is to end.
+    fn begin(&mut self) -> Outcome
+        ensures called { self.new ≡ called self.old }
+        ensures listed { (result ≡ Outcome.Failed)
+            ↔ Contains self.old.failing (counted self.old.calls) }
+    {
+        self.calls = self.calls.saturating_add(1);
+        if self.failing.contains(&self.calls) {
+            Outcome::Failed
+        } else {
+            Outcome::Done
+        }
+    }
+
+    // Counts a fault.
+    fn fault(&mut self) -> DiskFault
+        ensures counted { self.new ≡ record self.old { faults = counted self.old.faults } }
+        ensures later { self.old.faults ≤ self.new.faults }
+    {
+        self.faults = self.faults.saturating_add(1);
+        DiskFault
+    }
+
+    // Counts a growth that was refused, and a fault.
+    fn starve(&mut self) -> DiskFault
+        ensures counted { self.new ≡ record self.old {
+          faults = counted self.old.faults;
+          starved = counted self.old.starved;
+        } }
+        ensures later { self.old.faults ≤ self.new.faults }
+    {
+        self.starved = self.starved.saturating_add(1);
+        self.fault()
+    }
 }
 
 impl Disk for MemoryDisk {
-    ghost size = { λ d. length d.bytes.items };
+    ghost use Rattle.sdr_disk.specs.HistoryLaws.{told_read};
+    ghost use Rattle.sdr_disk.specs.MemoryDisk.{Answers, AnswersRead, CrashLeaves};
+    ghost use Rattle.sdr_disk.specs.MemoryDisk.{bytes_now, moment_now, size_now};
+    ghost use Rattle.sdr_disk.specs.declared.change.Change.TheVariants.{Write, Sync};
 
-    ghost bytes = { λ d. Some d.bytes.items };
+    ghost size = { size_now };
+
+    ghost bytes = { bytes_now };
 
     ghost faults = { λ d. d.faults };
 
+    ghost moment = { moment_now };
+
+    ghost may_leave = { CrashLeaves };
+
     ghost told = { λ _. refl };
 
+    ghost long = { λ _ _ _ _ _ _ left. left.long };
+
+    ghost read_now = { λ d. told_read d.history };
+
     fn len(&self) -> u64 {
-        self.bytes.len() as u64
+        self.history.bytes().len() as u64
     }
 
-    fn read_at(&mut self, place: u64, into: &mut [u8]) -> Result<(), DiskFault> {
-        self.calls = self.calls.saturating_add(1);
-        if self.failing.contains(&self.calls) {
-            self.faults = self.faults.saturating_add(1);
-            return Err(DiskFault);
+    fn read_at(&mut self, place: u64, into: &mut [u8]) -> Result<(), DiskFault>
+        requires { place + length into.old ≤ size_now self.old }
+
+        ensures given { OnOk result (Told (bytes_now self.old)
+            (λ x. into.new ≡ part place (length into.new) x)) }
+        ensures cause { HasCause self.old.faults self.new.faults result }
+
+        ensures same { bytes_now self.new ≡ bytes_now self.old }
+        ensures size { size_now self.new ≡ size_now self.old }
+
+        ensures time { moment_now self.new ≡ moment_now self.old }
+        ensures past { Keeps (moment_now self.old) (CrashLeaves self.old) (CrashLeaves self.new) }
+
+        // It fails just where its number is listed.
+        ensures answers { AnswersRead result self.old self.new }
+    {
+        if self.begin() == Outcome::Failed {
+            return Err(self.fault());
         }
         let place = place as usize;
-        into.copy_from_slice(&self.bytes[place..place + into.len()]);
+        into.copy_from_slice(&self.history.bytes()[place..place + into.len()]);
         Ok(())
     }
 
-    fn write_at(&mut self, place: u64, from: &[u8]) -> Result<(), DiskFault> {
-        self.calls = self.calls.saturating_add(1);
-        self.moment = self.moment.saturating_add(2);
-        if self.failing.contains(&self.calls) {
-            self.faults = self.faults.saturating_add(1);
-            return Err(DiskFault);
+    #[tactic(auto, using(crate::proofs::MemoryDiskLemmas::writing))]
+    fn write_at(&mut self, place: u64, from: &[u8]) -> Result<(), DiskFault>
+        requires { place + length from.now ≤ size_now self.old }
+
+        ensures written { OnOk result (Told (bytes_now self.old)
+            (λ x. bytes_now self.new ≡ Some (overwrite place from.now x))) }
+        ensures rises { OnOk result (moment_now self.new ≡ moment_now self.old + 2) }
+
+        ensures end { IsAtEnd (moment_now self.old) →
+            IsErr result × Reads bytes_now moment_now CrashLeaves self.old self.new }
+        ensures made { RisesOrStays bytes_now moment_now CrashLeaves self.old self.new }
+        ensures cause { HasCause self.old.faults self.new.faults result }
+
+        ensures others { Both (bytes_now self.old) (bytes_now self.new)
+            (Agrees (range place (length from.now) ∷ [])) }
+        ensures tells { is_some (bytes_now self.new) ≡ is_some (bytes_now self.old) }
+        ensures size { size_now self.new ≡ size_now self.old }
+
+        ensures moments { Writes moment_now CrashLeaves place (length from.now) self.old self.new }
+
+        // It fails just where its number is listed, at the end of the moments, and where its record
+        // found no memory.
+        ensures answers { Answers (Write place from.now) result self.old self.new }
+    {
+        let outcome = self.begin();
+        if self.history.is_at_end() {
+            return Err(self.fault());
         }
-        put(&mut self.bytes, place as usize, from);
-        Ok(())
+        let Ok(()) = self.history.write(place, from, outcome) else {
+            return Err(self.starve());
+        };
+        match outcome {
+            Outcome::Done => Ok(()),
+            Outcome::Failed => Err(self.fault()),
+        }
     }
 
-    fn sync(&mut self) -> Result<(), DiskFault> {
-        self.calls = self.calls.saturating_add(1);
-        self.moment = self.moment.saturating_add(2);
-        if self.failing.contains(&self.calls) {
-            self.faults = self.faults.saturating_add(1);
-            return Err(DiskFault);
+    #[tactic(auto, using(crate::proofs::MemoryDiskLemmas::syncing))]
+    fn sync(&mut self) -> Result<(), DiskFault>
+        ensures rises { OnOk result (moment_now self.new ≡ moment_now self.old + 2) }
+
+        ensures end { IsAtEnd (moment_now self.old) →
+            IsErr result × Reads bytes_now moment_now CrashLeaves self.old self.new }
+        ensures made { RisesOrStays bytes_now moment_now CrashLeaves self.old self.new }
+        ensures cause { HasCause self.old.faults self.new.faults result }
+
+        ensures same { bytes_now self.new ≡ bytes_now self.old }
+        ensures size { size_now self.new ≡ size_now self.old }
+
+        ensures durable { OnOk result (Told (bytes_now self.new)
+            (λ x. Only x (CrashLeaves self.new (moment_now self.new)))) }
+        ensures moments { Syncs moment_now CrashLeaves self.old self.new }
+
+        // It fails just where its number is listed, at the end of the moments, and where its record
+        // found no memory.
+        ensures answers { Answers Sync result self.old self.new }
+    {
+        let outcome = self.begin();
+        if self.history.is_at_end() {
+            return Err(self.fault());
         }
-        Ok(())
+        let Ok(()) = self.history.sync(outcome) else {
+            return Err(self.starve());
+        };
+        match outcome {
+            Outcome::Done => Ok(()),
+            Outcome::Failed => Err(self.fault()),
+        }
     }
 
     fn now(&self) -> u64 {
-        self.moment
+        self.history.moment()
     }
 }
