@@ -159,3 +159,24 @@ overwrite-inside p q ys zs x le inside =
             (i < p) ⊎ (p + length (overwrite q zs ys) ≤ i)
         as_long i same (inl lt) = inl lt
         as_long i same (inr ge) = inr (omega (arith, same, ge))
+
+-- the part that was put
+pub part-overwrite : (p : ℕ) (ys x : List ℕ) → p + length ys ≤ length x → part p (length ys) (overwrite p ys x) ≡ ys
+part-overwrite p ys x le =
+    let whole = length-overwrite p ys x le in
+    let long = length-part p (length ys) (overwrite p ys x) (omega (arith, whole)) in
+    ext_get_or 0 (part p (length ys) (overwrite p ys x)) ys long
+    (λ i lt. get_or-part p (length ys) (overwrite p ys x) i (omega (arith, long, lt))
+        ∙ get_or-overwrite_inside p ys x (p + i) le (omega arith) (omega (arith, long, lt))
+        ∙ ap (λ (k : ℕ). get_or ys k 0) (omega arith))
+
+-- a part before the bytes that were put
+pub part-overwrite_before : (q n p : ℕ) (ys x : List ℕ) → q + n ≤ p → p + length ys ≤ length x →
+    part q n (overwrite p ys x) ≡ part q n x
+part-overwrite_before q n p ys x before le =
+    let long = length-part q n (overwrite p ys x) (omega (arith, length-overwrite p ys x le)) in
+    ext_get_or 0 (part q n (overwrite p ys x)) (part q n x) (long ∙ sym (length-part q n x (omega arith)))
+    (λ i lt. let lt' : i < n = omega (arith, long, lt) in
+    get_or-part q n (overwrite p ys x) i lt'
+    ∙ get_or-overwrite_before p ys x (q + i) le (omega arith)
+    ∙ sym (get_or-part q n x i lt'))

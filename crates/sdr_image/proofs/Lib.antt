@@ -1,4 +1,5 @@
 pub mod FormatLemmas
 pub mod ImageLemmas
 pub mod RegionLemmas
+pub mod SavedLemmas
 pub mod UndoLemmas

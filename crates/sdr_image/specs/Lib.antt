@@ -1,3 +1,4 @@
 pub mod Format
 pub mod Opened
+pub mod Saved
 pub mod Undo

@@ -9,8 +9,10 @@ ghost use Rattle.sdr_disk.specs.Told.{Told};
 ghost use Rattle.sdr_log.specs.Frame.{room_of, heap_place};
 ghost use Rattle.sdr_log.specs.Log.{put_back_of};
 ghost use Rattle.sdr_image.specs.Opened.{transaction_of, IsFailed};
+ghost use Rattle.sdr_image.specs.Saved.{Saves, KeepsDisk};
 
 use crate::region::{Region, span};
+use crate::saving::{gather_rising, save};
 use crate::undo::Undo;
 use sdr_base::{Cells, LINE, Refusal, Stop};
 use sdr_disk::Disk;
@@ -158,6 +160,55 @@ impl<D: Disk> Image<D> {
             return Err(Stop::Failed);
         }
         self.bytes.put_back(self.undo.olds(), self.frame.heap_lines);
+        self.undo.clear();
+        self.is_open = false;
+        Ok(())
+    }
+
+    /// Ends the transaction with its bytes on the disk: the touched lines are written by rising
+    /// number, and synced. Where it touched none, no call of the disk is made. Where none was begun,
+    /// it is as if one had been.
+    pub fn commit(&mut self) -> Result<(), Stop>
+        ensures ended { OnOk result (self.new ≡ record self.old {
+            disk = self.new.disk; begun = self.old.bytes; touched = []; is_open = false }) }
+        ensures saved { OnOk result (Saves D.bytes self.old self.new) }
+        ensures idle { self.old.touched ≡ [] → self.new.disk ≡ self.old.disk }
+
+        ensures answered { IfRefused result (λ _. ⊥) }
+        ensures cause { HasReason (transaction_of D.faults self.old)
+            (transaction_of D.faults self.new) result }
+        ensures failed { OnErr result (IsFailed self.old self.new) }
+
+        ensures disk { KeepsDisk D.size D.bytes self.old self.new }
+    {
+        if self.failed {
+            return Err(Stop::Failed);
+        }
+        if !self.undo.olds().is_empty() {
+            return self.save();
+        }
+        self.is_open = false;
+        Ok(())
+    }
+
+    // Writes the touched lines to the disk, and begins anew.
+    fn save(&mut self) -> Result<(), Stop>
+        requires { self.old.failed ≡ false }
+        ensures ended { OnOk result (self.new ≡ record self.old {
+            disk = self.new.disk; begun = self.old.bytes; touched = []; is_open = false }) }
+        ensures saved { OnOk result (Saves D.bytes self.old self.new) }
+        ensures answered { IfRefused result (λ _. ⊥) }
+        ensures cause { HasReason (transaction_of D.faults self.old)
+            (transaction_of D.faults self.new) result }
+        ensures failed { OnErr result (IsFailed self.old self.new) }
+        ensures disk { KeepsDisk D.size D.bytes self.old self.new }
+    {
+        gather_rising(self.undo.olds(), &mut self.rising);
+        let place = self.frame.heap_place();
+        let Ok(()) = save(&mut self.disk, place, &self.bytes, &self.rising) else {
+            self.failed = true;
+            return Err(Stop::DiskFault);
+        };
         self.undo.clear();
         self.is_open = false;
         Ok(())

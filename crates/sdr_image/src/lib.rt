@@ -7,6 +7,7 @@ mod empty;
 mod fresh;
 mod image;
 mod region;
+mod saving;
 mod undo;
 mod zeros;
 
