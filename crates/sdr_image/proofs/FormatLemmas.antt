@@ -9,6 +9,7 @@ use Rattle.sdr_base.proofs.PartsLemmas.{length-overwrite, overwrite-behind, over
 use Rattle.sdr_disk.specs.Told.{Told, IsLong}
 use Rattle.sdr_log.specs.Frame.{four, heap_place, head_of, disk_bytes, IsInLimits}
 use Rattle.sdr_log.specs.declared.frame.Frame.{Frame}
+use Rattle.sdr_log.proofs.FrameLemmas.{length-head_of}
 use Rattle.sdr_image.specs.Format.{formatted}
 
 -- the told bytes of a disk are as many as it has
@@ -41,10 +42,6 @@ fresh_heap_behind p q f control x p_is q_is is limits le =
     ∙ ap (λ (k : ℕ). overwrite k (control ++ zeros) x) p_is
     ∙ ap (λ (l : List ℕ). overwrite (heap_place f) (l ++ zeros) x) is
     ∙ ap (λ (l : List ℕ). overwrite (heap_place f) l x) (sym (fresh_heap-zeros f.heap_lines limits.least_heap))
-
-pub length-head_of : (f : Frame) → length (head_of f) ≡ 64
-unfolding head_of four
-length-head_of f = refl
 
 -- bytes put over as many, with others put behind in between
 overwrite-first : (ys zs x a b : List ℕ) (p q : ℕ) → length ys ≡ length zs → length ys ≤ p → p + length a ≤ length x →

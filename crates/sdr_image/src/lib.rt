@@ -6,11 +6,12 @@ mod error;
 mod empty;
 mod fresh;
 mod image;
+mod opening;
 mod region;
 mod saving;
 mod undo;
 mod zeros;
 
-pub use error::FormatError;
+pub use error::{FormatError, ImageError, ImageShut};
 pub use empty::format;
 pub use image::Image;

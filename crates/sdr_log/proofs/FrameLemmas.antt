@@ -1,9 +1,9 @@
 -- What a head tells.
-use Rattle.std.proofs.Common.{◌≡◌, ◌≤◌, ℕ, Bool, true, false, cond, ◌&&◌, List, sym, ap, ◌∙◌, subst, refl, arith, Some, None}
+use Rattle.std.proofs.Common.{◌≡◌, ◌≤◌, ◌<◌, length, ℕ, Bool, true, false, cond, ◌&&◌, List, sym, ap, ◌∙◌, subst, refl, arith, Some, None}
 use Rattle.std.specs.Prelude.{bytes_eq, nat_le}
-use Rattle.std.proofs.lemmas.Bool.{le-leb, leb-true}
+use Rattle.std.proofs.lemmas.Slice.Eq.{bytes_eq-Decides}
 use Rattle.std.proofs.lemmas.Bool.Decides.{nat_tests}
-use Rattle.sdr_log.specs.Frame.{IsInLimits, is_in_limits, frame_in, head_of, frame_of}
+use Rattle.sdr_log.specs.Frame.{IsInLimits, is_in_limits, frame_in, four, head_of, frame_of}
 use Rattle.sdr_log.specs.declared.frame.Frame.{Frame}
 
 -- the test is true of lengths within the limits
@@ -54,3 +54,27 @@ IsInLimits-frame_of head f is =
     passed true true x e = (refl, cc)
     passed true false x e = absurd cc
     passed false b x e = absurd cc
+
+pub length-head_of : (f : Frame) → length (head_of f) ≡ 64
+unfolding head_of four
+length-head_of f = refl
+
+-- fewer bytes than a head has are none
+pub frame_of-short : (head : List ℕ) → length head < 64 → frame_of head ≡ None
+unfolding frame_of
+frame_of-short head short =
+    ap (λ (b : Bool). cond (is_in_limits f && b) (Some f) None) (differs (bytes_eq (head_of f) head) refl)
+    ∙ passes_none (is_in_limits f)
+  where
+    f : Frame
+    f = frame_in head
+
+    differs : (b : Bool) → bytes_eq (head_of f) head ≡ b → b ≡ false
+    differs true is =
+        let same = (bytes_eq-Decides (head_of f) head).0 is in
+        absurd (omega (arith, ap length same, length-head_of f, short))
+    differs false is = refl
+
+    passes_none : (a : Bool) → cond (a && false) (Some f) None ≡ None
+    passes_none true = refl
+    passes_none false = refl
