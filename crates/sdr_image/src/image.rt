@@ -1,5 +1,5 @@
 // An opened disk.
-ghost use Rattle.std.specs.Prelude.{◌≡◌, ◌≤◌, ◌<◌, ◌+◌, ◌-◌, ◌∷◌, [], ℕ, true, false, length, OnOk, OnErr, Some, is_some, refl};
+ghost use Rattle.std.specs.Prelude.{◌≡◌, ◌≤◌, ◌<◌, ◌+◌, ◌-◌, ◌∷◌, [], ℕ, true, false, length, OnOk, OnErr, IfOk, IfErr, Some, None, is_some, refl, ◌*◌, ◌≢◌, ◌⊎◌, vec_capacity};
 ghost use Rattle.std.specs.List.{range_with_len};
 ghost use Rattle.std.proofs.Common.{◌∙◌};
 ghost use Rattle.sdr_base.specs.Cells.{is_among, with_lines, lines_of};
@@ -7,16 +7,21 @@ ghost use Rattle.sdr_base.specs.Parts.{overwrite};
 ghost use Rattle.sdr_base.specs.Transaction.{HasReason, IfRefused};
 ghost use Rattle.sdr_disk.specs.Told.{Told};
 ghost use Rattle.sdr_log.specs.Frame.{room_of, heap_place};
-ghost use Rattle.sdr_log.specs.Log.{put_back_of};
+ghost use Rattle.sdr_log.specs.Log.{first_gate, heap_of, put_back_of};
+ghost use Rattle.sdr_base.specs.Parts.{part};
+ghost use Rattle.sdr_image.specs.Opening.{HasImageCause, OnNotFormatted, IsFound};
 ghost use Rattle.sdr_image.specs.Opened.{transaction_of, IsFailed};
 ghost use Rattle.sdr_image.specs.Saved.{Saves, KeepsDisk};
 
+use crate::opening::{find_frame, read_heap};
 use crate::region::{Region, span};
 use crate::saving::{gather_rising, save};
 use crate::undo::Undo;
+use crate::{ImageError, ImageShut};
 use sdr_base::{Cells, LINE, Refusal, Stop};
 use sdr_disk::Disk;
 use sdr_log::{Frame, Record};
+use std::alloc::Global;
 use std::marker::Model;
 
 /// A disk with a heap on it, opened. The heap region stands in memory, and a transaction reaches the
@@ -55,7 +60,66 @@ impl<D: Disk> Model for Image<D> {
       (vec_capacity s.rising) s.is_open s.failed };
 }
 
+// What opening takes from a disk, and all the memory of an image.
+#[derive(Drop)]
+struct Loaded {
+    frame: Frame,
+    bytes: Region,
+    undo: Undo,
+    rising: Vec<u32>,
+}
+
+// Reads a disk, and takes all the memory of an image.
+fn load<D: Disk>(alloc: Global, disk: &mut D) -> Result<Loaded, ImageError>
+    ensures found { IfOk result (λ l. IsFound (D.size disk.old) (D.bytes disk.old) l.frame) }
+    ensures given { IfOk result (λ l. Told (D.bytes disk.old) (λ x. l.bytes ≡ heap_of l.frame x)) }
+    ensures long { IfOk result (λ l. length l.bytes ≡ LINE * l.frame.heap_lines) }
+    ensures undo { IfOk result (λ l. l.undo
+        ≡ record { lines = l.frame.heap_lines; room = room_of l.frame; olds = [] }) }
+    ensures rising { IfOk result (λ l. room_of l.frame ≤ vec_capacity l.rising) }
+    ensures not_formatted { IfErr result (λ why. OnNotFormatted why
+        (Told (D.bytes disk.old) (λ x. (put_back_of x ≡ None) ⊎ (first_gate x ≢ 0)))) }
+    ensures cause { HasImageCause (D.faults disk.old) (D.faults disk.new) result }
+    ensures same { D.bytes disk.new ≡ D.bytes disk.old }
+    ensures size { D.size disk.new ≡ D.size disk.old }
+{
+    let frame = find_frame(disk)?;
+    let bytes = read_heap(alloc, disk, &frame)?;
+    let room = frame.room() as usize;
+    let undo = Undo::new(alloc, frame.heap_lines as usize, room)?;
+    let rising = Vec::with_capacity(alloc, room)?;
+    Ok(Loaded {
+        frame,
+        bytes,
+        undo,
+        rising,
+    })
+}
+
 impl<D: Disk> Image<D> {
+    ghost use Rattle.sdr_image.specs.Opening.{IsOpened, Returns};
+
+    /// Opens a disk that has a heap and no open batch. It is read once, and all memory is taken here.
+    pub fn open(alloc: Global, mut disk: D) -> Result<Image<D>, ImageShut<D>>
+        ensures opened { IfOk result (IsOpened D.bytes disk) }
+        ensures not_formatted { IfErr result (λ shut. OnNotFormatted shut.why
+            (Told (D.bytes disk) (λ x. (put_back_of x ≡ None) ⊎ (first_gate x ≢ 0)))) }
+        ensures disk { Returns D.size D.bytes D.faults disk result }
+    {
+        match load(alloc, &mut disk) {
+            Ok(loaded) => Ok(Image {
+                disk,
+                frame: loaded.frame,
+                bytes: loaded.bytes,
+                undo: loaded.undo,
+                rising: loaded.rising,
+                is_open: false,
+                failed: false,
+            }),
+            Err(why) => Err(ImageShut { why, disk }),
+        }
+    }
+
     /// Begins a transaction.
     pub fn begin(&mut self)
         requires { self.old.is_open ≡ false }
