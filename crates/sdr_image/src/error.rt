@@ -62,6 +62,7 @@ impl From<NoMemory> for ImageError {
 }
 
 /// A disk that isn't opened, and why. Its bytes are as before.
+#[derive(Drop)]
 pub struct ImageShut<D> {
     pub why: ImageError,
     pub disk: D,

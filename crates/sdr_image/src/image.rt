@@ -26,6 +26,7 @@ use std::marker::Model;
 
 /// A disk with a heap on it, opened. The heap region stands in memory, and a transaction reaches the
 /// disk with its commit. No call takes memory.
+#[derive(Drop)]
 pub struct Image<D: Disk> {
     disk: D,
     frame: Frame,

@@ -9,6 +9,8 @@ mod image;
 mod opening;
 mod region;
 mod saving;
+#[cfg(test)]
+mod tests;
 mod undo;
 mod zeros;
 
