@@ -1,6 +1,6 @@
 -- What a commit leaves on the disk.
-use Rattle.std.proofs.Common.{◌≡◌, ◌≤◌, ◌<◌, ◌⊎◌, inl, inr, ℕ, ◌+◌, ◌-◌, ◌*◌, ◌/◌, Bool, true, false, ◌||◌, ◌==◌}
-use Rattle.std.proofs.Common.{List, [], ◌∷◌, ◌++◌, length, get_or, take, drop, refl, sym, ap, ◌∙◌, subst, arith}
+use Rattle.std.proofs.Common.{◌≡◌, ◌≤◌, ◌<◌, ◌⊎◌, inl, inr, ℕ, ◌+◌, ◌-◌, ◌*◌, ◌/◌, Bool, true, false, ◌==◌}
+use Rattle.std.proofs.Common.{List, [], ◌∷◌, length, get_or, refl, sym, ap, ◌∙◌, subst, arith}
 use Rattle.std.specs.Prelude.{Option, Some, None, is_some, IsPermutation}
 use Rattle.std.proofs.lemmas.List.{ext_get_or}
 use Rattle.std.proofs.lemmas.List.Sorted.{IsPermutation-refl, list_any-IsPermutation}
@@ -9,15 +9,16 @@ use Rattle.std.proofs.lemmas.Bool.Decides.{nat_tests}
 use Rattle.sdr_base.specs.Cells.{is_among}
 use Rattle.sdr_base.specs.Parts.{overwrite, part}
 use Rattle.sdr_base.proofs.PartsLemmas.{sides, length-overwrite, length-part, get_or-part, get_or-overwrite_inside}
-use Rattle.sdr_base.proofs.PartsLemmas.{get_or-overwrite_outside, get_or-overwrite_before, overwrite-part, overwrite-inside}
+use Rattle.sdr_base.proofs.PartsLemmas.{get_or-overwrite_outside, get_or-overwrite_before, overwrite-part}
+use Rattle.sdr_base.proofs.PartsLemmas.{overwrite-inside}
 use Rattle.sdr_base.proofs.PartsLemmas.{part-overwrite, part-overwrite_before}
 use Rattle.sdr_disk.specs.Told.{Told, IsLong}
-use Rattle.sdr_log.specs.Frame.{IsInLimits, heap_place, disk_bytes, frame_of}
-use Rattle.sdr_log.specs.Log.{is_named, are_good, AreLines, put_records, heap_of, first_gate, put_back_of}
+use Rattle.sdr_log.specs.Frame.{heap_place, frame_of}
+use Rattle.sdr_log.specs.Log.{is_named, are_good, AreLines, put_records, heap_of, put_back_of}
 use Rattle.sdr_log.specs.declared.frame.Frame.{Frame}
 use Rattle.sdr_log.specs.declared.record.Record.{Record}
 use Rattle.sdr_log.proofs.LogLemmas.{put_back_of-closed}
-use Rattle.sdr_log.proofs.RecordsLemmas.{SameBut, SameBut-put_records, are_good-cons}
+use Rattle.sdr_log.proofs.RecordsLemmas.{SameBut-put_records, are_good-cons}
 use Rattle.sdr_image.specs.Opened.{Opened, lines_named, HoldsHeap, IsImage}
 use Rattle.sdr_image.specs.Undo.{Olds}
 use Rattle.sdr_image.specs.Saved.{saved_lines, Saves}
@@ -46,17 +47,19 @@ copied_line line now old same le =
     (long, length-overwrite (64 * line) (part (64 * line) 64 now) old (omega (arith, long, le)))
 
 length-copied : (lines : List ℕ) (now old : List ℕ) → length now ≡ length old →
-    ((line : ℕ) → is_among lines line ≡ true → 64 * line + 64 ≤ length old) → length (copied lines now old) ≡ length old
+    ((line : ℕ) → is_among lines line ≡ true → 64 * line + 64 ≤ length old) → length
+    (copied lines now old) ≡ length old
 length-copied [] now old same inside = refl
 length-copied (line ∷ lines) now old same inside =
     let all = inside_all (line ∷ lines) lines line (length old) refl inside in
     let long = (copied_line line now old same all.0).1 in
     length-copied lines now (overwrite (64 * line) (part (64 * line) 64 now) old) (same ∙ sym long)
-        (λ k among. omega (arith, all.1 k among, long))
+    (λ k among. omega (arith, all.1 k among, long))
     ∙ long
 
 -- lines of a region that stands on a disk, written to the disk
-saved_lines-region : (p : ℕ) (lines : List ℕ) (now old x : List ℕ) → length now ≡ length old → p + length old ≤ length x →
+saved_lines-region : (p : ℕ) (lines : List ℕ) (now old x : List ℕ) → length now ≡ length old →
+    p + length old ≤ length x →
     ((line : ℕ) → is_among lines line ≡ true → 64 * line + 64 ≤ length old) →
     saved_lines p lines now (overwrite p old x) ≡ overwrite p (copied lines now old) x
 saved_lines-region p [] now old x same le inside = refl
@@ -64,14 +67,15 @@ saved_lines-region p (line ∷ lines) now old x same le inside =
     let all = inside_all (line ∷ lines) lines line (length old) refl inside in
     let one = copied_line line now old same all.0 in
     ap (saved_lines p lines now)
-        (overwrite-inside p (64 * line) old (part (64 * line) 64 now) x le (omega (arith, all.0, one.0)))
+    (overwrite-inside p (64 * line) old (part (64 * line) 64 now) x le (omega (arith, all.0, one.0)))
     ∙ saved_lines-region p lines now (overwrite (64 * line) (part (64 * line) 64 now) old) x (same ∙ sym one.1)
-        (omega (arith, le, one.1)) (λ k among. omega (arith, all.1 k among, one.1))
+    (omega (arith, le, one.1)) (λ k among. omega (arith, all.1 k among, one.1))
 
 -- a byte of the copy is that of the bytes now, in the lines copied, and where it was so before
 get_or-copied : (lines : List ℕ) (now old : List ℕ) (i : ℕ) → length now ≡ length old →
     ((line : ℕ) → is_among lines line ≡ true → 64 * line + 64 ≤ length old) →
-    (is_among lines (i / 64) ≡ false → get_or old i 0 ≡ get_or now i 0) → get_or (copied lines now old) i 0 ≡ get_or now i 0
+    (is_among lines (i / 64) ≡ false → get_or old i 0 ≡ get_or now i 0) → get_or
+    (copied lines now old) i 0 ≡ get_or now i 0
 get_or-copied [] now old i same inside was = was refl
 get_or-copied (line ∷ lines) now old i same inside was =
     let all = inside_all (line ∷ lines) lines line (length old) refl inside in
@@ -92,7 +96,8 @@ get_or-copied (line ∷ lines) now old i same inside was =
         get_or-overwrite_outside (64 * line) (part (64 * line) 64 now) old i (omega (arith, le, long)) out
         ∙ was (apart out)
       where
-        apart : (i < 64 * line) ⊎ (64 * line + length (part (64 * line) 64 now) ≤ i) → is_among (line ∷ lines) (i / 64) ≡ false
+        apart : (i < 64 * line) ⊎ (64 * line + length (part (64 * line) 64 now) ≤ i) → is_among (line ∷ lines)
+            (i / 64) ≡ false
         apart (inl lt) = let ne : i / 64 < line = omega arith in grind (arith, nat_tests)
         apart (inr ge) = let ne : line < i / 64 = omega (arith, ge, long) in grind (arith, nat_tests)
 
@@ -118,8 +123,10 @@ pub record SavesAs (old new : Option (List ℕ)) (f : Frame) (bytes : List ℕ) 
   pub back : Told new (λ y. put_back_of y ≡ Some bytes)
 
 -- the same of two states of an image
-pub Saves-from : {D : Type 0} (told : D → Option (List ℕ)) (old new : Opened D) (disk : D) (f : Frame) (bytes : List ℕ) →
-    disk ≡ old.disk → f ≡ old.frame → bytes ≡ old.bytes → SavesAs (told disk) (told new.disk) f bytes → Saves told old new
+pub Saves-from : {D : Type 0} (told : D → Option (List ℕ)) (old new : Opened D) (disk : D) (f : Frame)
+    (bytes : List ℕ) →
+    disk ≡ old.disk → f ≡ old.frame → bytes ≡ old.bytes → SavesAs (told disk) (told new.disk) f bytes →
+    Saves told old new
 Saves-from told old new disk f bytes disk_is f_is bytes_is s = record {
   written = λ x is. s.written x (ap told disk_is ∙ is) ∙ (λ i. Some (overwrite (heap_place (f_is i)) (bytes_is i) x));
   back = λ y is. s.back y is ∙ ap Some bytes_is;
@@ -132,12 +139,15 @@ told_before (Some x) new y tells is = (x, refl)
 told_before None new y tells is = absurd (let known = sym (ap is_some is) ∙ tells in cc)
 
 -- the touched lines lie inside the region
-pub inside_named : (n : ℕ) (olds : List Record) (lines bytes : List ℕ) → are_good n olds ≡ true → length bytes ≡ 64 * n →
+pub inside_named : (n : ℕ) (olds : List Record) (lines bytes : List ℕ) → are_good n olds ≡ true →
+    length bytes ≡ 64 * n →
     IsPermutation (lines_named olds) lines → (line : ℕ) → is_among lines line ≡ true → 64 * line + 64 ≤ length bytes
 inside_named n olds lines bytes good long p line among =
-    let below = named_below n olds line good (sym (among_named olds lines line p) ∙ among) in omega (arith, below, long)
+    let below = named_below n olds line good (sym (among_named olds lines line p) ∙ among) in omega
+    (arith, below, long)
 
-module _ (size : ℕ) (told : Option (List ℕ)) (f : Frame) (bytes : List ℕ) (undo : Olds) (rising : ℕ) (is_open failed : Bool)
+module _ (size : ℕ) (told : Option (List ℕ)) (f : Frame) (bytes : List ℕ) (undo : Olds) (rising : ℕ)
+    (is_open failed : Bool)
     (i : IsImage size told f bytes undo rising is_open failed) (sound : failed ≡ false) (long : IsLong told size) where
   begun : List ℕ
   begun = put_records undo.olds bytes
@@ -152,15 +162,22 @@ module _ (size : ℕ) (told : Option (List ℕ)) (f : Frame) (bytes : List ℕ) 
       let held = i.disk sound x is in
       let s = SameBut-put_records f.heap_lines undo.olds bytes i.good i.whole (omega (arith, i.long)) in
       let inside : (line : ℕ) → is_among lines line ≡ true → 64 * line + 64 ≤ length begun =
-              λ line among. omega (arith, s.long, inside_named f.heap_lines undo.olds lines bytes i.good i.long p line among) in
+      λ line among. omega (
+        arith,
+        s.long,
+        inside_named f.heap_lines undo.olds lines bytes i.good i.long p
+            line among,
+      ) in
       let now : copied lines bytes begun ≡ bytes =
-              ext_get_or 0 (copied lines bytes begun) bytes (length-copied lines bytes begun (sym s.long) inside ∙ s.long)
-              (λ k lt. get_or-copied lines bytes begun k (sym s.long) inside
-                  (λ other. s.same k (sym (among_named undo.olds lines (k / 64) p) ∙ other))) in
+      ext_get_or 0 (copied lines bytes begun) bytes
+      (length-copied lines bytes begun (sym s.long) inside ∙ s.long)
+      (λ k lt. get_or-copied lines bytes begun k (sym s.long) inside
+      (λ other. s.same k (sym (among_named undo.olds lines (k / 64) p) ∙ other))) in
       ap (saved_lines place lines bytes)
-          (sym (overwrite-part place (64 * f.heap_lines) x (omega (arith, i.fits, size_is)))
-          ∙ ap (λ (l : List ℕ). overwrite place l x) held.heap)
-      ∙ saved_lines-region place lines bytes begun x (sym s.long) (omega (arith, s.long, i.long, i.fits, size_is)) inside
+      (sym (overwrite-part place (64 * f.heap_lines) x (omega (arith, i.fits, size_is)))
+      ∙ ap (λ (l : List ℕ). overwrite place l x) held.heap)
+      ∙ saved_lines-region place lines bytes begun x (sym s.long)
+      (omega (arith, s.long, i.long, i.fits, size_is)) inside
       ∙ ap (λ (l : List ℕ). overwrite place l x) now
 
   -- with the bytes now in its heap region the disk holds them
@@ -185,7 +202,7 @@ module _ (size : ℕ) (told : Option (List ℕ)) (f : Frame) (bytes : List ℕ) 
       let held = HoldsHeap-saved x is in
       let le : place + length bytes ≤ length x = omega (arith, i.long, i.fits, size_is) in
       put_back_of-closed f (overwrite place bytes x) held.head (omega (arith, i.limits.least_log))
-          (omega (arith, i.fits, size_is, length-overwrite place bytes x le)) held.gate
+      (omega (arith, i.fits, size_is, length-overwrite place bytes x le)) held.gate
       ∙ ap Some held.heap
 
   -- where the touched lines were written, what the disk tells now
@@ -210,7 +227,8 @@ module _ (size : ℕ) (told : Option (List ℕ)) (f : Frame) (bytes : List ℕ) 
   -- where nothing was touched, the disk has the bytes already
   pub Saves-none : undo.olds ≡ [] → SavesAs told told f bytes
   Saves-none none =
-      let p = subst (λ (l : List ℕ). IsPermutation l []) (sym (ap (λ (olds : List Record). lines_named olds) none)) (IsPermutation-refl []) in
+      let p = subst (λ (l : List ℕ). IsPermutation l []) (sym (ap (λ (olds : List Record). lines_named olds) none))
+      (IsPermutation-refl []) in
       Saves-lines told [] p refl (λ x is. is)
 
   -- the image after it

@@ -1,5 +1,7 @@
 // An opened disk.
-ghost use Rattle.std.specs.Prelude.{◌≡◌, ◌≤◌, ◌<◌, ◌+◌, ◌-◌, ◌∷◌, [], ℕ, true, false, length, OnOk, OnErr, IfOk, IfErr, Some, None, is_some, refl, ◌*◌, ◌≢◌, ◌⊎◌, vec_capacity};
+ghost use Rattle.std.specs.Prelude.{◌≡◌, ◌≤◌, ◌<◌, ◌+◌, ◌-◌, ◌∷◌, [], ℕ, true, false, length, OnOk};
+ghost use Rattle.std.specs.Prelude.{OnErr, IfOk, IfErr, Some, None, is_some, refl, ◌*◌, ◌≢◌, ◌⊎◌};
+ghost use Rattle.std.specs.Prelude.{vec_capacity};
 ghost use Rattle.std.specs.List.{range_with_len};
 ghost use Rattle.std.proofs.Common.{◌∙◌};
 ghost use Rattle.sdr_base.specs.Cells.{is_among, with_lines, lines_of};
@@ -24,8 +26,8 @@ use sdr_log::{Frame, Record};
 use std::alloc::Global;
 use std::marker::Model;
 
-/// A disk with a heap on it, opened. The heap region stands in memory, and a transaction reaches the
-/// disk with its commit. No call takes memory.
+/// A disk with a heap on it, opened. The heap region stands in memory, and a transaction reaches
+/// the disk with its commit. No call takes memory.
 #[derive(Drop)]
 pub struct Image<D: Disk> {
     disk: D,
@@ -58,7 +60,7 @@ impl<D: Disk> Model for Image<D> {
     } };
 
     ghost invariant = { λ s. IsImage (D.size s.disk) (D.bytes s.disk) s.frame s.bytes s.undo
-      (vec_capacity s.rising) s.is_open s.failed };
+        (vec_capacity s.rising) s.is_open s.failed };
 }
 
 // What opening takes from a disk, and all the memory of an image.
@@ -100,7 +102,8 @@ fn load<D: Disk>(alloc: Global, disk: &mut D) -> Result<Loaded, ImageError>
 impl<D: Disk> Image<D> {
     ghost use Rattle.sdr_image.specs.Opening.{IsOpened, Returns};
 
-    /// Opens a disk that has a heap and no open batch. It is read once, and all memory is taken here.
+    /// Opens a disk that has a heap and no open batch. It is read once, and all memory is taken
+    /// here.
     pub fn open(alloc: Global, mut disk: D) -> Result<Image<D>, ImageShut<D>>
         ensures opened { IfOk result (IsOpened D.bytes disk) }
         ensures not_formatted { IfErr result (λ shut. OnNotFormatted shut.why
@@ -163,7 +166,9 @@ impl<D: Disk> Image<D> {
         requires room { is_among self.old.touched line ≡ false
             → length self.old.touched < room_of self.old.frame }
         ensures { self.new ≡ record self.old {
-            touched = with_lines self.old.touched (line ∷ []); is_open = true } }
+          touched = with_lines self.old.touched (line ∷ []);
+          is_open = true;
+        } }
     {
         self.is_open = true;
         if !self.undo.is_touched(line) {
@@ -190,8 +195,9 @@ impl<D: Disk> Image<D> {
         requires room { length (with_lines self.old.touched (range_with_len first (end - first)))
             ≤ room_of self.old.frame }
         ensures { self.new ≡ record self.old {
-            touched = with_lines self.old.touched (range_with_len first (end - first));
-            is_open = true } }
+          touched = with_lines self.old.touched (range_with_len first (end - first));
+          is_open = true;
+        } }
     {
         self.is_open = true;
         for line in first..end {
@@ -205,16 +211,20 @@ impl<D: Disk> Image<D> {
         requires touched { (line : ℕ) → is_among (lines_of place (length from.now)) line ≡ true
             → is_among self.old.touched line ≡ true }
         ensures { self.new ≡ record self.old {
-            bytes = overwrite place from.now self.old.bytes } }
+          bytes = overwrite place from.now self.old.bytes;
+        } }
     {
         self.bytes.put(place, from);
     }
 
-    /// Ends the transaction with the bytes as they were at its begin. Where none was begun, it is as
-    /// if one had been.
+    /// Ends the transaction with the bytes as they were at its begin. Where none was begun, it is
+    /// as if one had been.
     pub fn cancel(&mut self) -> Result<(), Stop>
         ensures ended { OnOk result (self.new ≡ record self.old {
-            bytes = self.old.begun; touched = []; is_open = false }) }
+          bytes = self.old.begun;
+          touched = [];
+          is_open = false;
+        }) }
 
         ensures answered { IfRefused result (λ _. ⊥) }
         ensures cause { HasReason (transaction_of D.faults self.old)
@@ -231,11 +241,15 @@ impl<D: Disk> Image<D> {
     }
 
     /// Ends the transaction with its bytes on the disk: the touched lines are written by rising
-    /// number, and synced. Where it touched none, no call of the disk is made. Where none was begun,
-    /// it is as if one had been.
+    /// number, and synced. Where it touched none, no call of the disk is made. Where none was
+    /// begun, it is as if one had been.
     pub fn commit(&mut self) -> Result<(), Stop>
         ensures ended { OnOk result (self.new ≡ record self.old {
-            disk = self.new.disk; begun = self.old.bytes; touched = []; is_open = false }) }
+          disk = self.new.disk;
+          begun = self.old.bytes;
+          touched = [];
+          is_open = false;
+        }) }
         ensures saved { OnOk result (Saves D.bytes self.old self.new) }
         ensures idle { self.old.touched ≡ [] → self.new.disk ≡ self.old.disk }
 
@@ -260,7 +274,11 @@ impl<D: Disk> Image<D> {
     fn save(&mut self) -> Result<(), Stop>
         requires { self.old.failed ≡ false }
         ensures ended { OnOk result (self.new ≡ record self.old {
-            disk = self.new.disk; begun = self.old.bytes; touched = []; is_open = false }) }
+          disk = self.new.disk;
+          begun = self.old.bytes;
+          touched = [];
+          is_open = false;
+        }) }
         ensures saved { OnOk result (Saves D.bytes self.old self.new) }
         ensures answered { IfRefused result (λ _. ⊥) }
         ensures cause { HasReason (transaction_of D.faults self.old)

@@ -1,5 +1,6 @@
 // A disk, read for the first time.
-ghost use Rattle.std.specs.Prelude.{◌≡◌, ◌≢◌, ◌≤◌, ◌<◌, ◌==◌, ◌⊎◌, ◌*◌, IfOk, IfErr, Some, None, is_some, length};
+ghost use Rattle.std.specs.Prelude.{◌≡◌, ◌≢◌, ◌≤◌, ◌<◌, ◌==◌, ◌⊎◌, ◌*◌, IfOk, IfErr, Some, None};
+ghost use Rattle.std.specs.Prelude.{is_some, length};
 ghost use Rattle.sdr_base.specs.Causes.{HasCause};
 ghost use Rattle.sdr_base.specs.Parts.{part};
 ghost use Rattle.sdr_disk.specs.Told.{Told};
@@ -69,11 +70,7 @@ pub fn find_frame<D: Disk>(disk: &mut D) -> Result<Frame, ImageError>
 }
 
 /// The heap region of a disk.
-pub fn read_heap<D: Disk>(
-    alloc: Global,
-    disk: &mut D,
-    frame: &Frame,
-) -> Result<Region, ImageError>
+pub fn read_heap<D: Disk>(alloc: Global, disk: &mut D, frame: &Frame) -> Result<Region, ImageError>
     requires limits { IsInLimits frame.now }
     requires fits { disk_bytes frame.now ≤ D.size disk.old }
     ensures given { IfOk result (λ region. Told (D.bytes disk.old)

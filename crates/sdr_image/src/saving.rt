@@ -1,5 +1,6 @@
 // The touched lines, written to the disk.
-ghost use Rattle.std.specs.Prelude.{◌≡◌, ◌≤◌, ◌<◌, ◌+◌, ◌*◌, ◌^◌, ℕ, true, length, OnOk, Some, is_some, vec_capacity, IsPermutation, IsSorted};
+ghost use Rattle.std.specs.Prelude.{◌≡◌, ◌≤◌, ◌<◌, ◌+◌, ◌*◌, ◌^◌, ℕ, true, length, OnOk, Some};
+ghost use Rattle.std.specs.Prelude.{is_some, vec_capacity, IsPermutation, IsSorted};
 ghost use Rattle.std.specs.Ordering.{nat_cmp};
 ghost use Rattle.sdr_base.specs.Causes.{HasCause};
 ghost use Rattle.sdr_base.specs.Cells.{is_among};
@@ -28,12 +29,7 @@ pub fn gather_rising(olds: &[Record], into: &mut Vec<u32>)
 }
 
 // Writes a line of a region to its place on the disk, where the region begins at a place.
-fn save_line<D: Disk>(
-    disk: &mut D,
-    place: u64,
-    region: &Region,
-    line: u32,
-) -> Result<(), DiskFault>
+fn save_line<D: Disk>(disk: &mut D, place: u64, region: &Region, line: u32) -> Result<(), DiskFault>
     requires fits { place + length region.now ≤ D.size disk.old }
     requires inside { LINE * line + LINE ≤ length region.now }
     requires small { place < 2 ^ 60 }

@@ -13,8 +13,8 @@ const SMALL: Frame = Frame {
     heap_lines: 32,
 };
 
-// A formatted disk of the smallest regions, whose calls with the numbers in `failing` fail. Formatting
-// makes 8 calls, and opening 3.
+// A formatted disk of the smallest regions, whose calls with the numbers in `failing` fail.
+// Formatting makes 8 calls, and opening 3.
 fn small(rt: &HostRuntime, failing: Vec<u64>) -> Result<MemoryDisk, Fail> {
     let mut disk = MemoryDisk::new(vec![in rt.alloc(); 7; 2240]?, failing);
     format(&mut disk, SMALL)?;
@@ -117,7 +117,9 @@ fn a_disk_without_a_head_or_with_an_open_batch_is_not_opened(rt: HostRuntime) ->
     let why = Image::open(rt.alloc(), open).map_err(|shut| shut.why).err();
     assert_eq!(rt; why, Some(ImageError::NotFormatted));
     let faulty = small(&rt, vec![in rt.alloc(); 9; 1]?)?;
-    let why = Image::open(rt.alloc(), faulty).map_err(|shut| shut.why).err();
+    let why = Image::open(rt.alloc(), faulty)
+        .map_err(|shut| shut.why)
+        .err();
     assert_eq!(rt; why, Some(ImageError::DiskFault));
     Ok(())
 }

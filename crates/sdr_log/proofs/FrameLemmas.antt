@@ -1,6 +1,7 @@
 -- What a head tells.
-use Rattle.std.proofs.Common.{◌≡◌, ◌≤◌, ◌<◌, length, ℕ, Bool, true, false, cond, ◌&&◌, List, sym, ap, ◌∙◌, subst, refl, arith, Some, None}
-use Rattle.std.specs.Prelude.{bytes_eq, nat_le}
+use Rattle.std.proofs.Common.{◌≡◌, ◌<◌, length, ℕ, Bool, true, false, cond, ◌&&◌, List, ap, ◌∙◌, subst}
+use Rattle.std.proofs.Common.{refl, arith, Some, None}
+use Rattle.std.specs.Prelude.{bytes_eq}
 use Rattle.std.proofs.lemmas.Slice.Eq.{bytes_eq-Decides}
 use Rattle.std.proofs.lemmas.Bool.Decides.{nat_tests}
 use Rattle.sdr_log.specs.Frame.{IsInLimits, is_in_limits, frame_in, four, head_of, frame_of}
@@ -27,7 +28,8 @@ is_in_limits_false f out = refuted (is_in_limits f) (λ is. out (is_in_limits_te
     refuted false never = refl
 
 -- a head within the limits
-pub frame_of_head : (head : List ℕ) → IsInLimits (frame_in head) → bytes_eq (head_of (frame_in head)) head ≡ true → frame_of head ≡ Some (frame_in head)
+pub frame_of_head : (head : List ℕ) → IsInLimits (frame_in head) → bytes_eq (head_of (frame_in head)) head ≡ true →
+    frame_of head ≡ Some (frame_in head)
 unfolding frame_of
 frame_of_head head w same = rw (is_in_limits_true (frame_in head) w, same) refl
 
@@ -37,7 +39,8 @@ unfolding frame_of
 frame_of_out head out = rw (is_in_limits_false (frame_in head) out) refl
 
 -- other bytes than those of a head
-pub frame_of_other : (head : List ℕ) → IsInLimits (frame_in head) → bytes_eq (head_of (frame_in head)) head ≡ false → frame_of head ≡ None
+pub frame_of_other : (head : List ℕ) → IsInLimits (frame_in head) → bytes_eq
+    (head_of (frame_in head)) head ≡ false → frame_of head ≡ None
 unfolding frame_of
 frame_of_other head w other = rw (is_in_limits_true (frame_in head) w, other) refl
 

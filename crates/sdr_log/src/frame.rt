@@ -1,6 +1,7 @@
 // How long the regions of a disk are.
 ghost use Rattle.std.specs.Prelude.{◌≡◌, ◌↔◌, IsTrue, IfSome};
-ghost use Rattle.sdr_log.specs.Frame.{IsInLimits, room_of, heap_place, disk_bytes, head_of, frame_in, frame_of};
+ghost use Rattle.sdr_log.specs.Frame.{IsInLimits, room_of, heap_place, disk_bytes, head_of};
+ghost use Rattle.sdr_log.specs.Frame.{frame_in, frame_of};
 
 use byteorder::{BigEndian, ByteOrder};
 use sdr_base::{LEAST_LINES, LINE, MOST_LINES};

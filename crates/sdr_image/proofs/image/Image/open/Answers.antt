@@ -17,7 +17,8 @@ returns-in-Ok-clause-opened g c =
       gate = c.in-Ok.ensures.found.gate;
       heap = λ x is.
           put_back_of-closed loaded.frame x (framed.head x is) (omega (arith, framed.limits.least_log))
-          (omega (arith, framed.fits, told_length _ _ x (g.met.D.Disk.told c.args.disk) is)) (c.in-Ok.ensures.found.gate x is)
+          (omega (arith, framed.fits, told_length _ _ x (g.met.D.Disk.told c.args.disk) is))
+          (c.in-Ok.ensures.found.gate x is)
           ∙ ap Some (sym (c.in-Ok.ensures.given x is));
       begun = ap (λ (u : Olds). put_records u.olds loaded.bytes) c.in-Ok.ensures.undo;
       touched = ap (λ (u : Olds). lines_named u.olds) c.in-Ok.ensures.undo;
