@@ -49,7 +49,8 @@ full_below T own more old MediaFault le full = tt
 full_below T own more old Failed le full = tt
 
 -- the lines of a write are at most so many lines more
-pub TouchesAtMost-from_lines : {T : Type 0} (own : List ℕ) (more : ℕ) (old new : Transaction) (result : Result T Stop) →
+pub TouchesAtMost-from_lines : {T : Type 0} (own : List ℕ) (more : ℕ) (old new : Transaction)
+    (result : Result T Stop) →
     length own ≤ more → TouchesLines own old new result → TouchesAtMost more old new result
 TouchesAtMost-from_lines {T = T} own more old new (Ok value) le t = record {
   room = t.room;

@@ -1,18 +1,21 @@
 -- A disk that was formatted, step by step.
-use Rattle.std.proofs.Common.{◌≡◌, ℕ, ◌+◌, ◌-◌, ◌*◌, ◌≤◌, List, [], ◌∷◌, ◌++◌, length, take, drop, refl, sym, ◌∙◌, ap, subst, arith}
-use Rattle.std.specs.Prelude.{Option, Some, None, replicate}
+use Rattle.std.proofs.Common.{◌≡◌, ℕ, ◌+◌, ◌-◌, ◌*◌, ◌≤◌, List, [], ◌∷◌, ◌++◌, length, take, sym, ◌∙◌}
+use Rattle.std.proofs.Common.{ap, subst, arith}
+use Rattle.std.specs.Prelude.{Option, Some, replicate}
 use Rattle.std.proofs.lemmas.List.{length-replicate, take-replicate, replicate-append-replicate}
 use Rattle.sdr_base.specs.FreshHeap.{fresh_control, fresh_heap}
 use Rattle.sdr_base.specs.Parts.{overwrite}
 use Rattle.sdr_base.proofs.FreshHeapLemmas.{length-fresh_control, fresh_heap-zeros, length-fresh_heap}
 use Rattle.sdr_base.proofs.PartsLemmas.{length-overwrite, overwrite-behind, overwrite-again, overwrite-apart}
-use Rattle.sdr_disk.specs.Told.{Told, IsLong}
-use Rattle.sdr_log.specs.Frame.{four, heap_place, head_of, disk_bytes, IsInLimits}
+use Rattle.sdr_disk.specs.Told.{IsLong}
+use Rattle.sdr_log.specs.Frame.{heap_place, head_of, disk_bytes, IsInLimits}
 use Rattle.sdr_log.specs.declared.frame.Frame.{Frame}
+use Rattle.sdr_log.proofs.FrameLemmas.{length-head_of}
 use Rattle.sdr_image.specs.Format.{formatted}
 
 -- the told bytes of a disk are as many as it has
-pub told_length : (bytes : Option (List ℕ)) (size : ℕ) (x : List ℕ) → IsLong bytes size → bytes ≡ Some x → length x ≡ size
+pub told_length : (bytes : Option (List ℕ)) (size : ℕ) (x : List ℕ) → IsLong bytes size → bytes ≡ Some x →
+    length x ≡ size
 told_length bytes size x long is = subst (λ (b : Option (List ℕ)). IsLong b size) is long
 
 -- fewer zeros
@@ -21,7 +24,8 @@ take_zeros n count le = take-replicate count n 0 le
 
 -- zeros behind zeros
 pub zeros_behind : (p done more : ℕ) (x : List ℕ) → p + done ≤ length x →
-    overwrite (p + done) (replicate more 0) (overwrite p (replicate done 0) x) ≡ overwrite p (replicate (done + more) 0) x
+    overwrite (p + done) (replicate more 0) (overwrite p (replicate done 0) x) ≡ overwrite p
+    (replicate (done + more) 0) x
 zeros_behind p done more x le =
     let long = length-replicate {A = ℕ} done 0 in
     ap (λ (k : ℕ). overwrite (p + k) (replicate more 0) (overwrite p (replicate done 0) x)) (sym long)
@@ -42,28 +46,26 @@ fresh_heap_behind p q f control x p_is q_is is limits le =
     ∙ ap (λ (l : List ℕ). overwrite (heap_place f) (l ++ zeros) x) is
     ∙ ap (λ (l : List ℕ). overwrite (heap_place f) l x) (sym (fresh_heap-zeros f.heap_lines limits.least_heap))
 
-pub length-head_of : (f : Frame) → length (head_of f) ≡ 64
-unfolding head_of four
-length-head_of f = refl
-
 -- bytes put over as many, with others put behind in between
 overwrite-first : (ys zs x a b : List ℕ) (p q : ℕ) → length ys ≡ length zs → length ys ≤ p → p + length a ≤ length x →
     length ys ≤ q → q + length b ≤ length x →
-    overwrite 0 zs (overwrite q b (overwrite p a (overwrite 0 ys x))) ≡ overwrite 0 zs (overwrite q b (overwrite p a x))
+    overwrite 0 zs (overwrite q b (overwrite p a (overwrite 0 ys x))) ≡ overwrite 0 zs
+    (overwrite q b (overwrite p a x))
 overwrite-first ys zs x a b p q same p_behind p_inside q_behind q_inside =
     let long = length-overwrite p a x p_inside in
     ap (λ (l : List ℕ). overwrite 0 zs (overwrite q b l)) (overwrite-apart 0 p ys a x (omega arith) p_inside)
     ∙ ap (overwrite 0 zs) (overwrite-apart 0 q ys b (overwrite p a x) (omega arith) (omega (arith, long)))
     ∙ overwrite-again 0 ys zs (overwrite q b (overwrite p a x))
-        (omega (arith, long, length-overwrite q b (overwrite p a x) (omega (arith, long)))) (sym same)
+    (omega (arith, long, length-overwrite q b (overwrite p a x) (omega (arith, long)))) (sym same)
 
 -- the head written over the zeros that stood in its place
 pub formatted_over : (f : Frame) (zeros x : List ℕ) → length zeros ≡ 64 → IsInLimits f → disk_bytes f ≤ length x →
-    overwrite 0 (head_of f) (overwrite (heap_place f) (fresh_heap f.heap_lines) (overwrite 64 (0 ∷ []) (overwrite 0 zeros x)))
+    overwrite 0 (head_of f) (overwrite (heap_place f) (fresh_heap f.heap_lines)
+    (overwrite 64 (0 ∷ []) (overwrite 0 zeros x)))
     ≡ formatted f x
 unfolding formatted
 formatted_over f zeros x long limits le =
     let fresh = length-fresh_heap f.heap_lines limits.least_heap in
     overwrite-first zeros (head_of f) x (0 ∷ []) (fresh_heap f.heap_lines) 64 (heap_place f)
-        (long ∙ sym (length-head_of f)) (omega (arith, long)) (omega (arith, limits.least_log, le))
-        (omega (arith, long)) (omega (arith, fresh, le))
+    (long ∙ sym (length-head_of f)) (omega (arith, long)) (omega (arith, limits.least_log, le))
+    (omega (arith, long)) (omega (arith, fresh, le))

@@ -1,9 +1,11 @@
 -- What the calls of an image keep.
-use Rattle.std.proofs.Common.{◌≡◌, ◌≤◌, ◌<◌, ◌⊎◌, inl, inr, ℕ, zero, suc, ◌+◌, ◌-◌, ◌*◌, ◌/◌, Bool, true, false, not, cond, ◌||◌, ◌==◌}
-use Rattle.std.proofs.Common.{List, [], ◌∷◌, ◌++◌, length, get_or, take, drop, refl, sym, ap, ◌∙◌, subst, arith, append-nil, append_assoc, length-append}
-use Rattle.std.specs.Prelude.{Option, Some, None, map, filter}
-use Rattle.std.specs.List.{list_any, range_with_len}
-use Rattle.std.proofs.lemmas.List.{ext_get_or, length-map, map-append, take_at}
+use Rattle.std.proofs.Common.{◌≡◌, ◌≤◌, ◌<◌, ◌⊎◌, inl, inr, ℕ, zero, suc, ◌+◌, ◌-◌, ◌*◌, ◌/◌, Bool, true, false}
+use Rattle.std.proofs.Common.{not, cond, ◌||◌, ◌==◌}
+use Rattle.std.proofs.Common.{List, [], ◌∷◌, ◌++◌, length, refl, sym, ap, ◌∙◌, subst, arith}
+use Rattle.std.proofs.Common.{append-nil, append_assoc, length-append}
+use Rattle.std.specs.Prelude.{Option, filter}
+use Rattle.std.specs.List.{range_with_len}
+use Rattle.std.proofs.lemmas.List.{length-map, map-append}
 use Rattle.std.proofs.lemmas.List.Elements.{filter-append, filter_agree}
 use Rattle.std.proofs.lemmas.List.Folds.{list_any-append}
 use Rattle.std.proofs.lemmas.Bool.{cases_eq}
@@ -11,12 +13,12 @@ use Rattle.std.proofs.lemmas.Bool.Decides.{nat_tests}
 use Rattle.sdr_base.specs.Cells.{lines_of, is_among, with_lines}
 use Rattle.sdr_base.specs.Parts.{overwrite, part}
 use Rattle.sdr_base.proofs.PartsLemmas.{sides, length-overwrite, get_or-overwrite_outside, length-part}
-use Rattle.sdr_disk.specs.Told.{Told}
-use Rattle.sdr_log.specs.Frame.{IsInLimits, room_of, disk_bytes}
-use Rattle.sdr_log.specs.Log.{is_named, are_good, AreLines, put_records}
+use Rattle.sdr_log.specs.Frame.{room_of}
+use Rattle.sdr_log.specs.Log.{is_named, put_records}
 use Rattle.sdr_log.specs.declared.frame.Frame.{Frame}
 use Rattle.sdr_log.specs.declared.record.Record.{Record}
-use Rattle.sdr_log.proofs.RecordsLemmas.{SameBut, SameBut-put_records, put_records-same_but, put_records-own, are_good-push, AreLines-push}
+use Rattle.sdr_log.proofs.RecordsLemmas.{SameBut-put_records, put_records-same_but, put_records-own}
+use Rattle.sdr_log.proofs.RecordsLemmas.{are_good-push, AreLines-push}
 use Rattle.sdr_image.specs.Undo.{Olds}
 use Rattle.sdr_image.specs.Opened.{lines_named, HoldsHeap, IsImage}
 
@@ -26,7 +28,8 @@ is_among-lines_named [] line = refl
 is_among-lines_named (r ∷ olds) line = ap (λ (b : Bool). r.line == line || b) (is_among-lines_named olds line)
 
 -- a line that was touched already
-pub with_lines-touched : (touched : List ℕ) (line : ℕ) → is_among touched line ≡ true → with_lines touched (line ∷ []) ≡ touched
+pub with_lines-touched : (touched : List ℕ) (line : ℕ) → is_among touched line ≡ true → with_lines touched
+    (line ∷ []) ≡ touched
 unfolding with_lines
 with_lines-touched touched line is =
     ap (λ (b : Bool). touched ++ cond (not b) (line ∷ []) []) is ∙ append-nil touched
@@ -38,7 +41,8 @@ unfolding with_lines
 with_lines-untouched touched line is = ap (λ (b : Bool). touched ++ cond (not b) (line ∷ []) []) is
 
 -- a line of a run of lines
-is_among-range_with_len : (first n line : ℕ) → first ≤ line → line < first + n → is_among (range_with_len first n) line ≡ true
+is_among-range_with_len : (first n line : ℕ) → first ≤ line → line < first + n → is_among
+    (range_with_len first n) line ≡ true
 is_among-range_with_len first zero line ge lt = absurd (omega arith)
 is_among-range_with_len first (suc n) line ge lt = elim (cases_eq first line) [
   | inl same ↦ grind (arith, nat_tests)
@@ -47,7 +51,8 @@ is_among-range_with_len first (suc n) line ge lt = elim (cases_eq first line) [
 ]
 
 -- the line of a byte that is written
-is_among-lines_of : (place count i : ℕ) → place ≤ i → i < place + count → is_among (lines_of place count) (i / 64) ≡ true
+is_among-lines_of : (place count i : ℕ) → place ≤ i → i < place + count → is_among (lines_of place count)
+    (i / 64) ≡ true
 unfolding lines_of
 is_among-lines_of place count i ge lt =
     let n = (place + count - 1) / 64 + 1 - place / 64 in
@@ -55,7 +60,8 @@ is_among-lines_of place count i ge lt =
     ap (λ (b : Bool). is_among (cond b [] (range_with_len (place / 64) n)) (i / 64)) some
     ∙ is_among-range_with_len (place / 64) n (i / 64) (omega arith) (omega arith)
 
-range_with_len-append : (first m n : ℕ) → range_with_len first (m + n) ≡ range_with_len first m ++ range_with_len (first + m) n
+range_with_len-append : (first m n : ℕ) → range_with_len first (m + n) ≡ range_with_len first m ++ range_with_len
+    (first + m) n
 range_with_len-append first zero n =
     ap (λ (k : ℕ). range_with_len first k) (omega arith) ∙ ap (λ (k : ℕ). range_with_len k n) (omega arith)
 range_with_len-append first (suc m) n =
@@ -70,21 +76,24 @@ behind_run : (keep : ℕ → Bool) (first n line : ℕ) → first + n ≤ line �
 behind_run keep first zero line le = refl
 behind_run keep first (suc n) line le =
     let rest = behind_run keep (first + 1) n line (omega arith) in
-    elim (keep first) as (λ b. is_among (cond b (first ∷ filter keep (range_with_len (first + 1) n)) (filter keep (range_with_len (first + 1) n))) line ≡ false) [
+    elim (keep first) as (λ b. is_among (cond b (first ∷ filter keep (range_with_len (first + 1) n))
+    (filter keep (range_with_len (first + 1) n))) line ≡ false) [
       | true ↦ let apart : (first == line) ≡ false = grind (arith, nat_tests) in grind (arith, nat_tests)
       | false ↦ rest
     ]
 
 -- a run of lines, and the next one
 pub with_lines-next : (touched : List ℕ) (first n : ℕ) →
-    with_lines (with_lines touched (range_with_len first n)) ((first + n) ∷ []) ≡ with_lines touched (range_with_len first (n + 1))
+    with_lines (with_lines touched (range_with_len first n)) ((first + n) ∷ []) ≡ with_lines touched
+    (range_with_len first (n + 1))
 unfolding with_lines
 with_lines-next touched first n =
     let fresh : ℕ → Bool = λ line. not (is_among touched line) in
     let run = filter fresh (range_with_len first n) in
     let there : is_among (touched ++ run) (first + n) ≡ is_among touched (first + n) =
-            list_any-append (λ other. other == first + n) touched run
-            ∙ or_none (is_among touched (first + n)) (is_among run (first + n)) (behind_run fresh first n (first + n) (omega arith)) in
+    list_any-append (λ other. other == first + n) touched run
+    ∙ or_none (is_among touched (first + n)) (is_among run (first + n))
+    (behind_run fresh first n (first + n) (omega arith)) in
     ap (λ (b : Bool). (touched ++ run) ++ cond (not b) ((first + n) ∷ []) []) there
     ∙ append_assoc touched run (cond (fresh (first + n)) ((first + n) ∷ []) [])
     ∙ ap (λ (l : List ℕ). touched ++ l) (sym (filter-append fresh (range_with_len first n) ((first + n) ∷ [])))
@@ -95,7 +104,8 @@ with_lines-next touched first n =
     or_none false b is = is
 
 -- no line of a run
-pub with_lines-none : (touched : List ℕ) (first : ℕ) → with_lines touched (range_with_len first (first - first)) ≡ touched
+pub with_lines-none : (touched : List ℕ) (first : ℕ) → with_lines touched
+    (range_with_len first (first - first)) ≡ touched
 unfolding with_lines
 with_lines-none touched first =
     let fresh : ℕ → Bool = λ line. not (is_among touched line) in
@@ -109,11 +119,16 @@ unfolding with_lines
 with_lines-fewer touched first m n le =
     let fresh : ℕ → Bool = λ line. not (is_among touched line) in
     let split : range_with_len first n ≡ range_with_len first m ++ range_with_len (first + m) (n - m) =
-            ap (λ (k : ℕ). range_with_len first k) (omega arith) ∙ range_with_len-append first m (n - m) in
-    let all = ap length (ap (filter fresh) split ∙ filter-append fresh (range_with_len first m) (range_with_len (first + m) (n - m))) in
-    omega (arith, all, length-append touched (filter fresh (range_with_len first m)),
-        length-append touched (filter fresh (range_with_len first n)),
-        length-append (filter fresh (range_with_len first m)) (filter fresh (range_with_len (first + m) (n - m))))
+    ap (λ (k : ℕ). range_with_len first k) (omega arith) ∙ range_with_len-append first m (n - m) in
+    let all = ap length (ap (filter fresh) split ∙ filter-append fresh (range_with_len first m)
+    (range_with_len (first + m) (n - m))) in
+    omega (
+      arith,
+      all,
+      length-append touched (filter fresh (range_with_len first m)),
+      length-append touched (filter fresh (range_with_len first n)),
+      length-append (filter fresh (range_with_len first m)) (filter fresh (range_with_len (first + m) (n - m))),
+    )
 
 -- there is room for the next line of a run for all of which there is room
 pub few_next : (touched : List ℕ) (first n end room : ℕ) → first + n < end →
@@ -123,18 +138,26 @@ pub few_next : (touched : List ℕ) (first n end room : ℕ) → first + n < end
 few_next touched first n end room lt enough new =
     let so_far = with_lines touched (range_with_len first n) in
     let next = ap length (sym (with_lines-untouched so_far (first + n) new) ∙ with_lines-next touched first n) in
-    omega (arith, next, enough, length-append so_far ((first + n) ∷ []), with_lines-fewer touched first (n + 1) (end - first) (omega arith))
+    omega (
+      arith,
+      next,
+      enough,
+      length-append so_far ((first + n) ∷ []),
+      with_lines-fewer touched first (n + 1)
+          (end - first) (omega arith),
+    )
 
 -- as many lines are touched as were kept
 pub touched_few : (olds : List Record) (touched : List ℕ) → lines_named olds ≡ touched → length touched ≡ length olds
 touched_few olds touched same = ap length (sym same) ∙ length-map olds (λ (r : Record). r.line)
 
 -- there is room for a line more
-pub few_more : (olds : List Record) (touched : List ℕ) (line room room' : ℕ) → lines_named olds ≡ touched → room ≡ room' →
+pub few_more : (olds : List Record) (touched : List ℕ) (line room room' : ℕ) → lines_named olds ≡ touched →
+    room ≡ room' →
     is_named olds line ≡ false → (is_among touched line ≡ false → length touched < room') → length olds < room
 few_more olds touched line room room' same room_same new few =
     let other : is_among touched line ≡ false =
-            ap (λ (t : List ℕ). is_among t line) (sym same) ∙ is_among-lines_named olds line ∙ new in
+    ap (λ (t : List ℕ). is_among t line) (sym same) ∙ is_among-lines_named olds line ∙ new in
     omega (arith, few other, room_same, touched_few olds touched same)
 
 -- a line more among those touched
@@ -144,7 +167,7 @@ lines_named-push olds touched r same new =
     map-append (λ (o : Record). o.line) olds (r ∷ [])
     ∙ ap (λ (t : List ℕ). t ++ r.line ∷ []) same
     ∙ sym (with_lines-untouched touched r.line
-        (ap (λ (t : List ℕ). is_among t r.line) (sym same) ∙ is_among-lines_named olds r.line ∙ new))
+    (ap (λ (t : List ℕ). is_among t r.line) (sym same) ∙ is_among-lines_named olds r.line ∙ new))
 
 -- a line that is among them already
 pub lines_named-again : (olds : List Record) (touched : List ℕ) (line : ℕ) → lines_named olds ≡ touched →
@@ -152,7 +175,7 @@ pub lines_named-again : (olds : List Record) (touched : List ℕ) (line : ℕ) �
 lines_named-again olds touched line same named =
     same
     ∙ sym (with_lines-touched touched line
-        (ap (λ (t : List ℕ). is_among t line) (sym same) ∙ is_among-lines_named olds line ∙ named))
+    (ap (λ (t : List ℕ). is_among t line) (sym same) ∙ is_among-lines_named olds line ∙ named))
 
 -- the lines touched, and those of a run that weren't, counted
 pub touched_count : (olds : List Record) (touched own : List ℕ) → lines_named olds ≡ touched →
@@ -161,22 +184,25 @@ unfolding with_lines
 touched_count olds touched own same =
     let fresh : ℕ → Bool = λ line. not (is_among touched line) in
     let agree = filter_agree (λ line. not (is_named olds line)) fresh
-            (λ line. ap not (sym (is_among-lines_named olds line) ∙ ap (λ (t : List ℕ). is_among t line) same)) own in
+    (λ line. ap not (sym (is_among-lines_named olds line) ∙ ap (λ (t : List ℕ). is_among t line) same)) own in
     omega (arith, ap length agree, touched_few olds touched same, length-append touched (filter fresh own))
 
 -- each line of a run is among those touched with it
-pub is_among-with_lines : (touched own : List ℕ) (line : ℕ) → is_among own line ≡ true → is_among (with_lines touched own) line ≡ true
+pub is_among-with_lines : (touched own : List ℕ) (line : ℕ) → is_among own line ≡ true → is_among
+    (with_lines touched own) line ≡ true
 unfolding with_lines
 is_among-with_lines touched own line is =
     let fresh : ℕ → Bool = λ other. not (is_among touched other) in
     list_any-append (λ other. other == line) touched (filter fresh own) ∙ either (is_among touched line) refl
   where
-    left : (keep : ℕ → Bool) (own : List ℕ) → keep line ≡ true → is_among own line ≡ true → is_among (filter keep own) line ≡ true
+    left : (keep : ℕ → Bool) (own : List ℕ) → keep line ≡ true → is_among own line ≡ true → is_among
+        (filter keep own) line ≡ true
     left keep [] kept is = is
     left keep (x ∷ xs) kept is = elim (cases_eq x line) [
       | inl same ↦
           let here : keep x ≡ true = ap keep same ∙ kept in
-          ap (λ (b : Bool). is_among (cond b (x ∷ filter keep xs) (filter keep xs)) line) here ∙ grind (arith, nat_tests)
+          ap (λ (b : Bool). is_among (cond b (x ∷ filter keep xs) (filter keep xs)) line) here ∙ grind
+          (arith, nat_tests)
       | inr other ↦
           let rest = left keep xs kept (grind (arith, nat_tests)) in
           elim (keep x) as (λ b. is_among (cond b (x ∷ filter keep xs) (filter keep xs)) line ≡ true) [
@@ -185,15 +211,18 @@ is_among-with_lines touched own line is =
           ]
     ]
 
-    either : (b : Bool) → is_among touched line ≡ b → (is_among touched line || is_among (filter (λ other. not (is_among touched other)) own) line) ≡ true
+    either : (b : Bool) → is_among touched line ≡ b →
+        (is_among touched line || is_among (filter (λ other. not (is_among touched other)) own) line) ≡ true
     either true e = ap (λ (a : Bool). a || is_among (filter (λ other. not (is_among touched other)) own) line) e
     either false e =
         ap (λ (a : Bool). a || is_among (filter (λ other. not (is_among touched other)) own) line) e
         ∙ left (λ other. not (is_among touched other)) own (ap not e) is
 
-module _ (size : ℕ) (told : Option (List ℕ)) (f : Frame) (bytes : List ℕ) (undo : Olds) (rising : ℕ) (failed : Bool) where
+module _ (size : ℕ) (told : Option (List ℕ)) (f : Frame) (bytes : List ℕ) (undo : Olds) (rising : ℕ)
+    (failed : Bool) where
   -- a line more is kept
-  pub IsImage-keep : (is_open : Bool) (r : Record) → IsImage size told f bytes undo rising is_open failed → r.line < f.heap_lines →
+  pub IsImage-keep : (is_open : Bool) (r : Record) → IsImage size told f bytes undo rising is_open failed →
+      r.line < f.heap_lines →
       is_named undo.olds r.line ≡ false → length undo.olds < room_of f → r.bytes ≡ part (64 * r.line) 64 bytes →
       IsImage size told f bytes (record undo { olds = undo.olds ++ r ∷ [] }) rising true failed
   IsImage-keep is_open r i below new few own =
@@ -216,30 +245,34 @@ module _ (size : ℕ) (told : Option (List ℕ)) (f : Frame) (bytes : List ℕ) 
       }
 
   -- bytes of lines that were touched are written
-  pub IsImage-put : (is_open : Bool) (place : ℕ) (from : List ℕ) → IsImage size told f bytes undo rising is_open failed →
+  pub IsImage-put : (is_open : Bool) (place : ℕ) (from : List ℕ) →
+      IsImage size told f bytes undo rising is_open failed →
       place + length from ≤ length bytes →
-      ((line : ℕ) → is_among (lines_of place (length from)) line ≡ true → is_among (lines_named undo.olds) line ≡ true) →
+      ((line : ℕ) → is_among (lines_of place (length from)) line ≡ true → is_among
+      (lines_named undo.olds) line ≡ true) →
       IsImage size told f (overwrite place from bytes) undo rising is_open failed
       × (put_records undo.olds (overwrite place from bytes) ≡ put_records undo.olds bytes)
   IsImage-put is_open place from i inside touched =
       let begun = put_records-same_but f.heap_lines undo.olds bytes (overwrite place from bytes) i.good i.whole
-              (omega (arith, i.long)) (record {
-                long = length-overwrite place from bytes inside;
-                same = λ k other. get_or-overwrite_outside place from bytes k inside (outside k other);
-              }) in
-      (record {
-        limits = i.limits;
-        fits = i.fits;
-        long = length-overwrite place from bytes inside ∙ i.long;
-        lines = i.lines;
-        room = i.room;
-        few = i.few;
-        good = i.good;
-        whole = i.whole;
-        reserved = i.reserved;
-        idle = i.idle;
-        disk = λ sound x is. subst (λ (heap : List ℕ). HoldsHeap f heap x) (sym begun) (i.disk sound x is);
-      }, begun)
+      (omega (arith, i.long)) (record {
+        long = length-overwrite place from bytes inside;
+        same = λ k other. get_or-overwrite_outside place from bytes k inside (outside k other);
+      }) in (
+        record {
+          limits = i.limits;
+          fits = i.fits;
+          long = length-overwrite place from bytes inside ∙ i.long;
+          lines = i.lines;
+          room = i.room;
+          few = i.few;
+          good = i.good;
+          whole = i.whole;
+          reserved = i.reserved;
+          idle = i.idle;
+          disk = λ sound x is. subst (λ (heap : List ℕ). HoldsHeap f heap x) (sym begun) (i.disk sound x is);
+        },
+        begun,
+      )
     where
       outside : (k : ℕ) → is_named undo.olds (k / 64) ≡ false → (k < place) ⊎ (place + length from ≤ k)
       outside k other = elim (sides place (length from) k) [

@@ -1,4 +1,6 @@
 pub mod FormatLemmas
 pub mod ImageLemmas
+pub mod OpeningLemmas
 pub mod RegionLemmas
+pub mod SavedLemmas
 pub mod UndoLemmas

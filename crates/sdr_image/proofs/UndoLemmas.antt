@@ -1,6 +1,7 @@
 -- Marks of touched lines.
-use Rattle.std.proofs.Common.{◌≡◌, ◌≢◌, ◌≤◌, ◌<◌, ◌⊎◌, inl, inr, ℕ, zero, suc, ◌+◌, ◌-◌, Bool, true, false, cond, not, ◌&&◌, ◌||◌, ◌==◌}
-use Rattle.std.proofs.Common.{List, [], ◌∷◌, ◌++◌, length, take, drop, get_or, refl, sym, ap, ◌∙◌, subst, arith}
+use Rattle.std.proofs.Common.{◌≡◌, ◌≤◌, ◌<◌, inl, inr, ℕ, zero, suc, ◌+◌, Bool, true, false, cond}
+use Rattle.std.proofs.Common.{not, ◌&&◌}
+use Rattle.std.proofs.Common.{List, [], ◌∷◌, ◌++◌, length, take, drop, get_or, refl, ap, ◌∙◌, subst, arith}
 use Rattle.std.specs.Prelude.{filter, count_by, slice_set}
 use Rattle.std.specs.List.{range_with_len}
 use Rattle.std.proofs.lemmas.Bool.{cases_eq}
@@ -49,16 +50,18 @@ IsMarked-push olds r marks room capacity more m lt enough = record {
 -- the marks that are false, counted
 pub untouched_lines : (olds : List Record) (marks : List Bool) (first n : ℕ) → first + n ≤ length marks →
     ((line : ℕ) → line < length marks → get_or marks line false ≡ is_named olds line) →
-    count_by not (take n (drop first marks)) ≡ length (filter (λ line. not (is_named olds line)) (range_with_len first n))
+    count_by not (take n (drop first marks)) ≡ length
+    (filter (λ line. not (is_named olds line)) (range_with_len first n))
 untouched_lines olds marks first zero le told = refl
 untouched_lines olds marks first (suc n) le told =
     let mark = get_or marks first false in
     let after = drop (first + 1) marks in
-    let one : count_by not (take (suc n) (mark ∷ after)) ≡ cond (not mark) 1 0 + count_by not (take n after) = sum_by-cons (λ x. cond (not x) 1 0) mark (take n after) in
+    let one : count_by not (take (suc n) (mark ∷ after)) ≡ cond (not mark) 1 0 + count_by not (take n after) =
+    sum_by-cons (λ x. cond (not x) 1 0) mark (take n after) in
     ap (λ (l : List Bool). count_by not (take (suc n) l)) (drop_more marks first false (omega arith))
     ∙ one
     ∙ ap (λ (k : ℕ). cond (not mark) 1 0 + k)
-        (untouched_lines olds marks (first + 1) n (omega arith) told)
+    (untouched_lines olds marks (first + 1) n (omega arith) told)
     ∙ ap (λ (b : Bool). cond (not b) 1 0 + length rest) (told first (omega arith))
     ∙ counted (not (is_named olds first)) first rest
   where
@@ -66,4 +69,5 @@ untouched_lines olds marks first (suc n) le told =
     rest = filter (λ line. not (is_named olds line)) (range_with_len (first + 1) n)
 
     counted : (b : Bool) (x : ℕ) (xs : List ℕ) → cond b 1 0 + length xs ≡ length (cond b (x ∷ xs) xs)
-    counted b x xs = elim b as (λ v. cond v 1 0 + length xs ≡ length (cond v (x ∷ xs) xs)) [ true ↦ omega arith | false ↦ omega arith ]
+    counted b x xs = elim b as (λ v. cond v 1 0 + length xs ≡ length (cond v (x ∷ xs) xs))
+        [ true ↦ omega arith | false ↦ omega arith ]

@@ -17,7 +17,8 @@ formatted f disk =
 -- a disk that is too small is refused with both numbers, and a fault comes only where the disk's count rose
 abbrev pub ExplainsFormat : {T : Type 0} → ℕ → ℕ → ℕ → ℕ → Result T FormatError → Type 0
 ExplainsFormat need have before now (Ok value) = need ≤ have
-ExplainsFormat need have before now (Err (errors.TooSmall need' have')) = (need' ≡ need) × (have' ≡ have) × (have < need)
+ExplainsFormat need have before now (Err (errors.TooSmall need' have')) = (need' ≡ need) × (have' ≡ have) ×
+    (have < need)
 ExplainsFormat need have before now (Err errors.DiskFault) = (need ≤ have) × Rose before now
 
 -- why a disk of so many bytes isn't formatted, where the regions take so many

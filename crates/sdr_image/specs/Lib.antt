@@ -1,3 +1,5 @@
 pub mod Format
 pub mod Opened
+pub mod Opening
+pub mod Saved
 pub mod Undo

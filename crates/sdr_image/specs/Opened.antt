@@ -23,7 +23,13 @@ pub record Opened (D : Type 0) : Type 0 where
 
 -- what its transaction has touched, and what has failed, where the disk's faults are counted so
 abbrev pub transaction_of : {D : Type 0} → (D → ℕ) → Opened D → Transaction
-transaction_of faults i = record { touched = i.touched; room = room_of i.frame; faults = faults i.disk; failed = i.failed }
+transaction_of faults i = record {
+  touched = i.touched;
+  room = room_of i.frame;
+  faults = faults i.disk;
+  failed =
+      i.failed;
+}
 
 -- nothing has changed but the disk, and a disk fault was answered
 abbrev pub IsFailed : {D : Type 0} → Opened D → Opened D → Type 0

@@ -1,5 +1,6 @@
 // An empty heap, written to a disk.
-ghost use Rattle.std.specs.Prelude.{◌≡◌, ◌≤◌, ◌<◌, ◌+◌, ◌↔◌, ◌++◌, ◌∷◌, [], length, OnOk, IsErrOf, Some, is_some, replicate};
+ghost use Rattle.std.specs.Prelude.{◌≡◌, ◌≤◌, ◌<◌, ◌+◌, ◌↔◌, ◌++◌, ◌∷◌, [], length, OnOk, IsErrOf};
+ghost use Rattle.std.specs.Prelude.{Some, is_some, replicate};
 ghost use Rattle.sdr_base.specs.Causes.{HasCause};
 ghost use Rattle.sdr_base.specs.FreshHeap.{fresh_heap};
 ghost use Rattle.sdr_base.specs.Parts.{overwrite};
@@ -7,9 +8,9 @@ ghost use Rattle.sdr_disk.specs.Told.{Told};
 ghost use Rattle.sdr_log.specs.Frame.{IsInLimits, disk_bytes, heap_place, head_of};
 ghost use Rattle.sdr_image.specs.Format.{formatted, HasFormatCause, IfTooSmall};
 
+use crate::FormatError;
 use crate::fresh::fresh_control;
 use crate::zeros::write_zeros;
-use crate::FormatError;
 use sdr_base::LINE;
 use sdr_disk::{Disk, DiskFault};
 use sdr_log::Frame;
@@ -38,7 +39,11 @@ fn write_heap<D: Disk>(disk: &mut D, frame: &Frame) -> Result<(), DiskFault>
     ensures cause { HasCause (D.faults disk.old) (D.faults disk.new) result }
 {
     disk.write_at(frame.heap_place(), &fresh_control(frame.heap_lines))?;
-    write_zeros(disk, frame.heap_place() + 1024, LINE * frame.heap_lines - 1024)?;
+    write_zeros(
+        disk,
+        frame.heap_place() + 1024,
+        LINE * frame.heap_lines - 1024,
+    )?;
     Ok(())
 }
 
@@ -48,7 +53,7 @@ fn write_regions<D: Disk>(disk: &mut D, frame: &Frame) -> Result<(), DiskFault>
     requires inside { disk_bytes frame.now ≤ D.size disk.old }
     ensures written { OnOk result (Told (D.bytes disk.old) (λ x. D.bytes disk.new
         ≡ Some (overwrite (heap_place frame.now) (fresh_heap frame.now.heap_lines)
-            (overwrite LINE (0 ∷ []) x)))) }
+        (overwrite LINE (0 ∷ []) x)))) }
     ensures tells { is_some (D.bytes disk.new) ≡ is_some (D.bytes disk.old) }
     ensures size { D.size disk.new ≡ D.size disk.old }
     ensures cause { HasCause (D.faults disk.old) (D.faults disk.new) result }
@@ -72,8 +77,8 @@ fn write_head<D: Disk>(disk: &mut D, frame: &Frame) -> Result<(), DiskFault>
     disk.sync()
 }
 
-/// Makes an empty heap of a disk, whose content is lost but for what lies behind its regions. It takes
-/// no memory. After a `DiskFault` the disk has to be formatted again.
+/// Makes an empty heap of a disk, whose content is lost but for what lies behind its regions. It
+/// takes no memory. After a `DiskFault` the disk has to be formatted again.
 pub fn format<D: Disk>(disk: &mut D, frame: Frame) -> Result<(), FormatError>
     requires { IsInLimits frame }
     ensures formatted { OnOk result (Told (D.bytes disk.old)

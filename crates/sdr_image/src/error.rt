@@ -1,4 +1,5 @@
-// Why a disk isn't formatted.
+// Why a disk isn't formatted or opened.
+use sdr_base::NoMemory;
 use sdr_disk::DiskFault;
 use thiserror::Error;
 
@@ -22,4 +23,47 @@ impl From<DiskFault> for FormatError {
     fn from(_: DiskFault) -> FormatError {
         FormatError::DiskFault
     }
+}
+
+/// Why a disk isn't opened.
+#[derive(Clone, Copy, Debug, PartialEq, Eq, Error)]
+pub enum ImageError {
+    /// The disk gives no heap, or has an open batch.
+    #[error("the disk is not formatted")]
+    NotFormatted,
+    /// The disk failed.
+    #[error("the disk failed")]
+    DiskFault,
+    /// There is no memory for the heap region or for the undo of a transaction.
+    #[error("no memory")]
+    NoMemory,
+}
+
+impl From<DiskFault> for ImageError {
+    ghost use Rattle.std.specs.Prelude.{◌≡◌};
+    ghost use Rattle.sdr_image.specs.declared.error.ImageError.TheVariants as errors;
+
+    ghost from_gives = { λ _ e. e ≡ errors.DiskFault };
+
+    fn from(_: DiskFault) -> ImageError {
+        ImageError::DiskFault
+    }
+}
+
+impl From<NoMemory> for ImageError {
+    ghost use Rattle.std.specs.Prelude.{◌≡◌};
+    ghost use Rattle.sdr_image.specs.declared.error.ImageError.TheVariants as errors;
+
+    ghost from_gives = { λ _ e. e ≡ errors.NoMemory };
+
+    fn from(_: NoMemory) -> ImageError {
+        ImageError::NoMemory
+    }
+}
+
+/// A disk that isn't opened, and why. Its bytes are as before.
+#[derive(Drop)]
+pub struct ImageShut<D> {
+    pub why: ImageError,
+    pub disk: D,
 }

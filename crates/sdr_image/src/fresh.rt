@@ -5,7 +5,8 @@ ghost use Rattle.sdr_base.specs.FreshHeap.{first_block, fresh_account, fresh_wor
 
 use byteorder::{BigEndian, ByteOrder};
 use sdr_base::control::{
-    BULK_MAXIMUM, FILE_MAXIMUM, HEAP_MAXIMUM, HIGH, INBOUND, LOW, NEXT_TICKET, OUTBOUND, SIZE, START,
+    BULK_MAXIMUM, FILE_MAXIMUM, HEAP_MAXIMUM, HIGH, INBOUND, LOW, NEXT_TICKET, OUTBOUND, SIZE,
+    START,
 };
 use sdr_base::{LINE, MOST_LINES, START_BITS};
 

@@ -1,5 +1,6 @@
 // The lines that a transaction has touched.
-ghost use Rattle.std.specs.Prelude.{◌≡◌, ◌≤◌, ◌<◌, ◌-◌, ◌++◌, ◌∷◌, [], ℕ, false, true, not, ◌&&◌, length, get_or, IfOk, filter, count_by};
+ghost use Rattle.std.specs.Prelude.{◌≡◌, ◌≤◌, ◌<◌, ◌-◌, ◌++◌, ◌∷◌, [], ℕ, false, true, not, ◌&&◌};
+ghost use Rattle.std.specs.Prelude.{length, get_or, IfOk, filter, count_by};
 ghost use Rattle.std.specs.List.{range_with_len};
 ghost use Rattle.sdr_log.specs.Log.{is_named};
 

@@ -1,13 +1,13 @@
 -- What opening a disk gives, and worked examples of a log region.
-use Rattle.std.proofs.Common.{◌≡◌, ◌≢◌, ◌≤◌, ◌<◌, ℕ, zero, suc, ◌+◌, ◌-◌, ◌*◌, Bool, true, false, cond, ◌⊎◌, inl, inr}
-use Rattle.std.proofs.Common.{List, [], ◌∷◌, ◌++◌, length, take, drop, get_or, refl, sym, ap, ◌∙◌, subst, arith, Option, Some, None}
-use Rattle.std.specs.Prelude.{replicate, nat_le}
+use Rattle.std.proofs.Common.{◌≡◌, ◌≤◌, ◌<◌, ℕ, suc, ◌+◌, ◌-◌, ◌*◌}
+use Rattle.std.proofs.Common.{List, [], ◌∷◌, ◌++◌, length, take, get_or, refl, ap, ◌∙◌, arith}
+use Rattle.std.proofs.Common.{Some, None}
+use Rattle.std.specs.Prelude.{replicate}
 use Rattle.std.proofs.lemmas.List.{drop_more}
 use Rattle.std.proofs.lemmas.Bool.{le-leb, lt-leb}
-use Rattle.sdr_log.specs.Frame.{IsInLimits, four, number, frame_of, disk_bytes, heap_place, head_of}
+use Rattle.sdr_log.specs.Frame.{four, number, frame_of, disk_bytes}
 use Rattle.sdr_log.specs.Log.{log_of, heap_of, batches_of, records_of, read_log, put_back_in, put_back_of}
 use Rattle.sdr_log.specs.declared.frame.Frame.{Frame}
-use Rattle.sdr_log.specs.declared.record.Record.{Record}
 use Rattle.sdr_disk.specs.Ranges.{part}
 
 -- a closed gate: no batch is open
@@ -24,7 +24,8 @@ row_of_one_record = refl
 
 -- two open batches
 row_of_two_batches :
-    batches_of 192 (1 ∷ four 1 ++ four 5 ++ replicate 64 9 ++ 7 ∷ four 1 ++ four 300 ++ replicate 64 8 ++ replicate 46 0)
+    batches_of 192 (1 ∷ four 1 ++ four 5 ++ replicate 64 9 ++ 7 ∷ four 1 ++ four 300 ++ replicate 64 8 ++ replicate
+    46 0)
     ≡ Some (record { line = 5; bytes = replicate 64 9 } ∷ record { line = 300; bytes = replicate 64 8 } ∷ [])
 unfolding batches_of records_of four number
 row_of_two_batches = refl

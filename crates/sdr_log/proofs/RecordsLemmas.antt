@@ -1,8 +1,8 @@
 -- Records put in place of their lines.
-use Rattle.std.proofs.Common.{◌≡◌, ◌≤◌, ◌<◌, ◌⊎◌, inl, inr, ℕ, ◌+◌, ◌-◌, ◌*◌, ◌/◌, Bool, true, false, not, ◌&&◌, ◌||◌, ◌==◌}
+use Rattle.std.proofs.Common.{◌≡◌, ◌≤◌, ◌<◌, ◌⊎◌, inl, inr, ℕ, ◌+◌, ◌*◌, ◌/◌, Bool, true, false}
+use Rattle.std.proofs.Common.{◌||◌, ◌==◌}
 use Rattle.std.proofs.Common.{List, [], ◌∷◌, ◌++◌, length, get_or, refl, sym, ap, ◌∙◌, subst, arith}
 use Rattle.std.proofs.lemmas.List.{ext_get_or}
-use Rattle.std.proofs.lemmas.Bool.{cases_eq}
 use Rattle.std.proofs.lemmas.Bool.Decides.{nat_tests}
 use Rattle.sdr_base.proofs.PartsLemmas.{sides, length-overwrite, length-part, get_or-part, overwrite-part}
 use Rattle.sdr_base.proofs.PartsLemmas.{get_or-overwrite_inside, get_or-overwrite_outside}
@@ -74,7 +74,8 @@ SameBut-one r heap long le = record {
     beside : (i : ℕ) → is_named (r ∷ []) (i / 64) ≡ false → (i < 64 * r.line) ⊎ (64 * r.line + length r.bytes ≤ i)
     beside i other = elim (sides (64 * r.line) (length r.bytes) i) [
       | inl out ↦ out
-      | inr w ↦ let at : i / 64 ≡ r.line = line_of i r.line w.0 (omega (arith, w.1, long)) in absurd (grind (arith, nat_tests))
+      | inr w ↦ let at : i / 64 ≡ r.line = line_of i r.line w.0 (omega (arith, w.1, long)) in absurd
+          (grind (arith, nat_tests))
     ]
 
 -- records put leave all lines but their own
@@ -84,10 +85,12 @@ SameBut-put_records n [] heap good lines le = record { long = refl; same = λ i 
 SameBut-put_records n (r ∷ records) heap good lines le =
     let g = are_good-cons n r records good in
     let one = SameBut-one r heap lines.0 (omega (arith, g.0)) in
-    let rest = SameBut-put_records n records (overwrite (64 * r.line) r.bytes heap) g.2 lines.1 (omega (arith, one.long)) in
+    let rest = SameBut-put_records n records (overwrite (64 * r.line) r.bytes heap) g.2 lines.1
+    (omega (arith, one.long)) in
     record {
       long = rest.long ∙ one.long;
-      same = λ i other. rest.same i (unnamed r records (i / 64) other).1 ∙ one.same i (unnamed r records (i / 64) other).0;
+      same = λ i other. rest.same i (unnamed r records (i / 64) other).1 ∙ one.same i
+          (unnamed r records (i / 64) other).0;
     }
 
 -- the lines that are put don't matter before
@@ -108,7 +111,8 @@ put_records-same_but n (r ∷ records) a b good lines le s =
   where
     here : (i : ℕ) → 64 * r.line + length r.bytes ≤ length a → 64 * r.line + length r.bytes ≤ length b →
         is_named records (i / 64) ≡ false →
-        ((i < 64 * r.line) ⊎ (64 * r.line + length r.bytes ≤ i)) ⊎ ((64 * r.line ≤ i) × (i < 64 * r.line + length r.bytes)) →
+        ((i < 64 * r.line) ⊎ (64 * r.line + length r.bytes ≤ i)) ⊎
+        ((64 * r.line ≤ i) × (i < 64 * r.line + length r.bytes)) →
         get_or (overwrite (64 * r.line) r.bytes b) i 0 ≡ get_or (overwrite (64 * r.line) r.bytes a) i 0
     here i in_a in_b other (inr w) =
         get_or-overwrite_inside (64 * r.line) r.bytes b i in_b w.0 w.1
@@ -144,5 +148,6 @@ put_records-own n records r heap good lines le below new own =
         (long ∙ sym (length-part (64 * line) 64 heap inside))
         (λ i lt. let lt' : i < 64 = omega (arith, lt, long) in
         get_or-part (64 * line) 64 put i lt'
-        ∙ s.same (64 * line + i) (subst (λ (k : ℕ). is_named records k ≡ false) (sym (line_of (64 * line + i) line (omega arith) (omega arith))) new)
+        ∙ s.same (64 * line + i) (subst (λ (k : ℕ). is_named records k ≡ false)
+        (sym (line_of (64 * line + i) line (omega arith) (omega arith))) new)
         ∙ sym (get_or-part (64 * line) 64 heap i lt'))

@@ -1,5 +1,6 @@
 -- The head of a disk, and where its regions lie.
-use Rattle.std.specs.Prelude.{◌≤◌, ℕ, ◌+◌, ◌-◌, ◌*◌, ◌/◌, cond, Bool, ◌&&◌, List, ◌++◌, drop, replicate, nat_le, bytes_eq, codes, Option, Some, None}
+use Rattle.std.specs.Prelude.{◌≤◌, ℕ, ◌+◌, ◌-◌, ◌*◌, ◌/◌, cond, Bool, ◌&&◌, List, ◌++◌, drop, replicate, nat_le}
+use Rattle.std.specs.Prelude.{bytes_eq, codes, Option, Some, None}
 use Rattle.byteorder.specs.Endian.{big_number, big_bytes}
 use Rattle.sdr_base.specs.declared.line.TheConstants.{LINE, LEAST_LINES, MOST_LINES}
 use Rattle.sdr_log.specs.declared.frame.Frame.{Frame}
@@ -48,4 +49,5 @@ frame_in head = record { log_lines = number (drop 12 head); heap_lines = number 
 
 -- the frame that a head tells of; none where it is no head, or a length is out of its limits
 unfoldable pub frame_of : List ℕ → Option Frame
-frame_of head = cond (is_in_limits (frame_in head) && bytes_eq (head_of (frame_in head)) head) (Some (frame_in head)) None
+frame_of head = cond (is_in_limits (frame_in head) && bytes_eq (head_of (frame_in head)) head)
+    (Some (frame_in head)) None

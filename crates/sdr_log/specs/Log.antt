@@ -1,5 +1,7 @@
 -- The heap that opening a disk gives.
-use Rattle.std.specs.Prelude.{◌≡◌, ⊤, ℕ, zero, suc, ◌+◌, ◌*◌, Bool, true, false, cond, not, ◌&&◌, ◌||◌, List, [], ◌∷◌, ◌++◌, length, take, drop, nat_lt, nat_le, ◌==◌, Option, Some, None, option_and_then, option_map, slice_index}
+use Rattle.std.specs.Prelude.{◌≡◌, ⊤, ℕ, zero, suc, ◌+◌, ◌*◌, Bool, true, false, cond, not, ◌&&◌, ◌||◌, List, []}
+use Rattle.std.specs.Prelude.{◌∷◌, ◌++◌, length, take, drop, nat_lt, nat_le, ◌==◌, Option, Some, None}
+use Rattle.std.specs.Prelude.{option_and_then, option_map, slice_index}
 use Rattle.sdr_base.specs.declared.line.TheConstants.{LINE}
 use Rattle.sdr_disk.specs.Ranges.{overwrite, part}
 use Rattle.sdr_log.specs.Frame.{number, frame_of, heap_place, disk_bytes}
@@ -58,7 +60,8 @@ put_records (r ∷ records) heap = put_records records (overwrite (LINE * r.line
 -- the heap put back where the regions are known: the old bytes of the open batches in place of their lines
 unfoldable pub put_back_in : Frame → List ℕ → Option (List ℕ)
 put_back_in f image =
-    option_and_then (λ records. cond (are_good f.heap_lines records) (Some (put_records records (heap_of f image))) None)
+    option_and_then (λ records. cond (are_good f.heap_lines records)
+    (Some (put_records records (heap_of f image))) None)
     (read_log f image)
 
 -- the heap put back; none where the disk has no head, is too short for its regions, or its open batches are wrong

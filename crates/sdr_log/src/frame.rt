@@ -1,6 +1,7 @@
 // How long the regions of a disk are.
-ghost use Rattle.std.specs.Prelude.{◌≡◌, ◌↔◌, IsTrue};
-ghost use Rattle.sdr_log.specs.Frame.{IsInLimits, room_of, heap_place, disk_bytes, head_of, frame_in, frame_of};
+ghost use Rattle.std.specs.Prelude.{◌≡◌, ◌↔◌, IsTrue, IfSome};
+ghost use Rattle.sdr_log.specs.Frame.{IsInLimits, room_of, heap_place, disk_bytes, head_of};
+ghost use Rattle.sdr_log.specs.Frame.{frame_in, frame_of};
 
 use byteorder::{BigEndian, ByteOrder};
 use sdr_base::{LEAST_LINES, LINE, MOST_LINES};
@@ -78,7 +79,8 @@ impl Frame {
     /// The regions that a head tells of, where it is a head.
     #[tactic(auto, using(crate::proofs::FrameLemmas::heads))]
     pub fn from_head(head: &[u8; 64]) -> Option<Frame>
-        ensures { result ≡ frame_of head.now }
+        ensures frame { result ≡ frame_of head.now }
+        ensures limits { IfSome result (λ frame. IsInLimits frame) }
     {
         let frame = Frame::in_head(head);
         if frame.is_in_limits() && frame.head() == *head {

@@ -1,11 +1,13 @@
-//! The undo log: the lines that a crash would put back, and the head of the disk that says where the log
-//! region and the heap region lie.
+//! The undo log: the lines that a crash would put back, and the head of the disk that says where
+//! the log region and the heap region lie.
 //!
 //! 1. A disk has a head of one line, then the log region, then the heap region.
-//! 2. A batch in the log region is a gate byte, a count, and as many records, each a line's number and its
-//!    old bytes. The next gate stands behind it, so the batch ends before the region does.
-//! 3. A gate of 0 is closed. The open batches are those from the first gate on, up to the first closed one.
-//! 4. The heap put back is the heap region with the old bytes of each line that an open batch names.
+//! 2. A batch in the log region is a gate byte, a count, and as many records, each a line's number
+//!    and its old bytes. The next gate stands behind it, so the batch ends before the region does.
+//! 3. A gate of 0 is closed. The open batches are those from the first gate on, up to the first
+//!    closed one.
+//! 4. The heap put back is the heap region with the old bytes of each line that an open batch
+//!    names.
 #![tactic(auto)]
 
 mod frame;

@@ -6,7 +6,8 @@ abbrev pub invariant-loop-old : goal.invariant-loop-old
 invariant-loop-old l = record {
   below : (line : ℕ) → is_named l.rest line ≡ true → line < length l.marks;
   unmarked : (line : ℕ) →
-      (get_or l.marks line false && not (is_named l.rest line)) ≡ (get_or l.fn.marks line false && not (is_named l.fn.olds line));
+      (get_or l.marks line false && not (is_named l.rest line)) ≡
+      (get_or l.fn.marks line false && not (is_named l.fn.olds line));
 }
 
 abbrev pub decreases-loop-old : goal.decreases-loop-old

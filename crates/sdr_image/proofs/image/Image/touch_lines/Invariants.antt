@@ -6,4 +6,8 @@ use Rattle.sdr_image.proofs.image.Image.touch_lines.Given as goal
 
 abbrev pub invariant-loop-line : goal.invariant-loop-line
 invariant-loop-line g l =
-    l.self ≡ record l.fn.self { touched = with_lines l.fn.self.touched (range_with_len l.first (l.line - l.first)); is_open = true }
+    l.self ≡ record l.fn.self {
+      touched = with_lines l.fn.self.touched
+          (range_with_len l.first (l.line - l.first));
+      is_open = true;
+    }

@@ -1,4 +1,4 @@
-use Rattle.std.proofs.Common.{◌≡◌, ◌∙◌, ap, sym, List, ℕ}
+use Rattle.std.proofs.Common.{◌∙◌, ap, List, ℕ}
 use Rattle.sdr_base.specs.Cells.{is_among, with_lines}
 use Rattle.sdr_image.specs.Opened.{Opened}
 use Rattle.sdr_image.proofs.ImageLemmas.{is_among-with_lines}

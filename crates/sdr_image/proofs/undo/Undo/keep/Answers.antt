@@ -12,6 +12,6 @@ invariant_of-self c =
     subst (λ (olds : List Record). IsMarked olds marks old.room (vec_capacity c.push_reserved.new.self))
     (sym c.push_reserved.ensures.items)
     (IsMarked-push old.olds.items c.args.old old.marks.items old.room (vec_capacity old.olds)
-        (vec_capacity c.push_reserved.new.self) c.self.invariant
-        (omega (arith, c.requires.below, ap (λ (v : Olds). v.lines) c.self.view_is))
-        (omega (arith, c.push_reserved.ensures.capacity, c.self.invariant.reserved)))
+    (vec_capacity c.push_reserved.new.self) c.self.invariant
+    (omega (arith, c.requires.below, ap (λ (v : Olds). v.lines) c.self.view_is))
+    (omega (arith, c.push_reserved.ensures.capacity, c.self.invariant.reserved)))

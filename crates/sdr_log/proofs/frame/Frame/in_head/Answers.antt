@@ -1,4 +1,4 @@
-use Rattle.std.proofs.Common.{refl, arith, length, drop, ◌≤◌}
+use Rattle.std.proofs.Common.{refl, arith}
 use Rattle.std.proofs.lemmas.Slice.{between_to_end}
 use Rattle.sdr_log.specs.Frame.{number}
 use Rattle.sdr_log.proofs.frame.Frame.in_head.Goals as goal
@@ -6,4 +6,9 @@ use Rattle.sdr_log.proofs.frame.Frame.in_head.Goals as goal
 pub returns : goal.returns
 unfolding number
 returns c =
-    rw (c.read_u32.ensures, c.read_u32-2.ensures, between_to_end c.args.head.now 12 64 (omega (arith, c.told-head)), between_to_end c.args.head.now 16 64 (omega (arith, c.told-head))) refl
+    rw (
+      c.read_u32.ensures,
+      c.read_u32-2.ensures,
+      between_to_end c.args.head.now 12 64 (omega (arith, c.told-head)),
+      between_to_end c.args.head.now 16 64 (omega (arith, c.told-head)),
+    ) refl
