@@ -1,4 +1,9 @@
 pub mod CellsLemmas
 pub mod FreshHeapLemmas
+pub mod KeptPoolsLemmas
 pub mod PartsLemmas
+pub mod PoolsLemmas
+pub mod SmallPoolLemmas
+pub mod StartBitsLemmas
+pub mod StoredLemmas
 pub mod WrittenLemmas

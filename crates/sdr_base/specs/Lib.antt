@@ -1,10 +1,14 @@
 pub mod Causes
 pub mod Cells
 pub mod FreshHeap
+pub mod KeptPools
 pub mod Media
 pub mod MemorySink
 pub mod MemorySource
 pub mod Parts
+pub mod Pools
 pub mod Refusal
+pub mod SmallPool
+pub mod Stored
 pub mod Transaction
 pub mod Written

@@ -23,7 +23,9 @@ mod moves;
 mod refusal;
 mod sink;
 mod source;
+mod start_bits;
 mod stop;
+mod stored;
 #[cfg(test)]
 mod tests;
 
@@ -41,4 +43,6 @@ pub use moves::Move;
 pub use refusal::{Reason, Refusal};
 pub use sink::{Sink, SinkFault, write_all};
 pub use source::{Source, SourceFault};
+pub use start_bits::{clear_start_bit, set_start_bit};
 pub use stop::Stop;
+pub use stored::{read_leader_words, read_number, write_bare_leader, write_number};
