@@ -6,7 +6,7 @@ use Rattle.std.proofs.lemmas.List.Splits.{slice_split_first, slice_split_none, l
 use Rattle.std.proofs.lemmas.List.Sums.{position_or_len_is}
 use Rattle.std.specs.List.{slice_split, position_or_len, All}
 use Rattle.std.proofs.KnownBytes.{Consumes-nil, Consumes-trans, Consumes-kept}
-use Rattle.sdr_base.specs.Causes.{Rose}
+use Rattle.sdr_base.specs.Causes.{Rose, counted}
 use Rattle.bstr.specs.Find.{IsFirstByte, is_byte}
 use Rattle.sdr_shell.specs.LineAnswers.{Stops}
 use Rattle.sdr_shell.specs.declared.script.ScriptError.{ScriptError}
@@ -98,4 +98,8 @@ pub ruleset reading = (HasRead-none, HasRead-more, HasRead-refused, HasRead-all,
 pub rose_later : (first before now : ℕ) → first ≤ before → Rose before now → Rose first now
 rose_later first before now le rose = omega (arith, le, rose)
 
-pub ruleset taking = (Consumes-nil, Consumes-trans, Consumes-kept, rose_later)
+-- a count goes up by one at most
+pub counted_once : (before now : ℕ) → now ≡ counted before → now ≤ before + 1
+counted_once before now is = omega (arith, is)
+
+pub ruleset taking = (Consumes-nil, Consumes-trans, Consumes-kept, rose_later, counted_once)

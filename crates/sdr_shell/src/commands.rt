@@ -1,5 +1,5 @@
 // The calls that wait for nobody.
-ghost use Rattle.std.specs.Prelude.{◌≡◌, ◌≢◌, ◌≤◌, ◌↔◌, ◌⊎◌, ◌++◌, List, ℕ, codes, None, Some, [], IsOk, IsErr, length};
+ghost use Rattle.std.specs.Prelude.{◌≡◌, ◌≢◌, ◌≤◌, ◌+◌, ◌↔◌, ◌⊎◌, ◌++◌, List, ℕ, codes, None, Some, [], IsOk, IsErr, length};
 ghost use Rattle.std.specs.Io.KnownBytes.{Appends};
 ghost use Rattle.sdr_base.specs.Causes.{Rose};
 ghost use Rattle.sdr_shell.specs.Form.{form_of};
@@ -92,6 +92,7 @@ fn tell<K: Sink>(error: &ScriptError, output: &mut K) -> u8
 fn dry<S: Source, K: Sink>(alloc: Global, input: &mut S, output: &mut K) -> u8
     ensures known { IsDryStatus result }
     ensures later { (S.faults input.old ≤ S.faults input.new) × (K.faults output.old ≤ K.faults output.new) }
+    ensures reads { S.reads input.new ≤ S.reads input.old + 1048577 }
     ensures done { result ≡ DONE →
         IsDone (S.left input.old) (S.left input.new) (K.taken output.old) (K.taken output.new) }
     ensures input { result ≡ INPUT_FAULT → Rose (S.faults input.old) (S.faults input.new) }
@@ -141,6 +142,7 @@ pub fn still<D: Disk, M: Media, S: Source, K: Sink>(
         Writes (K.taken output.old) (K.taken output.new) (K.faults output.old) (K.faults output.new) (codes "usage\n") }
     ensures known { result.status ≡ USAGE ⊎ IsDryStatus result.status }
     ensures later { (S.faults input.old ≤ S.faults input.new) × (K.faults output.old ≤ K.faults output.new) }
+    ensures reads { S.reads input.new ≤ S.reads input.old + 1048577 }
     ensures disk { result.disk ≡ disk }
     ensures media { result.media ≡ media }
     ensures journal { result.journal ≡ [] }

@@ -24,6 +24,7 @@ fn read_input<S: Source>(alloc: Global, source: &mut S) -> Result<Vec<u8>, Scrip
     ensures bound { IfOk result (λ v. length v.items ≤ LONGEST_INPUT + PIECE) }
     ensures no_line { IfErr result NamesNoLine }
     ensures later { S.faults source.old ≤ S.faults source.new }
+    ensures reads { S.reads source.new ≤ S.reads source.old + 1048577 }
     ensures input { IsErrOf result ScriptError.Input → Rose (S.faults source.old) (S.faults source.new) }
 {
     let mut input = Vec::new(alloc);
@@ -73,11 +74,12 @@ fn input_script(alloc: Global, input: &[u8]) -> Result<Script, ScriptError>
     refused_behind(alloc, front)
 }
 
-/// Reads a script to the end of its input.
+/// Reads a script to the end of its input, in at most 1,048,577 reads: each but the last gave a byte.
 pub fn read_script<S: Source>(alloc: Global, source: &mut S) -> Result<Script, ScriptError>
     ensures script { IfOk result (ReadsScript (S.left source.old) (S.left source.new)) }
     ensures line { IfErr result (NamesLine (S.left source.old) (S.left source.new)) }
     ensures later { S.faults source.old ≤ S.faults source.new }
+    ensures reads { S.reads source.new ≤ S.reads source.old + 1048577 }
     ensures input { IsErrOf result ScriptError.Input → Rose (S.faults source.old) (S.faults source.new) }
 {
     let input = read_input(alloc, source)?;

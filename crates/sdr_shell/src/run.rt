@@ -139,7 +139,6 @@ fn run_on<K: Sink>(
 
 /// Makes the steps of a script in order, on a plain machine of the daemons that it names, and prints
 /// the line of each answer.
-
 pub fn run<K: Sink>(alloc: Global, script: &[Step], out: &mut K) -> Result<(), RunError>
     requires { length script.now < 2_097_152 }
     ensures ok { OnOk result (SomeRun script.now (λ rest text.

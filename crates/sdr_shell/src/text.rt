@@ -162,7 +162,7 @@ fn reply(line: &mut Line, reply: &Reply)
             line.push(b"pair");
             two_fields(line, *first, *second);
         }
-        Reply::Bytes { count: _ } => line.push(b"bytes x"),
+        Reply::Bytes { .. } => line.push(b"bytes x"),
         Reply::Refused(why) => {
             line.push(b"refused ");
             refusal(line, why);
@@ -259,7 +259,7 @@ pub fn write_answer<K: Sink>(
     text.field(u64::from(daemon));
     text.push(b" ");
     answer(&mut text, given);
-    if let Answer::Reply(Reply::Bytes { count: _ }) = given {
+    if let Answer::Reply(Reply::Bytes { .. }) = given {
         return write_given(out, text.as_slice(), bytes);
     }
     text.push(b"\n");

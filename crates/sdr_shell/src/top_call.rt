@@ -1,5 +1,5 @@
 // The call that the program makes.
-ghost use Rattle.std.specs.Prelude.{◌≡◌, ◌≢◌, ◌≤◌, ◌↔◌, ◌⊎◌, List, ℕ, codes, None, Some, [], IsOk, IsErr};
+ghost use Rattle.std.specs.Prelude.{◌≡◌, ◌≢◌, ◌≤◌, ◌+◌, ◌↔◌, ◌⊎◌, List, ℕ, codes, None, Some, [], IsOk, IsErr};
 ghost use Rattle.std.specs.Io.KnownBytes.{Appends};
 ghost use Rattle.sdr_base.specs.Causes.{Rose};
 ghost use Rattle.sdr_base.specs.Written.{AppendsPart};
@@ -42,6 +42,7 @@ pub fn top<
         Writes (K.taken output.old) (K.taken output.new) (K.faults output.old) (K.faults output.new) (codes "usage\n") }
     ensures known { result.status ≡ USAGE ⊎ IsDryStatus result.status }
     ensures later { (S.faults input.old ≤ S.faults input.new) × (K.faults output.old ≤ K.faults output.new) }
+    ensures reads { S.reads input.new ≤ S.reads input.old + 1048577 }
     ensures disk { result.disk ≡ disk }
     ensures media { result.media ≡ media }
     ensures journal { result.journal ≡ [] }

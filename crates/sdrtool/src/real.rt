@@ -4,18 +4,20 @@ ghost use Rattle.std.specs.Prelude.{◌≡◌};
 use sdr_base::{Sink, SinkFault, Source, SourceFault};
 use std::io::{Read, Write};
 
-/// A reader as a source. Each error is a fault, which it counts.
+/// A reader as a source. It counts its reads, and its faults: each error is one.
 #[derive(Drop)]
 pub struct StdSource<R> {
     inner: R,
     faults: u64,
+    reads: u64,
 }
 
 impl<R: Read> StdSource<R> {
     pub fn new(inner: R) -> StdSource<R>
-        ensures { ⟦<StdSource<R> as Source>⟧.faults result ≡ 0 }
+        ensures faults { ⟦<StdSource<R> as Source>⟧.faults result ≡ 0 }
+        ensures reads { ⟦<StdSource<R> as Source>⟧.reads result ≡ 0 }
     {
-        StdSource { inner, faults: 0 }
+        StdSource { inner, faults: 0, reads: 0 }
     }
 }
 
@@ -24,7 +26,10 @@ impl<R: Read> Source for StdSource<R> {
 
     ghost faults = { λ s. s.faults };
 
+    ghost reads = { λ s. s.reads };
+
     fn read(&mut self, into: &mut [u8]) -> Result<u64, SourceFault> {
+        self.reads = self.reads.saturating_add(1);
         match self.inner.read(into) {
             Ok(count) => Ok(count as u64),
             Err(_) => {
