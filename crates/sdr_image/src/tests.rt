@@ -148,6 +148,22 @@ fn formatting_writes_the_head_and_the_control_words(rt: HostRuntime) -> Result<(
 }
 
 #[test]
+fn a_heap_of_64_lines_has_its_first_block_at_1088(rt: HostRuntime) -> Result<(), Fail> {
+    let frame = Frame {
+        log_lines: 128,
+        heap_lines: 64,
+    };
+    let mut disk = MemoryDisk::new(vec![in rt.alloc(); 7; 12_352]?, vec![in rt.alloc(); 0; 0]?);
+    assert_eq!(rt; format(&mut disk, frame), Ok(()));
+    let mut image = Image::open(rt.alloc(), disk).map_err(|shut| shut.why)?;
+    assert_eq!(rt; image.room(), 112);
+    assert_eq!(rt; image.size(), 4096);
+    assert_eq!(rt; word(&mut image, 0), Ok(4096));
+    assert_eq!(rt; word(&mut image, 1), Ok(1088));
+    Ok(())
+}
+
+#[test]
 fn a_disk_a_byte_too_short_stays_as_it_is(rt: HostRuntime) -> Result<(), Fail> {
     let frame = Frame {
         log_lines: 256,

@@ -12,6 +12,8 @@
 
 mod frame;
 mod record;
+#[cfg(test)]
+mod tests;
 
 pub use frame::{Frame, LEAST_LOG, MOST_LOG};
 pub use record::Record;
