@@ -1,13 +1,13 @@
 -- The script of an input by its ended lines, and of a source by what was read of it.
-use Rattle.std.proofs.Common.{◌≡◌, ◌==◌, IfSome, IfOk, IfErr, ◌<◌, ◌≤◌, ◌++◌, ◌⊎◌, inl, inr, ℕ, List, [], ◌∷◌, Bool, true, false, cond, Option, None, Some, Result, Ok, Err, length, take, nat_le, refl, ap, sym, ◌∙◌, append-nil, arith, subst, length-append}
+use Rattle.std.proofs.Common.{◌≡◌, ◌==◌, IfSome, IfOk, IfErr, ◌<◌, ◌++◌, ◌⊎◌, inl, inr, ℕ, List, [], ◌∷◌, false, Option, None, Some, Result, Ok, Err, length, take, nat_le, refl, ap, sym, ◌∙◌, append-nil, arith, length-append}
 use Rattle.std.proofs.lemmas.Bool.{cond-true, cond-false}
-use Rattle.std.proofs.lemmas.Bool.Decides.{nat_tests, leb_tells}
+use Rattle.std.proofs.lemmas.Bool.Decides.{leb_tells}
 use Rattle.std.proofs.lemmas.List.{take-append-le}
 use Rattle.std.proofs.lemmas.List.Splits.{length-slice_split}
 use Rattle.std.specs.Io.KnownBytes.{Consumes, IsAtEnd}
 use Rattle.sdr_shell.proofs.ReadingLemmas.{read_lines-append}
 use Rattle.sdr_shell.specs.LineAnswers.{Stops, GivesScript}
-use Rattle.sdr_shell.specs.Reading.{ReadsInput, ReadsScript, RefusesLine, NamesLine}
+use Rattle.sdr_shell.specs.Reading.{ReadsInput, ReadsScript, NamesLine}
 use Rattle.sdr_shell.specs.Script.{◌>>=◌, Reading, nothing_read, lines_of, ended_lines, but_last, longest_input, read_line, read_lines, script_of, refused_behind, input_script}
 use Rattle.sdr_shell.specs.declared.script.ScriptError.{ScriptError}
 use Rattle.sdr_shell.specs.declared.script.ScriptError.TheVariants as errors

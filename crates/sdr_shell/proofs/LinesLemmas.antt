@@ -1,12 +1,8 @@
 -- What a line says by its first fields.
 use Rattle.std.specs.Cmp.Lexicographic.{pointwise}
-use Rattle.std.proofs.Common.{codes, nat_eq, ◌≡◌, ◌==◌, ◌+◌, ◌++◌, ℕ, List, [], ◌∷◌, Bool, true, false, cond, not, Option, None, Some, Result, Ok, Err, length, take, refl, ap, sym, ◌∙◌, slice_index, option_map, option_to_list, arith}
-use Rattle.std.proofs.lemmas.Bool.{ne_eqb, cond_both, cond-false, or_from, not_from_true}
-use Rattle.std.specs.List.{list_all}
-use Rattle.sdr_shell.specs.LineAnswers.{with_step}
-use Rattle.sdr_shell.specs.Script.{Reading, is_line_byte, is_skipped, fields_of, step_or_line, line_says, read_line}
-use Rattle.sdr_shell.specs.Script.{◌>>=◌ as ◌then◌}
-use Rattle.sdr_shell.specs.Statements.{◌>>=◌, statement_of, verb_of, verb_and_arguments, name_and_rest, is_bound_by, step_of}
+use Rattle.std.proofs.Common.{codes, nat_eq, ◌≡◌, ℕ, List, [], ◌∷◌, Bool, Option, None, Some, take, refl, ap, sym, ◌∙◌}
+use Rattle.std.proofs.lemmas.Bool.{cond_both}
+use Rattle.sdr_shell.specs.Statements.{◌>>=◌, statement_of, verb_of, verb_and_arguments, is_bound_by, step_of}
 use Rattle.sdr_shell.specs.Words.{daemon_of, is_name}
 use Rattle.sdr_shell.specs.declared.script.Statement.{Statement}
 use Rattle.sdr_shell.specs.declared.script.Step.{Step}

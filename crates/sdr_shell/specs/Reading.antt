@@ -1,5 +1,5 @@
 -- What reading a script from a source gives.
-use Rattle.std.specs.Prelude.{◌≡◌, ℕ, ◌≤◌, ◌<◌, ◌⊎◌, List, length, Option, Result, Ok, Err, IfSome}
+use Rattle.std.specs.Prelude.{◌≡◌, ℕ, ◌≤◌, ◌<◌, ◌⊎◌, List, length, Option, Ok, Err, IfSome}
 use Rattle.std.specs.Io.KnownBytes.{Consumes, IsAtEnd}
 use Rattle.sdr_shell.specs.Script.{script_of, input_script, longest_input}
 use Rattle.sdr_shell.specs.declared.script.ScriptError.{ScriptError}

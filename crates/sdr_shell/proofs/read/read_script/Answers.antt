@@ -1,4 +1,4 @@
-use Rattle.std.proofs.Common.{List, ℕ, subst, sym}
+use Rattle.std.proofs.Common.{List, ℕ, subst}
 use Rattle.sdr_shell.specs.LineAnswers.{GivesScript}
 use Rattle.sdr_shell.specs.Script.{input_script}
 use Rattle.sdr_shell.proofs.InputLemmas.{script_result, line_result}
