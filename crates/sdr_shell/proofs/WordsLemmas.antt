@@ -36,7 +36,8 @@ own : IsNumeralModel (λ ds. list_all is_ascii_digit ds ≡ true) (digits_value 
 own = numerals_by_value _ (search rules)
 
 -- what parsing gives of decimal digits
-pub parsed-decimal : {E : Type 0} (bs : List ℕ) (r : Result ℕ E) → is_decimal bs ≡ true → ParsesUnsigned 64 10 bs r → result_ok r ≡ number_of bs
+pub parsed-decimal : {E : Type 0} (bs : List ℕ) (r : Result ℕ E) → is_decimal bs ≡ true → ParsesUnsigned 64 10 bs r
+    → result_ok r ≡ number_of bs
 parsed-decimal {E = E} bs (Ok x) d p =
     let given = parse_digits own {E = E} 64 bs (Ok x) p (decimal_has_digits bs d).1 in
     let fits : nat_lt (digits_value 10 bs) (2 ^ 64) ≡ true = grind (arith, nat_tests, given) in

@@ -24,7 +24,8 @@ fn read_input<S: Source>(alloc: Global, source: &mut S) -> Result<Vec<u8>, Scrip
     ensures bound { IfOk result (λ v. length v.items ≤ LONGEST_INPUT + PIECE) }
     ensures no_line { IfErr result NamesNoLine }
     ensures later { S.faults source.old ≤ S.faults source.new }
-    ensures input { IsErrOf result ScriptError.Input → Rose (S.faults source.old) (S.faults source.new) }
+    ensures input { IsErrOf result ScriptError.Input →
+        Rose (S.faults source.old) (S.faults source.new) }
 {
     let mut input = Vec::new(alloc);
     let mut piece = [0u8; PIECE];
@@ -78,7 +79,8 @@ pub fn read_script<S: Source>(alloc: Global, source: &mut S) -> Result<Script, S
     ensures script { IfOk result (ReadsScript (S.left source.old) (S.left source.new)) }
     ensures line { IfErr result (NamesLine (S.left source.old) (S.left source.new)) }
     ensures later { S.faults source.old ≤ S.faults source.new }
-    ensures input { IsErrOf result ScriptError.Input → Rose (S.faults source.old) (S.faults source.new) }
+    ensures input { IsErrOf result ScriptError.Input →
+        Rose (S.faults source.old) (S.faults source.new) }
 {
     let input = read_input(alloc, source)?;
     input_script(alloc, input.as_slice())
