@@ -74,6 +74,17 @@ input_script-append bytes more long =
     ∙ ap refused_behind (take-append-le longest_input bytes more (omega (arith, long)))
     ∙ sym (cond-false _ _ _ (too_long (length bytes) long))
 
+-- what was read far enough has the script of the whole input
+whole_script : (old new : Option (List ℕ)) (bytes : List ℕ) (given : Result (List Step) ℕ) → Consumes old new bytes
+    → IsAtEnd new ⊎ longest_input < length bytes → input_script bytes ≡ given
+    → IfSome old (λ input. input_script input ≡ given)
+whole_script None new bytes given taken far script = tt
+whole_script (Some xs) None bytes given taken far script = absurd taken
+whole_script (Some xs) (Some ys) bytes given taken (inl end) script =
+    ap input_script (taken ∙ ap (λ l. bytes ++ l) end ∙ append-nil bytes) ∙ script
+whole_script (Some xs) (Some ys) bytes given taken (inr long) script =
+    ap input_script taken ∙ input_script-append bytes ys long ∙ script
+
 ReadsScript-from : (old new : Option (List ℕ)) (bytes : List ℕ) (steps : List Step) → ReadsInput old new bytes
     → input_script bytes ≡ Ok steps → ReadsScript old new steps
 ReadsScript-from old new bytes steps reads script =
@@ -84,20 +95,11 @@ ReadsScript-from old new bytes steps reads script =
         at_end = elim reads.far [ inl end ↦ end | inr long ↦ absurd (omega (arith, long, within.1)) ];
         within = within.1;
         script = sym (cond-true _ _ _ within.0) ∙ script;
+        whole = whole_script old new bytes (Ok steps) reads.taken reads.far script;
       }
-      | inr beyond ↦ absurd (no_script_behind (take longest_input bytes) steps (sym (cond-false _ _ _ beyond.0)
-          ∙ script))
+      | inr beyond ↦
+          absurd (no_script_behind (take longest_input bytes) steps (sym (cond-false _ _ _ beyond.0) ∙ script))
     ]
-
-refused_whole : (old new : Option (List ℕ)) (bytes : List ℕ) (line : ℕ) → Consumes old new bytes
-    → IsAtEnd new ⊎ longest_input < length bytes
-    → input_script bytes ≡ Err line → IfSome old (λ input. input_script input ≡ Err line)
-refused_whole None new bytes line taken far refused = tt
-refused_whole (Some xs) None bytes line taken far refused = absurd taken
-refused_whole (Some xs) (Some ys) bytes line taken (inl end) refused = ap input_script (taken
-    ∙ ap (λ l. bytes ++ l) end ∙ append-nil bytes) ∙ refused
-refused_whole (Some xs) (Some ys) bytes line taken (inr long) refused = ap input_script taken
-    ∙ input_script-append bytes ys long ∙ refused
 
 -- what reading and the script of what was read make together
 pub script_result : (old new : Option (List ℕ)) (bytes : List ℕ) (result : Result (List Step) ScriptError)
@@ -113,6 +115,6 @@ line_result old new bytes (Err (errors.Line line)) reads gives = record {
   bytes = bytes;
   taken = reads.taken;
   refused = gives;
-  whole = refused_whole old new bytes line reads.taken reads.far gives;
+  whole = whole_script old new bytes (Err line) reads.taken reads.far gives;
 }
 line_result old new bytes (Err errors.NoMemory) reads gives = tt

@@ -11,7 +11,3 @@ mod script;
 mod script_tests;
 mod statements;
 mod words;
-
-pub use bindings::Bindings;
-pub use read::read_script;
-pub use script::{Script, ScriptError, Statement, Step, Value};
