@@ -13,10 +13,8 @@
 //! cancelled.
 #![tactic(auto)]
 
-mod give;
-mod take;
-#[cfg(test)]
-mod tests;
+mod giving;
+mod taking;
 
-pub use give::give;
-pub use take::take;
+pub use giving::give;
+pub use taking::take;
