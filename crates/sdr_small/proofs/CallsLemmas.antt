@@ -1,16 +1,16 @@
 -- What the two calls do, from what their steps do.
 use Rattle.std.proofs.Common.{◌≡◌, ◌≢◌, ◌≤◌, ◌<◌, ◌⊎◌, inl, inr, ℕ, ◌+◌, ◌-◌, ◌*◌, ◌/◌, Bool, true, false, cond, nat_lt, ◌==◌}
 use Rattle.std.proofs.Common.{List, [], ◌∷◌, length, refl, sym, ap, ◌∙◌, arith, subst}
-use Rattle.std.specs.Prelude.{Option, Some, None}
+use Rattle.std.specs.Prelude.{Option, Some, None, Result, Ok, Err, IfOk, OnOk}
 use Rattle.std.specs.List.{count_by}
 use Rattle.std.proofs.lemmas.Bool.{le-ltb, lt-ltb}
 use Rattle.sdr_base.specs.Pools.{Pools, IsUsed, is_of}
-use Rattle.sdr_base.specs.SmallPool.{Taken, take_small, take_from, with_front_taken, with_new_small, words_at}
+use Rattle.sdr_base.specs.SmallPool.{Taken, take_small, take_from, with_front_taken, with_new_small, give_small, words_at}
 use Rattle.sdr_base.specs.KeptPools.{Chain, KeepsSmall, KeepsSomeSmall, list_place}
 use Rattle.sdr_base.specs.Stored.{number_at, with_number, leader_words, with_bare_leader, SetsStartBit}
 use Rattle.sdr_base.proofs.SmallPoolLemmas.{words_at-is}
-use Rattle.sdr_small.specs.Calls.{TakesBlock, TakesBy, Takes, TakesListed, TakesNew, KeepsUsedSmall, Gives, PutsFront}
-use Rattle.sdr_small.proofs.KeptLemmas.{IsInOrder, in_order, IsBlock, is_block, free_is, front_free}
+use Rattle.sdr_base.proofs.KeptPoolsLemmas.{IsInOrder, in_order, IsBlock, is_block, free_is, front_free}
+use Rattle.sdr_small.specs.Calls.{TakesBlock, TakesBy, Takes, TakesListed, TakesNew, KeepsUsedSmall, IsGiveable, Gives, PutsFront}
 use Rattle.sdr_small.proofs.TakeLemmas.{takes_listed}
 use Rattle.sdr_small.proofs.NewLemmas.{takes_new}
 use Rattle.sdr_small.proofs.GiveLemmas.{gives_block}
@@ -160,3 +160,32 @@ gives_back x z y words addr same given puts = record {
       (subst (λ (w : ℕ). PutsFront w addr x y) (given ∙ leader_is x P addr keeps used)
       (subst (λ (l : List ℕ). PutsFront words addr l y) same puts));
 }
+
+-- after a take the bytes keep a pool
+pub Takes-kept : (x y : List ℕ) (words : ℕ) (found : Option ℕ) → KeepsSomeSmall x → Takes words found x y → KeepsSomeSmall y
+Takes-kept x y words found k takes = cases (take_small k.pools words) (takes.rule k.pools k.keeps)
+  where
+    cases : (t : Option Taken) → TakesBy k.pools words t found x y → KeepsSomeSmall y
+    cases None by = subst KeepsSomeSmall (sym by.1) k
+    cases (Some taken) by = record { pools = taken.pools; keeps = by.keeps }
+
+-- and the block that was answered is in use there
+pub Takes-used : (x y : List ℕ) (words : ℕ) (found : Option ℕ) → KeepsSomeSmall x → Takes words found x y → IsGiveable found y
+Takes-used x y words None k takes = tt
+Takes-used x y words (Some addr) k takes = cases (take_small k.pools words) (takes.rule k.pools k.keeps)
+  where
+    cases : (t : Option Taken) → TakesBy k.pools words t (Some addr) x y → KeepsUsedSmall addr y
+    cases None by = let none : Some addr ≡ None = by.0 in cc
+    cases (Some taken) by =
+        let same : addr ≡ taken.addr = (let e : Some addr ≡ Some taken.addr = by.addr in cc) in
+        subst (λ (a : ℕ). KeepsUsedSmall a y) (sym same) (record { pools = taken.pools; keeps = by.keeps; used = by.used })
+
+-- after a give the bytes keep a pool
+pub Gives-kept : (x y : List ℕ) (addr : ℕ) → KeepsUsedSmall addr x → Gives addr x y → KeepsSomeSmall y
+Gives-kept x y addr k gives =
+    record { pools = give_small k.pools addr; keeps = (gives.rule k.pools k.keeps k.used).keeps }
+
+-- what holds of the value in an Ok says this
+pub OnOk-from : {T E P : Type 0} (Q : T → Type 0) (r : Result T E) → ((value : T) → Q value → P) → IfOk r Q → OnOk r P
+OnOk-from Q (Ok value) says is = says value is
+OnOk-from Q (Err stop) says is = tt

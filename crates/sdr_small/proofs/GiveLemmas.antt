@@ -11,14 +11,13 @@ use Rattle.sdr_base.specs.Stored.{number_at, with_number, leader_kind, leader_wo
 use Rattle.sdr_base.proofs.PoolsLemmas.{count_by-append, count_by-no, apart, of-le-at, free-used-le-at}
 use Rattle.sdr_base.proofs.SmallPoolLemmas.{with_list-here, with_list-other, Follows-with_used, of-with_used, words_at-is}
 use Rattle.sdr_base.proofs.SmallPoolLemmas.{free-with_used_other, free-with_used_given, used-with_used_other, used-with_used_given}
-use Rattle.sdr_base.proofs.KeptPoolsLemmas.{Chain-moved}
 use Rattle.sdr_base.proofs.StartBitsLemmas.{start_bit-same}
 use Rattle.sdr_base.proofs.StoredLemmas.{number_at-with_number, number_at-same, get_or-with_number, length-with_number}
 use Rattle.sdr_base.proofs.StoredLemmas.{leader_words-same, leader_kind-same, leader_length-same}
 use Rattle.sdr_base.proofs.StoredLemmas.{get_or-with_bare_leader, length-with_bare_leader}
 use Rattle.sdr_base.proofs.StoredLemmas.{leader_words-with_bare_leader, leader_kind-with_bare_leader, leader_length-with_bare_leader}
+use Rattle.sdr_base.proofs.KeptPoolsLemmas.{Chain-moved, IsInOrder, in_order, IsBlock, is_block, free_is, listed_is, front_is, next_fits}
 use Rattle.sdr_small.specs.Calls.{PutsFront, GivesBlock}
-use Rattle.sdr_small.proofs.KeptLemmas.{IsInOrder, in_order, IsBlock, is_block, free_is, listed_is, front_is, next_fits}
 
 -- the pools with a block of so many words given back
 abbrev pub given : Pools → ℕ → ℕ → Pools

@@ -1,5 +1,4 @@
 pub mod CallsLemmas
 pub mod GiveLemmas
-pub mod KeptLemmas
 pub mod NewLemmas
 pub mod TakeLemmas

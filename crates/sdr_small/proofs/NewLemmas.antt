@@ -11,14 +11,13 @@ use Rattle.sdr_base.specs.KeptPools.{Chain, KeepsSmall, StaysBeside, list_place}
 use Rattle.sdr_base.specs.Stored.{number_at, with_number, leader_kind, leader_words, leader_length, with_bare_leader, start_bit, SetsStartBit}
 use Rattle.sdr_base.proofs.PoolsLemmas.{count_by-append, count_by-no, is_of-true, used-le-at, at-last, Follows-whole}
 use Rattle.sdr_base.proofs.SmallPoolLemmas.{Follows-push}
-use Rattle.sdr_base.proofs.KeptPoolsLemmas.{Chain-moved}
 use Rattle.sdr_base.proofs.StartBitsLemmas.{start_bit-same}
 use Rattle.sdr_base.proofs.StoredLemmas.{number_at-with_number, number_at-same, get_or-with_number, length-with_number}
 use Rattle.sdr_base.proofs.StoredLemmas.{leader_words-same, leader_kind-same, leader_length-same}
 use Rattle.sdr_base.proofs.StoredLemmas.{get_or-with_bare_leader, length-with_bare_leader}
 use Rattle.sdr_base.proofs.StoredLemmas.{leader_words-with_bare_leader, leader_kind-with_bare_leader, leader_length-with_bare_leader}
+use Rattle.sdr_base.proofs.KeptPoolsLemmas.{Chain-moved, IsInOrder, in_order, IsBlock, is_block, free_is, listed_is}
 use Rattle.sdr_small.specs.Calls.{TakesBlock}
-use Rattle.sdr_small.proofs.KeptLemmas.{IsInOrder, in_order, IsBlock, is_block, free_is, listed_is}
 
 -- the new block
 abbrev new_block : ℕ → ℕ → PoolBlock
@@ -192,9 +191,22 @@ module _ (x y : List ℕ) (P : Pools) (words : ℕ) (keeps : KeepsSmall x P) (so
       differ : 8 * word ≢ P.low → (P.low + 8 == 8 * word + 8) ≡ false
       differ apart = grind (arith, nat_tests)
 
+  -- it is in use
+  in_use : 0 < count_by (is_used_at (P.low + 8)) (P.small ++ new_block P.low words ∷ [])
+  in_use =
+      omega (
+        arith,
+        one_more (is_used_at (P.low + 8)) P.small (new_block P.low words)
+            ∙ ap (λ (v : Bool). count_by (is_used_at (P.low + 8)) P.small + cond (v && true) 1 0) (same (P.low + 8)),
+      )
+    where
+      same : (n : ℕ) → (n == n) ≡ true
+      same n = grind (arith, nat_tests)
+
   pub takes_new : TakesBlock P words (record { addr = P.low + 8; pools = with_new_small P words }) (Some (P.low + 8)) x y
   takes_new = record {
     addr = refl;
+    used = record { used = in_use };
     keeps = record {
       tiles = tiles;
       size = size ∙ keeps.size;

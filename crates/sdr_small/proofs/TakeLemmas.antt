@@ -12,12 +12,11 @@ use Rattle.sdr_base.specs.Stored.{number_at, with_number, leader_kind, leader_wo
 use Rattle.sdr_base.proofs.PoolsLemmas.{count_by-append, of-le-at, free-le-of, free-free-le-at, at-once, count_by-no}
 use Rattle.sdr_base.proofs.SmallPoolLemmas.{with_list-here, with_list-other, Follows-with_used, of-with_used}
 use Rattle.sdr_base.proofs.SmallPoolLemmas.{free-with_used_other, free-with_used_taken, used-with_used_other, used-with_used_taken}
-use Rattle.sdr_base.proofs.KeptPoolsLemmas.{Chain-moved}
 use Rattle.sdr_base.proofs.StartBitsLemmas.{start_bit-same}
 use Rattle.sdr_base.proofs.StoredLemmas.{number_at-with_number, number_at-same, get_or-with_number, length-with_number}
 use Rattle.sdr_base.proofs.StoredLemmas.{leader_words-same, leader_kind-same, leader_length-same}
+use Rattle.sdr_base.proofs.KeptPoolsLemmas.{Chain-moved, IsInOrder, in_order, IsBlock, is_block, free_is, listed_is, front_is, front_free, next_fits}
 use Rattle.sdr_small.specs.Calls.{TakesListed, TakesBlock}
-use Rattle.sdr_small.proofs.KeptLemmas.{IsInOrder, in_order, IsBlock, is_block, free_is, listed_is, front_is, front_free, next_fits}
 
 -- the bytes from x to y, where the front of the list for some words is taken from the pools
 module _ (x y : List ℕ) (P : Pools) (words addr : ℕ) (rest : List ℕ) (keeps : KeepsSmall x P)
@@ -210,6 +209,7 @@ module _ (x y : List ℕ) (P : Pools) (words addr : ℕ) (rest : List ℕ) (keep
   pub takes_listed : TakesBlock P words (record { addr = addr; pools = with_front_taken P words addr rest }) (Some addr) x y
   takes_listed = record {
     addr = refl;
+    used = record { used = omega (arith, used-with_used_taken addr P.small, block.once) };
     keeps = record {
       tiles = tiles;
       size = size ∙ keeps.size;

@@ -1,5 +1,5 @@
 -- What the calls of the small pool do to the pools that the bytes keep.
-use Rattle.std.specs.Prelude.{◌≡◌, ◌≤◌, ◌<◌, ◌+◌, ◌-◌, ◌*◌, ◌/◌, ℕ, List, Option, Some, None}
+use Rattle.std.specs.Prelude.{◌≡◌, ◌≤◌, ◌<◌, ◌+◌, ◌-◌, ◌*◌, ◌/◌, ℕ, List, Option, Some, None, ⊤}
 use Rattle.sdr_base.specs.Pools.{Pools, IsUsed}
 use Rattle.sdr_base.specs.SmallPool.{Taken, take_small, give_small, words_at}
 use Rattle.sdr_base.specs.KeptPools.{KeepsSmall, StaysBeside, list_place}
@@ -7,10 +7,11 @@ use Rattle.sdr_base.specs.Stored.{number_at, with_number, leader_kind, leader_le
 use Rattle.sdr_base.specs.declared.line.TheConstants.{WORD}
 use Rattle.sdr_base.specs.declared.control.TheConstants.{LOW, HIGH}
 
--- a block of so many words is answered: the bytes keep the pools without it, its leader has kind 0 and
--- length 0, and all else stays
+-- a block of so many words is answered: the bytes keep the pools in which it is in use, its leader has
+-- kind 0 and length 0, and all else stays
 pub record TakesBlock (P : Pools) (words : ℕ) (taken : Taken) (found : Option ℕ) (old new : List ℕ) : Type 0 where
   pub addr : found ≡ Some taken.addr
+  pub used : IsUsed taken.pools.small taken.addr
   pub keeps : KeepsSmall new taken.pools
   pub kind : leader_kind (taken.addr - WORD) new ≡ 0
   pub length : leader_length (taken.addr - WORD) new ≡ 0
@@ -30,6 +31,11 @@ pub record KeepsUsedSmall (addr : ℕ) (bytes : List ℕ) : Type 0 where
   pub pools : Pools
   pub keeps : KeepsSmall bytes pools
   pub used : IsUsed pools.small addr
+
+-- a block that was answered can be given back
+abbrev pub IsGiveable : Option ℕ → List ℕ → Type 0
+IsGiveable None bytes = ⊤
+IsGiveable (Some addr) bytes = KeepsUsedSmall addr bytes
 
 -- the block is back: the bytes keep the pools with it, and all else stays
 pub record GivesBlock (P : Pools) (addr : ℕ) (old new : List ℕ) : Type 0 where

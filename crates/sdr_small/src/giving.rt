@@ -2,7 +2,7 @@
 ghost use Rattle.std.specs.Prelude.{◌≡◌, ◌+◌, ◌*◌, ◌/◌, ◌-◌, ◌≤◌, ◌<◌, length, OnOk};
 ghost use Rattle.sdr_base.specs.declared.line.TheConstants.{START_BITS};
 ghost use Rattle.sdr_base.specs.Transaction.{HasReason, TouchesAtMost};
-ghost use Rattle.sdr_base.specs.KeptPools.{list_place};
+ghost use Rattle.sdr_base.specs.KeptPools.{KeepsSomeSmall};
 ghost use Rattle.sdr_small.specs.Calls.{PutsFront, KeepsUsedSmall, Gives};
 
 use sdr_base::control::{MOST_SMALL, SMALL_LISTS};
@@ -16,6 +16,7 @@ use sdr_base::{
 pub fn give<C: Cells>(c: &mut C, addr: Addr) -> Result<(), Stop>
     requires used { KeepsUsedSmall addr (C.bytes c.old) }
     ensures given { OnOk result (Gives addr (C.bytes c.old) (C.bytes c.new)) }
+    ensures kept { OnOk result (KeepsSomeSmall (C.bytes c.new)) }
     ensures size { length (C.bytes c.new) ≡ length (C.bytes c.old) }
     ensures room { TouchesAtMost 20 (C.transaction c.old) (C.transaction c.new) result }
     ensures cause { HasReason (C.transaction c.old) (C.transaction c.new) result }
@@ -29,7 +30,7 @@ pub fn give<C: Cells>(c: &mut C, addr: Addr) -> Result<(), Stop>
 fn put_front<C: Cells>(c: &mut C, words: u64, addr: Addr) -> Result<(), Stop>
     requires words { words ≤ MOST_SMALL }
     requires least { WORD ≤ addr }
-    requires list { list_place words + WORD ≤ length (C.bytes c.old) }
+    requires control { START_BITS ≤ length (C.bytes c.old) }
     requires inside { addr + WORD ≤ length (C.bytes c.old) }
     requires bit { START_BITS + (addr - WORD) / WORD / 8 < length (C.bytes c.old) }
     ensures front { OnOk result (PutsFront words addr (C.bytes c.old) (C.bytes c.new)) }

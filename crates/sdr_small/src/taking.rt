@@ -3,8 +3,8 @@ ghost use Rattle.std.specs.Prelude.{◌≡◌, ◌+◌, ◌*◌, ◌/◌, ◌-�
 ghost use Rattle.sdr_base.specs.Stored.{number_at};
 ghost use Rattle.sdr_base.specs.declared.line.TheConstants.{START_BITS};
 ghost use Rattle.sdr_base.specs.Transaction.{HasReason, TouchesAtMost};
-ghost use Rattle.sdr_base.specs.KeptPools.{KeepsSomeSmall, list_place};
-ghost use Rattle.sdr_small.specs.Calls.{TakesListed, TakesNew, Takes};
+ghost use Rattle.sdr_base.specs.KeptPools.{KeepsSomeSmall};
+ghost use Rattle.sdr_small.specs.Calls.{TakesListed, TakesNew, Takes, IsGiveable};
 
 use sdr_base::control::{HIGH, LOW, MOST_SMALL, SMALL_LISTS};
 use sdr_base::{
@@ -18,6 +18,8 @@ pub fn take<C: Cells>(c: &mut C, words: u64) -> Result<Option<Addr>, Stop>
     requires some { 1 ≤ words }
     requires pools { KeepsSomeSmall (C.bytes c.old) }
     ensures taken { IfOk result (λ found. Takes words found (C.bytes c.old) (C.bytes c.new)) }
+    ensures used { IfOk result (λ found. IsGiveable found (C.bytes c.new)) }
+    ensures kept { OnOk result (KeepsSomeSmall (C.bytes c.new)) }
     ensures size { length (C.bytes c.new) ≡ length (C.bytes c.old) }
     ensures room { TouchesAtMost 20 (C.transaction c.old) (C.transaction c.new) result }
     ensures cause { HasReason (C.transaction c.old) (C.transaction c.new) result }
@@ -39,7 +41,7 @@ pub fn take<C: Cells>(c: &mut C, words: u64) -> Result<Option<Addr>, Stop>
 fn take_listed<C: Cells>(c: &mut C, words: u64, front: Addr) -> Result<(), Stop>
     requires words { words ≤ MOST_SMALL }
     requires least { WORD ≤ front }
-    requires list { list_place words + WORD ≤ length (C.bytes c.old) }
+    requires control { START_BITS ≤ length (C.bytes c.old) }
     requires inside { front + WORD ≤ length (C.bytes c.old) }
     requires bit { START_BITS + (front - WORD) / WORD / 8 < length (C.bytes c.old) }
     ensures taken { OnOk result (TakesListed words front (C.bytes c.old) (C.bytes c.new)) }
