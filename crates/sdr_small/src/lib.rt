@@ -14,7 +14,11 @@
 #![tactic(auto)]
 
 mod giving;
+#[cfg(test)]
+mod memory;
 mod taking;
+#[cfg(test)]
+mod tests;
 
 pub use giving::give;
 pub use taking::take;
