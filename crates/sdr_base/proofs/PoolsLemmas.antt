@@ -211,3 +211,18 @@ apart from to words addr words' addr' (b ∷ bs) f some some' differ =
             (omega (arith, some', count_by-no (is_of words' addr') b bs there')) differ
       ]
     ]
+
+-- and before the place to which they follow
+pub at-last : (from to addr : ℕ) (bs : List PoolBlock) → Follows from bs to → to < addr + 8 →
+    count_by (is_at addr) bs ≡ 0
+at-last from to addr [] f behind = refl
+at-last from to addr (b ∷ bs) f behind =
+    count_by-no (is_at addr) b bs
+    (is_at-other addr b (omega (arith, f.0, f.1, Follows-le (from + 8 * (1 + b.words)) to bs f.3)))
+    ∙ at-last (from + 8 * (1 + b.words)) to addr bs f.3 behind
+
+-- they take whole words
+pub Follows-whole : (from to : ℕ) (bs : List PoolBlock) → Follows from bs to → (to - from) % 8 ≡ 0
+Follows-whole from to [] f = omega (arith, f)
+Follows-whole from to (b ∷ bs) f =
+    omega (arith, Follows-whole (from + 8 * (1 + b.words)) to bs f.3, Follows-le (from + 8 * (1 + b.words)) to bs f.3)

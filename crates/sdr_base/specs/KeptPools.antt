@@ -46,3 +46,13 @@ pub record StaysBeside (start addr words : ℕ) (old new : List ℕ) : Type 0 wh
       IsOutside START_BITS start i → IsOutside (addr - WORD) (addr + WORD * words) i → get_or new i 0 ≡ get_or old i 0
   pub bits : (word : ℕ) → word < 8 * (start - START_BITS) → WORD * word + WORD ≢ addr →
       start_bit word new ≡ start_bit word old
+
+-- what the large pool stands on stays: the other control words, all from `high` up, and the start bits there
+pub record StaysLarge (P : Pools) (old new : List ℕ) : Type 0 where
+  pub size : length new ≡ length old
+  pub front : (i : ℕ) → i < WORD * LOW → get_or new i 0 ≡ get_or old i 0
+  pub high : (i : ℕ) → WORD * HIGH ≤ i → i < list_place 1 → get_or new i 0 ≡ get_or old i 0
+  pub control : (i : ℕ) → list_place (1 + MOST_SMALL) ≤ i → i < START_BITS → get_or new i 0 ≡ get_or old i 0
+  pub blocks : (i : ℕ) → P.high ≤ i → get_or new i 0 ≡ get_or old i 0
+  pub bits : (word : ℕ) → word < 8 * (P.start - START_BITS) → P.high ≤ WORD * word →
+      start_bit word new ≡ start_bit word old
