@@ -1,5 +1,5 @@
 -- A string is made in a transaction: what the definitions say of a run of three lines.
-use Rattle.std.specs.Prelude.{◌≡◌, ℕ, List, [], ◌∷◌, None, codes, length, refl}
+use Rattle.std.specs.Prelude.{◌≡◌, List, [], ◌∷◌, None, codes, length, refl}
 use Rattle.std.specs.FinMap as map
 use Rattle.std.specs.Fmt.{digits}
 use Rattle.sdr_model.specs.Core.{Core, Made, CoreStep, first_core, core_after}

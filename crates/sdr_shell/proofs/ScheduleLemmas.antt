@@ -6,10 +6,8 @@ use Rattle.std.proofs.KnownBytes.{Appends-nil, Appends-trans, Appends-kept}
 use Rattle.sdr_base.specs.Written.{AppendsPart}
 use Rattle.sdr_model.specs.Core.{Core, CoreStep, Made, RunsCore, first_core, core_after, given_bytes}
 use Rattle.sdr_model.specs.Machine.{Machine, MachineStep, event_moves, first_machine}
-use Rattle.sdr_model.specs.World.{empty_world}
 use Rattle.sdr_model.specs.declared.answer.Answer.{Answer}
 use Rattle.sdr_model.specs.declared.answer.Answer.TheVariants as answers
-use Rattle.sdr_model.specs.declared.answer.Reply.{Reply}
 use Rattle.sdr_model.specs.declared.answer.Reply.TheVariants as replies
 use Rattle.sdr_shell.specs.Bindings.{Binding, bound, event_of}
 use Rattle.sdr_shell.specs.Schedule.{Answers, Follows, MakesEvent, RunsDry, SomeAnswer, SomeRun, answer_line, daemons_of}
@@ -25,7 +23,12 @@ bindings_after bindings steps made = bindings
 -- the event of the step
 abbrev pub made_of : List Binding → Step → Answer → Machine → Made
 made_of bindings step answer m' = record {
-  line = step.line; daemon = step.daemon; event = event_of bindings step.daemon step.statement; answer = answer; bytes = given_bytes answer m'.current }
+  line = step.line;
+  daemon = step.daemon;
+  event = event_of bindings step.daemon step.statement;
+  answer = answer;
+  bytes = given_bytes answer m'.current;
+}
 
 -- A run so far: what is left, the names, and the machine.
 pub record At (script rest : List Step) (made : List Made) (bindings : List Binding) (m : Machine) : Type 0 where
@@ -66,13 +69,13 @@ pub at_next : (script : List Step) (step : Step) (rest : List Step) (made : List
 at_next script step rest made bindings m m' answer at answers_so =
     let e = made_of bindings step answer m' in
     let makes_event : MakesEvent (bindings_after [] at.run.front made) step e =
-          subst (λ b. MakesEvent b step e) at.names (record { line = refl; daemon = refl; event = refl }) in
+    subst (λ b. MakesEvent b step e) at.names (record { line = refl; daemon = refl; event = refl }) in
     let next : Core = core_after at.run.core e m' in
     let core_step : CoreStep at.run.core e next = record {
-          machine = subst (λ n. MachineStep n step.daemon e.event answer (event_moves n e.event answer) m') (sym at.machine) answers_so;
-          bytes = refl;
-          history = refl;
-        } in
+      machine = subst (λ n. MachineStep n step.daemon e.event answer (event_moves n e.event answer) m') (sym at.machine) answers_so;
+      bytes = refl;
+      history = refl;
+    } in
     record {
       run = record {
         front = at.run.front ++ step ∷ [];

@@ -1,12 +1,12 @@
 -- What a read script says of the source's input.
-use Rattle.std.proofs.Common.{◌≡◌, ◌==◌, ◌+◌, ◌++◌, ◌≤◌, ℕ, List, [], ◌∷◌, Option, None, Some, Result, Ok, Err, IfSome, inl, inr, length, option_to_list, refl, ap, sym, ◌∙◌, append-nil, length-append, subst, arith}
+use Rattle.std.proofs.Common.{◌≡◌, ◌==◌, ◌+◌, ◌++◌, ◌≤◌, ℕ, List, [], ◌∷◌, Option, None, Some, Result, Ok, Err, inl, inr, length, option_to_list, refl, ap, ◌∙◌, append-nil, length-append, subst, arith}
 use Rattle.std.proofs.lemmas.Bool.{cond-true}
 use Rattle.std.proofs.lemmas.Bool.Decides.{leb_tells}
 use Rattle.std.proofs.lemmas.List.Splits.{length-slice_split}
 use Rattle.std.proofs.lemmas.List.Sums.{count_by-le-length}
 use Rattle.std.specs.Io.KnownBytes.{Consumes, IsAtEnd}
 use Rattle.sdr_shell.specs.Reading.{ReadsScript, RefusesLine, NamesLine}
-use Rattle.sdr_shell.specs.Script.{Reading, ◌>>=◌, nothing_read, lines_of, longest_input, line_says, read_line, read_lines, script_of, input_script}
+use Rattle.sdr_shell.specs.Script.{Reading, ◌>>=◌, nothing_read, lines_of, longest_input, line_says, read_line, read_lines, script_of}
 use Rattle.sdr_shell.specs.Still.{Had, HadScript, HadBadLine}
 use Rattle.sdr_shell.specs.declared.script.ScriptError.{ScriptError}
 use Rattle.sdr_shell.specs.declared.script.ScriptError.TheVariants as errors

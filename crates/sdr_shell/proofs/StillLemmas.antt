@@ -1,11 +1,11 @@
 -- What a last line adds to a run, and what follows from the statuses.
-use Rattle.std.proofs.Common.{◌≡◌, ◌≤◌, ℕ, List, ◌++◌, ◌⊎◌, inl, inr, Option, Some, None, Ok, Err, IsErr, true≢false, refl, sym, subst, arith}
+use Rattle.std.proofs.Common.{◌≡◌, ◌≤◌, ℕ, List, ◌++◌, inl, inr, Option, Some, None, Ok, IsErr, true≢false, refl, sym, subst, arith}
 use Rattle.std.specs.Io.KnownBytes.{Appends}
 use Rattle.std.proofs.KnownBytes.{Appends-trans}
 use Rattle.sdr_base.proofs.WrittenLemmas.{rose_later}
 use Rattle.sdr_shell.specs.Schedule.{SomeRun}
 use Rattle.sdr_shell.specs.Script.{input_script}
-use Rattle.sdr_shell.specs.Still.{Writes, Had, HadScript, HadBadLine, HadRun, IsRefused, Tells}
+use Rattle.sdr_shell.specs.Still.{Writes, HadScript, HadBadLine, HadRun, IsRefused, Tells}
 use Rattle.sdr_shell.specs.declared.script.ScriptError.{ScriptError}
 use Rattle.sdr_shell.specs.declared.script.ScriptError.TheVariants as errors
 use Rattle.sdr_shell.specs.declared.status.TheConstants.{REFUSED_LINE}
@@ -24,7 +24,11 @@ pub some_behind : (script : List Step) (old mid new : Option (List ℕ)) (before
     → SomeRun script (λ rest text. Appends old mid text) → before ≤ between → Writes mid new between now line
     → SomeRun script (λ rest text. Writes old new before now (text ++ line))
 some_behind script old mid new before between now line r later w = record {
-  rest = r.rest; made = r.made; run = r.run; printed = writes_behind old mid new before between now _ line r.printed later w }
+  rest = r.rest;
+  made = r.made;
+  run = r.run;
+  printed = writes_behind old mid new before between now _ line r.printed later w;
+}
 
 -- what a told input spells
 told_script : (left : Option (List ℕ)) (bytes : List ℕ) (script : List Step) → left ≡ Some bytes → HadScript left script → input_script bytes ≡ Ok script

@@ -1,5 +1,5 @@
 -- A dry run of a script: which events its steps make, and what is printed of them.
-use Rattle.std.specs.Prelude.{◌≡◌, ℕ, List, [], ◌∷◌, ◌++◌, Bool, ◌==◌, filter}
+use Rattle.std.specs.Prelude.{◌≡◌, ℕ, List, [], ◌∷◌, ◌++◌, ◌==◌, filter}
 use Rattle.std.specs.List.{list_any, range_with_len}
 use Rattle.sdr_model.specs.Core.{Core, Made, RunsCore, first_core, given_bytes}
 use Rattle.sdr_model.specs.Machine.{Machine, MachineStep, event_moves}

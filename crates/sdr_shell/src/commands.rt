@@ -8,13 +8,13 @@ ghost use Rattle.sdr_shell.specs.Schedule.{SomeRun};
 ghost use Rattle.sdr_shell.specs.Still.{Writes, HadRun, IsDone, IsRefused, IsDryStatus, IsStarved, Tells, line_refused};
 ghost use Rattle.sdr_base.specs.Written.{AppendsPart};
 
+use crate::Outcome;
 use crate::form::{Form, form_of};
 use crate::line::Line;
 use crate::read::read_script;
 use crate::run::{RunError, run};
 use crate::script::{ScriptError, Step};
 use crate::status::{DONE, INPUT_FAULT, NO_MEMORY, OUTPUT_FAULT, REFUSED_LINE, USAGE};
-use crate::Outcome;
 use sdr_base::{Media, Sink, Source, write_all};
 use sdr_disk::Disk;
 use sdr_model::Journal;
@@ -54,7 +54,7 @@ fn run_script<K: Sink>(alloc: Global, script: &[Step], output: &mut K) -> u8
         AppendsPart (K.taken output.old) (K.taken output.new) text) }
     ensures starved { result ≡ NO_MEMORY → SomeRun script.now (λ rest text.
         Writes (K.taken output.old) (K.taken output.new) (K.faults output.old) (K.faults output.new)
-            (text ++ codes "no memory\n")) }
+        (text ++ codes "no memory\n")) }
 {
     match run(alloc, script, output) {
         Ok(()) => DONE,

@@ -106,7 +106,9 @@ fn names(script: &[Step], daemon: u8) -> bool
 fn daemons_of(alloc: Global, script: &[Step]) -> Result<Vec<u8>, NoMemory>
     ensures { IfOk result (λ daemons. daemons.items ≡ daemons_of script.now) }
 {
-    (1..17u8).filter(|daemon| names(script, *daemon)).collect(alloc)
+    (1..17u8)
+        .filter(|daemon| names(script, *daemon))
+        .collect(alloc)
 }
 
 // Makes the steps of a script in order, on a machine before any event.

@@ -108,23 +108,61 @@ fn fields(line: &mut Line, refusal: &Refusal)
         | Refusal::BadTicket { ticket: number }
         | Refusal::NotAwarded { ticket: number }
         | Refusal::InTransaction { mine: number } => line.field(number),
-        Refusal::LogFull { lines: first, room: second }
-        | Refusal::BadLength { length: first, most: second }
-        | Refusal::InUse { addr: first, count: second }
-        | Refusal::BadRow { row: first, rows: second }
-        | Refusal::BadKeyLength { length: first, want: second }
-        | Refusal::SourceShort { have: first, want: second }
-        | Refusal::Suspended { serving: first, mine: second } => two_fields(line, first, second),
+        Refusal::LogFull {
+            lines: first,
+            room: second,
+        }
+        | Refusal::BadLength {
+            length: first,
+            most: second,
+        }
+        | Refusal::InUse {
+            addr: first,
+            count: second,
+        }
+        | Refusal::BadRow {
+            row: first,
+            rows: second,
+        }
+        | Refusal::BadKeyLength {
+            length: first,
+            want: second,
+        }
+        | Refusal::SourceShort {
+            have: first,
+            want: second,
+        }
+        | Refusal::Suspended {
+            serving: first,
+            mine: second,
+        } => two_fields(line, first, second),
         Refusal::WrongKind { addr, kind } => two_fields(line, addr, u64::from(kind)),
-        Refusal::OutOfBounds { addr: first, place: second, length: third }
-        | Refusal::BadRange { offset: first, length: second, have: third } => {
+        Refusal::OutOfBounds {
+            addr: first,
+            place: second,
+            length: third,
+        }
+        | Refusal::BadRange {
+            offset: first,
+            length: second,
+            have: third,
+        } => {
             three_fields(line, first, second, third);
         }
-        Refusal::NoSpace { space: of, occupied, asked, most } => {
+        Refusal::NoSpace {
+            space: of,
+            occupied,
+            asked,
+            most,
+        } => {
             space(line, of);
             three_fields(line, occupied, asked, most);
         }
-        Refusal::TooLarge { space: of, asked, most } => {
+        Refusal::TooLarge {
+            space: of,
+            asked,
+            most,
+        } => {
             space(line, of);
             two_fields(line, asked, most);
         }

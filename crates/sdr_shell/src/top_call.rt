@@ -7,10 +7,10 @@ ghost use Rattle.sdr_shell.specs.Form.{form_of};
 ghost use Rattle.sdr_shell.specs.Script.{input_script};
 ghost use Rattle.sdr_shell.specs.Still.{Writes, HadRun, IsDone, IsDryStatus, IsRefused, IsStarved};
 
+use crate::Outcome;
 use crate::commands::still;
 use crate::form::Form;
 use crate::status::{DONE, INPUT_FAULT, NO_MEMORY, OUTPUT_FAULT, REFUSED_LINE, USAGE};
-use crate::Outcome;
 use sdr_base::{Gate, Media, Sink, Source};
 use sdr_disk::Disk;
 use std::alloc::Global;

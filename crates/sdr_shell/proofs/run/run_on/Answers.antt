@@ -1,8 +1,7 @@
-use Rattle.std.proofs.Common.{◌≡◌, Err, List, ◌∷◌, ap, sym, ◌∙◌, refl, subst, arith, length}
+use Rattle.std.proofs.Common.{◌≡◌, Err, ◌∷◌, ap, sym, subst, arith, length}
 use Rattle.std.proofs.lemmas.Result.{err_from_is_err_and}
 use Rattle.sdr_shell.specs.declared.run.RunError.TheVariants.{NoMemory, Output}
-use Rattle.sdr_shell.specs.declared.script.Step.{Step}
-use Rattle.sdr_shell.proofs.ScheduleLemmas.{Running, running_start, running_next, running_some, running_kept, running_cut}
+use Rattle.sdr_shell.proofs.ScheduleLemmas.{Running, running_start, running_next, running_kept, running_cut}
 use Rattle.sdr_shell.proofs.run.run_on.Goals as goal
 
 pub loop-step-init : goal.loop-step-init
@@ -19,8 +18,8 @@ returns-in_err-make-clause-memory g c is =
     let p = err_from_is_err_and c.from_residual.result c.from_residual.ensures.1 in
     let h : c.make.result ≡ Err NoMemory = cc (p.1, p.2, is, c.in_err-make.was) in
     running_kept c.args.script.now c.in-Some.step.now c.in-Some.after.now c.loop-step.bindings c.loop-step.plain.machine c.make.new.plain.machine _ _ _
-        (subst (λ r. Running c.args.script.now r c.loop-step.bindings c.loop-step.plain.machine (g.K.Sink.taken c.args.out.now) (g.K.Sink.taken c.loop-step.out)) e c.loop-step.invariant.running)
-        (c.make.ensures.memory h)
+    (subst (λ r. Running c.args.script.now r c.loop-step.bindings c.loop-step.plain.machine (g.K.Sink.taken c.args.out.now) (g.K.Sink.taken c.loop-step.out)) e c.loop-step.invariant.running)
+    (c.make.ensures.memory h)
 
 pub returns-in_err-make-clause-output : goal.returns-in_err-make-clause-output
 returns-in_err-make-clause-output g c is =
@@ -28,8 +27,8 @@ returns-in_err-make-clause-output g c is =
     let p = err_from_is_err_and c.from_residual.result c.from_residual.ensures.1 in
     let h : c.make.result ≡ Err Output = cc (p.1, p.2, is, c.in_err-make.was) in
     running_cut c.args.script.now c.in-Some.step.now c.in-Some.after.now c.loop-step.bindings c.loop-step.plain.machine c.make.new.plain.machine _ _ _
-        (subst (λ r. Running c.args.script.now r c.loop-step.bindings c.loop-step.plain.machine (g.K.Sink.taken c.args.out.now) (g.K.Sink.taken c.loop-step.out)) e c.loop-step.invariant.running)
-        (c.make.ensures.output h)
+    (subst (λ r. Running c.args.script.now r c.loop-step.bindings c.loop-step.plain.machine (g.K.Sink.taken c.args.out.now) (g.K.Sink.taken c.loop-step.out)) e c.loop-step.invariant.running)
+    (c.make.ensures.output h)
 
 pub loop-step-preserved : goal.loop-step-preserved
 loop-step-preserved g c =
@@ -38,8 +37,8 @@ loop-step-preserved g c =
     record {
       running = subst (λ b. Running c.args.script.now c.in-Some.after.now b c.make.new.plain.machine (g.K.Sink.taken c.args.out.now) (g.K.Sink.taken c.make.new.out)) (sym made.names)
           (running_next c.args.script.now c.in-Some.step.now c.in-Some.after.now c.loop-step.bindings c.loop-step.plain.machine c.make.new.plain.machine _ _ _ made.line.answer
-              (subst (λ r. Running c.args.script.now r c.loop-step.bindings c.loop-step.plain.machine (g.K.Sink.taken c.args.out.now) (g.K.Sink.taken c.loop-step.out)) e c.loop-step.invariant.running)
-              made.line.answers made.line.printed);
+          (subst (λ r. Running c.args.script.now r c.loop-step.bindings c.loop-step.plain.machine (g.K.Sink.taken c.args.out.now) (g.K.Sink.taken c.loop-step.out)) e c.loop-step.invariant.running)
+          made.line.answers made.line.printed);
       later = omega (arith, c.loop-step.invariant.later, c.make.ensures.later);
       few = omega (arith, c.loop-step.invariant.few, c.in_ok-make.ensures.events, ap length e);
     }

@@ -1,4 +1,3 @@
-use Rattle.std.proofs.Common.{◌++◌}
 use Rattle.std.proofs.KnownBytes.{Appends-trans}
 use Rattle.sdr_shell.proofs.TextLemmas.{part_later, on_err_map}
 use Rattle.sdr_shell.proofs.text.write_given.Goals as goal
