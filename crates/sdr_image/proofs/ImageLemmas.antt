@@ -219,15 +219,20 @@ is_among-with_lines touched own line is =
         ∙ left (λ other. not (is_among touched other)) own (ap not e) is
 
 module _ (size : ℕ) (told : Option (List ℕ)) (f : Frame) (bytes : List ℕ) (undo : Olds) (rising : ℕ)
-    (failed : Bool) where
-  -- a line more is kept
-  pub IsImage-keep : (is_open : Bool) (r : Record) → IsImage size told f bytes undo rising is_open failed →
-      r.line < f.heap_lines →
-      is_named undo.olds r.line ≡ false → length undo.olds < room_of f → r.bytes ≡ part (64 * r.line) 64 bytes →
-      IsImage size told f bytes (record undo { olds = undo.olds ++ r ∷ [] }) rising true failed
-  IsImage-keep is_open r i below new few own =
+    (is_open failed : Bool) (i : IsImage size told f bytes undo rising is_open failed) where
+  -- where a line more is kept, the bytes at begin are the same
+  pub begun-keep : (r : Record) → r.line < f.heap_lines → is_named undo.olds r.line ≡ false →
+      r.bytes ≡ part (64 * r.line) 64 bytes → put_records (undo.olds ++ r ∷ []) bytes ≡ put_records undo.olds bytes
+  begun-keep r below new own =
+      put_records-own f.heap_lines undo.olds r bytes i.good i.whole (omega (arith, i.long)) below new own
+
+  -- and the image after it
+  pub IsImage-keep : (r : Record) (undo' : Olds) → undo' ≡ record undo { olds = undo.olds ++ r ∷ [] } →
+      r.line < f.heap_lines → is_named undo.olds r.line ≡ false → length undo.olds < room_of f →
+      r.bytes ≡ part (64 * r.line) 64 bytes → IsImage size told f bytes undo' rising true failed
+  IsImage-keep r undo' is below new few own =
       let inside : 64 * r.line + 64 ≤ length bytes = omega (arith, i.long, below) in
-      record {
+      subst (λ (u : Olds). IsImage size told f bytes u rising true failed) (sym is) (record {
         limits = i.limits;
         fits = i.fits;
         long = i.long;
@@ -238,41 +243,21 @@ module _ (size : ℕ) (told : Option (List ℕ)) (f : Frame) (bytes : List ℕ) 
         whole = AreLines-push undo.olds r i.whole (ap length own ∙ length-part (64 * r.line) 64 bytes inside);
         reserved = i.reserved;
         idle = λ closed. absurd cc;
-        disk = λ sound x is.
-            subst (λ (heap : List ℕ). HoldsHeap f heap x)
-            (sym (put_records-own f.heap_lines undo.olds r bytes i.good i.whole (omega (arith, i.long)) below new own))
-            (i.disk sound x is);
-      }
+        disk = λ sound x told_is.
+            subst (λ (heap : List ℕ). HoldsHeap f heap x) (sym (begun-keep r below new own)) (i.disk sound x told_is);
+      })
 
-  -- bytes of lines that were touched are written
-  pub IsImage-put : (is_open : Bool) (place : ℕ) (from : List ℕ) →
-      IsImage size told f bytes undo rising is_open failed →
-      place + length from ≤ length bytes →
-      ((line : ℕ) → is_among (lines_of place (length from)) line ≡ true → is_among
-      (lines_named undo.olds) line ≡ true) →
-      IsImage size told f (overwrite place from bytes) undo rising is_open failed
-      × (put_records undo.olds (overwrite place from bytes) ≡ put_records undo.olds bytes)
-  IsImage-put is_open place from i inside touched =
-      let begun = put_records-same_but f.heap_lines undo.olds bytes (overwrite place from bytes) i.good i.whole
+  -- where bytes of touched lines are written, the bytes at begin are the same
+  pub begun-put : (place : ℕ) (from : List ℕ) → place + length from ≤ length bytes →
+      ((line : ℕ) → is_among (lines_of place (length from)) line ≡ true →
+      is_among (lines_named undo.olds) line ≡ true) →
+      put_records undo.olds (overwrite place from bytes) ≡ put_records undo.olds bytes
+  begun-put place from inside touched =
+      put_records-same_but f.heap_lines undo.olds bytes (overwrite place from bytes) i.good i.whole
       (omega (arith, i.long)) (record {
         long = length-overwrite place from bytes inside;
         same = λ k other. get_or-overwrite_outside place from bytes k inside (outside k other);
-      }) in (
-        record {
-          limits = i.limits;
-          fits = i.fits;
-          long = length-overwrite place from bytes inside ∙ i.long;
-          lines = i.lines;
-          room = i.room;
-          few = i.few;
-          good = i.good;
-          whole = i.whole;
-          reserved = i.reserved;
-          idle = i.idle;
-          disk = λ sound x is. subst (λ (heap : List ℕ). HoldsHeap f heap x) (sym begun) (i.disk sound x is);
-        },
-        begun,
-      )
+      })
     where
       outside : (k : ℕ) → is_named undo.olds (k / 64) ≡ false → (k < place) ⊎ (place + length from ≤ k)
       outside k other = elim (sides place (length from) k) [
@@ -282,19 +267,46 @@ module _ (size : ℕ) (told : Option (List ℕ)) (f : Frame) (bytes : List ℕ) 
             let known = is_among-lines_named undo.olds (k / 64) in absurd cc
       ]
 
+  -- and the image after it
+  pub IsImage-put : (place : ℕ) (from new : List ℕ) → new ≡ overwrite place from bytes →
+      place + length from ≤ length bytes →
+      ((line : ℕ) → is_among (lines_of place (length from)) line ≡ true →
+      is_among (lines_named undo.olds) line ≡ true) →
+      IsImage size told f new undo rising is_open failed
+  IsImage-put place from new is inside touched =
+      subst (λ (l : List ℕ). IsImage size told f l undo rising is_open failed) (sym is) (record {
+        limits = i.limits;
+        fits = i.fits;
+        long = length-overwrite place from bytes inside ∙ i.long;
+        lines = i.lines;
+        room = i.room;
+        few = i.few;
+        good = i.good;
+        whole = i.whole;
+        reserved = i.reserved;
+        idle = i.idle;
+        disk = λ sound x told_is.
+            subst (λ (heap : List ℕ). HoldsHeap f heap x) (sym (begun-put place from inside touched))
+            (i.disk sound x told_is);
+      })
+
   -- the old lines are put back
-  pub IsImage-cancel : (is_open : Bool) → IsImage size told f bytes undo rising is_open failed →
-      IsImage size told f (put_records undo.olds bytes) (record undo { olds = [] }) rising false failed
-  IsImage-cancel is_open i = record {
-    limits = i.limits;
-    fits = i.fits;
-    long = (SameBut-put_records f.heap_lines undo.olds bytes i.good i.whole (omega (arith, i.long))).long ∙ i.long;
-    lines = i.lines;
-    room = i.room;
-    few = omega arith;
-    good = refl;
-    whole = tt;
-    reserved = i.reserved;
-    idle = λ closed. refl;
-    disk = i.disk;
-  }
+  pub IsImage-cancel : (new : List ℕ) (undo' : Olds) → new ≡ put_records undo.olds bytes →
+      undo' ≡ record undo { olds = [] } → IsImage size told f new undo' rising false failed
+  IsImage-cancel new undo' is undo_is =
+      subst (λ (l : List ℕ). IsImage size told f l undo' rising false failed) (sym is)
+      (subst (λ (u : Olds). IsImage size told f (put_records undo.olds bytes) u rising false failed) (sym undo_is)
+      (record {
+        limits = i.limits;
+        fits = i.fits;
+        long = (SameBut-put_records f.heap_lines undo.olds bytes i.good i.whole (omega (arith, i.long))).long
+            ∙ i.long;
+        lines = i.lines;
+        room = i.room;
+        few = omega arith;
+        good = refl;
+        whole = tt;
+        reserved = i.reserved;
+        idle = λ closed. refl;
+        disk = i.disk;
+      }))

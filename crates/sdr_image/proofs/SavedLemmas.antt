@@ -110,6 +110,13 @@ named_below n (r ∷ olds) line good is =
       | inr other ↦ named_below n olds line g.2 (grind (arith, nat_tests))
     ]
 
+-- the lines that were gathered, where what they were gathered of and where they were put are known
+pub gathered : (olds given : List Record) (lines into : List ℕ) → given ≡ olds → lines ≡ into →
+    IsPermutation (lines_named given) into → IsPermutation (lines_named olds) lines
+gathered olds given lines into given_is lines_is p =
+    subst (λ (l : List Record). IsPermutation (lines_named l) lines) given_is
+    (subst (λ (l : List ℕ). IsPermutation (lines_named given) l) (sym lines_is) p)
+
 -- the lines are just those that are named
 among_named : (olds : List Record) (lines : List ℕ) (line : ℕ) → IsPermutation (lines_named olds) lines →
     is_among lines line ≡ is_named olds line

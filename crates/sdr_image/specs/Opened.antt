@@ -27,8 +27,7 @@ transaction_of faults i = record {
   touched = i.touched;
   room = room_of i.frame;
   faults = faults i.disk;
-  failed =
-      i.failed;
+  failed = i.failed;
 }
 
 -- nothing has changed but the disk, and a disk fault was answered

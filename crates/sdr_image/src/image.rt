@@ -27,7 +27,7 @@ use std::alloc::Global;
 use std::marker::Model;
 
 /// A disk with a heap on it, opened. The heap region stands in memory, and a transaction reaches
-/// the disk with its commit. No call takes memory.
+/// the disk with its commit. No call after `open` takes memory.
 #[derive(Drop)]
 pub struct Image<D: Disk> {
     disk: D,

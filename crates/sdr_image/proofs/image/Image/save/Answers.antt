@@ -1,59 +1,53 @@
-use Rattle.std.proofs.Common.{◌∙◌, ap, sym, subst, List, ℕ}
-use Rattle.std.specs.Prelude.{Some, vec_capacity, IsPermutation}
-use Rattle.sdr_log.specs.declared.record.Record.{Record}
-use Rattle.sdr_image.specs.Opened.{Opened, lines_named}
+use Rattle.std.proofs.Common.{ap, ◌∙◌, ℕ}
+use Rattle.std.specs.Prelude.{Some, vec_capacity}
+use Rattle.sdr_image.specs.Opened.{Opened}
 use Rattle.sdr_image.specs.Saved.{saved_lines}
-use Rattle.sdr_image.proofs.SavedLemmas.{SavesAs, inside_named, Saves-lines, Saves-from, IsImage-saved}
+use Rattle.sdr_image.proofs.SavedLemmas.{SavesAs, gathered, inside_named, Saves-lines, Saves-from, IsImage-saved}
 use Rattle.sdr_image.proofs.image.Image.save.Goals as goal
 
 pub save-requires-clause-inside : goal.save-requires-clause-inside
 save-requires-clause-inside g c =
     let old = c.self.inside in
-    let lines = c.deref.result.now in
-    let p = subst (λ (olds : List Record). IsPermutation (lines_named olds) lines) c.olds.ensures
-    (subst (λ (l : List ℕ). IsPermutation (lines_named c.olds.result.now) l)
-    (sym c.deref.ensures.value) c.gather_rising.ensures.lines) in
-    inside_named old.frame.heap_lines old.undo.olds lines old.bytes c.self.invariant.good c.self.invariant.long p
+    inside_named old.frame.heap_lines old.undo.olds c.deref.result.now old.bytes c.self.invariant.good
+    c.self.invariant.long
+    (gathered old.undo.olds c.olds.result.now c.deref.result.now c.gather_rising.new.into.items c.olds.ensures
+    c.deref.ensures.value c.gather_rising.ensures.lines)
 
 pub invariant_of-self-2 : goal.invariant_of-self-2
 invariant_of-self-2 g c =
     let old = c.self.inside in
     let disk = g.D.Disk.bytes old.disk in
     let lines = c.deref.result.now in
-    let p = subst (λ (olds : List Record). IsPermutation (lines_named olds) lines) c.olds.ensures
-    (subst (λ (l : List ℕ). IsPermutation (lines_named c.olds.result.now) l)
-    (sym c.deref.ensures.value) c.gather_rising.ensures.lines) in
+    let p = gathered old.undo.olds c.olds.result.now lines c.gather_rising.new.into.items c.olds.ensures
+    c.deref.ensures.value c.gather_rising.ensures.lines in
     let sound = ap (λ (v : Opened g.row.D.Denot). v.failed) c.self.view_is ∙ c.requires in
     let saved : SavesAs disk (g.D.Disk.bytes c.save.new.disk) old.frame old.bytes =
-    Saves-lines (g.D.Disk.size old.disk) disk old.frame old.bytes old.undo
-    (vec_capacity old.rising) old.is_open old.failed
-    c.self.invariant sound (g.met.D.Disk.told old.disk)
+    Saves-lines (g.D.Disk.size old.disk) disk old.frame old.bytes old.undo (vec_capacity old.rising)
+    old.is_open old.failed c.self.invariant sound (g.met.D.Disk.told old.disk)
     (g.D.Disk.bytes c.save.new.disk) lines p c.in-Ok.ensures.tells
-    (λ x is. c.in-Ok.ensures.written x is ∙ ap
-    (λ (place : ℕ). Some (saved_lines place lines old.bytes x)) c.heap_place-place.ensures) in
-    IsImage-saved (g.D.Disk.size old.disk) disk old.frame old.bytes old.undo
-    (vec_capacity old.rising) old.is_open old.failed
-    c.self.invariant sound (g.met.D.Disk.told old.disk) (g.D.Disk.size c.save.new.disk)
-    (g.D.Disk.bytes c.save.new.disk) c.clear.new.self
-    (vec_capacity c.gather_rising.new.into) saved c.in-Ok.ensures.size c.clear.ensures c.gather_rising.ensures.capacity
+    (λ x is. c.in-Ok.ensures.written x is
+    ∙ ap (λ (place : ℕ). Some (saved_lines place lines old.bytes x)) c.heap_place-place.ensures) in
+    IsImage-saved (g.D.Disk.size old.disk) disk old.frame old.bytes old.undo (vec_capacity old.rising)
+    old.is_open old.failed c.self.invariant sound (g.met.D.Disk.told old.disk) (g.D.Disk.size c.save.new.disk)
+    (g.D.Disk.bytes c.save.new.disk) c.clear.new.self (vec_capacity c.gather_rising.new.into) saved
+    c.in-Ok.ensures.size c.clear.ensures c.gather_rising.ensures.capacity
 
 pub returns-clause-saved : goal.returns-clause-saved
 returns-clause-saved g c =
     let old = c.self.inside in
     let disk = g.D.Disk.bytes old.disk in
     let lines = c.deref.result.now in
-    let p = subst (λ (olds : List Record). IsPermutation (lines_named olds) lines) c.olds.ensures
-    (subst (λ (l : List ℕ). IsPermutation (lines_named c.olds.result.now) l)
-    (sym c.deref.ensures.value) c.gather_rising.ensures.lines) in
+    let p = gathered old.undo.olds c.olds.result.now lines c.gather_rising.new.into.items c.olds.ensures
+    c.deref.ensures.value c.gather_rising.ensures.lines in
     let sound = ap (λ (v : Opened g.row.D.Denot). v.failed) c.self.view_is ∙ c.requires in
     let saved : SavesAs disk (g.D.Disk.bytes c.save.new.disk) old.frame old.bytes =
-    Saves-lines (g.D.Disk.size old.disk) disk old.frame old.bytes old.undo
-    (vec_capacity old.rising) old.is_open old.failed
-    c.self.invariant sound (g.met.D.Disk.told old.disk)
+    Saves-lines (g.D.Disk.size old.disk) disk old.frame old.bytes old.undo (vec_capacity old.rising)
+    old.is_open old.failed c.self.invariant sound (g.met.D.Disk.told old.disk)
     (g.D.Disk.bytes c.save.new.disk) lines p c.in-Ok.ensures.tells
-    (λ x is. c.in-Ok.ensures.written x is ∙ ap
-    (λ (place : ℕ). Some (saved_lines place lines old.bytes x)) c.heap_place-place.ensures) in
+    (λ x is. c.in-Ok.ensures.written x is
+    ∙ ap (λ (place : ℕ). Some (saved_lines place lines old.bytes x)) c.heap_place-place.ensures) in
     Saves-from g.D.Disk.bytes c.args.self.now _ old.disk old.frame old.bytes
     (ap (λ (v : Opened g.row.D.Denot). v.disk) c.self.view_is)
     (ap (λ (v : Opened g.row.D.Denot). v.frame) c.self.view_is)
-    (ap (λ (v : Opened g.row.D.Denot). v.bytes) c.self.view_is) saved
+    (ap (λ (v : Opened g.row.D.Denot). v.bytes) c.self.view_is)
+    saved
