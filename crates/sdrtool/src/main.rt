@@ -76,7 +76,14 @@ fn main(rt: HostRuntime) -> ExitCode {
     let mut input = StdSource::new(rt.stdin());
     let mut output = StdSink::new(rt.stdout());
     let outcome = top(
-        &rt, alloc, form, disk, NoMedia::new(), &mut input, &mut output, &NoGate,
+        &rt,
+        alloc,
+        form,
+        disk,
+        NoMedia::new(),
+        &mut input,
+        &mut output,
+        &NoGate,
     );
     ExitCode::from(outcome.status)
 }

@@ -17,7 +17,11 @@ impl<R: Read> StdSource<R> {
         ensures faults { ⟦<StdSource<R> as Source>⟧.faults result ≡ 0 }
         ensures reads { ⟦<StdSource<R> as Source>⟧.reads result ≡ 0 }
     {
-        StdSource { inner, faults: 0, reads: 0 }
+        StdSource {
+            inner,
+            faults: 0,
+            reads: 0,
+        }
     }
 }
 

@@ -37,7 +37,9 @@ fn standard_input_gives_what_is_read_and_a_fault_where_that_fails(rt: HostRuntim
 }
 
 #[test]
-fn standard_output_takes_what_is_written_and_a_fault_where_that_fails(rt: HostRuntime) -> Result<(), Fail> {
+fn standard_output_takes_what_is_written_and_a_fault_where_that_fails(
+    rt: HostRuntime,
+) -> Result<(), Fail> {
     let mut room = [0u8; 4];
     let mut sink = StdSink::new(room.as_mut_slice());
     assert_eq!(rt; sink.write(b"lock"), Ok(4));
