@@ -16,6 +16,8 @@
 mod giving;
 #[cfg(test)]
 mod memory;
+#[cfg(test)]
+mod plain;
 mod taking;
 #[cfg(test)]
 mod tests;

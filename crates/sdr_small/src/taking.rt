@@ -57,6 +57,7 @@ fn take_listed<C: Cells>(c: &mut C, words: u64, front: Addr) -> Result<(), Stop>
 
 // Cuts a new block at `low`, where it ends at `high` or below.
 fn take_new<C: Cells>(c: &mut C, words: u64, low: u64) -> Result<Option<Addr>, Stop>
+    requires some { 1 ≤ words }
     requires words { words ≤ MOST_SMALL }
     requires control { START_BITS ≤ length (C.bytes c.old) }
     requires inside { number_at (WORD * HIGH) (C.bytes c.old) ≤ length (C.bytes c.old) }
