@@ -1,12 +1,12 @@
 -- What follows from bytes that keep a small pool, and what stays when bytes beside it change.
-use Rattle.std.proofs.Common.{◌≡◌, ◌≢◌, ◌≤◌, ◌<◌, ◌⊎◌, inl, inr, ℕ, ◌+◌, ◌-◌, ◌*◌, ◌/◌, ◌%◌, ◌^◌, true, false, ◌==◌}
-use Rattle.std.proofs.Common.{List, [], ◌∷◌, length, get_or, refl, sym, ap, ◌∙◌, arith, subst}
+use Rattle.std.proofs.Common.{◌≡◌, ◌≤◌, ◌<◌, inl, inr, ℕ, ◌+◌, ◌-◌, ◌*◌, ◌/◌, ◌%◌, ◌^◌, true, ◌==◌}
+use Rattle.std.proofs.Common.{List, [], ◌∷◌, length, sym, ◌∙◌, arith, subst}
 use Rattle.std.specs.List.{count_by}
 use Rattle.std.proofs.lemmas.Bool.Decides.{nat_tests}
-use Rattle.sdr_base.specs.Pools.{PoolBlock, Pools, is_at, is_of, is_free_of, is_used_at, Follows}
-use Rattle.sdr_base.specs.KeptPools.{Chain, KeepsSmall, StaysBeside, StaysLarge, IsOutside, list_place}
-use Rattle.sdr_base.specs.Stored.{number_at, start_bit}
-use Rattle.sdr_base.proofs.PoolsLemmas.{Follows-le, IsInside, inside, at-once, of-le-at, free-le-of, count_by-yes, count_by-append}
+use Rattle.sdr_base.specs.Pools.{Pools, is_at, is_of, is_free_of}
+use Rattle.sdr_base.specs.KeptPools.{Chain, KeepsSmall, StaysBeside, StaysLarge}
+use Rattle.sdr_base.specs.Stored.{number_at}
+use Rattle.sdr_base.proofs.PoolsLemmas.{Follows-le, inside, at-once, of-le-at, free-le-of, count_by-yes, count_by-append}
 
 -- a list whose front stands at another place, and whose blocks have the same first words
 pub Chain-moved : (x y : List ℕ) (p q : ℕ) (addrs : List ℕ) → number_at q y ≡ number_at p x →

@@ -1,7 +1,7 @@
 -- How the bytes of a heap region keep the small pool.
 use Rattle.std.specs.Prelude.{◌≡◌, ◌≢◌, ◌≤◌, ◌<◌, ◌+◌, ◌-◌, ◌*◌, ◌⊎◌, ℕ, List, [], ◌∷◌, length, get_or, count_by}
 use Rattle.sdr_base.specs.Stored.{number_at, leader_kind, leader_words, leader_length, start_bit}
-use Rattle.sdr_base.specs.Pools.{PoolBlock, Pools, TilesSmall, is_of, is_free_of, is_used_at}
+use Rattle.sdr_base.specs.Pools.{Pools, TilesSmall, is_of, is_free_of, is_used_at}
 use Rattle.sdr_base.specs.declared.line.TheConstants.{WORD, START_BITS}
 use Rattle.sdr_base.specs.declared.control.TheConstants.{START, LOW, HIGH, SMALL_LISTS, MOST_SMALL}
 

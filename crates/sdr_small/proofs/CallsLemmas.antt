@@ -1,5 +1,5 @@
 -- What the two calls do, from what their steps do.
-use Rattle.std.proofs.Common.{◌≡◌, ◌≢◌, ◌≤◌, ◌<◌, ◌⊎◌, inl, inr, ℕ, ◌+◌, ◌-◌, ◌*◌, ◌/◌, Bool, true, false, cond, nat_lt, ◌==◌}
+use Rattle.std.proofs.Common.{◌≡◌, ◌≢◌, ◌≤◌, ◌<◌, ℕ, ◌+◌, ◌-◌, ◌*◌, ◌/◌, Bool, true, false, cond, nat_lt}
 use Rattle.std.proofs.Common.{List, [], ◌∷◌, length, refl, sym, ap, ◌∙◌, arith, subst}
 use Rattle.std.specs.Prelude.{Option, Some, None, Result, Ok, Err, IfOk, OnOk}
 use Rattle.std.specs.List.{count_by}
@@ -9,7 +9,7 @@ use Rattle.sdr_base.specs.SmallPool.{Taken, take_small, take_from, with_front_ta
 use Rattle.sdr_base.specs.KeptPools.{Chain, KeepsSmall, KeepsSomeSmall, list_place}
 use Rattle.sdr_base.specs.Stored.{number_at, with_number, leader_words, with_bare_leader, SetsStartBit}
 use Rattle.sdr_base.proofs.SmallPoolLemmas.{words_at-is}
-use Rattle.sdr_base.proofs.KeptPoolsLemmas.{IsInOrder, in_order, IsBlock, is_block, free_is, front_free}
+use Rattle.sdr_base.proofs.KeptPoolsLemmas.{in_order, is_block, free_is, front_free}
 use Rattle.sdr_small.specs.Calls.{TakesBlock, TakesBy, Takes, TakesListed, TakesNew, KeepsUsedSmall, IsGiveable, Gives, PutsFront}
 use Rattle.sdr_small.proofs.TakeLemmas.{takes_listed}
 use Rattle.sdr_small.proofs.NewLemmas.{takes_new}

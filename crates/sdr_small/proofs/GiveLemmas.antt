@@ -1,14 +1,14 @@
 -- A block given back, as the front of its list.
-use Rattle.std.proofs.Common.{◌≡◌, ◌≢◌, ◌≤◌, ◌<◌, ◌⊎◌, inl, inr, ℕ, ◌+◌, ◌-◌, ◌*◌, ◌/◌, ◌%◌, ◌^◌, true, false, ◌==◌}
-use Rattle.std.proofs.Common.{List, [], ◌∷◌, length, get_or, refl, sym, ap, ◌∙◌, arith, subst}
+use Rattle.std.proofs.Common.{◌≡◌, ◌≢◌, ◌≤◌, ◌<◌, ◌⊎◌, inl, inr, ℕ, ◌+◌, ◌-◌, ◌*◌, ◌/◌, ◌^◌, false, ◌==◌}
+use Rattle.std.proofs.Common.{List, ◌∷◌, length, get_or, sym, ap, ◌∙◌, arith, subst}
 use Rattle.std.specs.List.{count_by}
 use Rattle.std.proofs.lemmas.Bool.{cases_eq, cases_lt}
 use Rattle.std.proofs.lemmas.Bool.Decides.{nat_tests}
-use Rattle.sdr_base.specs.Pools.{PoolBlock, Pools, IsUsed, is_at, is_of, is_free_of, is_used_at, Follows, TilesSmall}
-use Rattle.sdr_base.specs.SmallPool.{with_used, with_list, words_at, give_small}
+use Rattle.sdr_base.specs.Pools.{Pools, IsUsed, is_of, is_free_of, is_used_at, TilesSmall}
+use Rattle.sdr_base.specs.SmallPool.{with_used, with_list, words_at}
 use Rattle.sdr_base.specs.KeptPools.{Chain, KeepsSmall, StaysBeside, list_place}
-use Rattle.sdr_base.specs.Stored.{number_at, with_number, leader_kind, leader_words, leader_length, with_bare_leader, start_bit, SetsStartBit}
-use Rattle.sdr_base.proofs.PoolsLemmas.{count_by-append, count_by-no, apart, of-le-at, free-used-le-at}
+use Rattle.sdr_base.specs.Stored.{number_at, with_number, leader_kind, leader_words, leader_length, with_bare_leader, start_bit}
+use Rattle.sdr_base.proofs.PoolsLemmas.{count_by-no, apart, of-le-at, free-used-le-at}
 use Rattle.sdr_base.proofs.SmallPoolLemmas.{with_list-here, with_list-other, Follows-with_used, of-with_used, words_at-is}
 use Rattle.sdr_base.proofs.SmallPoolLemmas.{free-with_used_other, free-with_used_given, used-with_used_other, used-with_used_given}
 use Rattle.sdr_base.proofs.StartBitsLemmas.{start_bit-same}

@@ -1,6 +1,6 @@
 -- The cells in memory of the tests.
-use Rattle.std.proofs.Common.{◌≡◌, ◌≤◌, ◌<◌, ◌⊎◌, inl, inr, ℕ, ◌+◌, ◌-◌, ◌*◌, ◌/◌, List, [], ◌∷◌, ◌++◌, length, get_or}
-use Rattle.std.proofs.Common.{refl, sym, ap, ◌∙◌, arith, subst}
+use Rattle.std.proofs.Common.{◌≡◌, ◌≤◌, ◌<◌, ◌⊎◌, inl, inr, ℕ, ◌+◌, ◌*◌, ◌/◌, List, [], ◌∷◌, ◌++◌, length, get_or}
+use Rattle.std.proofs.Common.{ap, ◌∙◌, arith}
 use Rattle.std.specs.Prelude.{replicate, fold}
 use Rattle.std.proofs.lemmas.Bool.{cases_lt}
 use Rattle.std.proofs.lemmas.List.{get_or-replicate, get_or_past, length-replicate}
@@ -12,7 +12,7 @@ use Rattle.sdr_base.specs.KeptPools.{KeepsSomeSmall, list_place}
 use Rattle.sdr_base.specs.Stored.{number_at, with_number}
 use Rattle.sdr_base.proofs.CellsLemmas.{length-with_lines, length-lines_of}
 use Rattle.sdr_base.proofs.StoredLemmas.{number_at-with_number, number_at-same, number_at-zeros, get_or-with_number, length-with_number}
-use Rattle.sdr_base.proofs.FreshPoolsLemmas.{IsEmpty, empty_keeps}
+use Rattle.sdr_base.proofs.FreshPoolsLemmas.{empty_keeps}
 
 -- one write more touches so many lines more at most
 pub few_more : {W : Type 0} (place count : W → ℕ) (writes : List W) (write : W) (most : ℕ) →

@@ -1,15 +1,15 @@
 -- The block at the front of its list, taken.
-use Rattle.std.proofs.Common.{◌≡◌, ◌≢◌, ◌≤◌, ◌<◌, ◌⊎◌, inl, inr, ℕ, ◌+◌, ◌-◌, ◌*◌, ◌/◌, ◌%◌, ◌^◌, true, false, ◌==◌}
+use Rattle.std.proofs.Common.{◌≡◌, ◌≢◌, ◌≤◌, ◌<◌, ◌⊎◌, inl, inr, ℕ, ◌+◌, ◌-◌, ◌*◌, ◌/◌, ◌^◌, true, false, ◌==◌}
 use Rattle.std.proofs.Common.{List, [], ◌∷◌, length, get_or, refl, sym, ap, ◌∙◌, arith, subst}
 use Rattle.std.specs.Prelude.{Some}
 use Rattle.std.specs.List.{count_by}
 use Rattle.std.proofs.lemmas.Bool.{cases_eq}
 use Rattle.std.proofs.lemmas.Bool.Decides.{nat_tests}
-use Rattle.sdr_base.specs.Pools.{PoolBlock, Pools, is_at, is_of, is_free_of, is_used_at, Follows, TilesSmall}
+use Rattle.sdr_base.specs.Pools.{Pools, is_of, is_free_of, is_used_at, TilesSmall}
 use Rattle.sdr_base.specs.SmallPool.{with_used, with_list, with_front_taken}
-use Rattle.sdr_base.specs.KeptPools.{Chain, KeepsSmall, StaysBeside, list_place}
-use Rattle.sdr_base.specs.Stored.{number_at, with_number, leader_kind, leader_words, leader_length, start_bit, SetsStartBit}
-use Rattle.sdr_base.proofs.PoolsLemmas.{count_by-append, of-le-at, free-le-of, free-free-le-at, at-once, count_by-no}
+use Rattle.sdr_base.specs.KeptPools.{Chain, KeepsSmall, list_place}
+use Rattle.sdr_base.specs.Stored.{number_at, with_number, start_bit}
+use Rattle.sdr_base.proofs.PoolsLemmas.{count_by-append, of-le-at, free-le-of, free-free-le-at, count_by-no}
 use Rattle.sdr_base.proofs.SmallPoolLemmas.{with_list-here, with_list-other, Follows-with_used, of-with_used}
 use Rattle.sdr_base.proofs.SmallPoolLemmas.{free-with_used_other, free-with_used_taken, used-with_used_other, used-with_used_taken}
 use Rattle.sdr_base.proofs.StartBitsLemmas.{start_bit-same}

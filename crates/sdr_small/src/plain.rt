@@ -31,14 +31,14 @@ fn first_of(free: &[Free], words: u64) -> Option<Addr>
 pub fn plain_take(free: &[Free], low: u64, high: u64, words: u64) -> Option<Addr>
     requires { low ≤ 2 ^ 32 }
     ensures { result ≡ option_map (λ taken. taken.addr) (take_small (record {
-        start = 0;
-        end = 0;
-        low = low;
-        high = high;
-        small = [];
-        large = [];
-        small_lists = λ k. map (λ block. block.addr) (filter (λ block. block.words == k) free.now);
-        large_lists = λ order. [];
+      start = 0;
+      end = 0;
+      low = low;
+      high = high;
+      small = [];
+      large = [];
+      small_lists = λ k. map (λ block. block.addr) (filter (λ block. block.words == k) free.now);
+      large_lists = λ order. [];
     }) words) }
 {
     if words > MOST_SMALL {
