@@ -14,8 +14,8 @@ pub struct Free {
 
 // The first of these blocks with so many words.
 fn first_of(free: &[Free], words: u64) -> Option<Addr>
-    ensures { result
-        ≡ slice_get (map (λ block. block.addr) (filter (λ block. block.words == words) free.now)) 0 }
+    ensures { result ≡ slice_get
+        (map (λ block. block.addr) (filter (λ block. block.words == words) free.now)) 0 }
 {
     let mut rest = free;
     while let Some((block, behind)) = rest.split_first() {
