@@ -1,15 +1,17 @@
 -- A fresh heap keeps the pools that have no block; worked examples of the rule there.
-use Rattle.std.proofs.Common.{◌≡◌, ◌≤◌, ◌<◌, ℕ, zero, suc, ◌+◌, ◌-◌, ◌*◌, ◌/◌, ◌%◌, ◌^◌, ◌⊎◌, inl, inr, List, [], ◌∷◌, ◌++◌, length, get_or}
-use Rattle.std.proofs.Common.{refl, sym, ap, ◌∙◌, arith, subst, append_assoc}
+use Rattle.std.proofs.Common.{◌≡◌, ◌≤◌, ◌<◌, ℕ, zero, suc, ◌+◌, ◌-◌, ◌*◌, ◌/◌, ◌%◌, ◌^◌, inl, inr, List, [], ◌∷◌, ◌++◌}
+use Rattle.std.proofs.Common.{length, get_or}
+use Rattle.std.proofs.Common.{refl, ap, ◌∙◌, arith, append_assoc}
 use Rattle.std.specs.Prelude.{replicate, flat_map, Some, None}
 use Rattle.std.specs.Int.{bit_at}
 use Rattle.std.proofs.lemmas.Bool.{cases_lt}
-use Rattle.std.proofs.lemmas.List.{get_or_append_left, get_or-append_right, get_or-replicate, get_or_past, length-replicate, length-append}
+use Rattle.std.proofs.lemmas.List.{get_or_append_left, get_or-append_right, get_or-replicate, get_or_past}
+use Rattle.std.proofs.lemmas.List.{length-replicate}
 use Rattle.std.proofs.lemmas.Nat.Bits.{bit_at-zero}
 use Rattle.byteorder.specs.Endian.{big_bytes, big_number}
 use Rattle.byteorder.specs.Numbers.{big_number-reads_back, length-bytes_high_first}
 use Rattle.sdr_base.specs.FreshHeap.{first_block, fresh_account, fresh_words, fresh_control, fresh_heap}
-use Rattle.sdr_base.specs.Pools.{Pools, PoolBlock, fresh_pools}
+use Rattle.sdr_base.specs.Pools.{fresh_pools}
 use Rattle.sdr_base.specs.SmallPool.{take_small, with_new_small}
 use Rattle.sdr_base.specs.KeptPools.{Chain, KeepsSmall, list_place}
 use Rattle.sdr_base.specs.Stored.{number_at, start_bit}
@@ -17,11 +19,13 @@ use Rattle.sdr_base.proofs.StoredLemmas.{big_from-same}
 use Rattle.sdr_base.proofs.FreshHeapLemmas.{fresh_heap-zeros, length-fresh_heap, length-fresh_control}
 
 -- on a heap of 1,024 lines a first block of 64 words is at 2056
-row_of_1024_lines : take_small (fresh_pools 1024) 64 ≡ Some (record { addr = 2056; pools = with_new_small (fresh_pools 1024) 64 })
+row_of_1024_lines : take_small (fresh_pools 1024) 64
+    ≡ Some (record { addr = 2056; pools = with_new_small (fresh_pools 1024) 64 })
 row_of_1024_lines = refl
 
 -- on 64 lines it is at 1096
-row_of_64_lines : take_small (fresh_pools 64) 64 ≡ Some (record { addr = 1096; pools = with_new_small (fresh_pools 64) 64 })
+row_of_64_lines : take_small (fresh_pools 64) 64
+    ≡ Some (record { addr = 1096; pools = with_new_small (fresh_pools 64) 64 })
 row_of_64_lines = refl
 
 -- 65 words are not the small pool's
@@ -74,7 +78,8 @@ number_at-words (w ∷ ws) rest zero lt fits =
     ap (big_number 8) (append_assoc (big_bytes 8 w) (flat_map (big_bytes 8) ws) rest)
     ∙ big_number-reads_back 8 w (flat_map (big_bytes 8) ws ++ rest) fits
 number_at-words (w ∷ ws) rest (suc n) lt fits =
-    big_from-same (8 * n) (8 * suc n) 8 (flat_map (big_bytes 8) ws ++ rest) (flat_map (big_bytes 8) (w ∷ ws) ++ rest) (λ i below.
+    big_from-same (8 * n) (8 * suc n) 8 (flat_map (big_bytes 8) ws ++ rest) (flat_map (big_bytes 8) (w ∷ ws) ++ rest)
+    (λ i below.
     ap (λ (l : List ℕ). get_or l (8 * suc n + i) 0) (append_assoc (big_bytes 8 w) (flat_map (big_bytes 8) ws) rest)
     ∙ get_or-append_right (big_bytes 8 w) (flat_map (big_bytes 8) ws ++ rest) 8 (8 * suc n + i) 0
     (length-bytes_high_first 8 w) (omega arith)
@@ -102,7 +107,8 @@ fresh_is_empty lines least most =
           word (3 + k) (omega (arith, few)) (omega (arith, none)) ∙ none;
       zeros = λ i ge lt.
           ap (λ (l : List ℕ). get_or l i 0) (fresh_heap-zeros lines least)
-          ∙ get_or-append_right (fresh_control lines) (replicate (64 * lines - 1024) 0) 1024 i 0 (length-fresh_control lines) ge
+          ∙ get_or-append_right (fresh_control lines) (replicate (64 * lines - 1024) 0) 1024 i 0
+          (length-fresh_control lines) ge
           ∙ zero_byte (64 * lines - 1024) (i - 1024);
     }
   where
@@ -118,7 +124,8 @@ fresh_is_empty lines least most =
         let lists : List ℕ = replicate 88 0 in
         let place : 3 + suc k ≡ suc (suc (suc (suc k))) = omega arith in
         ap (λ (n : ℕ). get_or (fresh_words lines) n 0) place
-        ∙ get_or_append_left lists (fresh_account lines ++ fresh_account lines ++ 1 ∷ replicate 19 0) 0 k (omega (arith, few))
+        ∙ get_or_append_left lists (fresh_account lines ++ fresh_account lines ++ 1 ∷ replicate 19 0) 0 k
+        (omega (arith, few))
         ∙ get_or-replicate 88 k 0 0 (omega (arith, few))
 
 -- a fresh heap keeps its pools

@@ -46,7 +46,8 @@ Follows-with_used from to addr used (b ∷ bs) f =
     )
 
 -- and another at the end
-pub Follows-push : (from to words : ℕ) (used : Bool) (bs : List PoolBlock) → Follows from bs to → 1 ≤ words → words ≤ 64 →
+pub Follows-push : (from to words : ℕ) (used : Bool) (bs : List PoolBlock) → Follows from bs to → 1 ≤ words →
+    words ≤ 64 →
     Follows from (bs ++ (record { addr = to + 8; words = words; used = used }) ∷ []) (to + 8 * (1 + words))
 Follows-push from to words used [] f some most =
     (ap (λ (n : ℕ). n + 8) (sym f), some, most, ap (λ (n : ℕ). n + 8 * (1 + words)) f)
@@ -55,7 +56,8 @@ Follows-push from to words used (b ∷ bs) f some most =
 
 -- what a block in use or free where it has an address passes
 
-of_where : (addr : ℕ) (used : Bool) (words at : ℕ) (b : PoolBlock) → is_of words at (used_where addr used b) ≡ is_of words at b
+of_where : (addr : ℕ) (used : Bool) (words at : ℕ) (b : PoolBlock) →
+    is_of words at (used_where addr used b) ≡ is_of words at b
 of_where addr used words at b =
     ap (λ (a : ℕ). a == at && (used_where addr used b).words == words) (used_where-addr addr used b)
     ∙ ap (λ (w : ℕ). b.addr == at && w == words) (used_where-words addr used b)
@@ -104,7 +106,8 @@ free-with_used_taken addr words bs =
     each b =
         ap (λ (v : Bool). v && not (used_where addr true b).used) (of_where addr true words addr b)
         ∙ elim (cases_Bool (is_at addr b)) [
-          | inl here ↦ ap (λ (v : Bool). is_of words addr b && not v) (used_here addr true b here) ∙ and_false (is_of words addr b)
+          | inl here ↦ ap (λ (v : Bool). is_of words addr b && not v) (used_here addr true b here)
+              ∙ and_false (is_of words addr b)
           | inr there ↦ ap (λ (v : Bool). v && b.words == words && not (used_where addr true b).used) there
         ]
       where
@@ -126,7 +129,8 @@ free-with_used_given addr words bs = count_by-map _ _ (used_where addr false) ea
     each b =
         ap (λ (v : Bool). v && not (used_where addr false b).used) (of_where addr false words addr b)
         ∙ elim (cases_Bool (is_at addr b)) [
-          | inl here ↦ ap (λ (v : Bool). is_of words addr b && not v) (used_here addr false b here) ∙ and_true (is_of words addr b)
+          | inl here ↦ ap (λ (v : Bool). is_of words addr b && not v) (used_here addr false b here)
+              ∙ and_true (is_of words addr b)
           | inr there ↦
               ap (λ (v : Bool). v && b.words == words && not (used_where addr false b).used) there
               ∙ sym (ap (λ (v : Bool). v && b.words == words) there)

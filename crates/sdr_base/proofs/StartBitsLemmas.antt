@@ -8,7 +8,8 @@ use Rattle.std.specs.Prelude.{Result, Ok, Err, OnOk}
 use Rattle.sdr_base.specs.declared.stop.Stop.{Stop}
 use Rattle.sdr_base.specs.Parts.{overwrite, part}
 use Rattle.sdr_base.specs.Stored.{start_bit, SetsStartBit}
-use Rattle.sdr_base.proofs.PartsLemmas.{get_or-part, get_or-overwrite_inside, get_or-overwrite_outside, length-overwrite}
+use Rattle.sdr_base.proofs.PartsLemmas.{get_or-part, get_or-overwrite_inside, get_or-overwrite_outside}
+use Rattle.sdr_base.proofs.PartsLemmas.{length-overwrite}
 use Rattle.sdr_base.proofs.CellsLemmas.{touches_range}
 
 -- the start bit of a word whose byte is the same
@@ -60,7 +61,8 @@ SetsStartBit-set word byte old in_it is =
 -- a bit that is cleared in the byte that was read
 pub SetsStartBit-clear : (word byte : ℕ) (old : List ℕ) → 1024 + word / 8 < length old →
     byte ≡ get_or old (1024 + word / 8) 0 →
-    SetsStartBit word 0 old (overwrite (1024 + word / 8) (bit_and byte (bit_not w8 (1 * 2 ^ (7 - word % 8) % 2 ^ 8)) ∷ []) old)
+    SetsStartBit word 0 old (overwrite (1024 + word / 8)
+    (bit_and byte (bit_not w8 (1 * 2 ^ (7 - word % 8) % 2 ^ 8)) ∷ []) old)
 SetsStartBit-clear word byte old in_it is =
     SetsStartBit-byte word 0 (bit_and byte (bit_not w8 (1 * 2 ^ (7 - word % 8) % 2 ^ 8))) old in_it
     (bit_at_clear_same w8 byte (7 - word % 8) (omega arith))
@@ -69,12 +71,15 @@ SetsStartBit-clear word byte old in_it is =
 -- the byte that a read gives
 read_byte : (p : ℕ) (x piece : List ℕ) → piece ≡ part p 1 x → get_or piece 0 0 ≡ get_or x p 0
 read_byte p x piece is =
-    ap (λ (l : List ℕ). get_or l 0 0) is ∙ get_or-part p 1 x 0 (omega arith) ∙ ap (λ (k : ℕ). get_or x k 0) (omega arith)
+    ap (λ (l : List ℕ). get_or l 0 0) is ∙ get_or-part p 1 x 0 (omega arith)
+    ∙ ap (λ (k : ℕ). get_or x k 0) (omega arith)
 
 -- what a read of the byte and a write of it with the bit set do
-pub sets_bit : {T : Type 0} (result : Result T Stop) (word : ℕ) (old now new piece : List ℕ) → 1024 + word / 8 < length old →
+pub sets_bit : {T : Type 0} (result : Result T Stop) (word : ℕ) (old now new piece : List ℕ) →
+    1024 + word / 8 < length old →
     piece ≡ part (1024 + word / 8) 1 old → now ≡ old →
-    OnOk result (new ≡ overwrite (1024 + word / 8) (bit_or (get_or piece 0 0) (1 * 2 ^ (7 - word % 8) % 2 ^ 8) ∷ []) now) →
+    OnOk result (new ≡ overwrite (1024 + word / 8)
+    (bit_or (get_or piece 0 0) (1 * 2 ^ (7 - word % 8) % 2 ^ 8) ∷ []) now) →
     OnOk result (SetsStartBit word 1 old new)
 sets_bit (Ok value) word old now new piece in_it is same put =
     subst (SetsStartBit word 1 old) (sym (put ∙ ap (λ (l : List ℕ).
@@ -83,7 +88,8 @@ sets_bit (Ok value) word old now new piece in_it is same put =
 sets_bit (Err stop) word old now new piece in_it is same put = tt
 
 -- what a read of the byte and a write of it with the bit cleared do
-pub clears_bit : {T : Type 0} (result : Result T Stop) (word : ℕ) (old now new piece : List ℕ) → 1024 + word / 8 < length old →
+pub clears_bit : {T : Type 0} (result : Result T Stop) (word : ℕ) (old now new piece : List ℕ) →
+    1024 + word / 8 < length old →
     piece ≡ part (1024 + word / 8) 1 old → now ≡ old →
     OnOk result (new ≡ overwrite (1024 + word / 8)
     (bit_and (get_or piece 0 0) (bit_not w8 (1 * 2 ^ (7 - word % 8) % 2 ^ 8)) ∷ []) now) →

@@ -6,8 +6,10 @@ use Rattle.std.proofs.lemmas.List.{get_or-take, get_or-drop, get_or-replicate, a
 use Rattle.byteorder.specs.Endian.{big_from, big_number, big_bytes}
 use Rattle.byteorder.specs.Numbers.{big_number-reads_back, length-bytes_high_first}
 use Rattle.sdr_base.specs.Parts.{overwrite, part}
-use Rattle.sdr_base.specs.Stored.{number_at, with_number, leader_kind, leader_words, leader_length, bare_leader, with_bare_leader}
-use Rattle.sdr_base.proofs.PartsLemmas.{get_or-part, get_or-overwrite_inside, get_or-overwrite_outside, length-overwrite}
+use Rattle.sdr_base.specs.Stored.{number_at, with_number, leader_kind, leader_words, leader_length, bare_leader}
+use Rattle.sdr_base.specs.Stored.{with_bare_leader}
+use Rattle.sdr_base.proofs.PartsLemmas.{get_or-part, get_or-overwrite_inside, get_or-overwrite_outside}
+use Rattle.sdr_base.proofs.PartsLemmas.{length-overwrite}
 use Rattle.sdr_base.proofs.CellsLemmas.{touches_range}
 
 -- the same bytes make the same number
@@ -18,7 +20,8 @@ big_from-same p q (suc n) x y same =
     let first : get_or y q 0 ≡ get_or x p 0 =
     ap (λ (k : ℕ). get_or y k 0) (omega arith) ∙ same 0 (omega arith) ∙ ap (λ (k : ℕ). get_or x k 0) (omega arith) in
     let rest = big_from-same (suc p) (suc q) n x y (λ i lt.
-    ap (λ (k : ℕ). get_or y k 0) (omega arith) ∙ same (suc i) (omega (arith, lt)) ∙ ap (λ (k : ℕ). get_or x k 0) (omega arith)) in
+    ap (λ (k : ℕ). get_or y k 0) (omega arith) ∙ same (suc i) (omega (arith, lt))
+    ∙ ap (λ (k : ℕ). get_or x k 0) (omega arith)) in
     rw (first, rest) refl
 
 -- the same bytes at the front make the same number
@@ -35,7 +38,8 @@ pub big_number-in_part : (p d t n m : ℕ) (x : List ℕ) → n ≤ t → d + n 
     big_number n (take t (drop d (part p m x))) ≡ big_from (p + d) n x
 big_number-in_part p d t n m x short le = big_number-same (p + d) n x (take t (drop d (part p m x))) (λ i lt.
     get_or-take t (drop d (part p m x)) i 0 (omega (arith, lt))
-    ∙ get_or-drop d (part p m x) i 0 ∙ get_or-part p m x (d + i) (omega (arith, lt)) ∙ ap (λ (k : ℕ). get_or x k 0) (omega arith))
+    ∙ get_or-drop d (part p m x) i 0 ∙ get_or-part p m x (d + i) (omega (arith, lt))
+    ∙ ap (λ (k : ℕ). get_or x k 0) (omega arith))
 
 pub ruleset writing = (touches_range)
 
@@ -115,7 +119,8 @@ pub leader_kind-with_bare_leader : (p words : ℕ) (x : List ℕ) → p + 8 ≤ 
     leader_kind p (with_bare_leader p words x) ≡ 0
 unfolding leader_kind
 leader_kind-with_bare_leader p words x le =
-    ap (λ (k : ℕ). get_or (with_bare_leader p words x) k 0) (omega arith) ∙ bare_leader_byte p words x 0 le (omega arith)
+    ap (λ (k : ℕ). get_or (with_bare_leader p words x) k 0) (omega arith)
+    ∙ bare_leader_byte p words x 0 le (omega arith)
 
 pub leader_length-with_bare_leader : (p words : ℕ) (x : List ℕ) → p + 8 ≤ length x →
     leader_length p (with_bare_leader p words x) ≡ 0
@@ -135,13 +140,15 @@ get_or-with_bare_leader p words x i le out =
 pub length-with_bare_leader : (p words : ℕ) (x : List ℕ) → p + 8 ≤ length x →
     length (with_bare_leader p words x) ≡ length x
 unfolding with_bare_leader
-length-with_bare_leader p words x le = length-overwrite p (bare_leader words) x (omega (arith, length-bare_leader words))
+length-with_bare_leader p words x le = length-overwrite p (bare_leader words) x
+    (omega (arith, length-bare_leader words))
 
 -- a word whose bytes are 0
 pub number_at-zeros : (p : ℕ) (x : List ℕ) → ((i : ℕ) → p ≤ i → i < p + 8 → get_or x i 0 ≡ 0) → number_at p x ≡ 0
 unfolding number_at
 number_at-zeros p x zeros = big_from-same 0 p 8 (replicate 8 0) x (λ i lt.
-    zeros (p + i) (omega arith) (omega (arith, lt)) ∙ sym (ap (λ (k : ℕ). get_or (replicate 8 0) k 0) (plain i) ∙ get_or-replicate 8 i 0 0 lt))
+    zeros (p + i) (omega arith) (omega (arith, lt))
+    ∙ sym (ap (λ (k : ℕ). get_or (replicate 8 0) k 0) (plain i) ∙ get_or-replicate 8 i 0 0 lt))
   where
     plain : (i : ℕ) → 0 + i ≡ i
     plain i = omega arith

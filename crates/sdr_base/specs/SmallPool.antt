@@ -1,12 +1,14 @@
 -- The rules for taking a block from the small pool, and for giving it back.
-use Rattle.std.specs.Prelude.{◌==◌, ◌+◌, ◌*◌, ℕ, Bool, true, false, cond, nat_lt, List, [], ◌∷◌, ◌++◌, map, Option, Some, None}
+use Rattle.std.specs.Prelude.{◌==◌, ◌+◌, ◌*◌, ℕ, Bool, true, false, cond, nat_lt, List, [], ◌∷◌, ◌++◌, map, Option}
+use Rattle.std.specs.Prelude.{Some, None}
 use Rattle.sdr_base.specs.Pools.{PoolBlock, Pools, is_at}
 use Rattle.sdr_base.specs.declared.line.TheConstants.{WORD}
 use Rattle.sdr_base.specs.declared.control.TheConstants.{MOST_SMALL}
 
 -- the block, in use or free where it has this address
 abbrev pub used_where : ℕ → Bool → PoolBlock → PoolBlock
-used_where addr used block = cond (is_at addr block) (record { addr = block.addr; words = block.words; used = used }) block
+used_where addr used block = cond (is_at addr block)
+    (record { addr = block.addr; words = block.words; used = used }) block
 
 -- the blocks with the one at this address in use or free
 unfoldable pub with_used : ℕ → Bool → List PoolBlock → List PoolBlock

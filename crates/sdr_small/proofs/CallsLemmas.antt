@@ -1,16 +1,18 @@
 -- What the two calls do, from what their steps do.
-use Rattle.std.proofs.Common.{◌≡◌, ◌≢◌, ◌≤◌, ◌<◌, ◌⊎◌, inl, inr, ℕ, ◌+◌, ◌-◌, ◌*◌, ◌/◌, Bool, true, false, cond, nat_lt, ◌==◌}
+use Rattle.std.proofs.Common.{◌≡◌, ◌≢◌, ◌≤◌, ◌<◌, ℕ, ◌+◌, ◌-◌, ◌*◌, ◌/◌, Bool, true, false, cond, nat_lt}
 use Rattle.std.proofs.Common.{List, [], ◌∷◌, length, refl, sym, ap, ◌∙◌, arith, subst}
 use Rattle.std.specs.Prelude.{Option, Some, None, Result, Ok, Err, IfOk, OnOk}
 use Rattle.std.specs.List.{count_by}
 use Rattle.std.proofs.lemmas.Bool.{le-ltb, lt-ltb}
 use Rattle.sdr_base.specs.Pools.{Pools, IsUsed, is_of}
-use Rattle.sdr_base.specs.SmallPool.{Taken, take_small, take_from, with_front_taken, with_new_small, give_small, words_at}
+use Rattle.sdr_base.specs.SmallPool.{Taken, take_small, take_from, with_front_taken, with_new_small, give_small}
+use Rattle.sdr_base.specs.SmallPool.{words_at}
 use Rattle.sdr_base.specs.KeptPools.{Chain, KeepsSmall, KeepsSomeSmall, list_place}
 use Rattle.sdr_base.specs.Stored.{number_at, with_number, leader_words, with_bare_leader, SetsStartBit}
 use Rattle.sdr_base.proofs.SmallPoolLemmas.{words_at-is}
-use Rattle.sdr_base.proofs.KeptPoolsLemmas.{IsInOrder, in_order, IsBlock, is_block, free_is, front_free}
-use Rattle.sdr_small.specs.Calls.{TakesBlock, TakesBy, Takes, TakesListed, TakesNew, KeepsUsedSmall, IsGiveable, Gives, PutsFront}
+use Rattle.sdr_base.proofs.KeptPoolsLemmas.{in_order, is_block, free_is, front_free}
+use Rattle.sdr_small.specs.Calls.{TakesBlock, TakesBy, Takes, TakesListed, TakesNew, KeepsUsedSmall, IsGiveable, Gives}
+use Rattle.sdr_small.specs.Calls.{PutsFront}
 use Rattle.sdr_small.proofs.TakeLemmas.{takes_listed}
 use Rattle.sdr_small.proofs.NewLemmas.{takes_new}
 use Rattle.sdr_small.proofs.GiveLemmas.{gives_block}
@@ -123,9 +125,11 @@ takes_cut x z y words low (Some addr) same some most given none takes = record {
       (takes_new x y P words keeps some most fits (put P.low at)));
 }
   where
-    put : (n : ℕ) → low ≡ n → SetsStartBit (n / 8) 1 (with_number 16 (n + 8 * (1 + words)) (with_bare_leader n words x)) y
+    put : (n : ℕ) → low ≡ n → SetsStartBit (n / 8) 1
+        (with_number 16 (n + 8 * (1 + words)) (with_bare_leader n words x)) y
     put n at =
-        subst (λ (m : ℕ). SetsStartBit (m / 8) 1 (with_number 16 (m + 8 * (1 + words)) (with_bare_leader m words x)) y) at
+        subst (λ (m : ℕ). SetsStartBit (m / 8) 1
+        (with_number 16 (m + 8 * (1 + words)) (with_bare_leader m words x)) y) at
         (subst (λ (l : List ℕ). SetsStartBit (low / 8) 1
         (with_number 16 (low + 8 * (1 + words)) (with_bare_leader low words l)) y) same takes.2)
 
@@ -162,7 +166,8 @@ gives_back x z y words addr same given puts = record {
 }
 
 -- after a take the bytes keep a pool
-pub Takes-kept : (x y : List ℕ) (words : ℕ) (found : Option ℕ) → KeepsSomeSmall x → Takes words found x y → KeepsSomeSmall y
+pub Takes-kept : (x y : List ℕ) (words : ℕ) (found : Option ℕ) → KeepsSomeSmall x → Takes words found x y →
+    KeepsSomeSmall y
 Takes-kept x y words found k takes = cases (take_small k.pools words) (takes.rule k.pools k.keeps)
   where
     cases : (t : Option Taken) → TakesBy k.pools words t found x y → KeepsSomeSmall y
@@ -170,7 +175,8 @@ Takes-kept x y words found k takes = cases (take_small k.pools words) (takes.rul
     cases (Some taken) by = record { pools = taken.pools; keeps = by.keeps }
 
 -- and the block that was answered is in use there
-pub Takes-used : (x y : List ℕ) (words : ℕ) (found : Option ℕ) → KeepsSomeSmall x → Takes words found x y → IsGiveable found y
+pub Takes-used : (x y : List ℕ) (words : ℕ) (found : Option ℕ) → KeepsSomeSmall x → Takes words found x y →
+    IsGiveable found y
 Takes-used x y words None k takes = tt
 Takes-used x y words (Some addr) k takes = cases (take_small k.pools words) (takes.rule k.pools k.keeps)
   where
@@ -178,7 +184,8 @@ Takes-used x y words (Some addr) k takes = cases (take_small k.pools words) (tak
     cases None by = let none : Some addr ≡ None = by.0 in cc
     cases (Some taken) by =
         let same : addr ≡ taken.addr = (let e : Some addr ≡ Some taken.addr = by.addr in cc) in
-        subst (λ (a : ℕ). KeepsUsedSmall a y) (sym same) (record { pools = taken.pools; keeps = by.keeps; used = by.used })
+        subst (λ (a : ℕ). KeepsUsedSmall a y) (sym same)
+        (record { pools = taken.pools; keeps = by.keeps; used = by.used })
 
 -- after a give the bytes keep a pool
 pub Gives-kept : (x y : List ℕ) (addr : ℕ) → KeepsUsedSmall addr x → Gives addr x y → KeepsSomeSmall y

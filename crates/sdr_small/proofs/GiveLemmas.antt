@@ -1,22 +1,27 @@
 -- A block given back, as the front of its list.
-use Rattle.std.proofs.Common.{◌≡◌, ◌≢◌, ◌≤◌, ◌<◌, ◌⊎◌, inl, inr, ℕ, ◌+◌, ◌-◌, ◌*◌, ◌/◌, ◌%◌, ◌^◌, true, false, ◌==◌}
-use Rattle.std.proofs.Common.{List, [], ◌∷◌, length, get_or, refl, sym, ap, ◌∙◌, arith, subst}
+use Rattle.std.proofs.Common.{◌≡◌, ◌≢◌, ◌≤◌, ◌<◌, ◌⊎◌, inl, inr, ℕ, ◌+◌, ◌-◌, ◌*◌, ◌/◌, ◌^◌, false, ◌==◌}
+use Rattle.std.proofs.Common.{List, ◌∷◌, length, get_or, sym, ap, ◌∙◌, arith, subst}
 use Rattle.std.specs.List.{count_by}
 use Rattle.std.proofs.lemmas.Bool.{cases_eq, cases_lt}
 use Rattle.std.proofs.lemmas.Bool.Decides.{nat_tests}
-use Rattle.sdr_base.specs.Pools.{PoolBlock, Pools, IsUsed, is_at, is_of, is_free_of, is_used_at, Follows, TilesSmall}
-use Rattle.sdr_base.specs.SmallPool.{with_used, with_list, words_at, give_small}
+use Rattle.sdr_base.specs.Pools.{Pools, IsUsed, is_of, is_free_of, is_used_at, TilesSmall}
+use Rattle.sdr_base.specs.SmallPool.{with_used, with_list, words_at}
 use Rattle.sdr_base.specs.KeptPools.{Chain, KeepsSmall, StaysBeside, list_place}
-use Rattle.sdr_base.specs.Stored.{number_at, with_number, leader_kind, leader_words, leader_length, with_bare_leader, start_bit, SetsStartBit}
-use Rattle.sdr_base.proofs.PoolsLemmas.{count_by-append, count_by-no, apart, of-le-at, free-used-le-at}
-use Rattle.sdr_base.proofs.SmallPoolLemmas.{with_list-here, with_list-other, Follows-with_used, of-with_used, words_at-is}
-use Rattle.sdr_base.proofs.SmallPoolLemmas.{free-with_used_other, free-with_used_given, used-with_used_other, used-with_used_given}
+use Rattle.sdr_base.specs.Stored.{number_at, with_number, leader_kind, leader_words, leader_length, with_bare_leader}
+use Rattle.sdr_base.specs.Stored.{start_bit}
+use Rattle.sdr_base.proofs.PoolsLemmas.{count_by-no, apart, of-le-at, free-used-le-at}
+use Rattle.sdr_base.proofs.SmallPoolLemmas.{with_list-here, with_list-other, Follows-with_used, of-with_used}
+use Rattle.sdr_base.proofs.SmallPoolLemmas.{words_at-is}
+use Rattle.sdr_base.proofs.SmallPoolLemmas.{free-with_used_other, free-with_used_given, used-with_used_other}
+use Rattle.sdr_base.proofs.SmallPoolLemmas.{used-with_used_given}
 use Rattle.sdr_base.proofs.StartBitsLemmas.{start_bit-same}
 use Rattle.sdr_base.proofs.StoredLemmas.{number_at-with_number, number_at-same, get_or-with_number, length-with_number}
 use Rattle.sdr_base.proofs.StoredLemmas.{leader_words-same, leader_kind-same, leader_length-same}
 use Rattle.sdr_base.proofs.StoredLemmas.{get_or-with_bare_leader, length-with_bare_leader}
-use Rattle.sdr_base.proofs.StoredLemmas.{leader_words-with_bare_leader, leader_kind-with_bare_leader, leader_length-with_bare_leader}
-use Rattle.sdr_base.proofs.KeptPoolsLemmas.{Chain-moved, IsInOrder, in_order, IsBlock, is_block, free_is, listed_is, front_is, next_fits}
+use Rattle.sdr_base.proofs.StoredLemmas.{leader_words-with_bare_leader, leader_kind-with_bare_leader}
+use Rattle.sdr_base.proofs.StoredLemmas.{leader_length-with_bare_leader}
+use Rattle.sdr_base.proofs.KeptPoolsLemmas.{Chain-moved, IsInOrder, in_order, IsBlock, is_block, free_is, listed_is}
+use Rattle.sdr_base.proofs.KeptPoolsLemmas.{front_is, next_fits}
 use Rattle.sdr_small.specs.Calls.{PutsFront, GivesBlock}
 
 -- the pools with a block of so many words given back
@@ -25,6 +30,13 @@ given P words addr = record P {
   small = with_used addr false P.small;
   small_lists = with_list words (addr ∷ P.small_lists words) P.small_lists;
 }
+
+-- the bytes with the old front as the block's next, and with its leader besides
+abbrev pub linked : List ℕ → ℕ → ℕ → List ℕ
+linked x words addr = with_number addr (number_at (list_place words) x) x
+
+abbrev pub led : List ℕ → ℕ → ℕ → List ℕ
+led x words addr = with_bare_leader (addr - 8) words (linked x words addr)
 
 -- the bytes from x to y, where a block in use becomes the front of the list for its words
 module _ (x y : List ℕ) (P : Pools) (words addr : ℕ) (keeps : KeepsSmall x P) (used : IsUsed P.small addr)
@@ -42,26 +54,26 @@ module _ (x y : List ℕ) (P : Pools) (words addr : ℕ) (keeps : KeepsSmall x P
   link_in : addr + 8 ≤ length x
   link_in = omega (arith, block.last, block.some, order.order, order.end)
 
-  linked_size : length (with_number addr (number_at (list_place words) x) x) ≡ length x
+  linked_size : length (linked x words addr) ≡ length x
   linked_size = length-with_number addr (number_at (list_place words) x) x link_in
 
-  leader_in : addr - 8 + 8 ≤ length (with_number addr (number_at (list_place words) x) x)
+  leader_in : addr - 8 + 8 ≤ length (linked x words addr)
   leader_in = omega (arith, linked_size, link_in, block.first)
 
-  led_size : length (with_bare_leader (addr - 8) words (with_number addr (number_at (list_place words) x) x)) ≡ length x
+  led_size : length (led x words addr) ≡ length x
   led_size =
-      length-with_bare_leader (addr - 8) words (with_number addr (number_at (list_place words) x) x) leader_in ∙ linked_size
+      length-with_bare_leader (addr - 8) words (linked x words addr) leader_in ∙ linked_size
 
-  list_in : list_place words + 8 ≤ length (with_bare_leader (addr - 8) words (with_number addr (number_at (list_place words) x) x))
+  list_in : list_place words + 8 ≤ length (led x words addr)
   list_in = omega (arith, led_size, place_in, order.control, order.small, order.order, order.end)
 
   -- a byte of a block, as with the leader
   led_above : (i : ℕ) → P.start ≤ i →
-      get_or y i 0 ≡ get_or (with_bare_leader (addr - 8) words (with_number addr (number_at (list_place words) x) x)) i 0
+      get_or y i 0 ≡ get_or (led x words addr) i 0
   led_above i ge =
       puts.others i (omega (arith, ge, block.bit))
       ∙ get_or-with_number (list_place words) addr
-      (with_bare_leader (addr - 8) words (with_number addr (number_at (list_place words) x) x)) i list_in
+      (led x words addr) i list_in
       (inr (omega (arith, ge, place_in, order.control)))
 
   -- a byte outside of the start bits, of the list's control word, and of the leader and the link
@@ -70,8 +82,8 @@ module _ (x y : List ℕ) (P : Pools) (words addr : ℕ) (keeps : KeepsSmall x P
   beside i out off_list off_block =
       puts.others i (not_bit out)
       ∙ get_or-with_number (list_place words) addr
-      (with_bare_leader (addr - 8) words (with_number addr (number_at (list_place words) x) x)) i list_in off_list
-      ∙ get_or-with_bare_leader (addr - 8) words (with_number addr (number_at (list_place words) x) x) i leader_in (off_leader off_block)
+      (led x words addr) i list_in off_list
+      ∙ get_or-with_bare_leader (addr - 8) words (linked x words addr) i leader_in (off_leader off_block)
       ∙ get_or-with_number addr (number_at (list_place words) x) x i link_in (off_link off_block)
     where
       not_bit : (i < 1024) ⊎ (P.start ≤ i) → i ≢ 1024 + (addr - 8) / 8 / 8
@@ -90,7 +102,7 @@ module _ (x y : List ℕ) (P : Pools) (words addr : ℕ) (keeps : KeepsSmall x P
   size =
       puts.size
       ∙ length-with_number (list_place words) addr
-      (with_bare_leader (addr - 8) words (with_number addr (number_at (list_place words) x) x)) list_in
+      (led x words addr) list_in
       ∙ led_size
 
   -- another control word
@@ -140,14 +152,15 @@ module _ (x y : List ℕ) (P : Pools) (words addr : ℕ) (keeps : KeepsSmall x P
 
   -- the old front fits into a word
   fits : number_at (list_place words) x < 2 ^ 64
-  fits = next_fits x P words (list_place words) (P.small_lists words) keeps (keeps.lists words block.some block.most) (λ a there. there)
+  fits = next_fits x P words (list_place words) (P.small_lists words) keeps (keeps.lists words block.some block.most)
+      (λ a there. there)
 
   -- the old front is the block's next
   next : number_at addr y ≡ number_at (list_place words) x
   next =
-      number_at-same addr (with_number addr (number_at (list_place words) x) x) y (λ i ge lt.
+      number_at-same addr (linked x words addr) y (λ i ge lt.
       led_above i (omega (arith, ge, block.first))
-      ∙ get_or-with_bare_leader (addr - 8) words (with_number addr (number_at (list_place words) x) x) i leader_in
+      ∙ get_or-with_bare_leader (addr - 8) words (linked x words addr) i leader_in
       (inr (omega (arith, ge, block.first))))
       ∙ number_at-with_number addr (number_at (list_place words) x) x link_in fits
 
@@ -156,10 +169,10 @@ module _ (x y : List ℕ) (P : Pools) (words addr : ℕ) (keeps : KeepsSmall x P
   front =
       number_at-same (list_place words)
       (with_number (list_place words) addr
-      (with_bare_leader (addr - 8) words (with_number addr (number_at (list_place words) x) x))) y
+      (led x words addr)) y
       (λ i ge lt. puts.others i (omega (arith, lt, place_in)))
       ∙ number_at-with_number (list_place words) addr
-      (with_bare_leader (addr - 8) words (with_number addr (number_at (list_place words) x) x)) list_in
+      (led x words addr) list_in
       (omega (arith, block.last, order.order, order.end, order.most))
 
   chain : Chain y (list_place words) (addr ∷ P.small_lists words)
@@ -174,7 +187,8 @@ module _ (x y : List ℕ) (P : Pools) (words addr : ℕ) (keeps : KeepsSmall x P
       Chain y (list_place other) (with_list words (addr ∷ P.small_lists words) P.small_lists other)
   lists other some_other most_other = elim (cases_eq other words) [
     | inl same ↦
-        subst (λ (w : ℕ). Chain y (list_place w) (with_list words (addr ∷ P.small_lists words) P.small_lists w)) (sym same)
+        subst (λ (w : ℕ). Chain y (list_place w) (with_list words (addr ∷ P.small_lists words) P.small_lists w))
+        (sym same)
         (subst (λ (l : List ℕ). Chain y (list_place words) l)
         (sym (with_list-here words (addr ∷ P.small_lists words) P.small_lists)) chain)
     | inr differ ↦
@@ -205,7 +219,8 @@ module _ (x y : List ℕ) (P : Pools) (words addr : ℕ) (keeps : KeepsSmall x P
           ≡ count_by (is_of other addr) P.small
       comes (inl same) =
           ap (λ (w : ℕ). count_by (λ b. b == addr) (with_list words (addr ∷ P.small_lists words) P.small_lists w)) same
-          ∙ ap (λ (l : List ℕ). count_by (λ b. b == addr) l) (with_list-here words (addr ∷ P.small_lists words) P.small_lists)
+          ∙ ap (λ (l : List ℕ). count_by (λ b. b == addr) l)
+          (with_list-here words (addr ∷ P.small_lists words) P.small_lists)
           ∙ omega (arith, front_is addr (P.small_lists words), keeps.tiles.listed words addr, not_free words, of_one)
           ∙ ap (λ (w : ℕ). count_by (is_of w addr) P.small) (sym same)
         where
@@ -214,7 +229,8 @@ module _ (x y : List ℕ) (P : Pools) (words addr : ℕ) (keeps : KeepsSmall x P
       comes (inr differ) =
           ap (λ (l : List ℕ). count_by (λ b. b == addr) l)
           (with_list-other words other (addr ∷ P.small_lists words) P.small_lists differ)
-          ∙ keeps.tiles.listed other addr ∙ not_free other ∙ sym (none (cases_lt 0 (count_by (is_of other addr) P.small)))
+          ∙ keeps.tiles.listed other addr ∙ not_free other
+          ∙ sym (none (cases_lt 0 (count_by (is_of other addr) P.small)))
         where
           none : (0 < count_by (is_of other addr) P.small) ⊎ (count_by (is_of other addr) P.small ≤ 0) →
               count_by (is_of other addr) P.small ≡ 0
@@ -226,7 +242,8 @@ module _ (x y : List ℕ) (P : Pools) (words addr : ℕ) (keeps : KeepsSmall x P
           ≡ count_by (is_free_of other a) P.small
       stays differ (inl same) =
           ap (λ (w : ℕ). count_by (λ b. b == a) (with_list words (addr ∷ P.small_lists words) P.small_lists w)) same
-          ∙ ap (λ (l : List ℕ). count_by (λ b. b == a) l) (with_list-here words (addr ∷ P.small_lists words) P.small_lists)
+          ∙ ap (λ (l : List ℕ). count_by (λ b. b == a) l)
+          (with_list-here words (addr ∷ P.small_lists words) P.small_lists)
           ∙ count_by-no (λ b. b == a) addr (P.small_lists words) (other_front differ)
           ∙ keeps.tiles.listed words a
           ∙ ap (λ (w : ℕ). count_by (is_free_of w a) P.small) (sym same)
@@ -257,7 +274,7 @@ module _ (x y : List ℕ) (P : Pools) (words addr : ℕ) (keeps : KeepsSmall x P
 
   -- the block's own leader
   own_leader : (i : ℕ) → addr - 8 ≤ i → i < addr - 8 + 8 →
-      get_or y i 0 ≡ get_or (with_bare_leader (addr - 8) words (with_number addr (number_at (list_place words) x) x)) i 0
+      get_or y i 0 ≡ get_or (led x words addr) i 0
   own_leader i ge lt = led_above i (omega (arith, ge, block.first))
 
   leaders : (other a : ℕ) → 0 < count_by (is_of other a) (with_used addr false P.small) → leader_words (a - 8) y ≡ other
@@ -266,8 +283,8 @@ module _ (x y : List ℕ) (P : Pools) (words addr : ℕ) (keeps : KeepsSmall x P
       elim (cases_eq a addr) [
         | inl here ↦
             ap (λ (p : ℕ). leader_words (p - 8) y) here
-            ∙ leader_words-same (addr - 8) (with_bare_leader (addr - 8) words (with_number addr (number_at (list_place words) x) x)) y own_leader
-            ∙ leader_words-with_bare_leader (addr - 8) words (with_number addr (number_at (list_place words) x) x) leader_in
+            ∙ leader_words-same (addr - 8) (led x words addr) y own_leader
+            ∙ leader_words-with_bare_leader (addr - 8) words (linked x words addr) leader_in
             (omega (arith, block.most))
             ∙ sym (its_words other (subst (λ (n : ℕ). 0 < count_by (is_of other n) P.small) here was))
         | inr differ ↦ leader_words-same (a - 8) x y (leader other a was differ) ∙ keeps.leaders other a was
@@ -282,19 +299,20 @@ module _ (x y : List ℕ) (P : Pools) (words addr : ℕ) (keeps : KeepsSmall x P
   kinds other a there = elim (cases_eq a addr) [
     | inl here ↦
         ap (λ (p : ℕ). leader_kind (p - 8) y) here
-        ∙ leader_kind-same (addr - 8) (with_bare_leader (addr - 8) words (with_number addr (number_at (list_place words) x) x)) y own_leader
-        ∙ leader_kind-with_bare_leader (addr - 8) words (with_number addr (number_at (list_place words) x) x) leader_in
+        ∙ leader_kind-same (addr - 8) (led x words addr) y own_leader
+        ∙ leader_kind-with_bare_leader (addr - 8) words (linked x words addr) leader_in
     | inr differ ↦
         let was = was_free other a differ there in
         leader_kind-same (a - 8) x y (leader other a (free_is P other a was) differ) ∙ keeps.kinds other a was
   ]
 
-  lengths : (other a : ℕ) → 0 < count_by (is_free_of other a) (with_used addr false P.small) → leader_length (a - 8) y ≡ 0
+  lengths : (other a : ℕ) → 0 < count_by (is_free_of other a) (with_used addr false P.small) →
+      leader_length (a - 8) y ≡ 0
   lengths other a there = elim (cases_eq a addr) [
     | inl here ↦
         ap (λ (p : ℕ). leader_length (p - 8) y) here
-        ∙ leader_length-same (addr - 8) (with_bare_leader (addr - 8) words (with_number addr (number_at (list_place words) x) x)) y own_leader
-        ∙ leader_length-with_bare_leader (addr - 8) words (with_number addr (number_at (list_place words) x) x) leader_in
+        ∙ leader_length-same (addr - 8) (led x words addr) y own_leader
+        ∙ leader_length-with_bare_leader (addr - 8) words (linked x words addr) leader_in
     | inr differ ↦
         let was = was_free other a differ there in
         leader_length-same (a - 8) x y (leader other a (free_is P other a was) differ) ∙ keeps.lengths other a was
@@ -305,11 +323,11 @@ module _ (x y : List ℕ) (P : Pools) (words addr : ℕ) (keeps : KeepsSmall x P
       puts.bits word (omega (arith, differ, block.whole))
       ∙ start_bit-same word x
       (with_number (list_place words) addr
-      (with_bare_leader (addr - 8) words (with_number addr (number_at (list_place words) x) x)))
+      (led x words addr))
       (get_or-with_number (list_place words) addr
-      (with_bare_leader (addr - 8) words (with_number addr (number_at (list_place words) x) x)) (1024 + word / 8)
+      (led x words addr) (1024 + word / 8)
       list_in (inr (omega (arith, place_in)))
-      ∙ get_or-with_bare_leader (addr - 8) words (with_number addr (number_at (list_place words) x) x) (1024 + word / 8)
+      ∙ get_or-with_bare_leader (addr - 8) words (linked x words addr) (1024 + word / 8)
       leader_in (inl (omega (arith, within, block.first)))
       ∙ get_or-with_number addr (number_at (list_place words) x) x (1024 + word / 8) link_in
       (inl (omega (arith, within, block.first))))
@@ -347,7 +365,8 @@ module _ (x y : List ℕ) (P : Pools) (words addr : ℕ) (keeps : KeepsSmall x P
     bits = bit_stays;
   }
     where
-      off_list : (i : ℕ) → (i < list_place 1) ⊎ (list_place 65 ≤ i) → (i < list_place words) ⊎ (list_place words + 8 ≤ i)
+      off_list : (i : ℕ) → (i < list_place 1) ⊎ (list_place 65 ≤ i) →
+          (i < list_place words) ⊎ (list_place words + 8 ≤ i)
       off_list i (inl before) = inl (omega (arith, before, block.some))
       off_list i (inr behind) = inr (omega (arith, behind, block.most))
 

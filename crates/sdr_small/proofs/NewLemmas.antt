@@ -1,22 +1,25 @@
 -- A new block, cut at `low`.
-use Rattle.std.proofs.Common.{◌≡◌, ◌≢◌, ◌≤◌, ◌<◌, ◌⊎◌, inl, inr, ℕ, ◌+◌, ◌-◌, ◌*◌, ◌/◌, ◌%◌, ◌^◌, Bool, true, false, not, cond, ◌&&◌, ◌==◌}
-use Rattle.std.proofs.Common.{List, [], ◌∷◌, ◌++◌, length, get_or, refl, sym, ap, ◌∙◌, arith, subst}
+use Rattle.std.proofs.Common.{◌≡◌, ◌≢◌, ◌≤◌, ◌<◌, ◌⊎◌, inl, inr, ℕ, ◌+◌, ◌-◌, ◌*◌, ◌/◌, Bool, true, false, cond, ◌&&◌}
+use Rattle.std.proofs.Common.{◌==◌}
+use Rattle.std.proofs.Common.{List, [], ◌∷◌, ◌++◌, length, get_or, refl, sym, ap, ◌∙◌, arith}
 use Rattle.std.specs.Prelude.{Some}
 use Rattle.std.specs.List.{count_by}
 use Rattle.std.proofs.lemmas.Bool.{cases_eq, cases_Bool}
 use Rattle.std.proofs.lemmas.Bool.Decides.{nat_tests}
-use Rattle.sdr_base.specs.Pools.{PoolBlock, Pools, is_at, is_of, is_free_of, is_used_at, Follows, TilesSmall}
+use Rattle.sdr_base.specs.Pools.{PoolBlock, Pools, is_of, is_free_of, is_used_at, TilesSmall}
 use Rattle.sdr_base.specs.SmallPool.{with_new_small}
-use Rattle.sdr_base.specs.KeptPools.{Chain, KeepsSmall, StaysBeside, list_place}
-use Rattle.sdr_base.specs.Stored.{number_at, with_number, leader_kind, leader_words, leader_length, with_bare_leader, start_bit, SetsStartBit}
-use Rattle.sdr_base.proofs.PoolsLemmas.{count_by-append, count_by-no, is_of-true, used-le-at, at-last, Follows-whole}
+use Rattle.sdr_base.specs.KeptPools.{Chain, KeepsSmall, list_place}
+use Rattle.sdr_base.specs.Stored.{number_at, with_number, leader_kind, leader_words, leader_length, with_bare_leader}
+use Rattle.sdr_base.specs.Stored.{start_bit, SetsStartBit}
+use Rattle.sdr_base.proofs.PoolsLemmas.{count_by-append, is_of-true, used-le-at, at-last, Follows-whole}
 use Rattle.sdr_base.proofs.SmallPoolLemmas.{Follows-push}
 use Rattle.sdr_base.proofs.StartBitsLemmas.{start_bit-same}
 use Rattle.sdr_base.proofs.StoredLemmas.{number_at-with_number, number_at-same, get_or-with_number, length-with_number}
 use Rattle.sdr_base.proofs.StoredLemmas.{leader_words-same, leader_kind-same, leader_length-same}
 use Rattle.sdr_base.proofs.StoredLemmas.{get_or-with_bare_leader, length-with_bare_leader}
-use Rattle.sdr_base.proofs.StoredLemmas.{leader_words-with_bare_leader, leader_kind-with_bare_leader, leader_length-with_bare_leader}
-use Rattle.sdr_base.proofs.KeptPoolsLemmas.{Chain-moved, IsInOrder, in_order, IsBlock, is_block, free_is, listed_is}
+use Rattle.sdr_base.proofs.StoredLemmas.{leader_words-with_bare_leader, leader_kind-with_bare_leader}
+use Rattle.sdr_base.proofs.StoredLemmas.{leader_length-with_bare_leader}
+use Rattle.sdr_base.proofs.KeptPoolsLemmas.{Chain-moved, IsInOrder, in_order, is_block, free_is, listed_is}
 use Rattle.sdr_small.specs.Calls.{TakesBlock}
 
 -- the new block
@@ -103,7 +106,8 @@ module _ (x y : List ℕ) (P : Pools) (words : ℕ) (keeps : KeepsSmall x P) (so
   link : (other a : ℕ) → 0 < count_by (λ b. b == a) (P.small_lists other) → number_at a y ≡ number_at a x
   link other a some_there =
       let there = is_block x P other a keeps (free_is P other a (listed_is x P other a keeps some_there)) in
-      number_at-same a x y (λ i ge lt. above i (omega (arith, ge, there.first)) (omega (arith, lt, there.last, there.some)))
+      number_at-same a x y (λ i ge lt. above i (omega (arith, ge, there.first))
+      (omega (arith, lt, there.last, there.some)))
 
   lists : (other : ℕ) → 1 ≤ other → other ≤ 64 → Chain y (list_place other) (P.small_lists other)
   lists other some_other most_other =
@@ -112,7 +116,8 @@ module _ (x y : List ℕ) (P : Pools) (words : ℕ) (keeps : KeepsSmall x P) (so
       (keeps.lists other some_other most_other)
 
   -- the new block isn't free
-  not_free : (other a : ℕ) → count_by (is_free_of other a) (P.small ++ new_block P.low words ∷ []) ≡ count_by (is_free_of other a) P.small
+  not_free : (other a : ℕ) → count_by (is_free_of other a) (P.small ++ new_block P.low words ∷ [])
+      ≡ count_by (is_free_of other a) P.small
   not_free other a =
       no_more (is_free_of other a) P.small (new_block P.low words) (and_false (is_of other a (new_block P.low words)))
     where
@@ -141,7 +146,8 @@ module _ (x y : List ℕ) (P : Pools) (words : ℕ) (keeps : KeepsSmall x P) (so
 
   -- the leader of the new block
   new_leader : (i : ℕ) → P.low ≤ i → i < P.low + 8 → get_or y i 0 ≡ get_or (with_bare_leader P.low words x) i 0
-  new_leader i ge lt = led_beside i (inr (omega (arith, ge, order.small))) (inr (omega (arith, ge, order.small, order.control)))
+  new_leader i ge lt = led_beside i (inr (omega (arith, ge, order.small)))
+      (inr (omega (arith, ge, order.small, order.control)))
 
   leaders : (other a : ℕ) → 0 < count_by (is_of other a) (P.small ++ new_block P.low words ∷ []) →
       leader_words (a - 8) y ≡ other
@@ -153,7 +159,8 @@ module _ (x y : List ℕ) (P : Pools) (words : ℕ) (keeps : KeepsSmall x P) (so
         ∙ leader_words-with_bare_leader P.low words x leader_in (omega (arith, most))
         ∙ is.1
     | inr other_one ↦
-        let was : 0 < count_by (is_of other a) P.small = omega (arith, there, no_more (is_of other a) P.small (new_block P.low words) other_one) in
+        let was : 0 < count_by (is_of other a) P.small = omega
+        (arith, there, no_more (is_of other a) P.small (new_block P.low words) other_one) in
         leader_words-same (a - 8) x y (leader other a was) ∙ keeps.leaders other a was
   ]
 
@@ -203,7 +210,8 @@ module _ (x y : List ℕ) (P : Pools) (words : ℕ) (keeps : KeepsSmall x P) (so
       same : (n : ℕ) → (n == n) ≡ true
       same n = grind (arith, nat_tests)
 
-  pub takes_new : TakesBlock P words (record { addr = P.low + 8; pools = with_new_small P words }) (Some (P.low + 8)) x y
+  pub takes_new : TakesBlock P words (record { addr = P.low + 8; pools = with_new_small P words })
+      (Some (P.low + 8)) x y
   takes_new = record {
     addr = refl;
     used = record { used = in_use };

@@ -1,26 +1,29 @@
 -- The block at the front of its list, taken.
-use Rattle.std.proofs.Common.{◌≡◌, ◌≢◌, ◌≤◌, ◌<◌, ◌⊎◌, inl, inr, ℕ, ◌+◌, ◌-◌, ◌*◌, ◌/◌, ◌%◌, ◌^◌, true, false, ◌==◌}
+use Rattle.std.proofs.Common.{◌≡◌, ◌≢◌, ◌≤◌, ◌<◌, ◌⊎◌, inl, inr, ℕ, ◌+◌, ◌-◌, ◌*◌, ◌/◌, ◌^◌, true, false, ◌==◌}
 use Rattle.std.proofs.Common.{List, [], ◌∷◌, length, get_or, refl, sym, ap, ◌∙◌, arith, subst}
 use Rattle.std.specs.Prelude.{Some}
 use Rattle.std.specs.List.{count_by}
 use Rattle.std.proofs.lemmas.Bool.{cases_eq}
 use Rattle.std.proofs.lemmas.Bool.Decides.{nat_tests}
-use Rattle.sdr_base.specs.Pools.{PoolBlock, Pools, is_at, is_of, is_free_of, is_used_at, Follows, TilesSmall}
+use Rattle.sdr_base.specs.Pools.{Pools, is_of, is_free_of, is_used_at, TilesSmall}
 use Rattle.sdr_base.specs.SmallPool.{with_used, with_list, with_front_taken}
-use Rattle.sdr_base.specs.KeptPools.{Chain, KeepsSmall, StaysBeside, list_place}
-use Rattle.sdr_base.specs.Stored.{number_at, with_number, leader_kind, leader_words, leader_length, start_bit, SetsStartBit}
-use Rattle.sdr_base.proofs.PoolsLemmas.{count_by-append, of-le-at, free-le-of, free-free-le-at, at-once, count_by-no}
+use Rattle.sdr_base.specs.KeptPools.{Chain, KeepsSmall, list_place}
+use Rattle.sdr_base.specs.Stored.{number_at, with_number, start_bit}
+use Rattle.sdr_base.proofs.PoolsLemmas.{count_by-append, of-le-at, free-le-of, free-free-le-at, count_by-no}
 use Rattle.sdr_base.proofs.SmallPoolLemmas.{with_list-here, with_list-other, Follows-with_used, of-with_used}
-use Rattle.sdr_base.proofs.SmallPoolLemmas.{free-with_used_other, free-with_used_taken, used-with_used_other, used-with_used_taken}
+use Rattle.sdr_base.proofs.SmallPoolLemmas.{free-with_used_other, free-with_used_taken, used-with_used_other}
+use Rattle.sdr_base.proofs.SmallPoolLemmas.{used-with_used_taken}
 use Rattle.sdr_base.proofs.StartBitsLemmas.{start_bit-same}
 use Rattle.sdr_base.proofs.StoredLemmas.{number_at-with_number, number_at-same, get_or-with_number, length-with_number}
 use Rattle.sdr_base.proofs.StoredLemmas.{leader_words-same, leader_kind-same, leader_length-same}
-use Rattle.sdr_base.proofs.KeptPoolsLemmas.{Chain-moved, IsInOrder, in_order, IsBlock, is_block, free_is, listed_is, front_is, front_free, next_fits}
+use Rattle.sdr_base.proofs.KeptPoolsLemmas.{Chain-moved, IsInOrder, in_order, IsBlock, is_block, free_is, listed_is}
+use Rattle.sdr_base.proofs.KeptPoolsLemmas.{front_is, front_free, next_fits}
 use Rattle.sdr_small.specs.Calls.{TakesListed, TakesBlock}
 
 -- the bytes from x to y, where the front of the list for some words is taken from the pools
 module _ (x y : List ℕ) (P : Pools) (words addr : ℕ) (rest : List ℕ) (keeps : KeepsSmall x P)
-    (some : 1 ≤ words) (most : words ≤ 64) (is : P.small_lists words ≡ addr ∷ rest) (takes : TakesListed words addr x y) where
+    (some : 1 ≤ words) (most : words ≤ 64) (is : P.small_lists words ≡ addr ∷ rest)
+    (takes : TakesListed words addr x y) where
   -- where the block stands
   block : IsBlock x P words addr
   block = is_block x P words addr keeps (free_is P words addr (front_free x P words addr rest keeps is))
@@ -37,7 +40,8 @@ module _ (x y : List ℕ) (P : Pools) (words addr : ℕ) (rest : List ℕ) (keep
       get_or y i 0 ≡ get_or x i 0
   beside i out apart =
       takes.others i (not_bit out)
-      ∙ get_or-with_number (list_place words) (number_at addr x) x i (omega (arith, order.control, order.small, order.order, order.end)) apart
+      ∙ get_or-with_number (list_place words) (number_at addr x) x i
+      (omega (arith, order.control, order.small, order.order, order.end)) apart
     where
       not_bit : (i < 1024) ⊎ (P.start ≤ i) → i ≢ 1024 + (addr - 8) / 8 / 8
       not_bit (inl lt) = omega (arith, lt)
@@ -56,7 +60,8 @@ module _ (x y : List ℕ) (P : Pools) (words addr : ℕ) (rest : List ℕ) (keep
   -- another control word
   control : (place : ℕ) → place + 8 ≤ 1024 → (place + 8 ≤ list_place words) ⊎ (list_place words + 8 ≤ place) →
       number_at place y ≡ number_at place x
-  control place within apart = number_at-same place x y (λ i ge lt. beside i (inl (omega (arith, lt, within))) (side i ge lt apart))
+  control place within apart = number_at-same place x y
+      (λ i ge lt. beside i (inl (omega (arith, lt, within))) (side i ge lt apart))
     where
       side : (i : ℕ) → place ≤ i → i < place + 8 → (place + 8 ≤ list_place words) ⊎ (list_place words + 8 ≤ place) →
           (i < list_place words) ⊎ (list_place words + 8 ≤ i)
@@ -100,7 +105,8 @@ module _ (x y : List ℕ) (P : Pools) (words addr : ℕ) (rest : List ℕ) (keep
         (subst (λ (l : List ℕ). Chain y (list_place words) l) (sym (with_list-here words rest P.small_lists))
         (Chain-moved x y addr (list_place words) rest front (λ a there. link words a (in_rest a there)) chain))
     | inr differ ↦
-        subst (λ (l : List ℕ). Chain y (list_place other) l) (sym (with_list-other words other rest P.small_lists differ))
+        subst (λ (l : List ℕ). Chain y (list_place other) l)
+        (sym (with_list-other words other rest P.small_lists differ))
         (Chain-moved x y (list_place other) (list_place other) (P.small_lists other)
         (control (list_place other) (omega arith) (sides other differ)) (link other)
         (keeps.lists other some_other most_other))
@@ -113,7 +119,13 @@ module _ (x y : List ℕ) (P : Pools) (words addr : ℕ) (rest : List ℕ) (keep
   -- how often the block stands among the free ones
   free_here : count_by (is_free_of words addr) P.small ≡ 1
   free_here =
-      omega (arith, front_free x P words addr rest keeps is, free-le-of words addr P.small, of-le-at words addr P.small, block.once)
+      omega (
+        arith,
+        front_free x P words addr rest keeps is,
+        free-le-of words addr P.small,
+        of-le-at words addr P.small,
+        block.once,
+      )
 
   listed : (other a : ℕ) →
       count_by (λ b. b == a) (with_list words rest P.small_lists other)
@@ -126,7 +138,8 @@ module _ (x y : List ℕ) (P : Pools) (words addr : ℕ) (rest : List ℕ) (keep
     | inr apart ↦ stays apart (cases_eq other words) ∙ sym (free-with_used_other addr true other a P.small apart)
   ]
     where
-      gone : (other ≡ words) ⊎ (other ≢ words) → count_by (λ b. b == addr) (with_list words rest P.small_lists other) ≡ 0
+      gone : (other ≡ words) ⊎ (other ≢ words) →
+          count_by (λ b. b == addr) (with_list words rest P.small_lists other) ≡ 0
       gone (inl same) =
           ap (λ (w : ℕ). count_by (λ b. b == addr) (with_list words rest P.small_lists w)) same
           ∙ ap (λ (l : List ℕ). count_by (λ b. b == addr) l) (with_list-here words rest P.small_lists)
@@ -139,14 +152,21 @@ module _ (x y : List ℕ) (P : Pools) (words addr : ℕ) (rest : List ℕ) (keep
           )
       gone (inr differ) =
           ap (λ (l : List ℕ). count_by (λ b. b == addr) l) (with_list-other words other rest P.small_lists differ)
-          ∙ omega (arith, keeps.tiles.listed other addr, free-free-le-at words other addr P.small differ, free_here, block.once)
+          ∙ omega (
+            arith,
+            keeps.tiles.listed other addr,
+            free-free-le-at words other addr P.small differ,
+            free_here,
+            block.once,
+          )
 
       stays : a ≢ addr → (other ≡ words) ⊎ (other ≢ words) →
           count_by (λ b. b == a) (with_list words rest P.small_lists other) ≡ count_by (is_free_of other a) P.small
       stays apart (inl same) =
           ap (λ (w : ℕ). count_by (λ b. b == a) (with_list words rest P.small_lists w)) same
           ∙ ap (λ (l : List ℕ). count_by (λ b. b == a) l) (with_list-here words rest P.small_lists)
-          ∙ sym (ap (λ (l : List ℕ). count_by (λ b. b == a) l) is ∙ count_by-no (λ b. b == a) addr rest (other_front apart))
+          ∙ sym (ap (λ (l : List ℕ). count_by (λ b. b == a) l) is
+          ∙ count_by-no (λ b. b == a) addr rest (other_front apart))
           ∙ keeps.tiles.listed words a
           ∙ ap (λ (w : ℕ). count_by (is_free_of w a) P.small) (sym same)
         where
@@ -206,7 +226,8 @@ module _ (x y : List ℕ) (P : Pools) (words addr : ℕ) (rest : List ℕ) (keep
         ∙ sym (used-with_used_other addr true (8 * word + 8) P.small apart)
   ]
 
-  pub takes_listed : TakesBlock P words (record { addr = addr; pools = with_front_taken P words addr rest }) (Some addr) x y
+  pub takes_listed : TakesBlock P words (record { addr = addr; pools = with_front_taken P words addr rest })
+      (Some addr) x y
   takes_listed = record {
     addr = refl;
     used = record { used = omega (arith, used-with_used_taken addr P.small, block.once) };
@@ -218,7 +239,8 @@ module _ (x y : List ℕ) (P : Pools) (words addr : ℕ) (rest : List ℕ) (keep
       high = control 24 (omega arith) (inl (omega arith)) ∙ keeps.high;
       lists = lists;
       leaders = λ other a there.
-          let was : 0 < count_by (is_of other a) P.small = omega (arith, there, of-with_used addr true other a P.small) in
+          let was : 0 < count_by (is_of other a) P.small = omega
+          (arith, there, of-with_used addr true other a P.small) in
           leader_words-same (a - 8) x y (leader other a was) ∙ keeps.leaders other a was;
       kinds = λ other a there.
           let was = was_free other a there in
@@ -229,10 +251,12 @@ module _ (x y : List ℕ) (P : Pools) (words addr : ℕ) (rest : List ℕ) (keep
       bits = bits;
     };
     kind =
-        leader_kind-same (addr - 8) x y (leader words addr (free_is P words addr (front_free x P words addr rest keeps is)))
+        leader_kind-same (addr - 8) x y
+        (leader words addr (free_is P words addr (front_free x P words addr rest keeps is)))
         ∙ keeps.kinds words addr (front_free x P words addr rest keeps is);
     length =
-        leader_length-same (addr - 8) x y (leader words addr (free_is P words addr (front_free x P words addr rest keeps is)))
+        leader_length-same (addr - 8) x y
+        (leader words addr (free_is P words addr (front_free x P words addr rest keeps is)))
         ∙ keeps.lengths words addr (front_free x P words addr rest keeps is);
     others = record {
       size = size;

@@ -11,8 +11,8 @@ use sdr_base::{
     write_number,
 };
 
-/// Gives back the block at an address, which is in use: it becomes the front of the list of its words.
-/// It costs 3 reads and 4 writes.
+/// Gives back the block at an address, which is in use: it becomes the front of the list of its
+/// words. It costs 3 reads and 4 writes.
 pub fn give<C: Cells>(c: &mut C, addr: Addr) -> Result<(), Stop>
     requires used { KeepsUsedSmall addr (C.bytes c.old) }
     ensures given { OnOk result (Gives addr (C.bytes c.old) (C.bytes c.new)) }

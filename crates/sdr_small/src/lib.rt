@@ -3,11 +3,11 @@
 //!
 //! 1. Small blocks follow one another from the first block place to `low`. A block is a leader and
 //!    its words; its address is that of its first word, and it never grows, shrinks or merges.
-//! 2. A free block stands in the list of its words, and no other. Its first word is the next of that
-//!    list.
+//! 2. A free block stands in the list of its words, and in no other. Its first word is the next of
+//!    that list.
 //! 3. Exactly the blocks in use have their start bit set.
-//! 4. A request takes the front of the list of its words; else a new block at `low`, where that ends
-//!    at `high` or below; else none. A block that is given back becomes the front of its list.
+//! 4. A request takes the front of the list of its words; else a new block at `low`, where that
+//!    ends at `high` or below; else none. A block that is given back becomes the front of its list.
 //!
 //! Where a call answers anything but `Ok`, the bytes may keep no pool: the transaction has to be
 //! cancelled.
@@ -16,6 +16,8 @@
 mod giving;
 #[cfg(test)]
 mod memory;
+#[cfg(test)]
+mod plain;
 mod taking;
 #[cfg(test)]
 mod tests;

@@ -1,5 +1,6 @@
 // Cells in memory, for the tests.
-ghost use Rattle.std.specs.Prelude.{◌≡◌, ◌+◌, ◌*◌, ◌/◌, ◌≤◌, [], ◌∷◌, ◌++◌, true, fold, length, IfOk, MatchBool, refl};
+ghost use Rattle.std.specs.Prelude.{◌≡◌, ◌+◌, ◌*◌, ◌/◌, ◌≤◌, [], ◌∷◌, ◌++◌, true, refl};
+ghost use Rattle.std.specs.Prelude.{fold, length, IfOk, MatchBool};
 ghost use Rattle.sdr_base.specs.Causes.{Rose};
 ghost use Rattle.sdr_base.specs.Cells.{lines_of, with_lines};
 ghost use Rattle.sdr_base.specs.KeptPools.{KeepsSomeSmall};
@@ -32,7 +33,8 @@ pub struct MemoryCells {
     ghost whole: { length bytes.items ≡ LINE * lines },
     ghost least: { LEAST_LINES ≤ lines },
     ghost most: { lines ≤ MOST_LINES },
-    ghost few: { length (fold (λ touched write. with_lines touched (lines_of write.place write.count)) []
+    ghost few: { length (fold
+        (λ touched write. with_lines touched (lines_of write.place write.count)) []
         writes.items) ≤ touched },
     ghost room: { touched ≤ 1000000 },
 }
@@ -88,7 +90,8 @@ impl MemoryCells {
     // Remembers a write, where there is room for its lines.
     fn remember(&mut self, place: u64, count: u64) -> bool
         ensures writes { MatchBool result
-            (self.new.writes.items ≡ self.old.writes.items ++ (record { place = place; count = count }) ∷ [])
+            (self.new.writes.items
+            ≡ self.old.writes.items ++ (record { place = place; count = count }) ∷ [])
             (self.new.writes.items ≡ self.old.writes.items) }
         ensures bytes { self.new.bytes ≡ self.old.bytes }
         ensures failed { self.new.failed ≡ self.old.failed }
@@ -113,7 +116,8 @@ impl Cells for MemoryCells {
     ghost begun = { λ _. [] };
 
     ghost transaction = { λ s. record {
-      touched = fold (λ touched write. with_lines touched (lines_of write.place write.count)) [] s.writes.items;
+      touched = fold
+          (λ touched write. with_lines touched (lines_of write.place write.count)) [] s.writes.items;
       room = 1000000;
       faults = s.faults;
       failed = s.failed;

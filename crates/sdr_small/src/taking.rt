@@ -11,9 +11,9 @@ use sdr_base::{
     Addr, Cells, Stop, WORD, read_number, set_start_bit, write_bare_leader, write_number,
 };
 
-/// Takes the block of `words` words that the small pool gives, and answers `None` where it gives none.
-/// The block's leader has kind 0 and length 0, and its words hold what they held. It costs 4 reads
-/// and at most 3 writes; `None` writes nothing.
+/// Takes the block of so many words that the small pool gives, and answers its address, or `None`
+/// where the pool gives none. The block's leader has kind 0 and length 0, and its words hold what
+/// they held. It costs at most 4 reads and 3 writes; `None` writes nothing.
 pub fn take<C: Cells>(c: &mut C, words: u64) -> Result<Option<Addr>, Stop>
     requires some { 1 ≤ words }
     requires pools { KeepsSomeSmall (C.bytes c.old) }
@@ -57,12 +57,14 @@ fn take_listed<C: Cells>(c: &mut C, words: u64, front: Addr) -> Result<(), Stop>
 
 // Cuts a new block at `low`, where it ends at `high` or below.
 fn take_new<C: Cells>(c: &mut C, words: u64, low: u64) -> Result<Option<Addr>, Stop>
+    requires some { 1 ≤ words }
     requires words { words ≤ MOST_SMALL }
     requires control { START_BITS ≤ length (C.bytes c.old) }
     requires inside { number_at (WORD * HIGH) (C.bytes c.old) ≤ length (C.bytes c.old) }
     requires low { low < 2 ^ 32 }
     requires bit { START_BITS + low / WORD / 8 < length (C.bytes c.old) }
-    ensures taken { IfOk result (λ found. TakesNew words low found (C.bytes c.old) (C.bytes c.new)) }
+    ensures taken { IfOk result (λ found.
+        TakesNew words low found (C.bytes c.old) (C.bytes c.new)) }
     ensures size { length (C.bytes c.new) ≡ length (C.bytes c.old) }
     ensures room { TouchesAtMost 6 (C.transaction c.old) (C.transaction c.new) result }
     ensures cause { HasReason (C.transaction c.old) (C.transaction c.new) result }

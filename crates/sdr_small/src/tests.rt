@@ -1,5 +1,6 @@
 // What no clause says: where the first blocks begin, and that calls on a region in memory succeed.
 use crate::memory::MemoryCells;
+use crate::plain::{Free, plain_take};
 use crate::{give, take};
 use std::test::Fail;
 
@@ -50,5 +51,25 @@ fn no_block_is_given_where_low_would_pass_high(rt: HostRuntime) -> Result<(), Fa
     assert_eq!(rt; rest, Some(1616));
     let last = take(&mut cells, 1)?;
     assert_eq!(rt; last, None);
+    Ok(())
+}
+
+#[test]
+fn the_plain_rule_gives_the_same_blocks(rt: HostRuntime) -> Result<(), Fail> {
+    let mut cells = MemoryCells::fresh(rt.alloc(), 32)?;
+    let first = take(&mut cells, 3)?;
+    assert_eq!(rt; first, plain_take(&[], 1088, 2048, 3));
+    let second = take(&mut cells, 2)?.ok_or("none")?;
+    give(&mut cells, second)?;
+    let free = [Free {
+        words: 2,
+        addr: 1128,
+    }];
+    let again = take(&mut cells, 2)?;
+    assert_eq!(rt; again, plain_take(&free, 1144, 2048, 2));
+    let new = take(&mut cells, 64)?;
+    assert_eq!(rt; new, plain_take(&[], 1144, 2048, 64));
+    let none = take(&mut cells, 64)?;
+    assert_eq!(rt; none, plain_take(&[], 1664, 2048, 64));
     Ok(())
 }

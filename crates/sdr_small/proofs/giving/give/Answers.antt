@@ -1,7 +1,7 @@
 -- A block in use can be given back, and what is done is the rule.
-use Rattle.std.proofs.Common.{◌≡◌, refl, arith}
+use Rattle.std.proofs.Common.{refl, arith}
 use Rattle.std.proofs.lemmas.Result.{on_ok_weaker}
-use Rattle.sdr_small.proofs.CallsLemmas.{FitsIn, CanGive, can_give, gives_back, Gives-kept}
+use Rattle.sdr_small.proofs.CallsLemmas.{can_give, gives_back, Gives-kept}
 use Rattle.sdr_small.proofs.giving.give.Goals as goal
 
 pub overflow_sub-addr : goal.overflow_sub-addr

@@ -1,5 +1,5 @@
 -- The front or a new block is what the rule gives.
-use Rattle.std.proofs.Common.{◌≡◌, ◌≢◌, ◌∙◌, sym, ap, arith, ℕ, List}
+use Rattle.std.proofs.Common.{◌≡◌, ◌∙◌, sym, ap, arith, ℕ, List}
 use Rattle.std.proofs.lemmas.Result.{IfOk-weaker}
 use Rattle.sdr_base.specs.Stored.{number_at}
 use Rattle.sdr_base.specs.KeptPools.{list_place}

@@ -1,5 +1,5 @@
 -- One write more.
-use Rattle.std.proofs.Common.{ℕ, arith}
+use Rattle.std.proofs.Common.{arith}
 use Rattle.sdr_small.specs.declared.memory.Write.{Write}
 use Rattle.sdr_small.proofs.MemoryLemmas.{few_more}
 use Rattle.sdr_small.proofs.memory.MemoryCells.remember.Goals as goal
