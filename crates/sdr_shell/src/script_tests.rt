@@ -1,6 +1,8 @@
 // What no clause says: that scripts are read and names bound with ample memory; and the grammar, by
 // examples from outside.
-use crate::{Bindings, Script, ScriptError, Statement, Value, read_script};
+use crate::bindings::Bindings;
+use crate::read::read_script;
+use crate::script::{Script, ScriptError, Statement, Value};
 use sdr_base::{Bytes, MemorySource};
 use sdr_model::{Answer, Call, Event, Reply};
 use std::alloc::Global;
