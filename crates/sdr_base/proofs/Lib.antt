@@ -1,5 +1,6 @@
 pub mod CellsLemmas
 pub mod FreshHeapLemmas
+pub mod FreshPoolsLemmas
 pub mod KeptPoolsLemmas
 pub mod PartsLemmas
 pub mod PoolsLemmas

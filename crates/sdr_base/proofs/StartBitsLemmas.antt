@@ -11,6 +11,12 @@ use Rattle.sdr_base.specs.Stored.{start_bit, SetsStartBit}
 use Rattle.sdr_base.proofs.PartsLemmas.{get_or-part, get_or-overwrite_inside, get_or-overwrite_outside, length-overwrite}
 use Rattle.sdr_base.proofs.CellsLemmas.{touches_range}
 
+-- the start bit of a word whose byte is the same
+pub start_bit-same : (word : ℕ) (x y : List ℕ) → get_or y (1024 + word / 8) 0 ≡ get_or x (1024 + word / 8) 0 →
+    start_bit word y ≡ start_bit word x
+unfolding start_bit
+start_bit-same word x y same = ap (λ (b : ℕ). bit_at b (7 - word % 8)) same
+
 -- another byte in the place of one, of which one bit is new
 pub SetsStartBit-byte : (word value byte : ℕ) (old : List ℕ) → 1024 + word / 8 < length old →
     bit_at byte (7 - word % 8) ≡ value →

@@ -2,7 +2,7 @@
 use Rattle.std.proofs.Common.{◌≡◌, ◌≤◌, ◌<◌, ◌⊎◌, inl, inr, ℕ, zero, suc, ◌+◌, ◌^◌}
 use Rattle.std.proofs.Common.{List, [], ◌++◌, length, get_or, take, drop, refl, sym, ap, ◌∙◌, arith}
 use Rattle.std.specs.Prelude.{replicate}
-use Rattle.std.proofs.lemmas.List.{get_or-take, get_or-drop, append-nil}
+use Rattle.std.proofs.lemmas.List.{get_or-take, get_or-drop, get_or-replicate, append-nil}
 use Rattle.byteorder.specs.Endian.{big_from, big_number, big_bytes}
 use Rattle.byteorder.specs.Numbers.{big_number-reads_back, length-bytes_high_first}
 use Rattle.sdr_base.specs.Parts.{overwrite, part}
@@ -136,3 +136,12 @@ pub length-with_bare_leader : (p words : ℕ) (x : List ℕ) → p + 8 ≤ lengt
     length (with_bare_leader p words x) ≡ length x
 unfolding with_bare_leader
 length-with_bare_leader p words x le = length-overwrite p (bare_leader words) x (omega (arith, length-bare_leader words))
+
+-- a word whose bytes are 0
+pub number_at-zeros : (p : ℕ) (x : List ℕ) → ((i : ℕ) → p ≤ i → i < p + 8 → get_or x i 0 ≡ 0) → number_at p x ≡ 0
+unfolding number_at
+number_at-zeros p x zeros = big_from-same 0 p 8 (replicate 8 0) x (λ i lt.
+    zeros (p + i) (omega arith) (omega (arith, lt)) ∙ sym (ap (λ (k : ℕ). get_or (replicate 8 0) k 0) (plain i) ∙ get_or-replicate 8 i 0 0 lt))
+  where
+    plain : (i : ℕ) → 0 + i ≡ i
+    plain i = omega arith

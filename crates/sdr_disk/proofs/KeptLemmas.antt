@@ -111,7 +111,8 @@ Grows-moved change kept kept' kept'' now now' now'' e f grows =
 
 -- one write more, by the equations that its steps give
 pub Grows-write : (outcome : Outcome) (place : ℕ) (from from' before : List ℕ)
-    (kept kept' : List Kept) (now now' : List ℕ) → Leads (undone_all kept now) kept now → place + length from ≤ length now
+    (kept kept' : List Kept) (now now' : List ℕ)
+    → Leads (undone_all kept now) kept now → place + length from ≤ length now
     → from' ≡ from → before ≡ part place (length from) now
     → kept' ≡ kept ++ record { change = Write place from' outcome; before = before } ∷ []
     → now' ≡ written_over outcome place from now → Grows (Write place from outcome) kept kept' now now'

@@ -1,11 +1,9 @@
 -- One event draws one number at most, and takes one block at most.
-use Rattle.std.proofs.Common.{◌≡◌, ◌≤◌, ◌+◌, ◌==◌, ℕ, List, [], ◌∷◌, Bool, true, false, Option, Some, None, MatchBool, MatchOption, find, nat_le, ap, refl, arith}
+use Rattle.std.proofs.Common.{◌≡◌, ◌≤◌, ◌+◌, ◌==◌, ℕ, find, nat_le, ap, refl, arith}
 use Rattle.std.specs.List.{list_any}
-use Rattle.sdr_base.specs.declared.moves.Move.{Move}
-use Rattle.sdr_base.specs.declared.refusal.Reason.{Reason}
-use Rattle.sdr_model.specs.Dry.{dry_moves, blocks_taken, StepsDry}
-use Rattle.sdr_model.specs.Machine.{Machine, MachineStep, Comes, Draws, Holds, Waits, Serves, Opens, Closes, Works, Goes, event_moves, says_moves, is_outside, served_number, with_next, with_transaction}
-use Rattle.sdr_model.specs.Transaction.{Transaction, Transacts, Deepens, Rises, Says, Replies, transaction_of, left_by, closing, is_opening, is_closing, deepest}
+use Rattle.sdr_model.specs.Dry.{dry_moves, blocks_taken}
+use Rattle.sdr_model.specs.Machine.{Machine, MachineStep, Comes, Holds, Waits, Serves, event_moves, says_moves, is_outside, served_number, with_next, with_transaction}
+use Rattle.sdr_model.specs.Transaction.{Transaction, Transacts, Replies, transaction_of, left_by, closing, is_opening, is_closing, deepest}
 use Rattle.sdr_model.specs.declared.answer.Answer.{Answer}
 use Rattle.sdr_model.specs.declared.answer.Answer.TheVariants as answers
 use Rattle.sdr_model.specs.declared.answer.Close.{Close}

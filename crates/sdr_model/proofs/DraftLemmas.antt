@@ -1,5 +1,5 @@
 -- What a call does to what is needed to put the world back.
-use Rattle.std.proofs.Common.{◌≡◌, ◌≢◌, ◌≤◌, ◌<◌, ◌+◌, ◌*◌, ℕ, List, [], ◌∷◌, ◌++◌, Bool, true, false, cond, Some, None, MatchBool, MatchOption, Option, true≢false, refl, sym, ap, subst, ◌∙◌, arith, length, length-append, take, nat_lt}
+use Rattle.std.proofs.Common.{◌≡◌, ◌≢◌, ◌≤◌, ◌+◌, ℕ, List, [], ◌∷◌, ◌++◌, Bool, true, false, cond, Some, None, Option, true≢false, refl, sym, ap, subst, ◌∙◌, arith, length, length-append, take, nat_lt}
 use Rattle.std.specs.Ordering.{nat_cmp, eq_by_cmp, is_eq}
 use Rattle.std.specs.declared.cmp.Ordering.{Ordering}
 use Rattle.std.specs.declared.cmp.Ordering.TheVariants.{Less, Equal, Greater}
@@ -7,13 +7,10 @@ use Rattle.std.specs.Cmp.{nat_cmp_total, ranked}
 use Rattle.std.specs.FinMap as map
 use Rattle.std.specs.FinMap.{same_map, get-insert, get-remove, nat_cmp-IsAntisymmetric}
 use Rattle.std.proofs.lemmas.List.{take-append-le}
-use Rattle.sdr_base.specs.declared.moves.Move.{Move}
-use Rattle.sdr_base.specs.declared.moves.Move.TheVariants.{Took}
-use Rattle.sdr_base.specs.declared.refusal.Refusal.{Refusal}
 use Rattle.sdr_model.specs.Draft.{NonePast, added_by, put_back, without}
 use Rattle.sdr_model.specs.Dry.{StepsDry, dry_moves, next_addr}
 use Rattle.sdr_model.specs.Names.{name_of}
-use Rattle.sdr_model.specs.Step.{Refuses, is_no_name, longest_string}
+use Rattle.sdr_model.specs.Step.{is_no_name, longest_string}
 use Rattle.sdr_model.specs.declared.answer.Reply.{Reply}
 use Rattle.sdr_model.specs.declared.answer.Reply.TheVariants as replies
 use Rattle.sdr_model.specs.declared.call.Call.{Call}

@@ -1,5 +1,5 @@
 -- The served transaction in the machine.
-use Rattle.std.proofs.Common.{◌≡◌, ℕ, List, ◌∷◌, Bool, true, false, true≢false, MatchBool, drop, sym, ◌∙◌}
+use Rattle.std.proofs.Common.{◌≡◌, List, ◌∷◌, Bool, true, false, true≢false, MatchBool, drop, ◌∙◌}
 use Rattle.sdr_base.specs.declared.moves.Move.{Move}
 use Rattle.sdr_model.specs.Machine.{Machine, Works}
 use Rattle.sdr_model.specs.Transaction.{Transacts, transaction_of}

@@ -1,9 +1,8 @@
 -- The machine at the lock: daemons draw numbers, the least number that isn't done is served, and its daemon's transaction goes on.
-use Rattle.std.specs.Prelude.{◌≡◌, ℕ, ◌+◌, List, [], ◌∷◌, ◌++◌, Bool, false, Option, None, Some, ◌==◌, drop, find, MatchBool, MatchOption, refl}
+use Rattle.std.specs.Prelude.{◌≡◌, ℕ, ◌+◌, List, [], ◌∷◌, ◌++◌, Bool, false, None, ◌==◌, drop, find, MatchBool, MatchOption, refl}
 use Rattle.std.specs.Coded.{Coded, code_by, coded×, coded_ℕ, coded_list}
 use Rattle.std.specs.List.{list_any}
 use Rattle.sdr_base.specs.declared.moves.Move.{Move}
-use Rattle.sdr_base.specs.declared.refusal.Refusal.{Refusal}
 use Rattle.sdr_base.specs.declared.refusal.Refusal.TheVariants as refusals
 use Rattle.sdr_model.specs.Dry.{dry_moves}
 use Rattle.sdr_model.specs.Transaction.{Transaction, transaction_of, Transacts, is_opening, is_closing, closing, left_by, refused}

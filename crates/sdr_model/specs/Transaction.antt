@@ -1,5 +1,5 @@
 -- A transaction of the machine: what its events do to its depth, its doom and the world.
-use Rattle.std.specs.Prelude.{◌≡◌, ℕ, ◌+◌, ◌-◌, List, [], Bool, false, Option, None, Some, unwrap_or, nat_le, ◌==◌, if◌then◌else◌, MatchBool, MatchOption}
+use Rattle.std.specs.Prelude.{◌≡◌, ℕ, ◌+◌, ◌-◌, List, [], Bool, false, Option, Some, unwrap_or, nat_le, ◌==◌, if◌then◌else◌, MatchBool, MatchOption}
 use Rattle.std.specs.Option.{option_map_or}
 use Rattle.sdr_base.specs.Refusal.{refusal_number}
 use Rattle.sdr_base.specs.declared.moves.Move.{Move}

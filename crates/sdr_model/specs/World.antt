@@ -1,5 +1,5 @@
 -- The world, as maps and lists.
-use Rattle.std.specs.Prelude.{ℕ, ◌==◌, List, [], if◌then◌else◌}
+use Rattle.std.specs.Prelude.{ℕ, ◌==◌, [], if◌then◌else◌}
 use Rattle.std.specs.FinMap as map
 use Rattle.std.specs.List.{list_any}
 use Rattle.sdr_base.specs.declared.refusal.Refusal.{Refusal}

@@ -1,10 +1,9 @@
 -- The binders of a script with a step more.
-use Rattle.std.proofs.Common.{◌≡◌, ◌==◌, ◌&&◌, ◌||◌, ◌++◌, ℕ, List, [], ◌∷◌, Bool, true, false, cond, nat_eq, eqb, arith, refl, ap, sym, ◌∙◌}
+use Rattle.std.proofs.Common.{◌≡◌, ◌==◌, ◌&&◌, ◌||◌, ◌++◌, ℕ, List, [], ◌∷◌, Bool, true, false, cond, nat_eq, arith, refl, ap, sym, ◌∙◌}
 use Rattle.std.proofs.lemmas.Bool.Decides.{nat_tests}
 use Rattle.std.proofs.lemmas.List.Folds.{list_any-append}
 use Rattle.std.specs.Cmp.Lexicographic.{pointwise}
 use Rattle.std.specs.HashSet.{HashSet, Updates}
-use Rattle.std.specs.List.{list_any}
 use Rattle.sdr_shell.specs.Draft.{AreBinders}
 use Rattle.sdr_shell.specs.Statements.{is_bound_by}
 use Rattle.sdr_shell.specs.declared.draft.Binder.{Binder}
@@ -18,7 +17,8 @@ pub pointwise-sym : (xs ys : List ℕ) → pointwise nat_eq xs ys ≡ pointwise 
 pointwise-sym [] [] = refl
 pointwise-sym [] (y ∷ ys) = refl
 pointwise-sym (x ∷ xs) [] = refl
-pointwise-sym (x ∷ xs) (y ∷ ys) = ap (λ b. b && pointwise nat_eq xs ys) (eqb-sym x y) ∙ ap (λ b. (y == x) && b) (pointwise-sym xs ys)
+pointwise-sym (x ∷ xs) (y ∷ ys) = ap (λ b. b && pointwise nat_eq xs ys) (eqb-sym x y)
+    ∙ ap (λ b. (y == x) && b) (pointwise-sym xs ys)
 
 true_or : (b c : Bool) → cond b true c ≡ (c || (b || false))
 true_or true true = refl
@@ -28,12 +28,14 @@ true_or false false = refl
 
 -- a new binder stands for a new step
 pub AreBinders-step : {S : Type 0} (old new : HashSet Binder S) (key : Binder) (steps : List Step) (step : Step)
-    → AreBinders old.keys steps → Updates (λ a b. a.daemon == b.daemon && pointwise nat_eq a.name.now b.name.now) old new key true
+    → AreBinders old.keys steps
+    → Updates (λ a b. a.daemon == b.daemon && pointwise nat_eq a.name.now b.name.now) old new key true
     → step.daemon ≡ key.daemon → step.name ≡ key.name.now → AreBinders new.keys (steps ++ step ∷ [])
 AreBinders-step old new key steps step are updates daemon_is name_is = record {
   each = λ daemon name.
       let asked : Binder = record { daemon = daemon; name = record key.name { now = name } } in
-      updates.0 asked ∙ ap (cond (key.daemon == daemon && pointwise nat_eq key.name.now name) true) (are.each daemon name)
+      updates.0 asked
+      ∙ ap (cond (key.daemon == daemon && pointwise nat_eq key.name.now name) true) (are.each daemon name)
       ∙ true_or (key.daemon == daemon && pointwise nat_eq key.name.now name) (is_bound_by steps daemon name)
       ∙ ap (λ b. is_bound_by steps daemon name || (b || false)) (
       ap (λ d. d == daemon && pointwise nat_eq key.name.now name) (sym daemon_is)

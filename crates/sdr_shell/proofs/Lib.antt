@@ -1,5 +1,6 @@
 pub mod BindingsLemmas
 pub mod DraftLemmas
+mod GreetingExample
 pub mod InputLemmas
 pub mod LineLemmas
 pub mod LinesLemmas

@@ -32,19 +32,26 @@ no_input : script_of [] ≡ Ok []
 no_input = refl
 
 -- skipped lines are counted, and a space before # makes no comment
-comments : script_of (codes "# one\n\n  \n16:  x =  end ") ≡ Ok (record { line = 4; daemon = 16; name = codes "x"; statement = statements.End } ∷ [])
+comments : script_of (codes "# one\n\n  \n16:  x =  end ")
+    ≡ Ok (record { line = 4; daemon = 16; name = codes "x"; statement = statements.End } ∷ [])
 comments = refl
 
 no_comment : script_of (codes "\n #\n") ≡ Err 2
 no_comment = refl
 
 -- the last line may lack its end
-no_last_end : script_of (codes "1: end") ≡ Ok (record { line = 1; daemon = 1; name = []; statement = statements.End } ∷ [])
+no_last_end : script_of (codes "1: end")
+    ≡ Ok (record { line = 1; daemon = 1; name = []; statement = statements.End } ∷ [])
 no_last_end = refl
 
 -- all fields of the longest statement
 catalogued : script_of (codes "1: b = catlg \"n\" 4294967295 18446744073709551615") ≡ Ok (
-    record { line = 1; daemon = 1; name = codes "b"; statement = statements.Catlg (codes "n") 4294967295 (values.Number 18446744073709551615) } ∷ [])
+    record {
+      line = 1;
+      daemon = 1;
+      name = codes "b";
+      statement = statements.Catlg (codes "n") 4294967295 (values.Number 18446744073709551615);
+    } ∷ [])
 catalogued = refl
 
 too_large : script_of (codes "1: catlg \"n\" 4294967296 0") ≡ Err 1

@@ -1,5 +1,5 @@
 -- Decimal digits as text and as numbers.
-use Rattle.std.proofs.Common.{◌≡◌, ◌<◌, ◌^◌, ℕ, List, [], ◌∷◌, Bool, true, false, cond, ◌&&◌, Option, Some, None, Result, Ok, Err, length, arith, refl, ap, ◌∙◌, sym, nat_lt, rules}
+use Rattle.std.proofs.Common.{◌≡◌, ◌<◌, ◌^◌, ℕ, List, [], ◌∷◌, true, ◌&&◌, Some, Result, Ok, Err, length, arith, ap, ◌∙◌, sym, nat_lt, rules}
 use Rattle.std.proofs.lemmas.Bool.{and_parts, and_from, cond-true, cond-false, false_from_ne_true}
 use Rattle.std.proofs.lemmas.Bool.Decides.{nat_tests}
 use Rattle.std.proofs.lemmas.Str.{IsUtf8-from_ascii}
@@ -7,7 +7,7 @@ use Rattle.std.proofs.lemmas.Str.Ascii.{IsAscii-nil, IsAscii-cons}
 use Rattle.std.proofs.lemmas.Str.Parse.{IsNumeralModel, numerals_by_value, parse_digits}
 use Rattle.std.specs.Char.{is_ascii_digit}
 use Rattle.std.specs.List.{list_all}
-use Rattle.std.specs.Result.{result_ok, OkIff}
+use Rattle.std.specs.Result.{result_ok}
 use Rattle.std.specs.Str.{IsAscii, IsUtf8}
 use Rattle.std.specs.Str.Parse.{digits_value, ParsesUnsigned}
 use Rattle.sdr_shell.specs.Words.{is_decimal, number_of}
@@ -36,7 +36,8 @@ own : IsNumeralModel (λ ds. list_all is_ascii_digit ds ≡ true) (digits_value 
 own = numerals_by_value _ (search rules)
 
 -- what parsing gives of decimal digits
-pub parsed-decimal : {E : Type 0} (bs : List ℕ) (r : Result ℕ E) → is_decimal bs ≡ true → ParsesUnsigned 64 10 bs r → result_ok r ≡ number_of bs
+pub parsed-decimal : {E : Type 0} (bs : List ℕ) (r : Result ℕ E) → is_decimal bs ≡ true → ParsesUnsigned 64 10 bs r
+    → result_ok r ≡ number_of bs
 parsed-decimal {E = E} bs (Ok x) d p =
     let given = parse_digits own {E = E} 64 bs (Ok x) p (decimal_has_digits bs d).1 in
     let fits : nat_lt (digits_value 10 bs) (2 ^ 64) ≡ true = grind (arith, nat_tests, given) in

@@ -33,7 +33,10 @@ value_in (b ∷ bindings) daemon name = if is_binding_of daemon name b then b.va
 -- the bindings with this one: in the place of the name's older one, else at the end
 abbrev pub with_binding : List Binding → Binding → List Binding
 with_binding [] new = new ∷ []
-with_binding (b ∷ bindings) new = if is_binding_of new.daemon new.name b then record b { value = new.value } ∷ bindings else b ∷ with_binding bindings new
+with_binding (b ∷ bindings) new =
+    if is_binding_of new.daemon new.name b
+    then record b { value = new.value } ∷ bindings
+    else b ∷ with_binding bindings new
 
 -- the number that a reply gives to a name
 abbrev pub value_of_reply : Reply → ℕ
@@ -64,7 +67,8 @@ event_of bindings daemon (statements.Find name) = events.Say (calls.Find name)
 -- the bindings where a name of a daemon is given a value, and as before where there is no name
 abbrev pub name_given : List Binding → ℕ → List ℕ → ℕ → List Binding
 name_given bindings daemon [] value = bindings
-name_given bindings daemon (b ∷ bs) value = with_binding bindings (record { daemon = daemon; name = b ∷ bs; value = value })
+name_given bindings daemon (b ∷ bs) value =
+    with_binding bindings (record { daemon = daemon; name = b ∷ bs; value = value })
 
 -- the bindings after a step was answered
 abbrev pub bound : List Binding → Step → Answer → List Binding

@@ -1,18 +1,19 @@
 -- What reading a script from a source gives.
-use Rattle.std.specs.Prelude.{◌≡◌, ℕ, ◌≤◌, ◌<◌, ◌⊎◌, List, length, Option, Result, Ok, Err, IfSome}
+use Rattle.std.specs.Prelude.{◌≡◌, ℕ, ◌≤◌, ◌<◌, ◌⊎◌, List, length, Option, Ok, Err, IfSome}
 use Rattle.std.specs.Io.KnownBytes.{Consumes, IsAtEnd}
 use Rattle.sdr_shell.specs.Script.{script_of, input_script, longest_input}
 use Rattle.sdr_shell.specs.declared.script.ScriptError.{ScriptError}
 use Rattle.sdr_shell.specs.declared.script.ScriptError.TheVariants as errors
 use Rattle.sdr_shell.specs.declared.script.Step.{Step}
 
--- all that the source had was read, and is the script of these steps
+-- all that the source had was read, and is the script of these steps; so is what it tells
 pub record ReadsScript (old new : Option (List ℕ)) (steps : List Step) : Type 0 where
   pub bytes : List ℕ
   pub taken : Consumes old new bytes
   pub at_end : IsAtEnd new
   pub within : length bytes ≤ longest_input
   pub script : script_of bytes ≡ Ok steps
+  pub whole : IfSome old (λ input. input_script input ≡ Ok steps)
 
 -- what was read is refused in this line, and so is all that the source had, where it tells that
 pub record RefusesLine (old new : Option (List ℕ)) (line : ℕ) : Type 0 where

@@ -14,7 +14,7 @@ abbrev pub ◌>>=◌ : {A B : Type 0} → Result A ℕ → (A → Result B ℕ) 
 abbrev pub longest_input : ℕ
 longest_input = 1048576
 
--- the lines of an input: its parts between the bytes 10. Behind a last byte 10 stands one more, which is empty and says nothing
+-- the lines of an input: its parts between the bytes 10. An empty one behind a last byte 10 says nothing
 abbrev pub lines_of : List ℕ → List (List ℕ)
 lines_of = slice_split (λ b. b == 10)
 
@@ -35,7 +35,7 @@ abbrev pub step_or_line : ℕ → Option Step → Result (Option Step) ℕ
 step_or_line line (Some step) = Ok (Some step)
 step_or_line line None = Err line
 
--- the step of the line with this number, none where it is skipped, behind the steps of the earlier lines; or its number where it is refused
+-- the step of a line behind those of the earlier lines, none where it is skipped, or its number where it is refused
 abbrev pub line_says : List Step → ℕ → List ℕ → Result (Option Step) ℕ
 line_says earlier number line =
     if not (list_all is_line_byte line) then Err number
@@ -88,4 +88,7 @@ refused_behind front = do
 
 -- the script of an input of any length: a byte too many refuses the line in which it stands
 abbrev pub input_script : List ℕ → Result (List Step) ℕ
-input_script input = if nat_le (length input) longest_input then script_of input else refused_behind (take longest_input input)
+input_script input =
+    if nat_le (length input) longest_input
+    then script_of input
+    else refused_behind (take longest_input input)

@@ -1,5 +1,5 @@
 -- The words of a script: numbers, names, texts and daemons.
-use Rattle.std.specs.Prelude.{ℕ, ◌-◌, ◌^◌, List, [], ◌∷◌, length, take, slice_range, Bool, false, not, ◌&&◌, ◌||◌, ◌==◌, nat_le, nat_lt, if◌then◌else◌, slice_index, Option, Some, None, option_and_then}
+use Rattle.std.specs.Prelude.{ℕ, ◌-◌, ◌^◌, List, length, take, slice_range, Bool, not, ◌&&◌, ◌||◌, ◌==◌, nat_le, nat_lt, if◌then◌else◌, slice_index, Option, Some, None, option_and_then}
 use Rattle.std.specs.Char.{is_ascii_digit, is_ascii_alphabetic, is_ascii_alphanumeric}
 use Rattle.std.specs.List.{list_all}
 use Rattle.std.specs.Str.Parse.{digits_value}
@@ -8,11 +8,15 @@ use Rattle.sdr_shell.specs.declared.script.Value.TheVariants as values
 
 -- whether bytes are decimal digits without a leading zero, or the digit 0
 abbrev pub is_decimal : List ℕ → Bool
-is_decimal bytes = nat_lt 0 (length bytes) && list_all is_ascii_digit bytes && (length bytes == 1 || not (slice_index bytes 0 == 48))
+is_decimal bytes =
+    nat_lt 0 (length bytes) && list_all is_ascii_digit bytes && (length bytes == 1 || not (slice_index bytes 0 == 48))
 
 -- the number that a field is: decimal, and of 64 bits
 abbrev pub number_of : List ℕ → Option ℕ
-number_of field = if is_decimal field && nat_lt (digits_value 10 field) (2 ^ 64) then Some (digits_value 10 field) else None
+number_of field =
+    if is_decimal field && nat_lt (digits_value 10 field) (2 ^ 64)
+    then Some (digits_value 10 field)
+    else None
 
 -- a number where it is no greater than the most
 abbrev pub at_most : ℕ → ℕ → Option ℕ

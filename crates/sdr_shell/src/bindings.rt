@@ -87,7 +87,8 @@ impl Bindings {
 
     /// The event of a step, with what its names hold.
     pub fn event(&self, alloc: Global, step: &Step) -> Result<Event, NoMemory>
-        ensures { IfOk result (λ event. event ≡ event_of self.now step.now.daemon step.now.statement) }
+        ensures { IfOk result (λ event.
+            event ≡ event_of self.now step.now.daemon step.now.statement) }
     {
         let call = match &step.statement {
             Statement::Begin => return Ok(Event::Begin),

@@ -11,7 +11,8 @@ pub const MOST_FIELDS: usize = 8;
 
 /// The first fields of a line.
 pub fn fields_of<'a>(alloc: Global, line: &'a [u8]) -> Result<Vec<&'a [u8]>, NoMemory>
-    ensures { IfOk result (λ fields. map (λ field. field.now) fields.items ≡ take MOST_FIELDS (fields_of line.now)) }
+    ensures { IfOk result (λ fields.
+        map (λ field. field.now) fields.items ≡ take MOST_FIELDS (fields_of line.now)) }
 {
     line.split(|b| *b == b' ')
         .filter(|field| !field.is_empty())

@@ -133,7 +133,8 @@ pub fn read_ended<'a>(
 ) -> Result<&'a [u8], ScriptError>
     requires room { draft.old.next + length bytes.now < 2 ^ 63 }
     ensures ended { Reads result draft.new (read_lines draft.old (ended_lines bytes.now)) }
-    ensures last { IfOk result (λ last. lines_of bytes.now ≡ ended_lines bytes.now ++ last.now ∷ []) }
+    ensures last { IfOk result (λ last.
+        lines_of bytes.now ≡ ended_lines bytes.now ++ last.now ∷ []) }
     ensures room { OnOk result (draft.new.next < 2 ^ 63) }
 {
     let mut rest = bytes;

@@ -25,7 +25,8 @@ fn read_input<S: Source>(alloc: Global, source: &mut S) -> Result<Vec<u8>, Scrip
     ensures no_line { IfErr result NamesNoLine }
     ensures later { S.faults source.old ≤ S.faults source.new }
     ensures reads { S.reads source.new ≤ S.reads source.old + 1048577 }
-    ensures input { IsErrOf result ScriptError.Input → Rose (S.faults source.old) (S.faults source.new) }
+    ensures input { IsErrOf result ScriptError.Input →
+        Rose (S.faults source.old) (S.faults source.new) }
 {
     let mut input = Vec::new(alloc);
     let mut piece = [0u8; PIECE];
@@ -80,7 +81,8 @@ pub fn read_script<S: Source>(alloc: Global, source: &mut S) -> Result<Script, S
     ensures line { IfErr result (NamesLine (S.left source.old) (S.left source.new)) }
     ensures later { S.faults source.old ≤ S.faults source.new }
     ensures reads { S.reads source.new ≤ S.reads source.old + 1048577 }
-    ensures input { IsErrOf result ScriptError.Input → Rose (S.faults source.old) (S.faults source.new) }
+    ensures input { IsErrOf result ScriptError.Input →
+        Rose (S.faults source.old) (S.faults source.new) }
 {
     let input = read_input(alloc, source)?;
     input_script(alloc, input.as_slice())

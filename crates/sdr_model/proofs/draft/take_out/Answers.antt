@@ -1,4 +1,4 @@
-use Rattle.std.proofs.Common.{ap, sym, ◌∙◌, ◌++◌, ◌∷◌, []}
+use Rattle.std.proofs.Common.{ap, sym, ◌∙◌, ◌++◌}
 use Rattle.std.specs.Option.{option_to_list}
 use Rattle.sdr_model.specs.Draft.{without}
 use Rattle.sdr_model.proofs.DraftLemmas.{without-push}

@@ -11,9 +11,11 @@ returns-in_err-last c =
 pub returns-in_err-read_line : goal.returns-in_err-read_line
 returns-in_err-read_line c =
     let p = err_from_is_err_and c.from_residual-in_err-read_line.result c.from_residual-in_err-read_line.ensures.1 in
-    rw (p.1, p.2) (Stops-last c.in_ok-draft.draft c.args.input.now c.in_ok-draft.ensures _ _ c.in_ok-last.ensures.last c.in_ok-last.ensures.ended _ c.in_err-read_line.ensures.line)
+    rw (p.1, p.2) (Stops-last c.in_ok-draft.draft c.args.input.now c.in_ok-draft.ensures _ _
+    c.in_ok-last.ensures.last c.in_ok-last.ensures.ended _ c.in_err-read_line.ensures.line)
 
 pub returns : goal.returns
 returns c =
-    script-read c.in_ok-draft.draft c.args.input.now c.in_ok-draft.ensures _ _ c.in_ok-last.ensures.last c.in_ok-last.ensures.ended _ c.in_ok-read_line.ensures.line
+    script-read c.in_ok-draft.draft c.args.input.now c.in_ok-draft.ensures _ _
+    c.in_ok-last.ensures.last c.in_ok-last.ensures.ended _ c.in_ok-read_line.ensures.line
     ∙ ap Ok (sym c.into_script.ensures)

@@ -1,4 +1,4 @@
-use Rattle.std.proofs.Common.{◌≡◌, ◌∙◌, sym, subst, List, ℕ}
+use Rattle.std.proofs.Common.{◌∙◌, sym, subst, List, ℕ}
 use Rattle.std.specs.Str.Parse.{ParsesUnsigned}
 use Rattle.sdr_shell.proofs.WordsLemmas.{decimal_is_text, parsed-decimal}
 use Rattle.sdr_shell.proofs.words.number_of.Goals as goal

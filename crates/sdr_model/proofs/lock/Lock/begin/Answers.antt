@@ -1,4 +1,4 @@
-use Rattle.std.proofs.Common.{refl, ◌==◌, false, ◌≡◌, arith}
+use Rattle.std.proofs.Common.{◌==◌, false, ◌≡◌, arith}
 use Rattle.std.proofs.lemmas.Bool.Decides.{nat_tests}
 use Rattle.sdr_model.proofs.MachineLemmas.{works, on_false}
 use Rattle.sdr_model.proofs.lock.Lock.begin.Goals as goal

@@ -1,6 +1,5 @@
-use Rattle.std.proofs.Common.{◌≡◌, List, ℕ, None, ap, sym, ◌∙◌, ◌++◌, ◌∷◌, [], subst}
+use Rattle.std.proofs.Common.{◌≡◌, None, ap, ◌∙◌, ◌++◌, ◌∷◌, []}
 use Rattle.sdr_model.specs.Names.{name_of, names_in}
-use Rattle.sdr_model.specs.declared.names.Name.{Name}
 use Rattle.sdr_model.proofs.NamesLemmas.{names_in-insert}
 use Rattle.sdr_model.proofs.names.Names.push.Goals as goal
 

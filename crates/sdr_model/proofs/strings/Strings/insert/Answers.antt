@@ -1,4 +1,4 @@
-use Rattle.std.proofs.Common.{ap, sym, ◌∙◌}
+use Rattle.std.proofs.Common.{ap, ◌∙◌}
 use Rattle.std.specs.FinMap.{insert}
 use Rattle.sdr_model.proofs.StringsLemmas.{inserted}
 use Rattle.sdr_model.proofs.strings.Strings.insert.Goals as goal
