@@ -1,13 +1,39 @@
 -- The forms that the words of a command line have.
-use Rattle.std.specs.Prelude.{List, [], ◌∷◌, Option, Some, None, codes, nat_eq, if◌then◌else◌}
+use Rattle.std.specs.Prelude.{ℕ, List, [], ◌∷◌, Option, Some, None, codes, nat_eq, if◌then◌else◌, ⊤}
 use Rattle.std.specs.declared.rc.RcStr.{RcStr}
 use Rattle.std.specs.declared.alloc.Global.{Global}
 use Rattle.std.specs.Cmp.Lexicographic.{pointwise}
 use Rattle.std.specs.Rc.{rc_str_bytes}
+use Rattle.sdr_log.specs.Frame.{is_in_limits}
+use Rattle.sdr_log.specs.declared.frame.Frame.{Frame}
+use Rattle.sdr_shell.specs.Words.{number_of}
 use Rattle.sdr_shell.specs.declared.form.Form.{Form}
 use Rattle.sdr_shell.specs.declared.form.Form.TheVariants as forms
+
+-- the regions, where both are as long as is allowed
+abbrev pub allowed : Frame → Option Frame
+allowed frame = if is_in_limits frame then Some frame else None
+
+-- the regions of so many lines of log and heap, where both are numbers and are allowed
+abbrev pub frame_of : Option ℕ → Option ℕ → Option Frame
+frame_of (Some log) (Some heap) = allowed (record { log_lines = log; heap_lines = heap })
+frame_of log heap = None
+
+-- the form `format` with these regions, where there are any
+abbrev pub format_of : Option Frame → Option Form
+format_of (Some frame) = Some (forms.Format frame)
+format_of None = None
 
 -- the form that the words are, if they are one
 abbrev pub form_of : List (RcStr Global) → Option Form
 form_of (word ∷ []) = if pointwise nat_eq (rc_str_bytes word) (codes "dry") then Some forms.Dry else None
+form_of (word ∷ log ∷ heap ∷ []) =
+    if pointwise nat_eq (rc_str_bytes word) (codes "format")
+    then format_of (frame_of (number_of (rc_str_bytes log)) (number_of (rc_str_bytes heap)))
+    else None
 form_of words = None
+
+-- what holds of the regions where the form is `format`
+abbrev pub OnFormat : Option Form → (Frame → Type 0) → Type 0
+OnFormat (Some (forms.Format frame)) P = P frame
+OnFormat form P = ⊤

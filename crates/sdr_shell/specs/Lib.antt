@@ -2,6 +2,7 @@ pub mod Bindings
 pub mod BoundKeys
 pub mod Draft
 pub mod Form
+pub mod Formatting
 pub mod LineAnswers
 pub mod Reading
 pub mod Schedule

@@ -1,7 +1,12 @@
 // The forms that the words of a command line have.
-ghost use Rattle.std.specs.Prelude.{◌≡◌};
-ghost use Rattle.sdr_shell.specs.Form.{form_of};
+ghost use Rattle.std.specs.Prelude.{◌≡◌, IfSome};
+ghost use Rattle.std.specs.Rc.{rc_str_bytes};
+ghost use Rattle.sdr_log.specs.Frame.{IsInLimits};
+ghost use Rattle.sdr_shell.specs.Form.{frame_of, form_of, OnFormat};
+ghost use Rattle.sdr_shell.specs.Words.{number_of};
 
+use crate::words::number_of;
+use sdr_log::Frame;
 use std::rc::RcStr;
 
 /// What the words ask for.
@@ -9,14 +14,39 @@ use std::rc::RcStr;
 pub enum Form {
     /// `dry`: runs the schedule of the input on a plain world; the disk isn't touched.
     Dry,
+    /// `format L H`: makes an empty heap of the disk, with so many lines of log and of heap.
+    Format { frame: Frame },
+}
+
+// The regions that two words ask for.
+fn frame_of(log: &[u8], heap: &[u8]) -> Option<Frame>
+    ensures frame { result ≡ frame_of (number_of log.now) (number_of heap.now) }
+    ensures limits { IfSome result (λ frame. IsInLimits frame) }
+{
+    let log_lines = number_of(log)?;
+    let heap_lines = number_of(heap)?;
+    let frame = Frame {
+        log_lines,
+        heap_lines,
+    };
+    if frame.is_in_limits() {
+        Some(frame)
+    } else {
+        None
+    }
 }
 
 /// The form that the words are, if they are one.
 pub fn form_of(words: &[RcStr]) -> Option<Form>
-    ensures { result ≡ form_of words.now }
+    ensures form { result ≡ form_of words.now }
+    ensures limits { OnFormat result IsInLimits }
 {
     match words {
         [word] if word.as_str() == "dry" => Some(Form::Dry),
+        [word, log, heap] if word.as_str() == "format" => {
+            let frame = frame_of(log.as_bytes(), heap.as_bytes())?;
+            Some(Form::Format { frame })
+        }
         _ => None,
     }
 }

@@ -12,6 +12,10 @@ mod commands;
 mod draft;
 mod fields;
 mod form;
+#[cfg(test)]
+mod form_tests;
+mod formatting;
+mod last_line;
 mod line;
 mod lines;
 mod outcome;
@@ -28,5 +32,7 @@ mod words;
 
 pub use commands::still;
 pub use outcome::Outcome;
-pub use status::{DONE, INPUT_FAULT, NO_MEMORY, OUTPUT_FAULT, REFUSED_LINE, USAGE};
+pub use status::{
+    DISK_FAULT, DONE, INPUT_FAULT, NO_MEMORY, OUTPUT_FAULT, REFUSED_LINE, TOO_SMALL, USAGE,
+};
 pub use top_call::top;

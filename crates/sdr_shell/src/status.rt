@@ -12,8 +12,14 @@ pub const INPUT_FAULT: u8 = 3;
 /// The output failed.
 pub const OUTPUT_FAULT: u8 = 4;
 
+/// The disk failed.
+pub const DISK_FAULT: u8 = 5;
+
 /// A line of the script is refused, before anything runs.
 pub const REFUSED_LINE: u8 = 8;
 
 /// There was no memory.
 pub const NO_MEMORY: u8 = 9;
+
+/// The regions take more bytes than the disk has.
+pub const TOO_SMALL: u8 = 10;
