@@ -52,10 +52,10 @@ fn a_disk_that_is_long_enough_is_formatted(rt: HostRuntime) -> Result<(), Fail> 
     let done = answer_to(alloc, &["format", "2", "32"], 2241, no_faults(alloc))?;
     assert_eq!(rt; done.status, DONE);
     assert_eq!(rt; done.text.as_slice(), b"formatted 2 32\n".as_slice());
-    assert_eq!(rt; &done.disk[..20], b"SDRHEAP1\0\0\0\x01\0\0\0\x02\0\0\0\x20".as_slice());
-    assert_eq!(rt; done.disk[64], 0);
-    assert_eq!(rt; done.disk[2239], 0);
-    assert_eq!(rt; done.disk[2240], 7);
+    assert!(rt; done.disk.starts_with(b"SDRHEAP1\0\0\0\x01\0\0\0\x02\0\0\0\x20"));
+    assert_eq!(rt; done.disk.get(64), Some(&0));
+    assert_eq!(rt; done.disk.get(2239), Some(&0));
+    assert_eq!(rt; done.disk.get(2240), Some(&7));
     Ok(())
 }
 
@@ -88,7 +88,7 @@ fn a_disk_is_formatted_also_where_the_output_fails(rt: HostRuntime) -> Result<()
     let silent = answer_to(alloc, &["format", "2", "32"], 2240, faults)?;
     assert_eq!(rt; silent.status, OUTPUT_FAULT);
     assert_eq!(rt; silent.text.len(), 0);
-    assert_eq!(rt; &silent.disk[..8], b"SDRHEAP1".as_slice());
+    assert!(rt; silent.disk.starts_with(b"SDRHEAP1"));
     Ok(())
 }
 
