@@ -22,14 +22,8 @@ use Rattle.sdr_base.proofs.StoredLemmas.{leader_words-with_bare_leader, leader_k
 use Rattle.sdr_base.proofs.StoredLemmas.{leader_length-with_bare_leader}
 use Rattle.sdr_base.proofs.KeptPoolsLemmas.{Chain-moved, IsInOrder, in_order, IsBlock, is_block, free_is, listed_is}
 use Rattle.sdr_base.proofs.KeptPoolsLemmas.{front_is, next_fits}
+use Rattle.sdr_small.proofs.GivenLemmas.{given, tiles_given}
 use Rattle.sdr_small.specs.Calls.{PutsFront, GivesBlock}
-
--- the pools with a block of so many words given back
-abbrev pub given : Pools → ℕ → ℕ → Pools
-given P words addr = record P {
-  small = with_used addr false P.small;
-  small_lists = with_list words (addr ∷ P.small_lists words) P.small_lists;
-}
 
 -- the bytes with the old front as the block's next, and with its leader besides
 abbrev pub linked : List ℕ → ℕ → ℕ → List ℕ
@@ -203,69 +197,8 @@ module _ (x y : List ℕ) (P : Pools) (words addr : ℕ) (keeps : KeepsSmall x P
           (list_place other + 8 ≤ list_place words) ⊎ (list_place words + 8 ≤ list_place other)
       sides other differ = grind arith
 
-  listed : (other a : ℕ) →
-      count_by (λ b. b == a) (with_list words (addr ∷ P.small_lists words) P.small_lists other)
-      ≡ count_by (is_free_of other a) (with_used addr false P.small)
-  listed other a = elim (cases_eq a addr) [
-    | inl here ↦
-        subst (λ (n : ℕ). count_by (λ b. b == n) (with_list words (addr ∷ P.small_lists words) P.small_lists other)
-        ≡ count_by (is_free_of other n) (with_used addr false P.small)) (sym here)
-        (comes (cases_eq other words) ∙ sym (free-with_used_given addr other P.small))
-    | inr differ ↦ stays differ (cases_eq other words) ∙ sym (free-with_used_other addr false other a P.small differ)
-  ]
-    where
-      comes : (other ≡ words) ⊎ (other ≢ words) →
-          count_by (λ b. b == addr) (with_list words (addr ∷ P.small_lists words) P.small_lists other)
-          ≡ count_by (is_of other addr) P.small
-      comes (inl same) =
-          ap (λ (w : ℕ). count_by (λ b. b == addr) (with_list words (addr ∷ P.small_lists words) P.small_lists w)) same
-          ∙ ap (λ (l : List ℕ). count_by (λ b. b == addr) l)
-          (with_list-here words (addr ∷ P.small_lists words) P.small_lists)
-          ∙ omega (arith, front_is addr (P.small_lists words), keeps.tiles.listed words addr, not_free words, of_one)
-          ∙ ap (λ (w : ℕ). count_by (is_of w addr) P.small) (sym same)
-        where
-          of_one : count_by (is_of words addr) P.small ≡ 1
-          of_one = omega (arith, is, block.once, of-le-at words addr P.small)
-      comes (inr differ) =
-          ap (λ (l : List ℕ). count_by (λ b. b == addr) l)
-          (with_list-other words other (addr ∷ P.small_lists words) P.small_lists differ)
-          ∙ keeps.tiles.listed other addr ∙ not_free other
-          ∙ sym (none (cases_lt 0 (count_by (is_of other addr) P.small)))
-        where
-          none : (0 < count_by (is_of other addr) P.small) ⊎ (count_by (is_of other addr) P.small ≤ 0) →
-              count_by (is_of other addr) P.small ≡ 0
-          none (inl there) = absurd (differ (its_words other there))
-          none (inr le) = omega (arith, le)
-
-      stays : a ≢ addr → (other ≡ words) ⊎ (other ≢ words) →
-          count_by (λ b. b == a) (with_list words (addr ∷ P.small_lists words) P.small_lists other)
-          ≡ count_by (is_free_of other a) P.small
-      stays differ (inl same) =
-          ap (λ (w : ℕ). count_by (λ b. b == a) (with_list words (addr ∷ P.small_lists words) P.small_lists w)) same
-          ∙ ap (λ (l : List ℕ). count_by (λ b. b == a) l)
-          (with_list-here words (addr ∷ P.small_lists words) P.small_lists)
-          ∙ count_by-no (λ b. b == a) addr (P.small_lists words) (other_front differ)
-          ∙ keeps.tiles.listed words a
-          ∙ ap (λ (w : ℕ). count_by (is_free_of w a) P.small) (sym same)
-        where
-          other_front : a ≢ addr → (addr == a) ≡ false
-          other_front apart_from = grind (arith, nat_tests)
-      stays differ (inr other_list) =
-          ap (λ (l : List ℕ). count_by (λ b. b == a) l)
-          (with_list-other words other (addr ∷ P.small_lists words) P.small_lists other_list)
-          ∙ keeps.tiles.listed other a
-
   tiles : TilesSmall (given P words addr)
-  tiles = record {
-    bounds = record {
-      region = keeps.tiles.bounds.region;
-      start = keeps.tiles.bounds.start;
-      order = keeps.tiles.bounds.order;
-      end = keeps.tiles.bounds.end;
-    };
-    follow = Follows-with_used P.start P.low addr false P.small keeps.tiles.follow;
-    listed = listed;
-  }
+  tiles = tiles_given P words addr keeps.tiles block.once used is its_words
 
   -- the leader of another block
   leader : (other a : ℕ) → 0 < count_by (is_of other a) P.small → a ≢ addr → (i : ℕ) → a - 8 ≤ i → i < a - 8 + 8 →

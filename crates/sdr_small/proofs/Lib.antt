@@ -1,5 +1,6 @@
 pub mod CallsLemmas
 pub mod GiveLemmas
+pub mod GivenLemmas
 pub mod MemoryLemmas
 pub mod NewLemmas
 pub mod TakeLemmas
