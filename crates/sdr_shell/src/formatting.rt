@@ -20,8 +20,10 @@ use sdr_log::Frame;
 fn tell_formatted<K: Sink>(output: &mut K, frame: Frame) -> u8
     ensures known { HasFormatted result }
     ensures later { K.faults output.old ≤ K.faults output.new }
-    ensures text { result ≡ DONE → Appends (K.taken output.old) (K.taken output.new) (line_formatted frame) }
-    ensures part { result ≡ OUTPUT_FAULT → AppendsPart (K.taken output.old) (K.taken output.new) (line_formatted frame) }
+    ensures text { result ≡ DONE →
+        Appends (K.taken output.old) (K.taken output.new) (line_formatted frame) }
+    ensures part { result ≡ OUTPUT_FAULT →
+        AppendsPart (K.taken output.old) (K.taken output.new) (line_formatted frame) }
     ensures output { result ≡ OUTPUT_FAULT → Rose (K.faults output.old) (K.faults output.new) }
 {
     let mut text = Line::new();
@@ -59,8 +61,10 @@ pub fn format_disk<D: Disk, K: Sink>(frame: Frame, disk: &mut D, output: &mut K)
 
     // done
     ensures formatted { HasFormatted result → IsFormatted frame (D.bytes disk.old) (D.bytes disk.new) }
-    ensures text { result ≡ DONE → Appends (K.taken output.old) (K.taken output.new) (line_formatted frame) }
-    ensures part { result ≡ OUTPUT_FAULT → AppendsPart (K.taken output.old) (K.taken output.new) (line_formatted frame) }
+    ensures text { result ≡ DONE →
+        Appends (K.taken output.old) (K.taken output.new) (line_formatted frame) }
+    ensures part { result ≡ OUTPUT_FAULT →
+        AppendsPart (K.taken output.old) (K.taken output.new) (line_formatted frame) }
     ensures output { result ≡ OUTPUT_FAULT → Rose (K.faults output.old) (K.faults output.new) }
 
     // not done
@@ -70,7 +74,8 @@ pub fn format_disk<D: Disk, K: Sink>(frame: Frame, disk: &mut D, output: &mut K)
             (line_too_small (disk_bytes frame) (D.size disk.old)) }
     ensures fault { result ≡ DISK_FAULT → Rose (D.faults disk.old) (D.faults disk.new) }
     ensures fault_text { result ≡ DISK_FAULT →
-        Writes (K.taken output.old) (K.taken output.new) (K.faults output.old) (K.faults output.new) (codes "disk fault\n") }
+        Writes (K.taken output.old) (K.taken output.new) (K.faults output.old) (K.faults output.new)
+            (codes "disk fault\n") }
 
     // what stays
     ensures same { result ≡ TOO_SMALL → disk.new ≡ disk.old }

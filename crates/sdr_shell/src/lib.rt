@@ -1,9 +1,10 @@
 //! The top call: words and a script in, printed answers and a status out.
 //!
 //! 1. The words are a form, or the status is `USAGE`.
-//! 2. The input is read whole and parsed: a refused line is told before anything runs.
-//! 3. The script's lines run in order on a machine, and each answer is printed as it is made.
-//! 4. The status says what stopped this, if anything did; its last line says so too. A status that
+//! 2. `format` makes an empty heap of the disk. It reads no input.
+//! 3. `dry` reads the input whole and parses it: a refused line is told before anything runs.
+//! 4. The script's lines run in order on a machine, and each answer is printed as it is made.
+//! 5. The status says what stopped this, if anything did; its last line says so too. A status that
 //!    stands survives a fault of the sink.
 #![tactic(auto)]
 

@@ -50,7 +50,8 @@ pub fn top<
 
     // every form
     ensures usage_text { result.status ≡ USAGE →
-        Writes (K.taken output.old) (K.taken output.new) (K.faults output.old) (K.faults output.new) (codes "usage\n") }
+        Writes (K.taken output.old) (K.taken output.new) (K.faults output.old) (K.faults output.new)
+            (codes "usage\n") }
     ensures later { (S.faults input.old ≤ S.faults input.new) × (K.faults output.old ≤ K.faults output.new) }
     ensures disk_later { D.faults disk ≤ D.faults result.disk }
     ensures reads { S.reads input.new ≤ S.reads input.old + 1048577 }
@@ -58,11 +59,13 @@ pub fn top<
     ensures journal { result.journal ≡ [] }
     ensures input { result.status ≡ INPUT_FAULT → Rose (S.faults input.old) (S.faults input.new) }
     ensures input_text { result.status ≡ INPUT_FAULT →
-        Writes (K.taken output.old) (K.taken output.new) (K.faults output.old) (K.faults output.new) (codes "input fault\n") }
+        Writes (K.taken output.old) (K.taken output.new) (K.faults output.old) (K.faults output.new)
+            (codes "input fault\n") }
     ensures output { result.status ≡ OUTPUT_FAULT → Rose (K.faults output.old) (K.faults output.new) }
     ensures fault { result.status ≡ DISK_FAULT → Rose (D.faults disk) (D.faults result.disk) }
     ensures fault_text { result.status ≡ DISK_FAULT →
-        Writes (K.taken output.old) (K.taken output.new) (K.faults output.old) (K.faults output.new) (codes "disk fault\n") }
+        Writes (K.taken output.old) (K.taken output.new) (K.faults output.old) (K.faults output.new)
+            (codes "disk fault\n") }
     ensures refused { result.status ≡ REFUSED_LINE → IsRefused (S.left input.old)
         (K.taken output.old) (K.taken output.new) (K.faults output.old) (K.faults output.new) }
     ensures starved { result.status ≡ NO_MEMORY → IsStarved (S.left input.old)
