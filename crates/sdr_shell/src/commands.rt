@@ -98,7 +98,7 @@ fn dry<S: Source, K: Sink>(alloc: Global, input: &mut S, output: &mut K) -> u8
     ensures input { result ≡ INPUT_FAULT → Rose (S.faults input.old) (S.faults input.new) }
     ensures input_text { result ≡ INPUT_FAULT →
         Writes (K.taken output.old) (K.taken output.new) (K.faults output.old) (K.faults output.new)
-            (codes "input fault\n") }
+        (codes "input fault\n") }
     ensures output { result ≡ OUTPUT_FAULT → Rose (K.faults output.old) (K.faults output.new) }
     ensures part { result ≡ OUTPUT_FAULT → HadRun (S.left input.old) (λ rest text.
         AppendsPart (K.taken output.old) (K.taken output.new) text) }
@@ -146,7 +146,7 @@ pub fn still<D: Disk, M: Media, S: Source, K: Sink>(
     // every form
     ensures usage_text { result.status ≡ USAGE →
         Writes (K.taken output.old) (K.taken output.new) (K.faults output.old) (K.faults output.new)
-            (codes "usage\n") }
+        (codes "usage\n") }
     ensures later { (S.faults input.old ≤ S.faults input.new) × (K.faults output.old ≤ K.faults output.new) }
     ensures disk_later { D.faults disk ≤ D.faults result.disk }
     ensures reads { S.reads input.new ≤ S.reads input.old + 1048577 }
@@ -155,12 +155,12 @@ pub fn still<D: Disk, M: Media, S: Source, K: Sink>(
     ensures input { result.status ≡ INPUT_FAULT → Rose (S.faults input.old) (S.faults input.new) }
     ensures input_text { result.status ≡ INPUT_FAULT →
         Writes (K.taken output.old) (K.taken output.new) (K.faults output.old) (K.faults output.new)
-            (codes "input fault\n") }
+        (codes "input fault\n") }
     ensures output { result.status ≡ OUTPUT_FAULT → Rose (K.faults output.old) (K.faults output.new) }
     ensures fault { result.status ≡ DISK_FAULT → Rose (D.faults disk) (D.faults result.disk) }
     ensures fault_text { result.status ≡ DISK_FAULT →
         Writes (K.taken output.old) (K.taken output.new) (K.faults output.old) (K.faults output.new)
-            (codes "disk fault\n") }
+        (codes "disk fault\n") }
     ensures refused { result.status ≡ REFUSED_LINE → IsRefused (S.left input.old)
         (K.taken output.old) (K.taken output.new) (K.faults output.old) (K.faults output.new) }
     ensures starved { result.status ≡ NO_MEMORY → IsStarved (S.left input.old)
@@ -199,7 +199,7 @@ pub fn still<D: Disk, M: Media, S: Source, K: Sink>(
         (result.status ≡ TOO_SMALL) ↔ (D.size disk < disk_bytes frame)) }
     ensures small_text { OnFormat (form_of words.now) (λ frame. result.status ≡ TOO_SMALL →
         Writes (K.taken output.old) (K.taken output.new) (K.faults output.old) (K.faults output.new)
-            (line_too_small (disk_bytes frame) (D.size disk))) }
+        (line_too_small (disk_bytes frame) (D.size disk))) }
     // A disk that is long enough is formatted, unless there is a fault.
     ensures complete_format { OnFormat (form_of words.now) (λ frame. disk_bytes frame ≤ D.size disk →
         ¬ Rose (D.faults disk) (D.faults result.disk) → ¬ Rose (K.faults output.old) (K.faults output.new) →

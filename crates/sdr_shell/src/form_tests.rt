@@ -23,7 +23,10 @@ struct Faults {
 }
 
 fn no_faults(alloc: Global) -> Faults {
-    Faults { disk: Vec::new(alloc), output: Vec::new(alloc) }
+    Faults {
+        disk: Vec::new(alloc),
+        output: Vec::new(alloc),
+    }
 }
 
 // What words are answered on a disk of so many bytes 7.
@@ -52,7 +55,10 @@ fn a_disk_that_is_long_enough_is_formatted(rt: HostRuntime) -> Result<(), Fail> 
     let done = answer_to(alloc, &["format", "2", "32"], 2241, no_faults(alloc))?;
     assert_eq!(rt; done.status, DONE);
     assert_eq!(rt; done.text.as_slice(), b"formatted 2 32\n".as_slice());
-    assert!(rt; done.disk.starts_with(b"SDRHEAP1\0\0\0\x01\0\0\0\x02\0\0\0\x20"));
+    assert!(rt;
+        done.disk
+            .starts_with(b"SDRHEAP1\0\0\0\x01\0\0\0\x02\0\0\0\x20")
+    );
     assert_eq!(rt; done.disk.get(64), Some(&0));
     assert_eq!(rt; done.disk.get(2239), Some(&0));
     assert_eq!(rt; done.disk.get(2240), Some(&7));
@@ -95,7 +101,14 @@ fn a_disk_is_formatted_also_where_the_output_fails(rt: HostRuntime) -> Result<()
 #[test]
 fn a_length_out_of_its_limits_is_no_form(rt: HostRuntime) -> Result<(), Fail> {
     let alloc = rt.alloc();
-    for (log, heap) in [("1", "32"), ("2", "31"), ("65537", "32"), ("2", "262145"), ("02", "32"), ("x", "32")] {
+    for (log, heap) in [
+        ("1", "32"),
+        ("2", "31"),
+        ("65537", "32"),
+        ("2", "262145"),
+        ("02", "32"),
+        ("x", "32"),
+    ] {
         let refused = answer_to(alloc, &["format", log, heap], 2240, no_faults(alloc))?;
         assert_eq!(rt; refused.status, USAGE, "{log} {heap}");
         assert_eq!(rt; refused.text.as_slice(), b"usage\n".as_slice());

@@ -71,11 +71,11 @@ pub fn format_disk<D: Disk, K: Sink>(frame: Frame, disk: &mut D, output: &mut K)
     ensures small { (result ≡ TOO_SMALL) ↔ (D.size disk.old < disk_bytes frame) }
     ensures small_text { result ≡ TOO_SMALL →
         Writes (K.taken output.old) (K.taken output.new) (K.faults output.old) (K.faults output.new)
-            (line_too_small (disk_bytes frame) (D.size disk.old)) }
+        (line_too_small (disk_bytes frame) (D.size disk.old)) }
     ensures fault { result ≡ DISK_FAULT → Rose (D.faults disk.old) (D.faults disk.new) }
     ensures fault_text { result ≡ DISK_FAULT →
         Writes (K.taken output.old) (K.taken output.new) (K.faults output.old) (K.faults output.new)
-            (codes "disk fault\n") }
+        (codes "disk fault\n") }
 
     // what stays
     ensures same { result ≡ TOO_SMALL → disk.new ≡ disk.old }

@@ -51,7 +51,7 @@ pub fn top<
     // every form
     ensures usage_text { result.status ≡ USAGE →
         Writes (K.taken output.old) (K.taken output.new) (K.faults output.old) (K.faults output.new)
-            (codes "usage\n") }
+        (codes "usage\n") }
     ensures later { (S.faults input.old ≤ S.faults input.new) × (K.faults output.old ≤ K.faults output.new) }
     ensures disk_later { D.faults disk ≤ D.faults result.disk }
     ensures reads { S.reads input.new ≤ S.reads input.old + 1048577 }
@@ -60,12 +60,12 @@ pub fn top<
     ensures input { result.status ≡ INPUT_FAULT → Rose (S.faults input.old) (S.faults input.new) }
     ensures input_text { result.status ≡ INPUT_FAULT →
         Writes (K.taken output.old) (K.taken output.new) (K.faults output.old) (K.faults output.new)
-            (codes "input fault\n") }
+        (codes "input fault\n") }
     ensures output { result.status ≡ OUTPUT_FAULT → Rose (K.faults output.old) (K.faults output.new) }
     ensures fault { result.status ≡ DISK_FAULT → Rose (D.faults disk) (D.faults result.disk) }
     ensures fault_text { result.status ≡ DISK_FAULT →
         Writes (K.taken output.old) (K.taken output.new) (K.faults output.old) (K.faults output.new)
-            (codes "disk fault\n") }
+        (codes "disk fault\n") }
     ensures refused { result.status ≡ REFUSED_LINE → IsRefused (S.left input.old)
         (K.taken output.old) (K.taken output.new) (K.faults output.old) (K.faults output.new) }
     ensures starved { result.status ≡ NO_MEMORY → IsStarved (S.left input.old)
@@ -104,7 +104,7 @@ pub fn top<
         (result.status ≡ TOO_SMALL) ↔ (D.size disk < disk_bytes frame)) }
     ensures small_text { OnFormat (form_of words.now) (λ frame. result.status ≡ TOO_SMALL →
         Writes (K.taken output.old) (K.taken output.new) (K.faults output.old) (K.faults output.new)
-            (line_too_small (disk_bytes frame) (D.size disk))) }
+        (line_too_small (disk_bytes frame) (D.size disk))) }
     // A disk that is long enough is formatted, unless there is a fault.
     ensures complete_format { OnFormat (form_of words.now) (λ frame. disk_bytes frame ≤ D.size disk →
         ¬ Rose (D.faults disk) (D.faults result.disk) → ¬ Rose (K.faults output.old) (K.faults output.new) →
