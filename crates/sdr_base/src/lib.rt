@@ -8,6 +8,7 @@
 //! 4. A heap stands on `Cells`: its bytes, read and written in a transaction that can be cancelled.
 #![tactic(auto)]
 
+mod account;
 mod bytes;
 mod cells;
 pub mod control;
@@ -17,6 +18,7 @@ mod items;
 mod kind;
 mod line;
 mod media;
+mod medium;
 mod memory_sink;
 mod memory_source;
 mod moves;
@@ -29,6 +31,7 @@ mod stored;
 #[cfg(test)]
 mod tests;
 
+pub use account::{Acct, Amounts};
 pub use bytes::{Bytes, NoMemory};
 pub use cells::Cells;
 pub use gate::{Gate, NoGate};
@@ -37,6 +40,7 @@ pub use items::Items;
 pub use kind::{Addr, Kind, Space};
 pub use line::{LEAST_LINES, LINE, MOST_LINES, START_BITS, WORD};
 pub use media::{Media, MediaFault, NoMedia};
+pub use medium::Medium;
 pub use memory_sink::MemorySink;
 pub use memory_source::MemorySource;
 pub use moves::Move;
