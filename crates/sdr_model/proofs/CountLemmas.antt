@@ -35,17 +35,17 @@ few_blocks w (calls.String text) reply = omega arith
 few_blocks w (calls.StringRead addr) reply = omega arith
 few_blocks w (calls.Catlg name kind object) replies.Done = omega arith
 few_blocks w (calls.Catlg name kind object) reply = omega arith
-few_blocks w (calls.Find name) reply = omega arith
+few_blocks w call reply = omega arith
 
 taken_left : (close : Close) (w current : World) → (left_by close w current).taken ≡ current.taken
 taken_left closes.Ended w current = refl
-taken_left (closes.Cancelled reason) w current = refl
+taken_left close w current = refl
 
 few_replies : (t t' : Transaction) (call : Call) (answer : Answer) → Replies t call answer (says_moves t.world call answer) t' → t'.world.taken ≤ t.world.taken + 1
 few_replies t t' call (answers.Reply reply) r = omega (arith, r.0.counted, few_blocks t.world call reply)
 few_replies t t' call (answers.Lock number) r = absurd r
 few_replies t t' call (answers.Depth depth) r = absurd r
-few_replies t t' call (answers.Closed close) r = absurd r
+few_replies t t' call answer r = absurd r
 
 few_transacts : (m : Machine) (h : Holder) (t' : Transaction) (event : Event) (answer : Answer)
     → Transacts (transaction_of h m.current) event answer (event_moves m event answer) t' → t'.world.taken ≤ m.current.taken + 1
@@ -55,6 +55,7 @@ few_transacts m h t' events.Begin answer s =
 few_transacts m h t' (events.Say call) answer s =
     in_option h.doom s (λ r. few_replies (transaction_of h m.current) t' call answer r) (λ reason d. omega (arith, ap (λ t. t.world.taken) d.2))
 few_transacts m h t' events.End answer s = omega (arith, ap (λ t. t.world.taken) s.2)
+few_transacts m h t' event answer s = absurd s
 
 few_serves : (m m' : Machine) (h : Holder) (event : Event) (answer : Answer) → Serves m h event answer (event_moves m event answer) m' → Few m m'
 few_serves m m' h event answer s =

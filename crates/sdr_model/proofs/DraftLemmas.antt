@@ -142,3 +142,4 @@ module _ (added : List ℕ) (names taken : ℕ) (old new : World) (none_past : N
   drafted (calls.Find name) reply s =
       in_bool (is_no_name (length name)) s.step (λ r. kept_shown s.counted r.1)
       (λ o. in_option (name_of old.names name) o (λ r. kept_shown s.counted r.1) (λ n r. kept_shown s.counted r.1))
+  drafted call reply s = absurd s.step

@@ -1,9 +1,11 @@
+pub mod Built
 pub mod Core
 pub mod Draft
 pub mod Dry
 pub mod Machine
 pub mod Names
 pub mod Plain
+pub mod Reading
 pub mod Step
 pub mod Transaction
 pub mod World

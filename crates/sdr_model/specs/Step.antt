@@ -71,10 +71,4 @@ Step w (calls.Find name) moves w' reply =
     (MatchOption (name_of w.names name)
     (Refuses w moves w' reply refusals.NotFound)
     (λ n. Reads w moves w' reply [] (replies.Pair n.kind n.object)))
-
--- whether the call reads alone: where it is refused, its transaction isn't doomed
-abbrev pub is_reading : Call → Bool
-is_reading (calls.String text) = false
-is_reading (calls.StringRead addr) = true
-is_reading (calls.Catlg name kind object) = false
-is_reading (calls.Find name) = true
+Step w call moves w' reply = ⊥

@@ -8,7 +8,7 @@ use Rattle.sdr_base.specs.declared.refusal.Reason.TheVariants as reasons
 use Rattle.sdr_base.specs.declared.refusal.Refusal.{Refusal}
 use Rattle.sdr_base.specs.declared.refusal.Refusal.TheVariants as refusals
 use Rattle.sdr_model.specs.Dry.{StepsDry}
-use Rattle.sdr_model.specs.Step.{is_reading}
+use Rattle.sdr_model.specs.Reading.{is_reading}
 use Rattle.sdr_model.specs.declared.answer.Answer.{Answer}
 use Rattle.sdr_model.specs.declared.answer.Answer.TheVariants as answers
 use Rattle.sdr_model.specs.declared.answer.Close.{Close}
@@ -83,6 +83,7 @@ Transacts t events.Request answer moves t' = ⊥
 Transacts t events.Begin answer moves t' = Deepens t answer moves t'
 Transacts t (events.Say call) answer moves t' = Says t call answer moves t'
 Transacts t events.End answer moves t' = Rises t answer moves t'
+Transacts t event answer moves t' = ⊥
 
 -- the event is the transaction's first begin
 abbrev pub is_opening : Transaction → Event → Bool
@@ -101,4 +102,4 @@ closing t = option_map_or (λ reason. closes.Cancelled reason) t.doom closes.End
 -- The world that a closed transaction leaves, where it was w before. Blocks once taken stay counted.
 abbrev pub left_by : Close → World → World → World
 left_by closes.Ended w current = record current { shown = [] }
-left_by (closes.Cancelled reason) w current = record w { taken = current.taken }
+left_by close w current = record w { taken = current.taken }

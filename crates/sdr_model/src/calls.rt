@@ -1,5 +1,6 @@
 // What a call does to a plain world.
-ghost use Rattle.std.specs.Prelude.{◌≡◌, ◌<◌, ◌^◌, IfOk, OnErr, [], length};
+ghost use Rattle.std.specs.Prelude.{◌≡◌, ◌<◌, ◌^◌, IfOk, OnErr, [], length, true};
+ghost use Rattle.sdr_model.specs.Built.{is_built};
 ghost use Rattle.sdr_model.specs.Dry.{StepsDry, dry_moves, next_addr};
 ghost use Rattle.sdr_model.specs.Step.{is_no_name};
 ghost use Rattle.sdr_model.specs.World.{no_string};
@@ -136,7 +137,8 @@ fn find(alloc: Global, world: &mut World, name: &Bytes) -> Result<Reply, NoMemor
 /// Makes a call on a plain world, where the k-th block that is taken has address 8 k. A refused call
 /// changes nothing, and want of memory leaves the world as before.
 pub fn apply(alloc: Global, world: &mut World, call: &Call) -> Result<Reply, NoMemory>
-    requires { world.old.taken < 2 ^ 60 }
+    requires taken { world.old.taken < 2 ^ 60 }
+    requires built { is_built call.now ≡ true }
     ensures step { IfOk result (λ reply.
         StepsDry world.old call.now (dry_moves world.old call.now reply) world.new reply) }
     ensures err { OnErr result (world.new ≡ world.old) }
@@ -146,5 +148,6 @@ pub fn apply(alloc: Global, world: &mut World, call: &Call) -> Result<Reply, NoM
         Call::StringRead(addr) => string_read(alloc, world, *addr),
         Call::Catlg(name, kind, object) => catlg(alloc, world, name, *kind, *object),
         Call::Find(name) => find(alloc, world, name),
+        _ => unreachable!(),
     }
 }

@@ -1,5 +1,6 @@
 // A world in the making, which can be put back to what it was at the begin.
-ghost use Rattle.std.specs.Prelude.{◌≡◌, ◌<◌, ◌^◌, IfOk, OnErr, [], vec_len, vec_capacity};
+ghost use Rattle.std.specs.Prelude.{◌≡◌, ◌<◌, ◌^◌, IfOk, OnErr, [], true, vec_len, vec_capacity};
+ghost use Rattle.sdr_model.specs.Built.{is_built};
 ghost use Rattle.sdr_model.specs.Draft.{added_by, without};
 ghost use Rattle.sdr_model.specs.Dry.{StepsDry, dry_moves};
 ghost use Rattle.sdr_model.specs.World.{empty_world};
@@ -78,7 +79,8 @@ impl Draft {
 
     /// Makes a call. Want of memory leaves all as before.
     pub fn call(&mut self, call: &Call) -> Result<Reply, NoMemory>
-        requires { self.old.now.taken < 2 ^ 60 }
+        requires taken { self.old.now.taken < 2 ^ 60 }
+        requires built { is_built call.now ≡ true }
         ensures step { IfOk result (λ reply.
             StepsDry self.old.now call.now (dry_moves self.old.now call.now reply) self.new.now reply) }
         ensures begun { self.new.begun ≡ self.old.begun }

@@ -1,5 +1,21 @@
 // What a daemon may do.
+ghost use Rattle.std.specs.Prelude.{◌≡◌};
+ghost use Rattle.sdr_model.specs.Built.{is_built_event};
+
 use crate::Call;
+
+/// Why a daemon leaves.
+#[derive(Clone, Copy, Debug, PartialEq, Eq)]
+pub enum Leave {
+    /// Its script is done.
+    Done,
+    /// The disk failed.
+    Fault,
+    /// It found no memory.
+    Memory,
+    /// It has drawn as many lock numbers as a daemon may.
+    Spent,
+}
 
 /// One event of a daemon.
 #[derive(Drop, Debug)]
@@ -12,4 +28,24 @@ pub enum Event {
     Say(Call),
     /// Ends its innermost transaction.
     End,
+    /// Cancels it; at the outermost, all that it changed is as before.
+    Cancel,
+    /// Leaves it; at the outermost, nothing may have been changed.
+    Exit,
+    /// Looks at a ticket, outside a transaction.
+    Look(u64),
+    Leaves(Leave),
+}
+
+impl Event {
+    /// Whether the plain machine serves this event yet.
+    pub fn is_built(&self) -> bool
+        ensures { result ≡ is_built_event self.now }
+    {
+        match self {
+            Event::Request | Event::Begin | Event::End => true,
+            Event::Say(call) => call.is_built(),
+            Event::Cancel | Event::Exit | Event::Look(_) | Event::Leaves(_) => false,
+        }
+    }
 }

@@ -1,5 +1,5 @@
 // The history of transactions, by rising lock number.
-use crate::{Answer, Close, Event};
+use crate::{Answer, Close, Event, Leave};
 use sdr_base::{Bytes, Items, Move};
 
 /// The moves of a call, in order.
@@ -17,7 +17,8 @@ pub struct Said {
     pub moves: Moves,
 }
 
-/// The events of a transaction, from its first begin to its closing event.
+/// The events of a transaction, from its first begin to its closing event. A look that met a disk fault
+/// stands alone in an entry of its own.
 pub type Saids = Items<Said>;
 
 /// What an entry is of.
@@ -25,6 +26,14 @@ pub type Saids = Items<Said>;
 pub enum What {
     /// A transaction, and how it closed.
     Work { said: Saids, close: Close },
+    /// A look at a ticket that waited.
+    Waits { ticket: u64 },
+    /// A look at a ticket that was granted.
+    Awarded { ticket: u64 },
+    /// A second look at a ticket that waited, where no daemon was left that could serve it.
+    Stalled { ticket: u64 },
+    /// The daemon left.
+    Leaves { leave: Leave },
 }
 
 /// An entry of the journal.

@@ -1,6 +1,7 @@
 // The lock of a plain machine: numbers are drawn, and the least that isn't done is served.
-ghost use Rattle.std.specs.Prelude.{◌≡◌, ◌<◌, ◌^◌, ◌==◌, IfOk, OnErr, find, length, drop, [], ◌∷◌};
+ghost use Rattle.std.specs.Prelude.{◌≡◌, ◌<◌, ◌^◌, ◌==◌, IfOk, OnErr, find, length, drop, true, [], ◌∷◌};
 ghost use Rattle.std.specs.List.{list_any};
+ghost use Rattle.sdr_model.specs.Built.{is_built, is_built_event};
 ghost use Rattle.sdr_model.specs.Machine.{MachineStep, Draws, Comes, Opens, Serves, Closes, Waits, Holds, event_moves, says_moves, first_machine, served_number, is_outside};
 
 use crate::transaction::{close, deepen, refused, rise, say};
@@ -21,6 +22,7 @@ pub struct Lock {
 }
 
 impl Model for Lock {
+    ghost use Rattle.sdr_model.specs.Built.{is_built, is_built_event};
     ghost use Rattle.sdr_model.specs.Machine.{Machine, coded_machine};
 
     ghost Value = { Machine };
@@ -116,7 +118,7 @@ impl Lock {
         match event {
             Event::Request => self.draw(daemon, 0),
             Event::Begin => self.draw(daemon, 1),
-            Event::Say(_) | Event::End => Ok(refused(Refusal::NotBegun)),
+            _ => Ok(refused(Refusal::NotBegun)),
         }
     }
 
@@ -166,6 +168,7 @@ impl Lock {
     fn say(&mut self, mut holder: Holder, call: &Call) -> Result<Answer, NoMemory>
         requires some { 0 < length self.old.holders }
         requires taken { self.old.current.taken < 2 ^ 60 }
+        requires built { is_built call.now ≡ true }
         ensures serves { IfOk result (λ answer.
             Serves self.old holder (Event.Say call.now) answer (says_moves self.old.current call.now answer) self.new) }
         ensures err { OnErr result (self.new ≡ self.old) }
@@ -192,6 +195,7 @@ impl Lock {
     fn hold(&mut self, holder: Holder, event: &Event) -> Result<Answer, NoMemory>
         requires some { 0 < length self.old.holders }
         requires taken { self.old.current.taken < 2 ^ 60 }
+        requires built { is_built_event event.now ≡ true }
         ensures holds { IfOk result (λ answer.
             Holds self.old holder event.now answer (event_moves self.old event.now answer) self.new) }
         ensures err { OnErr result (self.new ≡ self.old) }
@@ -211,6 +215,7 @@ impl Lock {
             Event::Request | Event::Begin => Ok(self.begin(holder)),
             Event::Say(call) => self.say(holder, call),
             Event::End => Ok(self.end(holder)),
+            _ => unreachable!(),
         }
     }
 
@@ -218,6 +223,7 @@ impl Lock {
     pub fn event(&mut self, daemon: u8, event: &Event) -> Result<Answer, NoMemory>
         requires drawn { self.old.drawn < 2 ^ 60 }
         requires taken { self.old.current.taken < 2 ^ 60 }
+        requires built { is_built_event event.now ≡ true }
         ensures step { IfOk result (λ answer.
             MachineStep self.old daemon event.now answer (event_moves self.old event.now answer) self.new) }
         ensures err { OnErr result (self.new ≡ self.old) }

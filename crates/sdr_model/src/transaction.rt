@@ -1,7 +1,7 @@
 // The events of an open transaction.
-ghost use Rattle.std.specs.Prelude.{◌≡◌, ◌<◌, ◌≤◌, ◌^◌, IfOk, OnErr, None, Some, unwrap_or, []};
+ghost use Rattle.std.specs.Prelude.{◌≡◌, ◌<◌, ◌≤◌, ◌^◌, IfOk, OnErr, None, Some, unwrap_or, [], true};
+ghost use Rattle.sdr_model.specs.Built.{is_built};
 ghost use Rattle.sdr_model.specs.Transaction.{transaction_of, Deepens, Rises, Says, refused, closing, left_by};
-ghost use Rattle.sdr_model.specs.Step.{is_reading};
 ghost use Rattle.sdr_model.specs.Machine.{says_moves};
 ghost use Rattle.sdr_model.specs.declared.world.World.{World};
 
@@ -55,19 +55,10 @@ pub fn rise(holder: &mut Holder) -> Answer
     }
 }
 
-/// Whether a call reads alone: where it is refused, its transaction isn't doomed.
-fn is_reading(call: &Call) -> bool
-    ensures { result ≡ is_reading call.now }
-{
-    match call {
-        Call::StringRead(_) | Call::Find(_) => true,
-        Call::String(_) | Call::Catlg(_, _, _) => false,
-    }
-}
-
 /// A call. Want of memory leaves all as before.
 pub fn say(holder: &mut Holder, draft: &mut Draft, call: &Call) -> Result<Answer, NoMemory>
-    requires { draft.old.now.taken < 2 ^ 60 }
+    requires taken { draft.old.now.taken < 2 ^ 60 }
+    requires built { is_built call.now ≡ true }
     ensures says { IfOk result (λ answer. Says (transaction_of holder.old draft.old.now) call.now answer
         (says_moves draft.old.now call.now answer) (transaction_of holder.new draft.new.now)) }
     ensures begun { draft.new.begun ≡ draft.old.begun }
@@ -81,7 +72,7 @@ pub fn say(holder: &mut Holder, draft: &mut Draft, call: &Call) -> Result<Answer
     }
     let reply = draft.call(call)?;
     if let Reply::Refused(refusal) = reply {
-        if !is_reading(call) {
+        if !call.is_reading() {
             doom(holder, Reason::Refused(refusal.number()));
         }
     }
