@@ -1,4 +1,5 @@
 pub mod FormatLemmas
+pub mod FormattedLemmas
 pub mod ImageLemmas
 pub mod OpeningLemmas
 pub mod RegionLemmas
