@@ -1,5 +1,5 @@
 // A file as a disk.
-ghost use Rattle.std.specs.Prelude.{◌≡◌, ◌≤◌, ◌+◌, None, IsTrue, OnErr, OnOk};
+ghost use Rattle.std.specs.Prelude.{◌≡◌, ◌≤◌, ◌+◌, false, true, is_ok, None, IsTrue, OnErr, OnOk};
 ghost use Rattle.sdr_base.specs.Causes.{HasCause, counted};
 ghost use Rattle.sdr_disk.specs.Moments.{IsAtEnd};
 
@@ -53,8 +53,9 @@ impl<F: FileExt + OpenFile> FileDisk<F> {
     fn begin(&mut self) -> bool
         ensures begun { IsTrue result →
             (self.new ≡ record self.old { moment = self.old.moment + 2 }) }
+        ensures sound { IsTrue result → self.old.broken ≡ false }
         ensures room { IsTrue result → ¬ (IsAtEnd self.old.moment) }
-        ensures refused { ¬ (IsTrue result) → self.new ≡ self.old }
+        ensures refused { result ≡ false → self.new ≡ self.old }
         ensures faults { self.new.faults ≡ self.old.faults }
     {
         if self.broken || self.moment > u64::MAX - 2 {
@@ -66,6 +67,7 @@ impl<F: FileExt + OpenFile> FileDisk<F> {
 
     // Ends a call, with a fault where it failed.
     fn end(&mut self, ended: io::Result<()>) -> Result<(), DiskFault>
+        ensures answer { is_ok result ≡ is_ok ended }
         ensures ok { OnOk result (self.new ≡ self.old) }
         ensures failed { OnErr result
             (self.new ≡ record self.old { faults = counted self.old.faults }) }
@@ -74,6 +76,23 @@ impl<F: FileExt + OpenFile> FileDisk<F> {
         match ended {
             Ok(()) => Ok(()),
             Err(_) => Err(self.fault()),
+        }
+    }
+
+    // Ends a sync, which leaves the disk broken where it failed.
+    fn end_sync(&mut self, synced: io::Result<()>) -> Result<(), DiskFault>
+        ensures answer { is_ok result ≡ is_ok synced }
+        ensures ok { OnOk result (self.new ≡ self.old) }
+        ensures broken { OnErr result
+            (self.new ≡ record self.old { broken = true; faults = counted self.old.faults }) }
+        ensures cause { HasCause self.old.faults self.new.faults result }
+    {
+        match synced {
+            Ok(()) => Ok(()),
+            Err(_) => {
+                self.broken = true;
+                Err(self.fault())
+            }
         }
     }
 }
@@ -122,8 +141,7 @@ impl<F: FileExt + OpenFile> Disk for FileDisk<F> {
             return Err(self.fault());
         }
         let synced = self.file.sync_data();
-        self.broken = synced.is_err();
-        self.end(synced)
+        self.end_sync(synced)
     }
 
     fn now(&self) -> u64 {
