@@ -1,14 +1,14 @@
 -- Numbers behind the last `=` of a word.
-use Rattle.std.proofs.Common.{◌≡◌, ◌≢◌, ℕ, zero, suc, ◌+◌, ◌-◌, ◌/◌, ◌%◌, ◌<◌, ◌≤◌, ◌^◌, ◌⊎◌, inl, inr, List, [], ◌∷◌, ◌++◌}
-use Rattle.std.proofs.Common.{length, take, drop, get_or, refl, sym, ◌∙◌, ap, subst, arith, append_assoc, length-append}
-use Rattle.std.proofs.Common.{Some, None, Ok, Result}
+use Rattle.std.proofs.Common.{◌≡◌, ℕ, zero, suc, ◌+◌, ◌-◌, ◌%◌, ◌<◌, ◌≤◌, ◌^◌, ◌⊎◌, inl, inr, List, [], ◌∷◌, ◌++◌}
+use Rattle.std.proofs.Common.{length, drop, get_or, refl, sym, ◌∙◌, ap, subst, arith, append_assoc, length-append}
+use Rattle.std.proofs.Common.{Some, None, Result}
 use Rattle.std.specs.Prelude.{codes, decimal}
 use Rattle.std.specs.Result.{result_ok}
 use Rattle.std.specs.Str.Parse.{ParsesUnsigned}
 use Rattle.std.specs.Str.Pattern.{RFindsText, SplitsAroundMatch}
 use Rattle.std.proofs.lemmas.Bool.{cases_lt}
 use Rattle.std.proofs.lemmas.Fmt.{parse-decimal, decimal_by_steps}
-use Rattle.std.proofs.lemmas.List.{drop_at, take-append-drop, get_or-drop, get_or_append_left, get_or-append_right, get_or_past}
+use Rattle.std.proofs.lemmas.List.{drop_at, take-append-drop, get_or-drop, get_or_append_left, get_or-append_right}
 use Rattle.sdrtool.specs.Place.{NamesNoSize, NamesSize}
 
 -- digits that are printed are parsed
@@ -44,8 +44,11 @@ module _ (word path : List ℕ) (bytes : ℕ) (names : NamesSize word path bytes
       ∙ drop_at path (codes "=" ++ decimal bytes) (length path) refl
 
   path_inside : length path ≤ length word
-  path_inside = omega (arith, ap length (names.spelled ∙ append_assoc path (codes "=") (decimal bytes)),
-      length-append path (codes "=" ++ decimal bytes))
+  path_inside = omega (
+    arith,
+    ap length (names.spelled ∙ append_assoc path (codes "=") (decimal bytes)),
+    length-append path (codes "=" ++ decimal bytes),
+  )
 
 -- a word without `=` names no size
 pub no_size : (word : List ℕ) → RFindsText (codes "=") word None → NamesNoSize word
@@ -81,13 +84,13 @@ behind_last word front back (i, j, found, front_is, back_is, order, front_long, 
     at (inr ge) (inl lt) =
         let k = i - length path - 1 in
         let equals : get_or word i 0 ≡ 61 =
-            ap (λ (n : ℕ). get_or word n 0) (omega arith)
-            ∙ sym (get_or-drop i word 0 0)
-            ∙ ap (λ (l : List ℕ). get_or l 0 0) found.1.split
+        ap (λ (n : ℕ). get_or word n 0) (omega arith)
+        ∙ sym (get_or-drop i word 0 0)
+        ∙ ap (λ (l : List ℕ). get_or l 0 0) found.1.split
         in
         let digit : get_or word i 0 ≡ get_or (decimal bytes) k 0 =
-            ap (λ (n : ℕ). get_or word n 0) (omega arith)
-            ∙ sym (get_or-drop (length path) word (suc k) 0)
-            ∙ ap (λ (l : List ℕ). get_or l (suc k) 0) behind
+        ap (λ (n : ℕ). get_or word n 0) (omega arith)
+        ∙ sym (get_or-drop (length path) word (suc k) 0)
+        ∙ ap (λ (l : List ℕ). get_or l (suc k) 0) behind
         in
         absurd (omega (arith, equals, digit, digits_below bytes names.fits k))

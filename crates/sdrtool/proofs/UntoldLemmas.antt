@@ -1,5 +1,5 @@
 -- Disks of which no image is told.
-use Rattle.std.proofs.Common.{◌≡◌, ℕ, ◌+◌, ◌≤◌, List, refl}
+use Rattle.std.proofs.Common.{ℕ, ◌+◌, ◌≤◌, refl}
 use Rattle.sdr_disk.specs.Moments.{Writes}
 
 -- where each image may be left, a write is told by its moments
@@ -10,8 +10,8 @@ writes_untold moment place count old new later soon = record {
   soon = soon;
   past = record { now_then = λ m image le left. tt; then_now = λ m image le left. tt };
   torn = λ m image gt le left. record {
-      whole = image;
-      left_before = tt;
-      agrees = record { long = refl; same = λ i outside. refl };
-    };
+    whole = image;
+    left_before = tt;
+    agrees = record { long = refl; same = λ i outside. refl };
+  };
 }

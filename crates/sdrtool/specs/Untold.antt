@@ -1,6 +1,5 @@
 -- Disks that do not tell their bytes.
-use Rattle.std.specs.Prelude.{◌≡◌, ℕ, List, None, Some, is_some, true, false}
-use Rattle.std.proofs.Common.{ap, sym}
+use Rattle.std.specs.Prelude.{ℕ, List, None}
 use Rattle.sdr_disk.specs.Told.{Told}
 
 -- what is said of told bytes holds where none are told

@@ -24,10 +24,8 @@ use sdr_base::{NoGate, NoMedia, NoMemory, Sink, Source};
 use sdr_disk::{Disk, MemoryDisk};
 use sdr_shell::{NO_MEMORY, top};
 use std::alloc::Global;
-use std::env;
 use std::env::{Args, Env};
 use std::fs::File;
-use std::io;
 use std::io::ErrorKind;
 use std::iter::Skip;
 use std::process::ExitCode;
@@ -35,6 +33,7 @@ use std::rc::RcStr;
 use std::rt::Files;
 use std::sync::Wait;
 use std::thread::Threads;
+use std::{env, io};
 
 /// The status where the disk can't be opened.
 const CANNOT_OPEN: u8 = 1;
@@ -81,11 +80,7 @@ fn answer<R: Threads + Wait + Sync + AllocGlobal, D: Disk + Send + Drop, S: Sour
 }
 
 // The same on a file, where it could be opened.
-fn answer_on_file<
-    R: Threads + Wait + Sync + AllocGlobal + Eprint,
-    S: Source,
-    K: Sink,
->(
+fn answer_on_file<R: Threads + Wait + Sync + AllocGlobal + Eprint, S: Source, K: Sink>(
     rt: &R,
     form: &[RcStr],
     opened: io::Result<FileDisk<File>>,
@@ -113,11 +108,7 @@ fn answer_in_memory<R: Threads + Wait + Sync + AllocGlobal, S: Source, K: Sink>(
 }
 
 // The status of a command line.
-fn run<
-    R: Threads + Wait + Sync + AllocGlobal + Eprint + Files<File = File>,
-    S: Source,
-    K: Sink,
->(
+fn run<R: Threads + Wait + Sync + AllocGlobal + Eprint + Files<File = File>, S: Source, K: Sink>(
     rt: &R,
     words: &[RcStr],
     input: &mut S,
@@ -129,9 +120,7 @@ fn run<
         [word] if word.as_str() == "--version" => print(output, VERSION),
         [disk, form @ ..] => match place_of(disk.as_str()) {
             Place::Memory => answer_in_memory(rt, form, input, output),
-            Place::File { path } => {
-                answer_on_file(rt, form, open_disk(rt, path), input, output)
-            }
+            Place::File { path } => { answer_on_file(rt, form, open_disk(rt, path), input, output) }
             Place::Sized { path, bytes } => {
                 answer_on_file(rt, form, make_disk(rt, path, bytes), input, output)
             }

@@ -34,11 +34,7 @@ pub fn open_disk(rt: &impl Files<File = File>, path: &str) -> io::Result<FileDis
 
 /// Opens a file that has at least so many bytes: it is made, or lengthened with zero bytes, where it
 /// isn't. Its name and length last before the call returns.
-pub fn make_disk(
-    rt: &impl Files<File = File>,
-    path: &str,
-    bytes: u64,
-) -> io::Result<FileDisk<File>>
+pub fn make_disk(rt: &impl Files<File = File>, path: &str, bytes: u64) -> io::Result<FileDisk<File>>
     ensures faults { IfOk result (λ disk. ⟦<FileDisk<File> as Disk>⟧.faults disk ≡ 0) }
     ensures long { IfOk result (λ disk. bytes ≤ ⟦<FileDisk<File> as Disk>⟧.size disk) }
 {

@@ -8,13 +8,12 @@ use crate::place::{Place, place_of};
 use crate::real::{StdSink, StdSource};
 use sdr_base::{Sink, SinkFault, Source, SourceFault};
 use sdr_disk::{Disk, DiskFault};
-use std::fs;
 use std::fs::{File, Metadata, OpenFile};
-use std::io;
 use std::io::{Cursor, Read, Write};
 use std::os::unix::fs::FileExt;
 use std::process::Abort;
 use std::test::Fail;
+use std::{fs, io};
 
 /// A reader and writer whose every call fails.
 #[derive(Drop)]
