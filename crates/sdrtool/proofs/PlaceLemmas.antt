@@ -12,9 +12,9 @@ use Rattle.std.proofs.lemmas.List.{drop_at, take-append-drop, get_or-drop, get_o
 use Rattle.sdrtool.specs.Place.{NamesNoSize, NamesSize}
 
 -- digits that are printed are parsed
-pub parsed-decimal : {E : Type 0} (digits : List ℕ) (r : Result ℕ E) (n : ℕ) → ParsesUnsigned 64 10 digits r →
+pub parsed-printed : {E : Type 0} (digits : List ℕ) (r : Result ℕ E) (n : ℕ) → ParsesUnsigned 64 10 digits r →
     n < 2 ^ 64 → digits ≡ decimal n → result_ok r ≡ Some n
-parsed-decimal digits r n parsed fits is = ap result_ok (parse-decimal 64 n digits r fits fits is parsed)
+parsed-printed digits r n parsed fits is = ap result_ok (parse-decimal 64 n digits r fits fits is parsed)
 
 -- one byte below a bound, at any place
 one_below : (b i : ℕ) → b < 58 → get_or (b ∷ []) i 0 < 58
