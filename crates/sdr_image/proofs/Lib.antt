@@ -1,3 +1,4 @@
+pub mod ChangedLemmas
 pub mod FormatLemmas
 pub mod FormattedLemmas
 pub mod ImageLemmas

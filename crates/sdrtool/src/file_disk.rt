@@ -1,5 +1,5 @@
 // A file as a disk.
-ghost use Rattle.std.specs.Prelude.{◌≡◌, ◌≤◌, ◌+◌, false, true, is_ok, None, IsTrue, OnErr, OnOk};
+ghost use Rattle.std.specs.Prelude.{◌≡◌, ◌↔◌, ◌≤◌, ◌+◌, false, true, is_ok, None, IsTrue, OnErr, OnOk};
 ghost use Rattle.sdr_base.specs.Causes.{HasCause, counted};
 ghost use Rattle.sdr_disk.specs.Moments.{IsAtEnd};
 
@@ -53,8 +53,8 @@ impl<F: FileExt + OpenFile> FileDisk<F> {
     fn begin(&mut self) -> bool
         ensures begun { IsTrue result →
             (self.new ≡ record self.old { moment = self.old.moment + 2 }) }
-        ensures sound { IsTrue result → self.old.broken ≡ false }
-        ensures room { IsTrue result → ¬ (IsAtEnd self.old.moment) }
+        ensures made { IsTrue result
+            ↔ ((self.old.broken ≡ false) × ¬ (IsAtEnd self.old.moment)) }
         ensures refused { result ≡ false → self.new ≡ self.old }
         ensures faults { self.new.faults ≡ self.old.faults }
     {
