@@ -5,4 +5,5 @@ pub mod ImageLemmas
 pub mod OpeningLemmas
 pub mod RegionLemmas
 pub mod SavedLemmas
+pub mod TouchedLemmas
 pub mod UndoLemmas
