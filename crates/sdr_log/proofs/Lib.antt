@@ -1,3 +1,5 @@
+pub mod BatchLemmas
+pub mod BehindLemmas
 pub mod FrameLemmas
 pub mod LogLemmas
 pub mod RecordsLemmas

@@ -1,2 +1,5 @@
+pub mod Batch
+pub mod Calls
 pub mod Frame
 pub mod Log
+pub mod Logged

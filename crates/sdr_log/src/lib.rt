@@ -11,6 +11,7 @@
 #![tactic(auto)]
 
 mod frame;
+mod gathering;
 mod record;
 #[cfg(test)]
 mod tests;
