@@ -49,11 +49,11 @@ length-batch_of records lines = omega (
 )
 
 -- the numbers of the lines fit in four bytes
-abbrev AreShort : List Record → Type 0
+abbrev pub AreShort : List Record → Type 0
 AreShort [] = ⊤
 AreShort (r ∷ records) = (r.line < 2 ^ 32) × AreShort records
 
-AreShort-good : (n : ℕ) (records : List Record) → n ≤ 262144 → are_good n records ≡ true → AreShort records
+pub AreShort-good : (n : ℕ) (records : List Record) → n ≤ 262144 → are_good n records ≡ true → AreShort records
 AreShort-good n [] le good = tt
 AreShort-good n (r ∷ records) le good =
     let g = are_good-cons n r records good in (omega (arith, g.0), AreShort-good n records le g.2)

@@ -13,7 +13,7 @@ use Rattle.sdr_log.specs.Log.{batches_of, records_of}
 use Rattle.sdr_log.specs.declared.record.Record.{Record}
 
 -- records are read from as many bytes as they take
-records_of-append : (count : ℕ) (bytes more : List ℕ) → 68 * count ≤ length bytes →
+pub records_of-append : (count : ℕ) (bytes more : List ℕ) → 68 * count ≤ length bytes →
     records_of count (bytes ++ more) ≡ records_of count bytes
 unfolding records_of
 records_of-append zero bytes more le = refl
@@ -28,19 +28,23 @@ records_of-append (suc count) bytes more le =
 -- Open batches stand before any others: so many batches of these records, in the bytes before them.
 pub record Behind (fuel : ℕ) (before : List ℕ) (records : List Record) : Type 0 where
   pub passed : ℕ
+  pub left : ℕ
   pub few : 73 * passed ≤ length before
-  pub left : passed < fuel
+  pub all : fuel ≡ passed + left
+  pub some : 0 < left
   pub batches : (rest : List ℕ) → 0 < length rest →
-      batches_of fuel (before ++ rest) ≡ option_map (λ more. records ++ more) (batches_of (fuel - passed) rest)
+      batches_of fuel (before ++ rest) ≡ option_map (λ more. records ++ more) (batches_of left rest)
   pub ends : (rest : List ℕ) → 0 < length rest →
-      end_of fuel (before ++ rest) ≡ option_map (λ place. length before + place) (end_of (fuel - passed) rest)
+      end_of fuel (before ++ rest) ≡ option_map (λ place. length before + place) (end_of left rest)
 
 -- none before
-behind_none : (fuel : ℕ) → 0 < fuel → Behind fuel [] []
+pub behind_none : (fuel : ℕ) → 0 < fuel → Behind fuel [] []
 behind_none fuel some = record {
   passed = 0;
+  left = fuel;
   few = omega arith;
-  left = some;
+  all = omega arith;
+  some = some;
   batches = λ rest long. same (batches_of fuel rest);
   ends = λ rest long. same_place (end_of fuel rest);
 }
@@ -51,7 +55,7 @@ behind_none fuel some = record {
 
     same_place : (found : Option ℕ) → found ≡ option_map (λ place. 0 + place) found
     same_place None = refl
-    same_place (Some place) = refl
+    same_place (Some place) = ap Some (omega arith)
 
 -- a batch more before: its gate is open, and its bytes are those of so many records
 module _ (fuel gate : ℕ) (body : List ℕ) (before : List ℕ) (records : List Record)
@@ -107,13 +111,15 @@ module _ (fuel gate : ℕ) (body : List ℕ) (before : List ℕ) (records : List
   behind_one_more = record {
     passed = suc b.passed;
     few = omega (arith, b.few, length-append body before, long, counted);
-    left = omega (arith, b.left);
+    left = b.left;
+    all = omega (arith, b.all);
+    some = b.some;
     batches = λ rest long_rest.
         rw (is_open, count_is rest, some, inside rest long_rest, behind_is rest, records_are rest)
-        (ap (option_map (λ more. own ++ more)) (b.batches rest long_rest) ∙ together (batches_of (fuel - b.passed) rest));
+        (ap (option_map (λ more. own ++ more)) (b.batches rest long_rest) ∙ together (batches_of b.left rest));
     ends = λ rest long_rest.
         rw (is_open, count_is rest, some, inside rest long_rest, behind_is rest)
-        (ap (option_map (λ place. batch_size count + place)) (b.ends rest long_rest) ∙ together_place (end_of (fuel - b.passed) rest));
+        (ap (option_map (λ place. batch_size count + place)) (b.ends rest long_rest) ∙ together_place (end_of b.left rest));
   }
     where
       counted : 1 ≤ count

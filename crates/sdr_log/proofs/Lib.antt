@@ -1,5 +1,6 @@
 pub mod BatchLemmas
 pub mod BehindLemmas
+pub mod FoundLemmas
 pub mod FrameLemmas
 pub mod LogLemmas
 pub mod RecordsLemmas
