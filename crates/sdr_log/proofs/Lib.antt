@@ -5,4 +5,5 @@ pub mod FrameLemmas
 pub mod GoodLemmas
 pub mod LogLemmas
 pub mod LoggedLemmas
+pub mod OpeningLemmas
 pub mod RecordsLemmas

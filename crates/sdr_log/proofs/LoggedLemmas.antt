@@ -232,3 +232,14 @@ closed_only f x left l gate image of_left =
     let shut = read_log_closed f x (omega (arith, w.least_log)) l.logs.regions.inside gate in
     let none : l.records ≡ [] = same_Some l.records [] (sym l.logs.log ∙ shut) in
     Agrees-nil x image (subst (λ (rs : List Record). Agrees (lines_of f rs) x image) none (l.pending image of_left))
+
+-- where an open batch has a record, the first gate is open
+pub logs_gate : (f : Frame) (x : List ℕ) (records : List Record) → Logs f x records → 0 < length records →
+    0 < first_gate x
+logs_gate f x records l some = elim (cases_eq (first_gate x) 0) [
+  | inl shut ↦
+      let w = HasRegions-limits f x l.regions in
+      let none = same_Some records [] (sym l.log ∙ read_log_closed f x (omega (arith, w.least_log)) l.regions.inside shut) in
+      absurd (omega (arith, ap length none, some))
+  | inr ne ↦ grind (arith, nat_tests)
+]

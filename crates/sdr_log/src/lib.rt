@@ -10,11 +10,14 @@
 //!    names.
 #![tactic(auto)]
 
+mod batch;
 mod frame;
 mod gathering;
 mod record;
+mod saving;
 #[cfg(test)]
 mod tests;
 
+pub use batch::write_batch;
 pub use frame::{Frame, LEAST_LOG, MOST_LOG};
 pub use record::Record;
