@@ -6,4 +6,5 @@ pub mod GoodLemmas
 pub mod LogLemmas
 pub mod LoggedLemmas
 pub mod OpeningLemmas
+pub mod ProtocolLemmas
 pub mod RecordsLemmas

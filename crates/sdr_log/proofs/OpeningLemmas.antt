@@ -40,6 +40,15 @@ log_of-split : (f : Frame) (x : List ℕ) (place rest : ℕ) → 64 * f.log_line
 unfolding log_of
 log_of-split f x place rest is = ap (λ (n : ℕ). part 64 n x) is ∙ part-add 64 place rest x
 
+-- the batch and then its gate are the open batch
+pub with_batch-written : (place : ℕ) (records : List Record) (x : List ℕ) →
+    64 + place + 1 + length (batch_of records) ≤ length x →
+    overwrite (64 + place) (1 ∷ []) (overwrite (64 + place + 1) (batch_of records) x) ≡ with_batch place records x
+with_batch-written place records x le =
+    sym (overwrite-apart (64 + place) (64 + place + 1) (1 ∷ []) (batch_of records) x (omega arith) le)
+    ∙ overwrite-behind (64 + place) (1 ∷ []) (batch_of records) x (omega (arith, le))
+
+-- A batch of these records may be opened, and has room.
 module _ (f : Frame) (place : ℕ) (records : List Record) (x : List ℕ) (left : List ℕ → Type 0)
     (m : MayOpen f place records x left) (lines : AreLines records) (some : 0 < length records)
     (fits : place + batch_size (length records) < 64 * f.log_lines) where
@@ -241,13 +250,6 @@ module _ (f : Frame) (place : ℕ) (records : List Record) (x : List ℕ) (left 
         by true is = closed_same (grind (arith, nat_tests))
         by false is = open_same is
 
-  pub opened_is : opened ≡ with_batch place records x
-  opened_is =
-      overwrite-apart_gate ∙ overwrite-behind (64 + place) (1 ∷ []) batch x (omega (arith, batch_inside))
-    where
-      overwrite-apart_gate : opened ≡ overwrite (64 + place + 1) batch (overwrite (64 + place) (1 ∷ []) x)
-      overwrite-apart_gate = sym (overwrite-apart (64 + place) (64 + place + 1) (1 ∷ []) batch x (omega arith) batch_inside)
-
   gate_over : Agrees (range (64 + place) 1 ∷ []) written opened
   gate_over = Agrees-overwrite (64 + place) (1 ∷ []) written [] (omega (arith, over.long, batch_inside))
 
@@ -278,3 +280,9 @@ module _ (f : Frame) (place : ℕ) (records : List Record) (x : List ℕ) (left 
         heap = gate_heap opened gate_over;
         back = gate_same opened gate_over;
       }
+
+  pub opens_written : (y : List ℕ) (left' : List ℕ → Type 0) → y ≡ opened → Only y left' →
+      Opens f place records x y left'
+  opens_written y left' is only =
+      subst (λ (z : List ℕ). Opens f place records x z left') (sym is)
+      (opens left' (subst (λ (z : List ℕ). Only z left') is only))
