@@ -1,5 +1,6 @@
 pub mod BatchLemmas
 pub mod BehindLemmas
+pub mod ClosingLemmas
 pub mod FoundLemmas
 pub mod FrameLemmas
 pub mod GoodLemmas
@@ -7,4 +8,5 @@ pub mod LogLemmas
 pub mod LoggedLemmas
 pub mod OpeningLemmas
 pub mod ProtocolLemmas
+pub mod PuttingLemmas
 pub mod RecordsLemmas

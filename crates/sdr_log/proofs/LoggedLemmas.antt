@@ -165,6 +165,13 @@ pub length-heap_of : (f : Frame) (x : List ℕ) → HasRegions f x → length (h
 unfolding heap_of
 length-heap_of f x r = length-part (heap_place f) (64 * f.heap_lines) x (omega (arith, r.inside))
 
+-- where no line is logged, the heap region is the same
+pub image_heap_same : (f : Frame) (x image : List ℕ) (place count : ℕ) → HasRegions f x →
+    place + count ≤ 64 * f.log_lines → Agrees (range (64 + place) count ∷ []) x image → heap_of f image ≡ heap_of f x
+image_heap_same f x image place count regions le g =
+    put_records-same_but f.heap_lines [] (heap_of f x) (heap_of f image) refl tt
+    (omega (arith, length-heap_of f x regions)) (image_heap f x image [] place count regions le g)
+
 -- two disks with the same open batches, whose heap regions differ in logged lines alone
 pub same_logs : (f : Frame) (x image : List ℕ) (records : List Record) → Logs f x records → Logs f image records →
     SameBut records (heap_of f x) (heap_of f image) → GivesSame x image

@@ -23,7 +23,8 @@ use Rattle.sdr_log.specs.declared.record.Record.{Record}
 use Rattle.sdr_log.proofs.BatchLemmas.{AreShort-good, length-batch_of}
 use Rattle.sdr_log.proofs.FoundLemmas.{Found, found, found_closed, found_opened}
 use Rattle.sdr_log.proofs.GoodLemmas.{are_good-before, put_records-all_own}
-use Rattle.sdr_log.proofs.LoggedLemmas.{HasRegions-limits, Logs-lines, image_heap, image_log, image_regions}
+use Rattle.sdr_log.proofs.LoggedLemmas.{HasRegions-limits, Logs-lines, image_heap, image_heap_same, image_log}
+use Rattle.sdr_log.proofs.LoggedLemmas.{image_regions}
 use Rattle.sdr_log.proofs.LoggedLemmas.{length-heap_of, logs_gate, put_back_of-logs, same_logs}
 use Rattle.sdr_log.proofs.RecordsLemmas.{put_records-same_but}
 
@@ -149,15 +150,8 @@ module _ (f : Frame) (place : ℕ) (records : List Record) (x : List ℕ) (left 
   written_regions =
       image_regions f x written [] (place + 1) (length batch) m.logged.logs.regions over_inside over
 
-  -- the heap region of a disk that differs in the log region alone
-  heap_same : (a b : List ℕ) (q n : ℕ) → HasRegions f a → q + n ≤ 64 * f.log_lines →
-      Agrees (range (64 + q) n ∷ []) a b → heap_of f b ≡ heap_of f a
-  heap_same a b q n regions le g =
-      put_records-same_but f.heap_lines [] (heap_of f a) (heap_of f b) refl tt
-      (omega (arith, length-heap_of f a regions)) (image_heap f a b [] q n regions le g)
-
   written_heap : heap_of f written ≡ heap_of f x
-  written_heap = heap_same x written (place + 1) (length batch) m.logged.logs.regions over_inside over
+  written_heap = image_heap_same f x written (place + 1) (length batch) m.logged.logs.regions over_inside over
 
   -- With the batch written, and any byte at its gate.
   module _ (image : List ℕ) (g : Agrees (range (64 + place) 1 ∷ []) written image) where
@@ -168,7 +162,7 @@ module _ (f : Frame) (place : ℕ) (records : List Record) (x : List ℕ) (left 
     gate_regions = image_regions f written image [] place 1 written_regions gate_inside g
 
     gate_heap : heap_of f image ≡ heap_of f x
-    gate_heap = heap_same written image place 1 written_regions gate_inside g ∙ written_heap
+    gate_heap = image_heap_same f written image place 1 written_regions gate_inside g ∙ written_heap
 
     long : length image ≡ length x
     long = g.long ∙ over.long

@@ -11,13 +11,17 @@
 #![tactic(auto)]
 
 mod batch;
+mod closing;
 mod frame;
 mod gathering;
+mod lines;
 mod record;
 mod saving;
 #[cfg(test)]
 mod tests;
 
 pub use batch::write_batch;
+pub use closing::close;
 pub use frame::{Frame, LEAST_LOG, MOST_LOG};
+pub use lines::put_lines;
 pub use record::Record;
