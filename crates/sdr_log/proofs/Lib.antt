@@ -9,4 +9,5 @@ pub mod LoggedLemmas
 pub mod OpeningLemmas
 pub mod ProtocolLemmas
 pub mod PuttingLemmas
+pub mod ReadingLemmas
 pub mod RecordsLemmas

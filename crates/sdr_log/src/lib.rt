@@ -12,9 +12,11 @@
 
 mod batch;
 mod closing;
+mod error;
 mod frame;
 mod gathering;
 mod lines;
+mod noted;
 mod record;
 mod saving;
 #[cfg(test)]
@@ -22,6 +24,7 @@ mod tests;
 
 pub use batch::write_batch;
 pub use closing::close;
+pub use error::BackError;
 pub use frame::{Frame, LEAST_LOG, MOST_LOG};
 pub use lines::put_lines;
 pub use record::Record;
