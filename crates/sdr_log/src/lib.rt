@@ -17,6 +17,7 @@ mod frame;
 mod gathering;
 mod lines;
 mod noted;
+mod reading;
 mod record;
 mod saving;
 #[cfg(test)]

@@ -1,7 +1,7 @@
 // The records of open batches, as they are read and checked.
-ghost use Rattle.std.specs.Prelude.{◌≡◌, ◌++◌, ◌∷◌, [], IfOk, IfErr, OnOk};
+ghost use Rattle.std.specs.Prelude.{◌≡◌, true, ◌∷◌, [], IfOk, IfErr, OnOk};
 ghost use Rattle.sdr_log.specs.BackErrors.{OnBadLog};
-ghost use Rattle.sdr_log.specs.Log.{is_named};
+ghost use Rattle.sdr_log.specs.Log.{are_good};
 ghost use Rattle.sdr_log.specs.Reading.{IsBad, Noted, noted};
 
 use crate::{BackError, Record};
@@ -55,7 +55,8 @@ impl Noted {
 
     /// The records, in the order in which they were added.
     pub fn into_records(self) -> Items<Record>
-        ensures { result ≡ self.records }
+        ensures records { result ≡ self.records }
+        ensures good { are_good self.lines result ≡ true }
     {
         self.records
     }
