@@ -8,9 +8,12 @@ use Rattle.std.proofs.lemmas.Bool.{cases_eq}
 use Rattle.std.proofs.lemmas.Bool.Decides.{nat_tests}
 use Rattle.std.proofs.lemmas.Grind.{common_steps}
 use Rattle.std.proofs.lemmas.List.{length-set}
+use Rattle.sdr_log.specs.BackErrors.{OnBadLog}
 use Rattle.sdr_log.specs.Frame.{number}
 use Rattle.sdr_log.specs.Log.{are_good, batches_of, is_named, records_of}
 use Rattle.sdr_log.specs.Reading.{IsBad, IsMarked, IsWrong, Noted, ReadsBatch, noted}
+use Rattle.sdr_log.specs.declared.error.BackError.{BackError}
+use Rattle.sdr_log.specs.declared.error.BackError.TheVariants as errors
 use Rattle.sdr_log.specs.declared.record.Record.{Record}
 use Rattle.sdr_log.proofs.FoundLemmas.{batches_of-closed}
 use Rattle.sdr_log.proofs.GoodLemmas.{are_good-before, are_good-last}
@@ -204,3 +207,13 @@ module _ (lines : ℕ) (log : List ℕ) (n : Noted) (gate : ℕ) (bytes : List �
           wrong s.fuel gate more is_open e
           (subst (λ (k : ℕ). are_good k (n.records ++ more) ≡ true) (sym s.same_lines)
           (ap (are_good lines) (same_Some _ _ f) ∙ good))
+
+-- what is said of the same records
+pub IsBad-same : (n m : Noted) (a b : List Record) → noted n a ≡ noted m b → IsBad n a → IsBad m b
+IsBad-same n m a b is bad = subst (λ (o : Noted). are_good o.lines o.records ≢ true) is bad
+
+-- of a bad log less is said
+pub OnBadLog-then : {P Q : Type 0} (why : BackError) → (P → Q) → OnBadLog why P → OnBadLog why Q
+OnBadLog-then errors.BadLog f p = f p
+OnBadLog-then errors.DiskFault f p = p
+OnBadLog-then errors.NoMemory f p = p
