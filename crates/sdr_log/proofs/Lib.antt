@@ -11,3 +11,4 @@ pub mod ProtocolLemmas
 pub mod PuttingLemmas
 pub mod ReadingLemmas
 pub mod RecordsLemmas
+pub mod RecoveryLemmas

@@ -14,12 +14,12 @@ abbrev pub UnlessFault : BackError → Type 0 → Type 0
 UnlessFault errors.DiskFault P = ⊤
 UnlessFault error P = P
 
--- a disk fault comes only where the disk's count rose
-abbrev pub ExplainsFault : ℕ → ℕ → BackError → Type 0
-ExplainsFault before now errors.DiskFault = Rose before now
-ExplainsFault before now error = ⊤
+-- what holds where the disk failed
+abbrev pub OnFault : BackError → Type 0 → Type 0
+OnFault errors.DiskFault P = P
+OnFault error P = ⊤
 
 -- the count of faults has not fallen, and a fault has its cause
 pub record HasBackCause {T : Type 0} (before now : ℕ) (result : Result T BackError) : Type 0 where
   pub later : before ≤ now
-  pub explained : IfErr result (ExplainsFault before now)
+  pub explained : IfErr result (λ why. OnFault why (Rose before now))

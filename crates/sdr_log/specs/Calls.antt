@@ -1,11 +1,14 @@
 -- When the calls of the log may be made, and what they change.
-use Rattle.std.specs.Prelude.{◌≡◌, ◌<◌, ℕ, ◌+◌, ◌*◌, ⊤, true, List, [], ◌∷◌, ◌++◌, length, Some, option_map}
+use Rattle.std.specs.Prelude.{◌≡◌, ◌<◌, ℕ, ◌+◌, ◌*◌, ◌⊎◌, ⊤, true, List, [], ◌∷◌, ◌++◌, length}
+use Rattle.std.specs.Prelude.{Option, Some, None, is_some, option_map}
 use Rattle.sdr_base.specs.declared.line.TheConstants.{LINE}
+use Rattle.sdr_disk.specs.Moments.{Only}
 use Rattle.sdr_disk.specs.Ranges.{overwrite, part}
 use Rattle.sdr_log.specs.Batch.{batch_size, log_end}
-use Rattle.sdr_log.specs.Frame.{heap_place}
-use Rattle.sdr_log.specs.Log.{are_good, first_gate, heap_of, is_named, put_records, read_log}
-use Rattle.sdr_log.specs.Logged.{Gives, GivesSame, IsAtRest, IsLogged, IsOpen}
+use Rattle.sdr_log.specs.Frame.{frame_of, heap_place}
+use Rattle.sdr_log.specs.Log.{are_good, first_gate, heap_of, is_named, put_back_of, put_records}
+use Rattle.sdr_log.specs.Log.{read_log}
+use Rattle.sdr_log.specs.Logged.{Gives, GivesSame, IsAtRest, IsLogged, IsOpen, Logs}
 use Rattle.sdr_log.specs.declared.frame.Frame.{Frame}
 use Rattle.sdr_log.specs.declared.record.Record.{Record}
 
@@ -63,3 +66,24 @@ pub record Closes (f : Frame) (x y : List ℕ) (left : List ℕ → Type 0) : Ty
   pub rest : IsAtRest f y left
   pub heap : heap_of f y ≡ heap_of f x
   pub gives : Gives (heap_of f x) y
+
+-- nothing is pending, or all that is pending is logged
+abbrev pub MayPutBack : Frame → List ℕ → (List ℕ → Type 0) → Type 0
+MayPutBack f x left = Only x left ⊎ IsLogged f x left
+
+-- opening gives no heap of these regions: where the head tells of them, it gives none
+abbrev pub GivesNone : Frame → List ℕ → Type 0
+GivesNone f x = frame_of (part 0 LINE x) ≡ Some f → put_back_of x ≡ None
+
+-- so many lines are put back: the heap region is the heap that opening gave, and no batch is open
+pub record PutsBack (f : Frame) (count : ℕ) (x y : List ℕ) : Type 0 where
+  pub records : List Record
+  pub logs : Logs f x records
+  pub lines : count ≡ length records
+  pub gives : Gives (heap_of f y) x
+  pub gate : first_gate y ≡ 0
+
+-- the disk is as long as it was, and tells its bytes if it did
+pub record KeepsDisk {D : Type 0} (size_of : D → ℕ) (bytes : D → Option (List ℕ)) (old new : D) : Type 0 where
+  pub size : size_of new ≡ size_of old
+  pub tells : is_some (bytes new) ≡ is_some (bytes old)

@@ -19,6 +19,7 @@ mod lines;
 mod noted;
 mod reading;
 mod record;
+mod recovery;
 mod saving;
 #[cfg(test)]
 mod tests;
@@ -29,3 +30,4 @@ pub use error::BackError;
 pub use frame::{Frame, LEAST_LOG, MOST_LOG};
 pub use lines::put_lines;
 pub use record::Record;
+pub use recovery::put_back;

@@ -1,6 +1,6 @@
 // The records of open batches, as they are read and checked.
 ghost use Rattle.std.specs.Prelude.{◌≡◌, true, ◌∷◌, [], IfOk, IfErr, OnOk};
-ghost use Rattle.sdr_log.specs.BackErrors.{OnBadLog};
+ghost use Rattle.sdr_log.specs.BackErrors.{OnBadLog, OnFault};
 ghost use Rattle.sdr_log.specs.Log.{are_good};
 ghost use Rattle.sdr_log.specs.Reading.{IsBad, Noted, noted};
 
@@ -43,6 +43,7 @@ impl Noted {
     pub fn add(&mut self, old: Record) -> Result<(), BackError>
         ensures added { OnOk result (self.new ≡ noted self.old (old ∷ [])) }
         ensures bad_log { IfErr result (λ why. OnBadLog why (IsBad self.old (old ∷ []))) }
+        ensures no_fault { IfErr result (λ why. OnFault why ⊥) }
     {
         let line = old.line as usize;
         if line >= self.marks.len() || self.marks[line] {

@@ -2,7 +2,7 @@
 ghost use Rattle.std.specs.Prelude.{◌≡◌, ◌≢◌, ◌≤◌, ◌<◌, ◌+◌, ◌*◌, ℕ, true, List, ◌∷◌, length, take, IfOk, IfErr, OnOk};
 ghost use Rattle.std.specs.Prelude.{Some};
 ghost use Rattle.sdr_disk.specs.Ranges.{part};
-ghost use Rattle.sdr_log.specs.BackErrors.{OnBadLog};
+ghost use Rattle.sdr_log.specs.BackErrors.{OnBadLog, OnFault};
 ghost use Rattle.sdr_log.specs.Frame.{number};
 ghost use Rattle.sdr_log.specs.Log.{are_good, batches_of, records_of};
 ghost use Rattle.sdr_log.specs.Reading.{IsBad, IsWrong, ReadsBatch, noted};
@@ -34,6 +34,7 @@ fn add_records(found: &mut Noted, count: usize, bytes: &[u8]) -> Result<(), Back
     ensures added { OnOk result (found.new ≡ noted found.old (records_of count bytes.now)) }
     ensures bad_log { IfErr result (λ why. OnBadLog why
         (IsBad found.old (records_of count bytes.now))) }
+    ensures no_fault { IfErr result (λ why. OnFault why ⊥) }
 {
     let mut rest = bytes;
     for _ in 0..count {
@@ -48,6 +49,7 @@ fn add_records(found: &mut Noted, count: usize, bytes: &[u8]) -> Result<(), Back
 fn read_batch<'b>(found: &mut Noted, bytes: &'b [u8]) -> Result<&'b [u8], BackError>
     ensures read { IfOk result (λ rest. ReadsBatch bytes.now rest.now found.old found.new) }
     ensures bad_log { IfErr result (λ why. OnBadLog why (IsWrong found.old bytes.now)) }
+    ensures no_fault { IfErr result (λ why. OnFault why ⊥) }
 {
     if bytes.len() < 4 {
         return Err(BackError::BadLog);
@@ -67,6 +69,7 @@ pub fn read_batches(alloc: Global, lines: usize, log: &[u8]) -> Result<Items<Rec
     ensures good { IfOk result (λ records. are_good lines records ≡ true) }
     ensures bad_log { IfErr result (λ why. OnBadLog why ((records : List Record)
         → batches_of (length log.now) log.now ≡ Some records → are_good lines records ≢ true)) }
+    ensures no_fault { IfErr result (λ why. OnFault why ⊥) }
 {
     let mut found = Noted::new(alloc, lines)?;
     let mut rest = log;
