@@ -2,7 +2,7 @@
 use Rattle.std.proofs.Common.{◌≡◌, ◌≤◌, ◌<◌, ℕ, ◌*◌, Bool, true, false, ◌||◌, ◌==◌, List, [], ◌∷◌, ◌++◌, length}
 use Rattle.std.proofs.Common.{refl, sym, ap, ◌∙◌, subst, arith, append-nil, append_assoc}
 use Rattle.std.proofs.lemmas.Bool.Decides.{nat_tests}
-use Rattle.sdr_log.specs.Calls.{AreNamed, HoldLines}
+use Rattle.sdr_log.specs.Calls.{AreBelow, AreNamed, HoldLines}
 use Rattle.sdr_log.specs.Log.{AreLines, are_good, is_named, put_records}
 use Rattle.sdr_log.specs.declared.record.Record.{Record}
 use Rattle.sdr_log.proofs.RecordsLemmas.{AreLines-push, are_good-cons, is_named-push, put_records-own}
@@ -79,3 +79,9 @@ AreNamed-own (r ∷ records) = (grind (arith, nat_tests), again r records record
       where
         or_true : (b : Bool) {c : Bool} → c ≡ true → (b || c) ≡ true
         or_true b e = grind arith
+
+-- good records are of the heap's lines
+pub AreBelow-good : (n : ℕ) (records : List Record) → are_good n records ≡ true → AreBelow n records
+AreBelow-good n [] good = tt
+AreBelow-good n (r ∷ records) good =
+    let g = are_good-cons n r records good in (g.0, AreBelow-good n records g.2)

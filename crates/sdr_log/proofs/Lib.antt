@@ -12,3 +12,4 @@ pub mod PuttingLemmas
 pub mod ReadingLemmas
 pub mod RecordsLemmas
 pub mod RecoveryLemmas
+pub mod RestoringLemmas

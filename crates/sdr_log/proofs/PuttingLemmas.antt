@@ -14,7 +14,7 @@ use Rattle.sdr_disk.proofs.RangesLemmas.{length-part}
 use Rattle.sdr_log.specs.Calls.{AreBelow, AreNamed, MayPut, Puts, with_lines}
 use Rattle.sdr_log.specs.Frame.{heap_place}
 use Rattle.sdr_log.specs.Log.{first_gate, heap_of, is_named, put_records, read_log}
-use Rattle.sdr_log.specs.Logged.{GivesSame, HasRegions, IsLogged, lines_of}
+use Rattle.sdr_log.specs.Logged.{GivesSame, HasRegions, IsLogged, Logs, lines_of}
 use Rattle.sdr_log.specs.declared.frame.Frame.{Frame}
 use Rattle.sdr_log.specs.declared.record.Record.{Record}
 use Rattle.sdr_log.proofs.GoodLemmas.{is_named-below}
@@ -71,6 +71,10 @@ module _ (f : Frame) (x : List ℕ) (left : List ℕ → Type 0) (l : IsLogged f
       (subst (λ (n : ℕ). Agrees (range (heap_place f + 64 * r.line) n ∷ []) x put) long
       (Agrees-overwrite (heap_place f + 64 * r.line) r.bytes x [] (omega (arith, below, long, l.logs.regions.inside))))
 
+  -- the open batches are the same
+  pub put_logs : Logs f put l.records
+  put_logs = pending_logs f x put l.records l.logs put_agrees
+
   pub put_heap : heap_of f put ≡ overwrite (64 * r.line) r.bytes (heap_of f x)
   put_heap = heap_of-overwrite f r.line r.bytes x l.logs.regions long below
 
@@ -97,7 +101,7 @@ module _ (f : Frame) (x : List ℕ) (left : List ℕ → Type 0) (l : IsLogged f
       ((image : List ℕ) → left' image → IsTorn left (heap_place f + 64 * r.line) 64 image) → IsLogged f put left'
   put_logged left' torn = record {
     records = l.records;
-    logs = pending_logs f x put l.records l.logs put_agrees;
+    logs = put_logs;
     pending = λ image of_left.
         let t = torn image of_left in
         Agrees-trans (lines_of f l.records) put x image (Agrees-sym (lines_of f l.records) x put put_agrees)

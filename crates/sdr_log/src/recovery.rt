@@ -87,6 +87,7 @@ fn restore<D: Disk>(disk: &mut D, frame: Frame, records: &[Record]) -> Result<()
     requires limits { IsInLimits frame }
     requires inside { disk_bytes frame ≤ D.size disk.old }
     requires good { are_good frame.heap_lines records.now ≡ true }
+    requires some { 0 < length records.now }
 
     ensures back { OnOk result (Both (D.bytes disk.old) (D.bytes disk.new)
         (λ x y. Logs frame x records.now → PutsBack frame (length records.now) x y)) }
@@ -133,8 +134,9 @@ pub fn put_back<D: Disk>(alloc: Global, disk: &mut D, frame: Frame) -> Result<u6
         → AtEach D.moment D.may_leave disk.old disk.new (GivesSame x)) }
 {
     let records = read_records(alloc, disk, frame)?;
-    if records.len() > 0 {
-        restore(disk, frame, records.as_slice())?;
+    if records.len() == 0 {
+        return Ok(0);
     }
+    restore(disk, frame, records.as_slice())?;
     Ok(records.len() as u64)
 }
