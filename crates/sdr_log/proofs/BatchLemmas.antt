@@ -1,9 +1,9 @@
 -- A batch as it stands in the log region, and what is read of it.
-use Rattle.std.proofs.Common.{◌≡◌, ◌<◌, ◌≤◌, ℕ, zero, suc, ◌+◌, ◌*◌, ◌^◌, true, false, ◌==◌}
+use Rattle.std.proofs.Common.{◌≡◌, ◌<◌, ◌≤◌, ℕ, suc, ◌+◌, ◌*◌, ◌^◌, true, false, ◌==◌}
 use Rattle.std.proofs.Common.{List, [], ◌∷◌, ◌++◌, length, take, drop, refl, sym, ap, ◌∙◌, arith, Some}
 use Rattle.std.proofs.Common.{length-append, append_assoc, append-nil, nat_le}
 use Rattle.std.specs.Prelude.{⊤, flat_map}
-use Rattle.std.proofs.lemmas.List.{take_at, drop_at, drop-append-le, take-append-le}
+use Rattle.std.proofs.lemmas.List.{take_at, drop_at}
 use Rattle.std.proofs.lemmas.Bool.Decides.{nat_tests}
 use Rattle.byteorder.specs.Endian.{big_number}
 use Rattle.byteorder.specs.Numbers.{big_number-reads_back, length-bytes_high_first}
@@ -68,10 +68,10 @@ one_record r rest lt long =
     append_assoc (four r.line) r.bytes rest in (
       ap (λ (l : List ℕ). number (take 4 l)) split ∙ number-four r.line (r.bytes ++ rest) lt,
       ap (λ (l : List ℕ). take 64 (drop 4 l)) split
-      ∙ ap (λ (l : List ℕ). take 64 l) (drop_at (four r.line) (r.bytes ++ rest) 4 (length-four r.line))
-      ∙ take_at r.bytes rest 64 long,
+          ∙ ap (λ (l : List ℕ). take 64 l) (drop_at (four r.line) (r.bytes ++ rest) 4 (length-four r.line))
+          ∙ take_at r.bytes rest 64 long,
       drop_at (four r.line ++ r.bytes) rest 68
-      (omega (arith, length-append (four r.line) r.bytes, length-four r.line, long)),
+          (omega (arith, length-append (four r.line) r.bytes, length-four r.line, long)),
     )
 
 -- records are read back

@@ -1,12 +1,10 @@
 -- What stands behind open batches: other bytes there change nothing of them.
-use Rattle.std.proofs.Common.{◌≡◌, ◌<◌, ◌≤◌, ℕ, zero, suc, ◌+◌, ◌-◌, ◌*◌, Bool, true, false, cond, ◌||◌, ◌==◌}
-use Rattle.std.proofs.Common.{List, [], ◌∷◌, ◌++◌, length, take, drop, refl, sym, ap, ◌∙◌, arith, subst, Some, None}
-use Rattle.std.proofs.Common.{length-append, append_assoc, nat_le, take-append-drop, length-drop}
+use Rattle.std.proofs.Common.{◌≡◌, ◌<◌, ◌≤◌, ℕ, zero, suc, ◌+◌, ◌*◌, false, ◌==◌}
+use Rattle.std.proofs.Common.{List, [], ◌∷◌, ◌++◌, length, take, drop, refl, sym, ap, ◌∙◌, arith, Some, None}
+use Rattle.std.proofs.Common.{length-append, append_assoc, nat_le, length-drop}
 use Rattle.std.specs.Prelude.{Option, option_map}
-use Rattle.std.proofs.lemmas.Option.{same_Some, none-some}
 use Rattle.std.proofs.lemmas.List.{drop-append-le, take-append-le}
 use Rattle.std.proofs.lemmas.Bool.Decides.{nat_tests}
-use Rattle.sdr_disk.specs.Ranges.{part}
 use Rattle.sdr_log.specs.Batch.{batch_size, end_of}
 use Rattle.sdr_log.specs.Frame.{number}
 use Rattle.sdr_log.specs.Log.{batches_of, records_of}
@@ -20,9 +18,9 @@ records_of-append zero bytes more le = refl
 records_of-append (suc count) bytes more le =
     let line = ap number (take-append-le 4 bytes more (omega arith)) in
     let old = ap (take 64) (drop-append-le 4 bytes more (omega arith))
-        ∙ take-append-le 64 (drop 4 bytes) more (omega (arith, length-drop 4 bytes)) in
+    ∙ take-append-le 64 (drop 4 bytes) more (omega (arith, length-drop 4 bytes)) in
     let rest = ap (records_of count) (drop-append-le 68 bytes more (omega arith))
-        ∙ records_of-append count (drop 68 bytes) more (omega (arith, length-drop 68 bytes)) in
+    ∙ records_of-append count (drop 68 bytes) more (omega (arith, length-drop 68 bytes)) in
     (λ i. record { line = line i; bytes = old i } ∷ rest i)
 
 -- Open batches stand before any others: so many batches of these records, in the bytes before them.

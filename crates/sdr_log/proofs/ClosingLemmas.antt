@@ -1,6 +1,6 @@
 -- The first gate, closed over lines that are synced.
-use Rattle.std.proofs.Common.{◌≡◌, ◌≤◌, ◌<◌, ◌⊎◌, inl, inr, ℕ, suc, ◌+◌, ◌-◌, ◌*◌, Bool, true, false, ◌==◌, List, []}
-use Rattle.std.proofs.Common.{◌∷◌, length, get_or, refl, sym, ap, ◌∙◌, subst, arith, Some}
+use Rattle.std.proofs.Common.{◌≡◌, ◌≤◌, ◌⊎◌, inl, inr, ℕ, suc, ◌+◌, ◌-◌, ◌*◌, ◌==◌, List, []}
+use Rattle.std.proofs.Common.{◌∷◌, length, sym, ap, ◌∙◌, subst, arith, Some}
 use Rattle.std.proofs.lemmas.Bool.{cases_eq}
 use Rattle.std.proofs.lemmas.Bool.Decides.{nat_tests}
 use Rattle.sdr_disk.specs.Moments.{AtEach, IsTorn, Only, Syncs}
@@ -10,12 +10,12 @@ use Rattle.sdr_disk.proofs.RangesLemmas.{Agrees-overwrite, Agrees-part, get_or-o
 use Rattle.sdr_log.specs.Calls.{Closes}
 use Rattle.sdr_log.specs.Frame.{IsInLimits}
 use Rattle.sdr_log.specs.Log.{batches_of, first_gate, heap_of, put_records, read_log}
-use Rattle.sdr_log.specs.Logged.{Gives, GivesSame, HasRegions, IsAtRest, IsOpen, Logs}
+use Rattle.sdr_log.specs.Logged.{Gives, GivesSame, HasRegions, IsOpen}
 use Rattle.sdr_log.specs.declared.frame.Frame.{Frame}
 use Rattle.sdr_log.proofs.FoundLemmas.{batches_of-gate}
 use Rattle.sdr_log.proofs.LogLemmas.{log_of-cons, put_back_of-closed}
 use Rattle.sdr_log.proofs.LoggedLemmas.{HasRegions-limits, image_heap_same, image_regions, logged_same}
-use Rattle.sdr_log.proofs.LoggedLemmas.{put_back_of-logs, rest_gives}
+use Rattle.sdr_log.proofs.LoggedLemmas.{put_back_of-logs}
 
 -- the image is put back as before, or its heap region is the heap
 abbrev pub GivesEither : Frame → List ℕ → List ℕ → Type 0
@@ -46,7 +46,7 @@ module _ (f : Frame) (x image : List ℕ) (left : List ℕ → Type 0) (o : IsOp
       let k = 64 * f.log_lines - 1 in
       let is : 64 * f.log_lines ≡ suc k = omega (arith, limits.least_log) in
       let rest : part 65 k image ≡ part 65 k x =
-          Agrees-part _ 65 k x image (omega (arith, regions.inside, is)) (λ i ge lt. (inr ge, tt)) g in
+      Agrees-part _ 65 k x image (omega (arith, regions.inside, is)) (λ i ge lt. (inr ge, tt)) g in
       ap (batches_of (64 * f.log_lines))
       (log_of-cons f image k is (omega (arith, gate_regions.inside))
       ∙ ap (λ (l : List ℕ). first_gate image ∷ l) rest)
@@ -80,9 +80,9 @@ closes f x y left left' o is only =
     let w = HasRegions-limits f x r in
     let le : 64 + length {A = ℕ} (0 ∷ []) ≤ length x = omega (arith, w.least_log, r.inside) in
     let g : Agrees (range 64 1 ∷ []) x y =
-        subst (λ (z : List ℕ). Agrees (range 64 1 ∷ []) x z) (sym is) (Agrees-overwrite 64 (0 ∷ []) x [] le) in
+    subst (λ (z : List ℕ). Agrees (range 64 1 ∷ []) x z) (sym is) (Agrees-overwrite 64 (0 ∷ []) x [] le) in
     let shut : first_gate y ≡ 0 =
-        ap first_gate is ∙ get_or-overwrite_inside 64 (0 ∷ []) x 64 le (omega arith) (omega arith) in
+    ap first_gate is ∙ get_or-overwrite_inside 64 (0 ∷ []) x 64 le (omega arith) (omega arith) in
     record {
       rest = record { regions = gate_regions f x y left o g; gate = shut; only = only };
       heap = gate_heap f x y left o g;

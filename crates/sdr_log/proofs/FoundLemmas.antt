@@ -1,11 +1,11 @@
 -- Where the open batches of a log region end.
-use Rattle.std.proofs.Common.{◌≡◌, ◌<◌, ◌≤◌, ℕ, zero, suc, ◌+◌, ◌-◌, ◌*◌, ◌^◌, Bool, true, false}
+use Rattle.std.proofs.Common.{◌≡◌, ◌<◌, ℕ, zero, suc, ◌+◌, ◌-◌, ◌*◌, ◌^◌, Bool, true, false}
 use Rattle.std.proofs.Common.{cond, ◌||◌, ◌==◌}
 use Rattle.std.proofs.Common.{List, [], ◌∷◌, ◌++◌, length, take, drop, refl, sym, ap, ◌∙◌, arith, subst, Some, None}
-use Rattle.std.proofs.Common.{length-append, append_assoc, append-nil, nat_le, take-append-drop, length-drop, length-take}
+use Rattle.std.proofs.Common.{length-append, append_assoc, append-nil, nat_le, take-append-drop, length-drop}
 use Rattle.std.specs.Prelude.{Option, option_map}
 use Rattle.std.proofs.lemmas.Option.{same_Some, none-some}
-use Rattle.std.proofs.lemmas.List.{drop-append-le, take-append-le, take-take, length-take-le}
+use Rattle.std.proofs.lemmas.List.{drop-append-le, take-take, length-take-le}
 use Rattle.std.proofs.lemmas.Bool.Decides.{nat_tests}
 use Rattle.sdr_log.specs.Batch.{batch_size, batch_of, end_of}
 use Rattle.sdr_log.specs.Frame.{number}
@@ -45,12 +45,12 @@ module _ (fuel gate : ℕ) (log : List ℕ) where
       let many : length body ≡ 4 + 68 * number (take 4 body) = long ∙ ap (λ (n : ℕ). 4 + 68 * n) (sym same) in
       let whole : body ++ drop size log ≡ log = take-append-drop size log in
       let read : records_of (number (take 4 body)) (drop 4 body) ≡ own =
-          ap (λ (n : ℕ). records_of n (drop 4 body)) same
-          ∙ sym (records_of-append count (drop 4 body) (drop size log) (omega (arith, long, length-drop 4 body)))
-          ∙ ap (records_of count) (sym (drop-append-le 4 body (drop size log) (omega (arith, long))))
-          ∙ ap (λ (l : List ℕ). records_of count (drop 4 l)) whole in
+      ap (λ (n : ℕ). records_of n (drop 4 body)) same
+      ∙ sym (records_of-append count (drop 4 body) (drop size log) (omega (arith, long, length-drop 4 body)))
+      ∙ ap (records_of count) (sym (drop-append-le 4 body (drop size log) (omega (arith, long))))
+      ∙ ap (λ (l : List ℕ). records_of count (drop 4 l)) whole in
       let b = behind_one_more fuel gate body f.before records is_open many
-          (ap (λ (n : ℕ). n == 0) same ∙ some) f.behind in
+      (ap (λ (n : ℕ). n == 0) same ∙ some) f.behind in
       record {
         before = gate ∷ body ++ f.before;
         rest = f.rest;
@@ -147,13 +147,13 @@ module _ (fuel : ℕ) (log : List ℕ) (records : List Record) (place : ℕ) (f 
   found_closed rest =
       let is : left ≡ suc lesser = omega (arith, f.behind.some) in (
         f.behind.batches (0 ∷ rest) (omega arith)
-        ∙ ap (λ (n : ℕ). option_map (λ more. records ++ more) (batches_of n (0 ∷ rest))) is
-        ∙ ap (option_map (λ more. records ++ more)) (batches_of-closed lesser 0 rest refl)
-        ∙ ap Some (append-nil records),
+            ∙ ap (λ (n : ℕ). option_map (λ more. records ++ more) (batches_of n (0 ∷ rest))) is
+            ∙ ap (option_map (λ more. records ++ more)) (batches_of-closed lesser 0 rest refl)
+            ∙ ap Some (append-nil records),
         f.behind.ends (0 ∷ rest) (omega arith)
-        ∙ ap (λ (n : ℕ). option_map (λ p. length f.before + p) (end_of n (0 ∷ rest))) is
-        ∙ ap (option_map (λ p. length f.before + p)) (end_of-closed lesser 0 rest refl)
-        ∙ ap Some (omega (arith, f.at)),
+            ∙ ap (λ (n : ℕ). option_map (λ p. length f.before + p) (end_of n (0 ∷ rest))) is
+            ∙ ap (option_map (λ p. length f.before + p)) (end_of-closed lesser 0 rest refl)
+            ∙ ap Some (omega (arith, f.at)),
       )
 
   -- where it is open before a batch of others, these are open too
@@ -166,14 +166,14 @@ module _ (fuel : ℕ) (log : List ℕ) (records : List Record) (place : ℕ) (f 
       let is : left ≡ suc (suc less) = omega (arith, f.behind.all, f.behind.few, f.at, fits, some) in
       let tail = gate ∷ batch_of others ++ junk in (
         f.behind.batches tail (omega arith)
-        ∙ ap (option_map (λ more. records ++ more))
-        (batches_of-gate left gate 1 (batch_of others ++ junk) is_open
-        ∙ ap (λ (n : ℕ). batches_of n (1 ∷ batch_of others ++ junk)) is
-        ∙ batches_of-one others junk short lines some few less),
+            ∙ ap (option_map (λ more. records ++ more))
+            (batches_of-gate left gate 1 (batch_of others ++ junk) is_open
+            ∙ ap (λ (n : ℕ). batches_of n (1 ∷ batch_of others ++ junk)) is
+            ∙ batches_of-one others junk short lines some few less),
         f.behind.ends tail (omega arith)
-        ∙ ap (option_map (λ p. length f.before + p))
-        (end_of-gate left gate 1 (batch_of others ++ junk) is_open
-        ∙ ap (λ (n : ℕ). end_of n (1 ∷ batch_of others ++ junk)) is
-        ∙ end_of-one others junk short lines some few less)
-        ∙ ap Some (omega (arith, f.at)),
+            ∙ ap (option_map (λ p. length f.before + p))
+            (end_of-gate left gate 1 (batch_of others ++ junk) is_open
+            ∙ ap (λ (n : ℕ). end_of n (1 ∷ batch_of others ++ junk)) is
+            ∙ end_of-one others junk short lines some few less)
+            ∙ ap Some (omega (arith, f.at)),
       )

@@ -1,6 +1,6 @@
 -- Records that may stand together in the log, and those that change nothing.
 use Rattle.std.proofs.Common.{◌≡◌, ◌≤◌, ◌<◌, ℕ, ◌*◌, Bool, true, false, ◌||◌, ◌==◌, List, [], ◌∷◌, ◌++◌, length}
-use Rattle.std.proofs.Common.{refl, sym, ap, ◌∙◌, subst, arith, append-nil, append_assoc}
+use Rattle.std.proofs.Common.{refl, sym, ap, ◌∙◌, arith, append-nil, append_assoc}
 use Rattle.std.proofs.lemmas.Bool.Decides.{nat_tests}
 use Rattle.sdr_log.specs.Calls.{AreBelow, AreNamed, HoldLines}
 use Rattle.sdr_log.specs.Log.{AreLines, are_good, is_named, put_records}
@@ -29,9 +29,11 @@ pub are_good-last : (n : ℕ) (records : List Record) (r : Record) → are_good 
 are_good-last n [] r good = (grind (arith, nat_tests), refl)
 are_good-last n (o ∷ records) r good =
     let g = are_good-cons n o (records ++ r ∷ []) good in
-    let rest = are_good-last n records r g.2 in
-    (rest.0, apart o.line r.line (is_named records r.line) rest.1 (other (is_named records o.line) (r.line == o.line)
-    (sym (is_named-push records r o.line) ∙ g.1)))
+    let rest = are_good-last n records r g.2 in (
+      rest.0,
+      apart o.line r.line (is_named records r.line) rest.1 (other (is_named records o.line) (r.line == o.line)
+          (sym (is_named-push records r o.line) ∙ g.1)),
+    )
   where
     other : (a b : Bool) → (a || b) ≡ false → b ≡ false
     other true b is = absurd cc

@@ -1,25 +1,25 @@
 -- What images are put back to that differ in logged lines, and in a part of the log region.
-use Rattle.std.proofs.Common.{◌≡◌, ◌≤◌, ◌<◌, ◌⊎◌, inl, inr, ℕ, zero, suc, ◌+◌, ◌-◌, ◌*◌, ◌/◌, Bool, true, false, cond}
+use Rattle.std.proofs.Common.{◌≡◌, ◌≤◌, ◌<◌, ◌⊎◌, inl, inr, ℕ, zero, suc, ◌+◌, ◌*◌, ◌/◌, Bool, true, false, cond}
 use Rattle.std.proofs.Common.{◌||◌, ◌==◌, List, [], ◌∷◌, ◌++◌, length, take, drop, get_or, refl, sym, ap, ◌∙◌, subst}
-use Rattle.std.proofs.Common.{arith, nat_le, length-append, length-drop, Some, None}
-use Rattle.std.specs.Prelude.{Option, option_map, option_and_then}
+use Rattle.std.proofs.Common.{arith, nat_le, length-drop, Some, None}
+use Rattle.std.specs.Prelude.{Option, option_map}
 use Rattle.std.proofs.lemmas.Option.{same_Some, none-some}
-use Rattle.std.proofs.lemmas.List.{get_or_past, take_at, take-take, drop_more}
+use Rattle.std.proofs.lemmas.List.{get_or_past}
 use Rattle.std.proofs.lemmas.Bool.{cases_eq, le-leb}
 use Rattle.std.proofs.lemmas.Bool.Decides.{nat_tests}
 use Rattle.sdr_disk.specs.Moments.{Only}
-use Rattle.sdr_disk.specs.Ranges.{Agrees, IsOutside, Range, part, range}
-use Rattle.sdr_disk.proofs.RangesLemmas.{Agrees-more, Agrees-nil, Agrees-one_more, Agrees-part, Agrees-refl}
+use Rattle.sdr_disk.specs.Ranges.{Agrees, IsOutside, part, range}
+use Rattle.sdr_disk.proofs.RangesLemmas.{Agrees-nil, Agrees-one_more, Agrees-part, Agrees-refl}
 use Rattle.sdr_disk.proofs.RangesLemmas.{get_or-part, length-part}
 use Rattle.sdr_log.specs.Frame.{IsInLimits, disk_bytes, frame_of, heap_place, number}
-use Rattle.sdr_log.specs.Log.{AreLines, are_good, batches_of, first_gate, heap_of, is_named, log_of, put_back_in}
+use Rattle.sdr_log.specs.Log.{AreLines, batches_of, first_gate, heap_of, is_named, log_of, put_back_in}
 use Rattle.sdr_log.specs.Log.{put_back_of, put_records, read_log, records_of}
-use Rattle.sdr_log.specs.Logged.{GivesSame, HasRegions, IsAtRest, IsLogged, IsOpen, Logs, lines_of}
+use Rattle.sdr_log.specs.Logged.{GivesSame, HasRegions, IsAtRest, IsLogged, Logs, lines_of}
 use Rattle.sdr_log.specs.declared.frame.Frame.{Frame}
 use Rattle.sdr_log.specs.declared.record.Record.{Record}
 use Rattle.sdr_log.proofs.FrameLemmas.{IsInLimits-frame_of}
 use Rattle.sdr_log.proofs.LogLemmas.{put_back_of-closed, read_log_closed}
-use Rattle.sdr_log.proofs.RecordsLemmas.{SameBut, are_good-cons, put_records-same_but}
+use Rattle.sdr_log.proofs.RecordsLemmas.{SameBut, put_records-same_but}
 
 pub HasRegions-limits : (f : Frame) (x : List ℕ) → HasRegions f x → IsInLimits f
 HasRegions-limits f x r = IsInLimits-frame_of (part 0 64 x) f r.head

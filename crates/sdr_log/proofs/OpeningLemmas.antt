@@ -2,27 +2,26 @@
 use Rattle.std.proofs.Common.{◌≡◌, ◌≤◌, ◌<◌, ℕ, suc, ◌+◌, ◌-◌, ◌*◌, ◌^◌, Bool, true, false, ◌==◌, List, [], ◌∷◌, ◌++◌}
 use Rattle.std.proofs.Common.{length, take, drop, get_or, refl, sym, ap, ◌∙◌, subst, arith, Some, inl}
 use Rattle.std.proofs.Common.{length-append, append_assoc}
-use Rattle.std.specs.Prelude.{Option, option_map}
+use Rattle.std.specs.Prelude.{option_map}
 use Rattle.std.proofs.Math.Seq.{take-add, take-append-add}
 use Rattle.std.proofs.lemmas.List.{drop-drop, drop_more, take_at, take-take}
-use Rattle.std.proofs.lemmas.Bool.{cases_eq}
 use Rattle.std.proofs.lemmas.Bool.Decides.{nat_tests}
 use Rattle.sdr_base.proofs.PartsLemmas.{overwrite-apart, overwrite-behind, part-overwrite}
 use Rattle.sdr_disk.specs.Moments.{Only}
-use Rattle.sdr_disk.specs.Ranges.{Agrees, IsOutside, Range, overwrite, part, range}
+use Rattle.sdr_disk.specs.Ranges.{Agrees, overwrite, part, range}
 use Rattle.sdr_disk.proofs.RangesLemmas.{Agrees-more, Agrees-one_more, Agrees-overwrite, Agrees-part, Agrees-refl}
-use Rattle.sdr_disk.proofs.RangesLemmas.{Agrees-trans, get_or-overwrite_inside, length-overwrite}
+use Rattle.sdr_disk.proofs.RangesLemmas.{Agrees-trans, get_or-overwrite_inside}
 use Rattle.sdr_log.specs.Batch.{batch_of, batch_size, end_of, log_end, with_batch}
 use Rattle.sdr_log.specs.Calls.{MayOpen, Opens}
-use Rattle.sdr_log.specs.Frame.{IsInLimits, heap_place}
-use Rattle.sdr_log.specs.Log.{AreLines, are_good, batches_of, first_gate, heap_of, log_of, put_back_of, put_records}
+use Rattle.sdr_log.specs.Frame.{IsInLimits}
+use Rattle.sdr_log.specs.Log.{AreLines, are_good, batches_of, heap_of, log_of, put_records}
 use Rattle.sdr_log.specs.Log.{read_log}
-use Rattle.sdr_log.specs.Logged.{GivesSame, HasRegions, IsOpen, Logs, lines_of}
+use Rattle.sdr_log.specs.Logged.{GivesSame, HasRegions, Logs, lines_of}
 use Rattle.sdr_log.specs.declared.frame.Frame.{Frame}
 use Rattle.sdr_log.specs.declared.record.Record.{Record}
 use Rattle.sdr_log.proofs.BatchLemmas.{AreShort-good, length-batch_of}
 use Rattle.sdr_log.proofs.FoundLemmas.{Found, found, found_closed, found_opened}
-use Rattle.sdr_log.proofs.GoodLemmas.{are_good-before, put_records-all_own}
+use Rattle.sdr_log.proofs.GoodLemmas.{put_records-all_own}
 use Rattle.sdr_log.proofs.LoggedLemmas.{HasRegions-limits, Logs-lines, image_heap, image_heap_same, image_log}
 use Rattle.sdr_log.proofs.LoggedLemmas.{image_regions}
 use Rattle.sdr_log.proofs.LoggedLemmas.{length-heap_of, logs_gate, put_back_of-logs, same_logs}
@@ -202,7 +201,7 @@ module _ (f : Frame) (place : ℕ) (records : List Record) (x : List ℕ) (left 
     open_logs is_open =
         let short = AreShort-good f.heap_lines records (omega (arith, limits.most_heap)) (good_last m.good) in
         let both = found_opened _ _ _ _ region (get_or image (64 + place) 0) records junk is_open short lines some
-            (omega (arith, fits, limits.most_log)) (omega (arith, fits)) in (
+        (omega (arith, fits, limits.most_log)) (omega (arith, fits)) in (
           record {
             regions = gate_regions;
             log = ap (batches_of (64 * f.log_lines)) gate_log ∙ both.0;
@@ -231,7 +230,7 @@ module _ (f : Frame) (place : ℕ) (records : List Record) (x : List ℕ) (left 
     closed_same : get_or image (64 + place) 0 ≡ 0 → GivesSame x image
     closed_same is =
         let l = closed_logs image (batch ++ junk) gate_regions
-            (gate_log ∙ ap (λ (n : ℕ). region.before ++ n ∷ (batch ++ junk)) is) in
+        (gate_log ∙ ap (λ (n : ℕ). region.before ++ n ∷ (batch ++ junk)) is) in
         put_back_of-logs f image earlier l
         ∙ ap (λ (h : List ℕ). Some (put_records earlier h)) gate_heap
         ∙ sym (put_back_of-logs f x earlier m.logged.logs)

@@ -1,5 +1,5 @@
 -- The steps of a batch and of its closing, at every moment.
-use Rattle.std.proofs.Common.{◌≡◌, ◌<◌, ◌≤◌, ℕ, ◌+◌, ◌*◌, List, [], ◌∷◌, length, sym, ap, ◌∙◌, subst}
+use Rattle.std.proofs.Common.{◌≡◌, ◌<◌, ℕ, ◌+◌, ◌*◌, List, [], ◌∷◌, length, ap, ◌∙◌, subst}
 use Rattle.sdr_disk.specs.Moments.{AtEach, IsTorn, Only}
 use Rattle.sdr_disk.specs.Ranges.{Agrees, overwrite, range}
 use Rattle.sdr_disk.proofs.MomentsLemmas.{at_both, at_then}

@@ -1,17 +1,17 @@
 -- Lines that open batches name, written to their places.
-use Rattle.std.proofs.Common.{◌≡◌, ◌≤◌, ◌<◌, ◌⊎◌, inl, inr, ℕ, ◌+◌, ◌*◌, Bool, true, false, ◌||◌, ◌==◌, List, [], ◌∷◌}
-use Rattle.std.proofs.Common.{length, get_or, refl, sym, ap, ◌∙◌, subst, arith, Some}
+use Rattle.std.proofs.Common.{◌≡◌, ◌≤◌, ◌<◌, ◌⊎◌, inl, inr, ℕ, ◌+◌, ◌*◌, true, List, [], ◌∷◌}
+use Rattle.std.proofs.Common.{length, refl, sym, ap, ◌∙◌, subst, arith, Some}
 use Rattle.std.specs.Prelude.{Option}
 use Rattle.std.proofs.lemmas.Option.{same_Some}
 use Rattle.std.proofs.lemmas.Bool.{cases_eq}
 use Rattle.std.proofs.lemmas.Bool.Decides.{nat_tests}
 use Rattle.sdr_base.proofs.PartsLemmas.{overwrite-inside, overwrite-part, part-overwrite}
 use Rattle.sdr_disk.specs.Moments.{AtEach, IsTorn, Writes}
-use Rattle.sdr_disk.specs.Ranges.{Agrees, IsOutside, Range, overwrite, part, range}
-use Rattle.sdr_disk.proofs.MomentsLemmas.{at_both, at_first, at_written}
+use Rattle.sdr_disk.specs.Ranges.{Agrees, IsOutside, overwrite, part, range}
+use Rattle.sdr_disk.proofs.MomentsLemmas.{at_first, at_written}
 use Rattle.sdr_disk.proofs.RangesLemmas.{Agrees-more, Agrees-overwrite, Agrees-sym, Agrees-trans, length-overwrite}
 use Rattle.sdr_disk.proofs.RangesLemmas.{length-part}
-use Rattle.sdr_log.specs.Calls.{AreBelow, AreNamed, MayPut, Puts, with_lines}
+use Rattle.sdr_log.specs.Calls.{AreNamed, MayPut, Puts, with_lines}
 use Rattle.sdr_log.specs.Frame.{heap_place}
 use Rattle.sdr_log.specs.Log.{first_gate, heap_of, is_named, put_records, read_log}
 use Rattle.sdr_log.specs.Logged.{GivesSame, HasRegions, IsLogged, Logs, lines_of}
@@ -33,7 +33,7 @@ heap_of-overwrite f line bytes x regions long below =
     let wide : p + n ≤ length x = omega (arith, regions.inside) in
     let size : length heap ≡ n = length-part p n x wide in
     let new : length (overwrite (64 * line) bytes heap) ≡ n =
-        length-overwrite (64 * line) bytes heap (omega (arith, size, long, below)) ∙ size in
+    length-overwrite (64 * line) bytes heap (omega (arith, size, long, below)) ∙ size in
     ap (λ (y : List ℕ). part p n (overwrite (p + 64 * line) bytes y)) (sym (overwrite-part p n x wide))
     ∙ ap (part p n) (overwrite-inside p (64 * line) heap bytes x (omega (arith, size, wide)) (omega (arith, size, long, below)))
     ∙ ap (λ (k : ℕ). part p k (overwrite p (overwrite (64 * line) bytes heap) x)) (sym new)

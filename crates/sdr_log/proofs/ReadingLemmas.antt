@@ -1,6 +1,6 @@
 -- Why the records that are read are those of the open batches.
 use Rattle.std.proofs.Common.{◌≡◌, ◌≢◌, ◌≤◌, ◌<◌, ◌⊎◌, inl, inr, ℕ, zero, suc, ◌+◌, ◌-◌, ◌*◌, Bool, true, false, cond}
-use Rattle.std.proofs.Common.{not, ◌&&◌, ◌||◌, ◌==◌, List, [], ◌∷◌, ◌++◌, length, take, drop, get_or, refl, sym, ap, ◌∙◌}
+use Rattle.std.proofs.Common.{◌||◌, ◌==◌, List, [], ◌∷◌, ◌++◌, length, take, drop, get_or, refl, sym, ap, ◌∙◌}
 use Rattle.std.proofs.Common.{subst, arith, nat_le, append-nil, append_assoc, length-drop, Some, None}
 use Rattle.std.specs.Prelude.{Option, option_map, slice_set}
 use Rattle.std.proofs.lemmas.Option.{same_Some, none-some}
@@ -166,7 +166,7 @@ module _ (lines : ℕ) (log : List ℕ) (n : Noted) (gate : ℕ) (bytes : List �
       let g : (gate == 0) ≡ false = grind (arith, nat_tests, is_open) in
       let t : (count == 0 || nat_le (length bytes) (4 + 68 * count)) ≡ false = grind (arith, nat_tests, r.some, r.inside) in
       let batch : batches_of (suc (s.fuel - 1)) (gate ∷ bytes)
-          ≡ option_map (λ more. own ++ more) (batches_of (s.fuel - 1) (drop (4 + 68 * count) bytes)) = rw (g, t) refl in
+      ≡ option_map (λ more. own ++ more) (batches_of (s.fuel - 1) (drop (4 + 68 * count) bytes)) = rw (g, t) refl in
       record {
         fuel = s.fuel - 1;
         enough = omega (arith, s.enough, ap length r.behind, length-drop (4 + 68 * count) bytes);

@@ -1,6 +1,6 @@
 -- A disk that is read to be put back.
-use Rattle.std.proofs.Common.{◌≡◌, ◌≢◌, ◌≤◌, ◌<◌, ◌⊎◌, inl, inr, ℕ, ◌+◌, ◌*◌, Bool, true, false, List, [], ◌∷◌, ◌++◌}
-use Rattle.std.proofs.Common.{length, take, drop, refl, sym, ap, ◌∙◌, subst, arith, Some, None, length-take, length-drop}
+use Rattle.std.proofs.Common.{◌≡◌, ◌≢◌, ◌≤◌, ◌<◌, ℕ, ◌*◌, Bool, true, false, List, ◌++◌}
+use Rattle.std.proofs.Common.{length, take, drop, refl, sym, ap, ◌∙◌, arith, Some, None}
 use Rattle.std.proofs.Common.{◌&&◌, ◌==◌, nat_le, cond}
 use Rattle.std.specs.Prelude.{Option, IsTrue, ◌↔◌, option_and_then}
 use Rattle.std.proofs.lemmas.Bool.{le-leb}

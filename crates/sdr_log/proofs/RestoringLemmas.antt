@@ -1,19 +1,18 @@
 -- Open batches that are put back and closed.
-use Rattle.std.proofs.Common.{◌≡◌, ◌≢◌, ◌≤◌, ◌<◌, ◌⊎◌, inl, inr, ℕ, zero, suc, ◌+◌, ◌-◌, ◌*◌, Bool, true, false, cond}
+use Rattle.std.proofs.Common.{◌≡◌, ◌<◌, inl, inr, ℕ, zero, suc, ◌+◌, ◌-◌, ◌*◌, Bool, true, false, cond}
 use Rattle.std.proofs.Common.{◌||◌, ◌==◌, List, [], ◌∷◌, ◌++◌, length, take, drop, refl, sym, ap, ◌∙◌, subst, arith, Some}
 use Rattle.std.proofs.Common.{None, nat_le, ⊎_elim}
 use Rattle.std.specs.Prelude.{Option, option_map}
 use Rattle.std.proofs.lemmas.Option.{same_Some, none-some}
-use Rattle.std.proofs.lemmas.Bool.{cases_eq}
 use Rattle.std.proofs.lemmas.Bool.Decides.{nat_tests}
-use Rattle.sdr_disk.specs.Moments.{AtEach, Keeps, Only, Reads}
+use Rattle.sdr_disk.specs.Moments.{AtEach, Reads}
 use Rattle.sdr_disk.specs.Ranges.{Agrees, overwrite, part}
 use Rattle.sdr_disk.proofs.MomentsLemmas.{at_both, at_first, at_read}
 use Rattle.sdr_disk.proofs.RangesLemmas.{Agrees-refl}
-use Rattle.sdr_log.specs.Calls.{AreNamed, Closes, MayPut, MayPutBack, Puts, PutsBack, with_lines}
+use Rattle.sdr_log.specs.Calls.{AreNamed, MayPut, MayPutBack, Puts, PutsBack, with_lines}
 use Rattle.sdr_log.specs.Frame.{heap_place, number}
 use Rattle.sdr_log.specs.Log.{AreLines, batches_of, first_gate, heap_of, put_back_of, put_records, read_log, records_of}
-use Rattle.sdr_log.specs.Logged.{Gives, GivesSame, HasRegions, IsAtRest, IsLogged, IsOpen, Logs, lines_of}
+use Rattle.sdr_log.specs.Logged.{GivesSame, IsAtRest, IsLogged, IsOpen, Logs, lines_of}
 use Rattle.sdr_log.specs.declared.frame.Frame.{Frame}
 use Rattle.sdr_log.specs.declared.record.Record.{Record}
 use Rattle.sdr_log.proofs.ClosingLemmas.{GivesEither, closes}
@@ -71,7 +70,7 @@ with_lines-put f records [] x l named long = record { logs = l; heap = refl }
 with_lines-put f records (r ∷ lines) x l named long =
     let a = alone f x records l in
     let rest = with_lines-put f records lines (overwrite (heap_place f + 64 * r.line) r.bytes x)
-        (put_logs f x _ a r named.0 long.0) named.1 long.1 in
+    (put_logs f x _ a r named.0 long.0) named.1 long.1 in
     record {
       logs = rest.logs;
       heap = rest.heap ∙ ap (put_records lines) (put_heap f x _ a r named.0 long.0);
@@ -83,7 +82,7 @@ restored f records x y l some is =
     let w = with_lines-put f records records x l (AreNamed-own records) (Logs-lines f x records l) in
     let z = with_lines f records x in
     let o : IsOpen f z (λ image. image ≡ z) =
-        record { logged = alone f z records w.logs; gate = logs_gate f z records w.logs some } in
+    record { logged = alone f z records w.logs; gate = logs_gate f z records w.logs some } in
     let c = closes f z y _ (λ image. image ≡ y) o is (λ image e. e) in
     record {
       records = records;

@@ -1,9 +1,8 @@
-use Rattle.std.proofs.Common.{◌≡◌, ◌∙◌, ◌+◌, sym, ap, subst, List, ℕ, ◌∷◌, [], arith, length}
+use Rattle.std.proofs.Common.{◌∙◌, ◌+◌, sym, ap, List, ℕ, ◌∷◌, [], arith, length}
 use Rattle.std.specs.Prelude.{Some}
 use Rattle.std.proofs.lemmas.Option.{same_Some}
 use Rattle.sdr_disk.specs.Ranges.{overwrite}
 use Rattle.sdr_disk.proofs.ToldLemmas.{told_long}
-use Rattle.sdr_log.specs.Batch.{batch_of, with_batch}
 use Rattle.sdr_log.proofs.BatchLemmas.{length-batch_of}
 use Rattle.sdr_log.proofs.OpeningLemmas.{opens_written, with_batch-written}
 use Rattle.sdr_log.proofs.ProtocolLemmas.{at_batch, at_gate}

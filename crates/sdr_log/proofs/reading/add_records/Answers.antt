@@ -1,9 +1,8 @@
-use Rattle.std.proofs.Common.{◌≡◌, ◌∙◌, ◌+◌, ◌-◌, ℕ, suc, List, ◌∷◌, [], length, length-drop, drop, ap, sym, arith}
+use Rattle.std.proofs.Common.{◌≡◌, ◌∙◌, ◌+◌, ◌-◌, ℕ, suc, length, length-drop, ap, sym, arith}
 use Rattle.std.proofs.lemmas.List.{take_rest}
 use Rattle.std.proofs.lemmas.Result.{err_from_is_err_and}
 use Rattle.sdr_log.specs.Log.{records_of}
-use Rattle.sdr_log.specs.Reading.{Noted, noted}
-use Rattle.sdr_log.specs.declared.record.Record.{Record}
+use Rattle.sdr_log.specs.Reading.{noted}
 use Rattle.sdr_log.proofs.ReadingLemmas.{IsBad-first, IsBad-same, OnBadLog-then, noted_none, noted_one_more}
 use Rattle.sdr_log.proofs.reading.add_records.Goals as goal
 

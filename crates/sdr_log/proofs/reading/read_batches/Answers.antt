@@ -1,6 +1,6 @@
-use Rattle.std.proofs.Common.{◌≡◌, ◌∙◌, ◌∷◌, ℕ, List, Some, ap, sym, subst, get_or}
+use Rattle.std.proofs.Common.{◌∙◌, ℕ, List, Some, ap, sym, subst}
 use Rattle.std.proofs.lemmas.Slice.{first_rest}
-use Rattle.sdr_log.proofs.ReadingLemmas.{ReadSoFar, read_all, read_more, read_none, read_wrong}
+use Rattle.sdr_log.proofs.ReadingLemmas.{ReadSoFar, read_all, read_more}
 use Rattle.sdr_log.proofs.reading.read_batches.Goals as goal
 
 pub loop-rest-preserved : goal.loop-rest-preserved

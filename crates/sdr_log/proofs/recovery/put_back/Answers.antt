@@ -1,4 +1,4 @@
-use Rattle.std.proofs.Common.{◌≡◌, ◌<◌, ◌∙◌, List, [], ap, sym, subst, arith, length}
+use Rattle.std.proofs.Common.{◌<◌, ◌∙◌, List, ap, sym, subst, arith, length}
 use Rattle.std.proofs.lemmas.List.{nil_from_length}
 use Rattle.std.proofs.lemmas.Option.{same_Some}
 use Rattle.sdr_log.specs.Logged.{Logs}
@@ -36,7 +36,7 @@ returns-in_err-restore-clause-any_moment g c x is m =
     let reads = c.read_records.ensures.reads in
     let l = subst (λ (l : List Record). Logs c.args.frame x l) (sym c.as_slice.ensures) (c.in_ok-records.ensures.logs x is) in
     let some : 0 < length c.as_slice.result.now =
-        omega (arith, c.len.ensures, c.if-len-eq0.false, ap length c.as_slice.ensures) in
+    omega (arith, c.len.ensures, c.if-len-eq0.false, ap length c.as_slice.ensures) in
     at_restored _ _ _ _ _ _ x reads m _
     (c.restore.ensures.any_moment x (reads.same ∙ is) l (reads_open _ _ _ _ _ _ x reads m _ l some))
 
@@ -50,7 +50,7 @@ returns-clause-rest g c x is y now m =
     let reads = c.read_records.ensures.reads in
     let l = subst (λ (l : List Record). Logs c.args.frame x l) (sym c.as_slice.ensures) (c.in_ok-records.ensures.logs x is) in
     let some : 0 < length c.as_slice.result.now =
-        omega (arith, c.len.ensures, c.if-len-eq0.false, ap length c.as_slice.ensures) in
+    omega (arith, c.len.ensures, c.if-len-eq0.false, ap length c.as_slice.ensures) in
     c.in_ok-restore.ensures.rest x (reads.same ∙ is) y now l (reads_open _ _ _ _ _ _ x reads m _ l some)
 
 pub returns-clause-any_moment : goal.returns-clause-any_moment
@@ -58,6 +58,6 @@ returns-clause-any_moment g c x is m =
     let reads = c.read_records.ensures.reads in
     let l = subst (λ (l : List Record). Logs c.args.frame x l) (sym c.as_slice.ensures) (c.in_ok-records.ensures.logs x is) in
     let some : 0 < length c.as_slice.result.now =
-        omega (arith, c.len.ensures, c.if-len-eq0.false, ap length c.as_slice.ensures) in
+    omega (arith, c.len.ensures, c.if-len-eq0.false, ap length c.as_slice.ensures) in
     at_restored _ _ _ _ _ _ x reads m _
     (c.restore.ensures.any_moment x (reads.same ∙ is) l (reads_open _ _ _ _ _ _ x reads m _ l some))

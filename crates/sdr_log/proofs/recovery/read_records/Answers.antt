@@ -21,7 +21,7 @@ returns-in_err-records-clause-bad_log g c =
     rw (p.1, p.2) (OnBadLog-then
     {Q = Told (g.D.Disk.bytes c.args.disk.now) (GivesNone c.args.frame)} _ (λ wrong x is.
     let log : c.as_slice.result.now ≡ log_of c.args.frame x =
-        c.as_slice.ensures ∙ c.in_ok-log.ensures.given x (c.has_regions.ensures.reads.same ∙ is) in
+    c.as_slice.ensures ∙ c.in_ok-log.ensures.given x (c.has_regions.ensures.reads.same ∙ is) in
     GivesNone-log c.args.frame x ((c.in_ok-has_regions.ensures.has x is).0 c.if-not-branch.false)
     (λ records found. wrong records (ap (λ (l : List ℕ). batches_of (length l) l) log ∙ found)))
     c.in_err-records.ensures.bad_log)
@@ -29,6 +29,6 @@ returns-in_err-records-clause-bad_log g c =
 pub returns-clause-logs : goal.returns-clause-logs
 returns-clause-logs g c x is =
     let log : c.as_slice.result.now ≡ log_of c.args.frame x =
-        c.as_slice.ensures ∙ c.in_ok-log.ensures.given x (c.has_regions.ensures.reads.same ∙ is) in
+    c.as_slice.ensures ∙ c.in_ok-log.ensures.given x (c.has_regions.ensures.reads.same ∙ is) in
     Logs-read c.args.frame x _ ((c.in_ok-has_regions.ensures.has x is).0 c.if-not-branch.false)
     (sym (ap (λ (l : List ℕ). batches_of (length l) l) log) ∙ c.in_ok-records.ensures.read) c.in_ok-records.ensures.good

@@ -1,4 +1,4 @@
-use Rattle.std.proofs.Common.{◌∙◌, inl, inr, refl, sym, subst, arith, List, ◌++◌, ◌∷◌, []}
+use Rattle.std.proofs.Common.{◌∙◌, inl, inr, sym, subst, arith, List, ◌∷◌, []}
 use Rattle.std.specs.Prelude.{false, slice_set, true}
 use Rattle.std.proofs.lemmas.List.{get_or_default}
 use Rattle.sdr_log.specs.Reading.{IsBad, IsMarked, Noted}
