@@ -20,6 +20,8 @@ mod noted;
 mod reading;
 mod record;
 mod recovery;
+#[cfg(test)]
+mod recovery_tests;
 mod saving;
 #[cfg(test)]
 mod tests;
