@@ -19,32 +19,24 @@ use Rattle.sdr_log.proofs.FoundLemmas.{batches_of-closed}
 use Rattle.sdr_log.proofs.GoodLemmas.{are_good-before, are_good-last}
 use Rattle.sdr_log.proofs.RecordsLemmas.{are_good-push, is_named-push}
 
--- one record more, whose line wasn't marked
+-- one record more, whose line no other names
 pub IsMarked-push : (records : List Record) (r : Record) (marks : List Bool) → IsMarked records marks →
-    r.line < length marks → get_or marks r.line false ≡ false →
+    (r.line < length marks) × (is_named records r.line ≡ false) →
     IsMarked (records ++ r ∷ []) (slice_set marks r.line true)
-IsMarked-push records r marks m lt free = record {
+IsMarked-push records r marks m (lt, free) = record {
   good =
       subst (λ (n : ℕ). are_good n (records ++ r ∷ []) ≡ true) (sym (length-set marks r.line true))
-      (are_good-push (length marks) records r m.good lt (sym (m.told r.line lt) ∙ free));
+      (are_good-push (length marks) records r m.good lt free);
   told = λ line lt'. elim (cases_eq r.line line) [
     | inl same ↦ grind (arith, nat_tests, common_steps, is_named-push records r line)
     | inr other ↦ grind (arith, nat_tests, common_steps, is_named-push records r line, m.told line)
   ];
 }
 
--- a line out of the heap, or one that is marked
-pub IsBad-refused : (records : List Record) (r : Record) (marks : List Bool) → IsMarked records marks →
-    (length marks ≤ r.line) ⊎ (get_or marks r.line false ≡ true) → are_good (length marks) (records ++ r ∷ []) ≢ true
-IsBad-refused records r marks m why good = by why (are_good-last (length marks) records r good)
-  where
-    by : (length marks ≤ r.line) ⊎ (get_or marks r.line false ≡ true) →
-        (r.line < length marks) × (is_named records r.line ≡ false) → ⊥
-    by (inl ge) last = absurd (omega (arith, ge, last.0))
-    by (inr marked) last = absurd (apart (sym marked ∙ m.told r.line last.0 ∙ last.1))
-      where
-        apart : true ≡ false → ⊥
-        apart e = cc
+-- a record that may be added is of the heap, and no other names its line
+pub IsBad-refused : (n : Noted) (r : Record) →
+    ((r.line < n.lines) × (is_named n.records r.line ≡ false) → ⊥) → IsBad n (r ∷ [])
+IsBad-refused n r never good = never (are_good-last n.lines n.records r good)
 
 -- where the first of more records can't stand, all can't
 pub IsBad-more : (n : Noted) (first more : List Record) → IsBad n first → IsBad n (first ++ more)

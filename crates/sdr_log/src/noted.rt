@@ -1,7 +1,7 @@
 // The records of open batches, as they are read and checked.
-ghost use Rattle.std.specs.Prelude.{◌≡◌, true, ◌∷◌, [], IfOk, IfErr, OnOk};
+ghost use Rattle.std.specs.Prelude.{◌≡◌, ◌<◌, ◌↔◌, false, true, ◌∷◌, [], IfOk, IfErr, OnOk, IsTrue};
 ghost use Rattle.sdr_log.specs.BackErrors.{OnBadLog, OnFault};
-ghost use Rattle.sdr_log.specs.Log.{are_good};
+ghost use Rattle.sdr_log.specs.Log.{are_good, is_named};
 ghost use Rattle.sdr_log.specs.Reading.{IsBad, Noted, noted};
 
 use crate::{BackError, Record};
@@ -39,18 +39,25 @@ impl Noted {
         })
     }
 
+    // Whether a line is one of the heap's, and no record names it yet.
+    fn is_free(&self, line: u32) -> bool
+        ensures { IsTrue result
+            ↔ ((line < self.now.lines) × (is_named self.now.records line ≡ false)) }
+    {
+        (line as usize) < self.marks.len() && !self.marks[line as usize]
+    }
+
     /// Adds a record, unless it isn't of a line of the heap, or another names its line.
     pub fn add(&mut self, old: Record) -> Result<(), BackError>
         ensures added { OnOk result (self.new ≡ noted self.old (old ∷ [])) }
         ensures bad_log { IfErr result (λ why. OnBadLog why (IsBad self.old (old ∷ []))) }
         ensures no_fault { IfErr result (λ why. OnFault why ⊥) }
     {
-        let line = old.line as usize;
-        if line >= self.marks.len() || self.marks[line] {
+        if !self.is_free(old.line) {
             return Err(BackError::BadLog);
         }
         self.records.push(old)?;
-        self.marks[line] = true;
+        self.marks[old.line as usize] = true;
         Ok(())
     }
 
