@@ -90,17 +90,24 @@ module _ (fuel gate : ℕ) (body : List ℕ) (before : List ℕ) (records : List
   inside : (rest : List ℕ) → 0 < length rest →
       nat_le (length ((body ++ before) ++ rest)) (4 + 68 * count) ≡ false
   inside rest some_rest =
-      ap (λ (n : ℕ). nat_le n (4 + 68 * count)) (length-append (body ++ before) rest ∙ ap (λ (n : ℕ). n + length rest) (length-append body before) ∙ ap (λ (n : ℕ). n + length before + length rest) long)
+      ap (λ (n : ℕ). nat_le n (4 + 68 * count))
+      (length-append (body ++ before) rest
+      ∙ ap (λ (n : ℕ). n + length rest) (length-append body before)
+      ∙ ap (λ (n : ℕ). n + length before + length rest) long)
       ∙ apart (4 + 68 * count) (length before) (length rest) some_rest
     where
       apart : (n k m : ℕ) → 0 < m → nat_le (n + k + m) n ≡ false
       apart n k m lt = grind (arith, nat_tests)
 
-  together : (found : Option (List Record)) → option_map (λ rest. own ++ rest) (option_map (λ more. records ++ more) found) ≡ option_map (λ more. (own ++ records) ++ more) found
+  together : (found : Option (List Record)) →
+      option_map (λ rest. own ++ rest) (option_map (λ more. records ++ more) found)
+      ≡ option_map (λ more. (own ++ records) ++ more) found
   together None = refl
   together (Some more) = ap Some (sym (append_assoc own records more))
 
-  together_place : (found : Option ℕ) → option_map (λ place. batch_size count + place) (option_map (λ place. length before + place) found) ≡ option_map (λ place. length (gate ∷ body ++ before) + place) found
+  together_place : (found : Option ℕ) →
+      option_map (λ place. batch_size count + place) (option_map (λ place. length before + place) found)
+      ≡ option_map (λ place. length (gate ∷ body ++ before) + place) found
   together_place None = refl
   together_place (Some place) = ap Some (omega (arith, length-append body before, long))
 
@@ -117,7 +124,8 @@ module _ (fuel gate : ℕ) (body : List ℕ) (before : List ℕ) (records : List
         (ap (option_map (λ more. own ++ more)) (b.batches rest long_rest) ∙ together (batches_of b.left rest));
     ends = λ rest long_rest.
         rw (is_open, count_is rest, some, inside rest long_rest, behind_is rest)
-        (ap (option_map (λ place. batch_size count + place)) (b.ends rest long_rest) ∙ together_place (end_of b.left rest));
+        (ap (option_map (λ place. batch_size count + place)) (b.ends rest long_rest)
+        ∙ together_place (end_of b.left rest));
   }
     where
       counted : 1 ≤ count

@@ -61,7 +61,9 @@ module _ (fuel gate : ℕ) (log : List ℕ) where
       }
 
   -- the same, from what is read
-  module _ (records : List Record) (place : ℕ) (each : (rs : List Record) (p : ℕ) → batches_of fuel (drop size log) ≡ Some rs → end_of fuel (drop size log) ≡ Some p → Found fuel (drop size log) rs p) where
+  module _ (records : List Record) (place : ℕ)
+      (each : (rs : List Record) (p : ℕ) → batches_of fuel (drop size log) ≡ Some rs →
+      end_of fuel (drop size log) ≡ Some p → Found fuel (drop size log) rs p) where
     by_rest : (found : Option (List Record)) (end : Option ℕ) → (gate == 0) ≡ false → (count == 0) ≡ false →
         size < length log → batches_of fuel (drop size log) ≡ found → end_of fuel (drop size log) ≡ end →
         option_map (λ rest. own ++ rest) found ≡ Some records →
@@ -112,7 +114,8 @@ unfolding batches_of end_of
 found zero log records place is ends = absurd (none-some records is)
 found (suc fuel) [] records place is ends = absurd (none-some records is)
 found (suc fuel) (gate ∷ log) records place is ends =
-    by_gate fuel gate log records place (λ rs p. found fuel (drop (4 + 68 * number (take 4 log)) log) rs p) (gate == 0) refl is ends
+    by_gate fuel gate log records place (λ rs p. found fuel (drop (4 + 68 * number (take 4 log)) log) rs p) (gate == 0)
+    refl is ends
 
 pub batches_of-closed : (fuel gate : ℕ) (log : List ℕ) → gate ≡ 0 → batches_of (suc fuel) (gate ∷ log) ≡ Some []
 unfolding batches_of
@@ -143,7 +146,8 @@ module _ (fuel : ℕ) (log : List ℕ) (records : List Record) (place : ℕ) (f 
   lesser = f.behind.left - 1
 
   -- where the gate stays closed, the open batches are the same
-  pub found_closed : (rest : List ℕ) → (batches_of fuel (f.before ++ 0 ∷ rest) ≡ Some records) × (end_of fuel (f.before ++ 0 ∷ rest) ≡ Some place)
+  pub found_closed : (rest : List ℕ) → (batches_of fuel (f.before ++ 0 ∷ rest) ≡ Some records)
+      × (end_of fuel (f.before ++ 0 ∷ rest) ≡ Some place)
   found_closed rest =
       let is : left ≡ suc lesser = omega (arith, f.behind.some) in (
         f.behind.batches (0 ∷ rest) (omega arith)

@@ -13,3 +13,4 @@ pub mod ReadingLemmas
 pub mod RecordsLemmas
 pub mod RecoveryLemmas
 pub mod RestoringLemmas
+pub mod TransactionLemmas

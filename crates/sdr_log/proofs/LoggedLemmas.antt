@@ -36,8 +36,10 @@ put_back_of-logs f x records l =
 AreLines-records_of : (count : ℕ) (bytes : List ℕ) → 68 * count ≤ length bytes → AreLines (records_of count bytes)
 unfolding records_of
 AreLines-records_of zero bytes le = tt
-AreLines-records_of (suc count) bytes le =
-    (length-part 4 64 bytes (omega arith), AreLines-records_of count (drop 68 bytes) (omega (arith, length-drop 68 bytes)))
+AreLines-records_of (suc count) bytes le = (
+  length-part 4 64 bytes (omega arith),
+  AreLines-records_of count (drop 68 bytes) (omega (arith, length-drop 68 bytes)),
+)
 
 AreLines-append : (a b : List Record) → AreLines a → AreLines b → AreLines (a ++ b)
 AreLines-append [] b la lb = lb
@@ -45,7 +47,8 @@ AreLines-append (r ∷ a) b la lb = (la.0, AreLines-append a b la.1 lb)
 
 -- one batch, and those behind it
 module _ (fuel : ℕ) (log : List ℕ) (records : List Record)
-    (each : (rs : List Record) → batches_of fuel (drop (4 + 68 * number (take 4 log)) log) ≡ Some rs → AreLines rs) where
+    (each : (rs : List Record) → batches_of fuel (drop (4 + 68 * number (take 4 log)) log) ≡ Some rs →
+    AreLines rs) where
   abbrev count : ℕ
   count = number (take 4 log)
 
@@ -204,7 +207,8 @@ module _ (f : Frame) (x image : List ℕ) (records : List Record) (l : Logs f x 
       (image_heap f x image records (64 * f.log_lines) 0 l.regions (omega arith) wide)
 
   pub pending_gate : 1 ≤ f.log_lines → first_gate image ≡ first_gate x
-  pending_gate some = image_byte f x image records (64 * f.log_lines) 0 l.regions (omega arith) wide 64 (omega (arith, some))
+  pending_gate some =
+      image_byte f x image records (64 * f.log_lines) 0 l.regions (omega arith) wide 64 (omega (arith, some))
 
 -- what a crash leaves gives the same heap
 pub logged_same : (f : Frame) (x image : List ℕ) (left : List ℕ → Type 0) → IsLogged f x left → left image →
@@ -246,7 +250,8 @@ pub logs_gate : (f : Frame) (x : List ℕ) (records : List Record) → Logs f x 
 logs_gate f x records l some = elim (cases_eq (first_gate x) 0) [
   | inl shut ↦
       let w = HasRegions-limits f x l.regions in
-      let none = same_Some records [] (sym l.log ∙ read_log_closed f x (omega (arith, w.least_log)) l.regions.inside shut) in
+      let closed = read_log_closed f x (omega (arith, w.least_log)) l.regions.inside shut in
+      let none = same_Some records [] (sym l.log ∙ closed) in
       absurd (omega (arith, ap length none, some))
   | inr ne ↦ grind (arith, nat_tests)
 ]

@@ -35,7 +35,8 @@ heap_of-overwrite f line bytes x regions long below =
     let new : length (overwrite (64 * line) bytes heap) ≡ n =
     length-overwrite (64 * line) bytes heap (omega (arith, size, long, below)) ∙ size in
     ap (λ (y : List ℕ). part p n (overwrite (p + 64 * line) bytes y)) (sym (overwrite-part p n x wide))
-    ∙ ap (part p n) (overwrite-inside p (64 * line) heap bytes x (omega (arith, size, wide)) (omega (arith, size, long, below)))
+    ∙ ap (part p n) (overwrite-inside p (64 * line) heap bytes x (omega (arith, size, wide))
+    (omega (arith, size, long, below)))
     ∙ ap (λ (k : ℕ). part p k (overwrite p (overwrite (64 * line) bytes heap) x)) (sym new)
     ∙ part-overwrite p (overwrite (64 * line) bytes heap) x (omega (arith, new, wide))
 
@@ -179,7 +180,8 @@ module _ {D : Type 0} (moment : D → ℕ) (may_leave : D → ℕ → List ℕ �
               named = named.1;
             };
             heap = ap (put_records rest) (put_heap f p.y _ l r named.0 long)
-                ∙ subst (λ (l : List Record). put_records l (heap_of f p.y) ≡ put_records lines (heap_of f x)) split s.heap;
+                ∙ subst (λ (l : List Record). put_records l (heap_of f p.y) ≡ put_records lines (heap_of f x)) split
+                s.heap;
             log = put_log f p.y _ l r named.0 long ∙ s.log;
             gate = put_gate f p.y _ l r named.0 long ∙ s.gate;
             back = put_same f p.y _ l r named.0 long ∙ s.back;
@@ -188,8 +190,8 @@ module _ {D : Type 0} (moment : D → ℕ) (may_leave : D → ℕ → List ℕ �
     }
 
   -- all lines put
-  pub putting_all : (now : D) (rest : List Record) → rest ≡ [] → (p : Putting moment may_leave bytes f lines rest old now x) →
-      (y : List ℕ) → bytes now ≡ Some y → MayPut f lines x (may_leave old (moment old)) →
+  pub putting_all : (now : D) (rest : List Record) → rest ≡ [] →
+      (p : Putting moment may_leave bytes f lines rest old now x) → (y : List ℕ) → bytes now ≡ Some y → MayPut f lines x (may_leave old (moment old)) →
       Puts f lines x y (may_leave now (moment now))
   putting_all now rest none p y is m =
       let s = p.so_far m in
@@ -201,7 +203,7 @@ module _ {D : Type 0} (moment : D → ℕ) (may_leave : D → ℕ → List ℕ �
         back = s.back;
       }
 
-  pub putting_written : (now : D) (rest : List Record) → rest ≡ [] → Putting moment may_leave bytes f lines rest old now x →
-      bytes now ≡ Some (with_lines f lines x)
+  pub putting_written : (now : D) (rest : List Record) → rest ≡ [] →
+      Putting moment may_leave bytes f lines rest old now x → bytes now ≡ Some (with_lines f lines x)
   putting_written now rest none p =
       p.told ∙ ap Some (subst (λ (l : List Record). with_lines f l p.y ≡ with_lines f lines x) none p.written)

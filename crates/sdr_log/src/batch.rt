@@ -1,5 +1,6 @@
 // A batch of old lines, written and opened.
-ghost use Rattle.std.specs.Prelude.{◌≡◌, ◌≤◌, ◌<◌, ◌+◌, ◌*◌, ◌^◌, ◌∷◌, [], length, IfOk, OnOk, Some, is_some};
+ghost use Rattle.std.specs.Prelude.{◌≡◌, ◌≤◌, ◌<◌, ◌+◌, ◌*◌, ◌^◌, [], ◌∷◌, length};
+ghost use Rattle.std.specs.Prelude.{IfOk, OnOk, Some, is_some};
 ghost use Rattle.sdr_base.specs.Causes.{HasCause};
 ghost use Rattle.sdr_disk.specs.Moments.{AtEach, IsTorn, Only};
 ghost use Rattle.sdr_disk.specs.Ranges.{overwrite};

@@ -1,6 +1,6 @@
 // The open batches of a log region, read and checked.
-ghost use Rattle.std.specs.Prelude.{◌≡◌, ◌≢◌, ◌≤◌, ◌<◌, ◌+◌, ◌*◌, ℕ, true, List, ◌∷◌, length, take, IfOk, IfErr, OnOk};
-ghost use Rattle.std.specs.Prelude.{Some};
+ghost use Rattle.std.specs.Prelude.{◌≡◌, ◌≢◌, ◌≤◌, ◌<◌, ◌*◌, true, List, length, take};
+ghost use Rattle.std.specs.Prelude.{IfOk, IfErr, OnOk, Some};
 ghost use Rattle.sdr_disk.specs.Ranges.{part};
 ghost use Rattle.sdr_log.specs.BackErrors.{OnBadLog, OnFault};
 ghost use Rattle.sdr_log.specs.Frame.{number};

@@ -34,7 +34,8 @@ returns-in_err-restore-clause-quiet g c x is shut =
 pub returns-in_err-restore-clause-any_moment : goal.returns-in_err-restore-clause-any_moment
 returns-in_err-restore-clause-any_moment g c x is m =
     let reads = c.read_records.ensures.reads in
-    let l = subst (λ (l : List Record). Logs c.args.frame x l) (sym c.as_slice.ensures) (c.in_ok-records.ensures.logs x is) in
+    let l = subst (λ (l : List Record). Logs c.args.frame x l) (sym c.as_slice.ensures)
+    (c.in_ok-records.ensures.logs x is) in
     let some : 0 < length c.as_slice.result.now =
     omega (arith, c.len.ensures, c.if-len-eq0.false, ap length c.as_slice.ensures) in
     at_restored _ _ _ _ _ _ x reads m _
@@ -48,7 +49,8 @@ returns-clause-quiet g c x is shut =
 pub returns-clause-rest : goal.returns-clause-rest
 returns-clause-rest g c x is y now m =
     let reads = c.read_records.ensures.reads in
-    let l = subst (λ (l : List Record). Logs c.args.frame x l) (sym c.as_slice.ensures) (c.in_ok-records.ensures.logs x is) in
+    let l = subst (λ (l : List Record). Logs c.args.frame x l) (sym c.as_slice.ensures)
+    (c.in_ok-records.ensures.logs x is) in
     let some : 0 < length c.as_slice.result.now =
     omega (arith, c.len.ensures, c.if-len-eq0.false, ap length c.as_slice.ensures) in
     c.in_ok-restore.ensures.rest x (reads.same ∙ is) y now l (reads_open _ _ _ _ _ _ x reads m _ l some)
@@ -56,7 +58,8 @@ returns-clause-rest g c x is y now m =
 pub returns-clause-any_moment : goal.returns-clause-any_moment
 returns-clause-any_moment g c x is m =
     let reads = c.read_records.ensures.reads in
-    let l = subst (λ (l : List Record). Logs c.args.frame x l) (sym c.as_slice.ensures) (c.in_ok-records.ensures.logs x is) in
+    let l = subst (λ (l : List Record). Logs c.args.frame x l) (sym c.as_slice.ensures)
+    (c.in_ok-records.ensures.logs x is) in
     let some : 0 < length c.as_slice.result.now =
     omega (arith, c.len.ensures, c.if-len-eq0.false, ap length c.as_slice.ensures) in
     at_restored _ _ _ _ _ _ x reads m _
