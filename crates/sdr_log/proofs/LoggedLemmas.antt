@@ -216,7 +216,7 @@ pub logged_same : (f : Frame) (x image : List ℕ) (left : List ℕ → Type 0) 
 logged_same f x image left l of_left = pending_same f x image l.records l.logs (l.pending image of_left)
 
 -- a disk at rest logs no line
-pub rest_logged : (f : Frame) (x : List ℕ) (left : List ℕ → Type 0) → IsAtRest f x left → IsLogged f x left
+unfoldable pub rest_logged : (f : Frame) (x : List ℕ) (left : List ℕ → Type 0) → IsAtRest f x left → IsLogged f x left
 rest_logged f x left r =
     let w = HasRegions-limits f x r.regions in
     record {

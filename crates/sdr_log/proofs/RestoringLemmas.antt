@@ -41,12 +41,15 @@ pub puts_open : (f : Frame) (x y : List ℕ) (records : List Record) (left left'
 puts_open f x y records left left' o p =
     record { logged = p.logged; gate = omega (arith, p.gate, o.gate) }
 
--- a crash while the gate is closed then gives the same heap
-pub closing_same : (f : Frame) (x y image : List ℕ) (records : List Record) (left' : List ℕ → Type 0) →
-    Logs f x records → Puts f records x y left' → GivesEither f y image → GivesSame x image
-closing_same f x y image records left' l p either =
-    ⊎_elim (λ same. same ∙ p.back)
-    (λ gives. gives ∙ ap Some p.heap ∙ sym (put_back_of-logs f x records l)) either
+-- and closing then gives the same heap at every moment
+pub at_closed : {D : Type 0} (moment : D → ℕ) (may_leave : D → ℕ → List ℕ → Type 0) (f : Frame) (old mid new : D)
+    (x y : List ℕ) (records : List Record) (left' : List ℕ → Type 0) → Logs f x records → Puts f records x y left' →
+    AtEach moment may_leave old mid (GivesSame x) → AtEach moment may_leave mid new (GivesEither f y) →
+    AtEach moment may_leave old new (GivesSame x)
+at_closed moment may_leave f old mid new x y records left' l p before each =
+    at_both moment may_leave old mid new (GivesSame x) (GivesEither f y) (GivesSame x) before each (λ image same. same)
+    (λ image either. ⊎_elim (λ same. same ∙ p.back)
+    (λ gives. gives ∙ ap Some p.heap ∙ sym (put_back_of-logs f x records l)) either)
 
 -- Without a crash.
 

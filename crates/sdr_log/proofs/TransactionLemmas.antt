@@ -14,7 +14,7 @@ use Rattle.sdr_log.specs.declared.frame.Frame.{Frame}
 use Rattle.sdr_log.specs.declared.record.Record.{Record}
 use Rattle.sdr_log.proofs.FoundLemmas.{end_of-closed}
 use Rattle.sdr_log.proofs.LogLemmas.{log_of-cons, read_log_closed}
-use Rattle.sdr_log.proofs.LoggedLemmas.{HasRegions-limits}
+use Rattle.sdr_log.proofs.LoggedLemmas.{HasRegions-limits, rest_logged}
 
 -- a disk in memory of bytes with a head and a closed first gate is at rest
 pub rest_fresh : (f : Frame) (bytes : List ℕ) → HasRegions f bytes → first_gate bytes ≡ 0 →
@@ -39,22 +39,13 @@ log_end-closed f x r shut =
 -- at rest, a batch of lines' own bytes may be opened at the first place
 pub rest_may_open : (f : Frame) (records : List Record) (x : List ℕ) (left : List ℕ → Type 0) → IsAtRest f x left →
     are_good f.heap_lines records ≡ true → HoldLines (heap_of f x) records → MayOpen f 0 records x left
-rest_may_open f records x left r good own =
-    let w = HasRegions-limits f x r.regions in
-    record {
-      logged = record {
-        records = [];
-        logs = record {
-          regions = r.regions;
-          log = read_log_closed f x (omega (arith, w.least_log)) r.regions.inside r.gate;
-          good = refl;
-        };
-        pending = λ image l. subst (λ (z : List ℕ). Agrees [] x z) (sym (r.only image l)) (Agrees-refl [] x);
-      };
-      ends = log_end-closed f x r.regions r.gate;
-      good = good;
-      own = own;
-    }
+unfolding rest_logged
+rest_may_open f records x left r good own = record {
+  logged = rest_logged f x left r;
+  ends = log_end-closed f x r.regions r.gate;
+  good = good;
+  own = own;
+}
 
 -- once a batch is open, the lines that it names may be put
 pub opens_may_put : (f : Frame) (place : ℕ) (records lines earlier : List Record) (x y : List ℕ)

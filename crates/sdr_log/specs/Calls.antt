@@ -1,5 +1,5 @@
 -- When the calls of the log may be made, and what they change.
-use Rattle.std.specs.Prelude.{◌≡◌, ◌<◌, ℕ, ◌+◌, ◌*◌, ◌⊎◌, ⊤, true, List, [], ◌∷◌, ◌++◌, length}
+use Rattle.std.specs.Prelude.{◌≡◌, ◌≤◌, ◌<◌, ℕ, ◌+◌, ◌*◌, ◌⊎◌, ⊤, true, List, [], ◌∷◌, ◌++◌, length}
 use Rattle.std.specs.Prelude.{Option, Some, None, is_some, option_map}
 use Rattle.sdr_base.specs.declared.line.TheConstants.{LINE}
 use Rattle.sdr_disk.specs.Moments.{Only}
@@ -31,6 +31,12 @@ AreNamed records (r ∷ others) = (is_named records r.line ≡ true) × AreNamed
 abbrev pub with_lines : Frame → List Record → List ℕ → List ℕ
 with_lines f [] x = x
 with_lines f (r ∷ records) x = with_lines f records (overwrite (heap_place f + LINE * r.line) r.bytes x)
+
+-- a batch of so many records has room in the log region from a place on, and in a buffer of so many bytes
+pub record HasPlace (f : Frame) (place count bytes : ℕ) : Type 0 where
+  pub some : 0 < count
+  pub fits : place + batch_size count < LINE * f.log_lines
+  pub gathered : batch_size count ≤ bytes
 
 -- A batch may be opened at a place: the open batches end there, and no line of the new one is named before.
 -- The new one has the bytes of its lines.

@@ -6,8 +6,8 @@ ghost use Rattle.sdr_disk.specs.Moments.{AtEach, IsTorn, Only};
 ghost use Rattle.sdr_disk.specs.Ranges.{overwrite};
 ghost use Rattle.sdr_disk.specs.Told.{Both, Told};
 ghost use Rattle.sdr_log.specs.Batch.{batch_of, batch_size, with_batch};
-ghost use Rattle.sdr_log.specs.Calls.{MayOpen, Opens};
-ghost use Rattle.sdr_log.specs.Frame.{IsInLimits, disk_bytes};
+ghost use Rattle.sdr_log.specs.Calls.{HasPlace, KeepsDisk, MayOpen, Opens};
+ghost use Rattle.sdr_log.specs.Frame.{LieInside};
 ghost use Rattle.sdr_log.specs.Logged.{GivesSame};
 
 use crate::gathering::gather;
@@ -69,19 +69,15 @@ pub fn write_batch<D: Disk>(
     records: &[Record],
     buffer: &mut [u8],
 ) -> Result<u64, DiskFault>
-    requires limits { IsInLimits frame }
-    requires inside { disk_bytes frame ≤ D.size disk.old }
-    requires some { 0 < length records.now }
-    requires room { batch_size (length records.now) ≤ length buffer.old }
-    requires fits { place + batch_size (length records.now) < LINE * frame.log_lines }
+    requires regions { LieInside frame (D.size disk.old) }
+    requires place { HasPlace frame place (length records.now) (length buffer.old) }
 
     ensures next { IfOk result (λ next. next ≡ place + batch_size (length records.now)) }
     ensures written { OnOk result (Told (D.bytes disk.old)
         (λ x. D.bytes disk.new ≡ Some (with_batch place records.now x))) }
     ensures cause { HasCause (D.faults disk.old) (D.faults disk.new) result }
 
-    ensures tells { is_some (D.bytes disk.new) ≡ is_some (D.bytes disk.old) }
-    ensures size { D.size disk.new ≡ D.size disk.old }
+    ensures disk { KeepsDisk D.size D.bytes disk.old disk.new }
 
     ensures opens { OnOk result (Both (D.bytes disk.old) (D.bytes disk.new)
         (λ x y. MayOpen frame place records.now x (D.may_leave disk.old (D.moment disk.old))

@@ -4,8 +4,8 @@ ghost use Rattle.sdr_base.specs.Causes.{HasCause};
 ghost use Rattle.sdr_disk.specs.Moments.{AtEach, IsTorn, Only, Syncs};
 ghost use Rattle.sdr_disk.specs.Ranges.{overwrite};
 ghost use Rattle.sdr_disk.specs.Told.{Both, Told};
-ghost use Rattle.sdr_log.specs.Calls.{Closes};
-ghost use Rattle.sdr_log.specs.Frame.{IsInLimits, disk_bytes};
+ghost use Rattle.sdr_log.specs.Calls.{Closes, KeepsDisk};
+ghost use Rattle.sdr_log.specs.Frame.{LieInside};
 ghost use Rattle.sdr_log.specs.Log.{heap_of};
 ghost use Rattle.sdr_log.specs.Logged.{Gives, GivesSame, IsOpen};
 
@@ -51,15 +51,13 @@ fn close_gate<D: Disk>(disk: &mut D) -> Result<(), DiskFault>
 /// Closes the first gate, and with it all batches, once the lines are synced. At `Ok` the heap is
 /// the heap region as it stands. It makes a sync, a write and a sync.
 pub fn close<D: Disk>(disk: &mut D, frame: Frame) -> Result<(), DiskFault>
-    requires limits { IsInLimits frame }
-    requires inside { disk_bytes frame ≤ D.size disk.old }
+    requires regions { LieInside frame (D.size disk.old) }
 
     ensures written { OnOk result (Told (D.bytes disk.old)
         (λ x. D.bytes disk.new ≡ Some (overwrite LINE (0 ∷ []) x))) }
     ensures cause { HasCause (D.faults disk.old) (D.faults disk.new) result }
 
-    ensures tells { is_some (D.bytes disk.new) ≡ is_some (D.bytes disk.old) }
-    ensures size { D.size disk.new ≡ D.size disk.old }
+    ensures disk { KeepsDisk D.size D.bytes disk.old disk.new }
 
     ensures closes { OnOk result (Both (D.bytes disk.old) (D.bytes disk.new)
         (λ x y. IsOpen frame x (D.may_leave disk.old (D.moment disk.old))

@@ -4,8 +4,8 @@ ghost use Rattle.sdr_base.specs.Causes.{HasCause};
 ghost use Rattle.sdr_disk.specs.Moments.{AtEach, Writes};
 ghost use Rattle.sdr_disk.specs.Ranges.{overwrite};
 ghost use Rattle.sdr_disk.specs.Told.{Both, Told};
-ghost use Rattle.sdr_log.specs.Calls.{AreBelow, MayPut, Puts, with_lines};
-ghost use Rattle.sdr_log.specs.Frame.{IsInLimits, disk_bytes, heap_place};
+ghost use Rattle.sdr_log.specs.Calls.{AreBelow, KeepsDisk, MayPut, Puts, with_lines};
+ghost use Rattle.sdr_log.specs.Frame.{LieInside, heap_place};
 ghost use Rattle.sdr_log.specs.Logged.{GivesSame};
 
 use crate::{Frame, Record};
@@ -14,8 +14,7 @@ use sdr_disk::{Disk, DiskFault};
 
 // Writes a line to its place.
 fn put_line<D: Disk>(disk: &mut D, frame: Frame, line: &Record) -> Result<(), DiskFault>
-    requires limits { IsInLimits frame }
-    requires inside { disk_bytes frame ≤ D.size disk.old }
+    requires regions { LieInside frame (D.size disk.old) }
     requires below { line.now.line < frame.heap_lines }
 
     ensures written { OnOk result (Told (D.bytes disk.old) (λ x. D.bytes disk.new
@@ -35,16 +34,14 @@ fn put_line<D: Disk>(disk: &mut D, frame: Frame, line: &Record) -> Result<(), Di
 
 /// Writes lines to their places, in order, and doesn't sync. It makes a write for each.
 pub fn put_lines<D: Disk>(disk: &mut D, frame: Frame, lines: &[Record]) -> Result<(), DiskFault>
-    requires limits { IsInLimits frame }
-    requires inside { disk_bytes frame ≤ D.size disk.old }
+    requires regions { LieInside frame (D.size disk.old) }
     requires below { AreBelow frame.heap_lines lines.now }
 
     ensures written { OnOk result (Told (D.bytes disk.old)
         (λ x. D.bytes disk.new ≡ Some (with_lines frame lines.now x))) }
     ensures cause { HasCause (D.faults disk.old) (D.faults disk.new) result }
 
-    ensures tells { is_some (D.bytes disk.new) ≡ is_some (D.bytes disk.old) }
-    ensures size { D.size disk.new ≡ D.size disk.old }
+    ensures disk { KeepsDisk D.size D.bytes disk.old disk.new }
 
     ensures puts { OnOk result (Both (D.bytes disk.old) (D.bytes disk.new)
         (λ x y. MayPut frame lines.now x (D.may_leave disk.old (D.moment disk.old))

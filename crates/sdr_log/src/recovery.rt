@@ -6,7 +6,7 @@ ghost use Rattle.sdr_disk.specs.Moments.{AtEach, Reads};
 ghost use Rattle.sdr_disk.specs.Told.{Both, Told};
 ghost use Rattle.sdr_log.specs.BackErrors.{HasBackCause, OnBadLog, UnlessFault};
 ghost use Rattle.sdr_log.specs.Calls.{AreBelow, GivesNone, KeepsDisk, MayPutBack, PutsBack};
-ghost use Rattle.sdr_log.specs.Frame.{IsInLimits, disk_bytes};
+ghost use Rattle.sdr_log.specs.Frame.{LieInside};
 ghost use Rattle.sdr_log.specs.Log.{are_good, first_gate, log_of};
 ghost use Rattle.sdr_log.specs.Logged.{GivesSame, HasRegions, IsAtRest, IsOpen, Logs};
 
@@ -20,8 +20,7 @@ use std::alloc::Global;
 fn has_regions<D: Disk>(disk: &mut D, frame: Frame) -> Result<bool, DiskFault>
     ensures has { IfOk result (λ has. Told (D.bytes disk.old)
         (λ x. IsTrue has ↔ HasRegions frame x)) }
-    ensures limits { IfOk result (λ has. IsTrue has → IsInLimits frame) }
-    ensures inside { IfOk result (λ has. IsTrue has → disk_bytes frame ≤ D.size disk.old) }
+    ensures regions { IfOk result (λ has. IsTrue has → LieInside frame (D.size disk.old)) }
     ensures cause { HasCause (D.faults disk.old) (D.faults disk.new) result }
 
     ensures size { D.size disk.new ≡ D.size disk.old }
@@ -41,8 +40,7 @@ fn has_regions<D: Disk>(disk: &mut D, frame: Frame) -> Result<bool, DiskFault>
 
 // The log region of a disk.
 fn read_log<D: Disk>(alloc: Global, disk: &mut D, frame: Frame) -> Result<Bytes, BackError>
-    requires limits { IsInLimits frame }
-    requires inside { disk_bytes frame ≤ D.size disk.old }
+    requires regions { LieInside frame (D.size disk.old) }
 
     ensures given { IfOk result (λ log. Told (D.bytes disk.old) (λ x. log ≡ log_of frame x)) }
     ensures long { IfOk result (λ log. length log ≡ LINE * frame.log_lines) }
@@ -65,8 +63,7 @@ fn read_records<D: Disk>(
 ) -> Result<Items<Record>, BackError>
     ensures logs { IfOk result (λ records. Told (D.bytes disk.old) (λ x. Logs frame x records)) }
     ensures good { IfOk result (λ records. are_good frame.heap_lines records ≡ true) }
-    ensures limits { IfOk result (λ _. IsInLimits frame) }
-    ensures inside { IfOk result (λ _. disk_bytes frame ≤ D.size disk.old) }
+    ensures regions { IfOk result (λ _. LieInside frame (D.size disk.old)) }
     ensures bad_log { IfErr result (λ why. OnBadLog why
         (Told (D.bytes disk.old) (GivesNone frame))) }
     ensures cause { HasBackCause (D.faults disk.old) (D.faults disk.new) result }
@@ -84,16 +81,14 @@ fn read_records<D: Disk>(
 
 // Puts back the records of the open batches.
 fn restore<D: Disk>(disk: &mut D, frame: Frame, records: &[Record]) -> Result<(), DiskFault>
-    requires limits { IsInLimits frame }
-    requires inside { disk_bytes frame ≤ D.size disk.old }
+    requires regions { LieInside frame (D.size disk.old) }
     requires good { are_good frame.heap_lines records.now ≡ true }
     requires some { 0 < length records.now }
 
     ensures back { OnOk result (Both (D.bytes disk.old) (D.bytes disk.new)
         (λ x y. Logs frame x records.now → PutsBack frame (length records.now) x y)) }
     ensures cause { HasCause (D.faults disk.old) (D.faults disk.new) result }
-    ensures tells { is_some (D.bytes disk.new) ≡ is_some (D.bytes disk.old) }
-    ensures size { D.size disk.new ≡ D.size disk.old }
+    ensures disk { KeepsDisk D.size D.bytes disk.old disk.new }
 
     ensures rest { OnOk result (Both (D.bytes disk.old) (D.bytes disk.new)
         (λ x y. Logs frame x records.now

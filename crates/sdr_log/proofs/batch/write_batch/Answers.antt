@@ -13,19 +13,19 @@ save_batch-requires-clause-inside g c = omega (
   arith,
   ap length c.gather-batch.ensures.batch,
   length-batch_of c.args.records.now c.gather-batch.ensures.lines,
-  c.requires.fits,
-  c.requires.inside,
+  c.requires.place.fits,
+  c.requires.regions.inside,
 )
 
 pub returns-in_err-save_batch-clause-any_moment : goal.returns-in_err-save_batch-clause-any_moment
 returns-in_err-save_batch-clause-any_moment g c x is m =
-    at_batch _ _ _ _ _ _ x m c.gather-batch.ensures.lines c.requires.some c.requires.fits _ c.gather-batch.ensures.batch _
+    at_batch _ _ _ _ _ _ x m c.gather-batch.ensures.lines c.requires.place.some c.requires.place.fits _ c.gather-batch.ensures.batch _
     c.save_batch.ensures.any_moment
 
 pub returns-in_err-open_gate-clause-any_moment : goal.returns-in_err-open_gate-clause-any_moment
 returns-in_err-open_gate-clause-any_moment g c x is m =
-    at_gate _ _ _ _ _ _ x m c.gather-batch.ensures.lines c.requires.some c.requires.fits _ c.gather-batch.ensures.batch _ _
-    (at_batch _ _ _ _ _ _ x m c.gather-batch.ensures.lines c.requires.some c.requires.fits _ c.gather-batch.ensures.batch _
+    at_gate _ _ _ _ _ _ x m c.gather-batch.ensures.lines c.requires.place.some c.requires.place.fits _ c.gather-batch.ensures.batch _ _
+    (at_batch _ _ _ _ _ _ x m c.gather-batch.ensures.lines c.requires.place.some c.requires.place.fits _ c.gather-batch.ensures.batch _
     c.save_batch.ensures.any_moment)
     (c.in_ok-save_batch.ensures.durable _ (c.in_ok-save_batch.ensures.written x is)) c.open_gate.ensures.any_moment
 
@@ -44,22 +44,22 @@ returns-clause-written g c x is =
     ∙ ap Some (with_batch-written c.args.place c.args.records.now x (omega (
       arith,
       length-batch_of c.args.records.now c.gather-batch.ensures.lines,
-      c.requires.fits,
-      c.requires.inside,
+      c.requires.place.fits,
+      c.requires.regions.inside,
       told_long _ _ x (g.met.D.Disk.told c.args.disk.now) is,
     )))
 
 pub returns-clause-opens : goal.returns-clause-opens
 returns-clause-opens g c x is y now m =
     let batch = c.gather-batch.ensures.batch in
-    opens_written _ _ _ x _ m c.gather-batch.ensures.lines c.requires.some c.requires.fits y _
+    opens_written _ _ _ x _ m c.gather-batch.ensures.lines c.requires.place.some c.requires.place.fits y _
     (same_Some _ _ (sym now ∙ c.in_ok-open_gate.ensures.written _ (c.in_ok-save_batch.ensures.written x is))
     ∙ ap (λ (b : List ℕ). overwrite (64 + c.args.place) (1 ∷ []) (overwrite (64 + c.args.place + 1) b x)) batch)
     (c.in_ok-open_gate.ensures.durable y now)
 
 pub returns-clause-any_moment : goal.returns-clause-any_moment
 returns-clause-any_moment g c x is m =
-    at_gate _ _ _ _ _ _ x m c.gather-batch.ensures.lines c.requires.some c.requires.fits _ c.gather-batch.ensures.batch _ _
-    (at_batch _ _ _ _ _ _ x m c.gather-batch.ensures.lines c.requires.some c.requires.fits _ c.gather-batch.ensures.batch _
+    at_gate _ _ _ _ _ _ x m c.gather-batch.ensures.lines c.requires.place.some c.requires.place.fits _ c.gather-batch.ensures.batch _ _
+    (at_batch _ _ _ _ _ _ x m c.gather-batch.ensures.lines c.requires.place.some c.requires.place.fits _ c.gather-batch.ensures.batch _
     c.save_batch.ensures.any_moment)
     (c.in_ok-save_batch.ensures.durable _ (c.in_ok-save_batch.ensures.written x is)) c.open_gate.ensures.any_moment

@@ -1,8 +1,7 @@
 use Rattle.std.proofs.Common.{◌∙◌, sym}
 use Rattle.std.proofs.lemmas.Option.{same_Some}
-use Rattle.sdr_disk.proofs.MomentsLemmas.{at_both}
 use Rattle.sdr_log.proofs.GoodLemmas.{AreBelow-good}
-use Rattle.sdr_log.proofs.RestoringLemmas.{closing_same, may_put, puts_open, restored}
+use Rattle.sdr_log.proofs.RestoringLemmas.{at_closed, may_put, puts_open, restored}
 use Rattle.sdr_log.proofs.recovery.restore.Goals as goal
 
 pub put_lines-requires-clause-below : goal.put_lines-requires-clause-below
@@ -17,9 +16,8 @@ returns-in_err-close-clause-any_moment g c x is l o =
     let m = may_put _ x _ _ l o.logged in
     let is1 = c.in_ok-put_lines.ensures.written x is in
     let p = c.in_ok-put_lines.ensures.puts x is _ is1 m in
-    at_both _ _ _ _ _ _ _ _ (c.put_lines.ensures.any_moment x is m)
-    (c.close.ensures.any_moment _ is1 (puts_open _ x _ _ _ _ o p)) (λ image same. same)
-    (λ image either. closing_same _ x _ image _ _ l p either)
+    at_closed _ _ _ _ _ _ x _ _ _ l p (c.put_lines.ensures.any_moment x is m)
+    (c.close.ensures.any_moment _ is1 (puts_open _ x _ _ _ _ o p))
 
 pub returns-clause-back : goal.returns-clause-back
 returns-clause-back g c x is y now l =
@@ -37,6 +35,5 @@ returns-clause-any_moment g c x is l o =
     let m = may_put _ x _ _ l o.logged in
     let is1 = c.in_ok-put_lines.ensures.written x is in
     let p = c.in_ok-put_lines.ensures.puts x is _ is1 m in
-    at_both _ _ _ _ _ _ _ _ (c.put_lines.ensures.any_moment x is m)
-    (c.close.ensures.any_moment _ is1 (puts_open _ x _ _ _ _ o p)) (λ image same. same)
-    (λ image either. closing_same _ x _ image _ _ l p either)
+    at_closed _ _ _ _ _ _ x _ _ _ l p (c.put_lines.ensures.any_moment x is m)
+    (c.close.ensures.any_moment _ is1 (puts_open _ x _ _ _ _ o p))
