@@ -70,10 +70,13 @@ opens_may_put f place records lines earlier x y left o log named =
     behind earlier records (r ∷ lines) named =
         (named_behind earlier records r.line named.0, behind earlier records lines named.1)
 
--- a batch that was opened at rest is the only one
-pub opens_alone : (f : Frame) (records : List Record) (x y : List ℕ) (left left' : List ℕ → Type 0) → IsAtRest f x left →
-    Opens f 0 records x y left' → read_log f y ≡ Some records
-opens_alone f records x y left left' r o =
+-- at rest no batch is open
+pub rest_reads : (f : Frame) (x : List ℕ) (left : List ℕ → Type 0) → IsAtRest f x left → read_log f x ≡ Some []
+rest_reads f x left r =
     let w = HasRegions-limits f x r.regions in
-    o.log ∙ ap (option_map (λ rs. rs ++ records))
-    (read_log_closed f x (omega (arith, w.least_log)) r.regions.inside r.gate)
+    read_log_closed f x (omega (arith, w.least_log)) r.regions.inside r.gate
+
+-- a batch that was opened at rest is the only one
+pub opens_alone : (f : Frame) (records : List Record) (x y : List ℕ) (left left' : List ℕ → Type 0) →
+    IsAtRest f x left → Opens f 0 records x y left' → read_log f y ≡ Some records
+opens_alone f records x y left left' r o = o.log ∙ ap (option_map (λ rs. rs ++ records)) (rest_reads f x left r)
