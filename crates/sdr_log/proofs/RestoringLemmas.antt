@@ -1,14 +1,15 @@
 -- Open batches that are put back and closed.
-use Rattle.std.proofs.Common.{◌≡◌, ◌<◌, inl, inr, ℕ, zero, suc, ◌+◌, ◌-◌, ◌*◌, Bool, true, false, cond}
+use Rattle.std.proofs.Common.{◌≡◌, ◌≤◌, ◌<◌, inl, inr, ℕ, zero, suc, ◌+◌, ◌-◌, ◌*◌, Bool, true, false, cond}
 use Rattle.std.proofs.Common.{◌||◌, ◌==◌, List, [], ◌∷◌, ◌++◌, length, take, drop, refl, sym, ap, ◌∙◌, subst, arith, Some}
 use Rattle.std.proofs.Common.{None, nat_le, ⊎_elim}
 use Rattle.std.specs.Prelude.{Option, option_map}
+use Rattle.std.proofs.lemmas.List.{drop_more}
 use Rattle.std.proofs.lemmas.Option.{same_Some, none-some}
 use Rattle.std.proofs.lemmas.Bool.Decides.{nat_tests}
 use Rattle.sdr_disk.specs.Moments.{AtEach, Reads}
 use Rattle.sdr_disk.specs.Ranges.{Agrees, overwrite, part}
 use Rattle.sdr_disk.proofs.MomentsLemmas.{at_both, at_first, at_read}
-use Rattle.sdr_disk.proofs.RangesLemmas.{Agrees-refl}
+use Rattle.sdr_disk.proofs.RangesLemmas.{Agrees-refl, overwrite-part}
 use Rattle.sdr_log.specs.Calls.{AreNamed, MayPut, MayPutBack, Puts, PutsBack, with_lines}
 use Rattle.sdr_log.specs.Frame.{heap_place, number}
 use Rattle.sdr_log.specs.Log.{AreLines, batches_of, first_gate, heap_of, put_back_of, put_records, read_log, records_of}
@@ -91,6 +92,7 @@ restored f records x y l some is =
       records = records;
       logs = l;
       lines = refl;
+      written = is;
       gives = put_back_of-logs f x records l ∙ ap Some (sym (c.heap ∙ w.heap));
       gate = c.rest.gate;
     }
@@ -135,15 +137,25 @@ none_closed f x l =
     shut : (fuel gate : ℕ) (log : List ℕ) → batches_of (suc fuel) (gate ∷ log) ≡ Some [] → gate ≡ 0
     shut fuel gate log e = by_gate gate fuel log (gate == 0) refl e
 
+-- a gate that is closed again
+closed_again : (x : List ℕ) → first_gate x ≡ 0 → 65 ≤ length x → overwrite 64 (0 ∷ []) x ≡ x
+closed_again x shut le =
+    let gate : part 64 1 x ≡ 0 ∷ [] =
+    ap (take 1) (drop_more x 64 0 (omega (arith, le))) ∙ ap (λ (n : ℕ). n ∷ []) shut in
+    ap (λ (l : List ℕ). overwrite 64 l x) (sym gate) ∙ overwrite-part 64 1 x le
+
 -- no line is put back
 pub restored_none : (f : Frame) (x y : List ℕ) → Logs f x [] → y ≡ x → PutsBack f 0 x y
-restored_none f x y l is = subst (λ (z : List ℕ). PutsBack f 0 x z) (sym is) record {
-  records = [];
-  logs = l;
-  lines = refl;
-  gives = put_back_of-logs f x [] l;
-  gate = none_closed f x l;
-}
+restored_none f x y l is =
+    let limits = HasRegions-limits f x l.regions in
+    subst (λ (z : List ℕ). PutsBack f 0 x z) (sym is) record {
+      records = [];
+      logs = l;
+      lines = refl;
+      written = sym (closed_again x (none_closed f x l) (omega (arith, l.regions.inside, limits.least_log)));
+      gives = put_back_of-logs f x [] l;
+      gate = none_closed f x l;
+    }
 
 -- Recovery at every moment.
 

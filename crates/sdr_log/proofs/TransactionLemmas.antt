@@ -1,15 +1,15 @@
 -- What the calls of a transaction need of one another, from rest to rest.
-use Rattle.std.proofs.Common.{◌≡◌, ◌<◌, ℕ, suc, ◌-◌, ◌*◌, true, Bool, ◌||◌, ◌==◌, List, [], ◌∷◌, ◌++◌, length, refl, sym, ap, ◌∙◌}
+use Rattle.std.proofs.Common.{◌≡◌, ℕ, suc, ◌-◌, ◌*◌, true, Bool, ◌||◌, ◌==◌, List, [], ◌∷◌, ◌++◌, sym, ap, ◌∙◌}
 use Rattle.std.proofs.Common.{subst, arith, Some}
 use Rattle.std.specs.Prelude.{option_map}
 use Rattle.std.proofs.lemmas.Option.{same_Some}
-use Rattle.sdr_disk.specs.History.{History, MayLeave}
-use Rattle.sdr_disk.specs.Ranges.{Agrees, part}
-use Rattle.sdr_disk.proofs.RangesLemmas.{Agrees-nil, Agrees-refl}
+use Rattle.sdr_disk.specs.History.{MayLeave}
+use Rattle.sdr_disk.specs.Ranges.{part}
+use Rattle.sdr_disk.proofs.RangesLemmas.{Agrees-nil}
 use Rattle.sdr_log.specs.Batch.{end_of, log_end}
 use Rattle.sdr_log.specs.Calls.{AreNamed, HoldLines, MayOpen, MayPut, Opens}
 use Rattle.sdr_log.specs.Log.{are_good, first_gate, heap_of, is_named, read_log}
-use Rattle.sdr_log.specs.Logged.{HasRegions, IsAtRest, IsLogged, lines_of}
+use Rattle.sdr_log.specs.Logged.{HasRegions, IsAtRest}
 use Rattle.sdr_log.specs.declared.frame.Frame.{Frame}
 use Rattle.sdr_log.specs.declared.record.Record.{Record}
 use Rattle.sdr_log.proofs.FoundLemmas.{end_of-closed}

@@ -81,11 +81,13 @@ MayPutBack f x left = Only x left ⊎ IsLogged f x left
 abbrev pub GivesNone : Frame → List ℕ → Type 0
 GivesNone f x = frame_of (part 0 LINE x) ≡ Some f → put_back_of x ≡ None
 
--- so many lines are put back: the heap region is the heap that opening gave, and no batch is open
+-- so many lines are put back and the first gate is closed, and no other byte changes: the heap region is the heap
+-- that opening gave, and no batch is open
 pub record PutsBack (f : Frame) (count : ℕ) (x y : List ℕ) : Type 0 where
   pub records : List Record
   pub logs : Logs f x records
   pub lines : count ≡ length records
+  pub written : y ≡ overwrite LINE (0 ∷ []) (with_lines f records x)
   pub gives : Gives (heap_of f y) x
   pub gate : first_gate y ≡ 0
 
