@@ -1,5 +1,6 @@
 -- Facts that go by cases, taken apart.
-use Rattle.std.proofs.Common.{Bool, true, false, Option, Some, None, MatchBool, MatchOption}
+use Rattle.std.proofs.Common.{Bool, true, false, Option, Some, None, Ok, Err, MatchBool, MatchOption}
+use Rattle.std.specs.Prelude.{Result, IfOk, OnOk}
 
 -- what follows from both sides of a test
 pub in_bool : {P Q R : Type 0} (b : Bool) → MatchBool b P Q → (P → R) → (Q → R) → R
@@ -10,3 +11,8 @@ in_bool false h f g = g h
 pub in_option : {T P R : Type 0} {Q : T → Type 0} (o : Option T) → MatchOption o P Q → (P → R) → ((x : T) → Q x → R) → R
 in_option None h f g = f h
 in_option (Some x) h f g = g x h
+
+-- what follows from two facts of a value
+pub in_ok : {T E Q : Type 0} {P R : T → Type 0} (r : Result T E) → IfOk r P → OnOk r Q → ((x : T) → P x → Q → R x) → IfOk r R
+in_ok (Ok x) p q both = both x p q
+in_ok (Err e) p q both = p

@@ -1,7 +1,12 @@
 -- One event draws one number at most, and takes one block at most.
-use Rattle.std.proofs.Common.{◌≡◌, ◌≤◌, ◌+◌, ◌==◌, ℕ, find, nat_le, ap, refl, arith}
+use Rattle.std.proofs.Common.{◌≡◌, ◌≤◌, ◌+◌, ◌==◌, ◌++◌, ◌∷◌, [], ℕ, List, find, nat_le, ap, refl, arith}
 use Rattle.std.specs.List.{list_any}
-use Rattle.sdr_model.specs.Dry.{dry_moves, blocks_taken}
+use Rattle.sdr_model.specs.Dry.{dry_moves, answered_moves, block_of, blocks_taken, elements_in, entries_in, keyed_in}
+use Rattle.sdr_model.specs.HashSteps.{as_hash}
+use Rattle.sdr_model.specs.ListSteps.{as_list}
+use Rattle.sdr_model.specs.Names.{name_of}
+use Rattle.sdr_model.specs.Steps.{gave}
+use Rattle.sdr_model.proofs.DryLemmas.{blocks_taken-gave}
 use Rattle.sdr_model.specs.Machine.{Machine, MachineStep, Comes, Holds, Waits, Serves, event_moves, says_moves, is_outside, served_number, with_next, with_transaction}
 use Rattle.sdr_model.specs.Transaction.{Transaction, Transacts, Replies, transaction_of, left_by, closing, is_opening, is_closing, deepest}
 use Rattle.sdr_model.specs.declared.answer.Answer.{Answer}
@@ -15,7 +20,7 @@ use Rattle.sdr_model.specs.declared.call.Call.TheVariants as calls
 use Rattle.sdr_model.specs.declared.event.Event.{Event}
 use Rattle.sdr_model.specs.declared.event.Event.TheVariants as events
 use Rattle.sdr_model.specs.declared.holder.Holder.{Holder}
-use Rattle.sdr_model.specs.declared.world.World.{World}
+use Rattle.sdr_model.specs.World.{World, thing_at}
 use Rattle.sdr_model.proofs.Cases.{in_bool, in_option}
 
 -- one number at most was drawn, and one block at most was taken
@@ -29,13 +34,19 @@ few_of next is drawn taken = record { drawn = omega (arith, ap (λ n. n.drawn) i
 few_same : {m m' : Machine} → m' ≡ m → Few m m'
 few_same {m} is = few_of m is (omega arith) (omega arith)
 
+few_given : (addrs : List ℕ) → blocks_taken (gave addrs) ≤ 1
+few_given addrs = omega (arith, blocks_taken-gave addrs)
+
+few_answered : (w : World) (call : Call) → blocks_taken (answered_moves w call) ≤ 1
+few_answered w (calls.ListDestroy addr) = few_given (elements_in (as_list (thing_at w addr)) ++ addr ∷ [])
+few_answered w (calls.HashRemove addr key) = few_given (keyed_in (as_hash (thing_at w addr)) key)
+few_answered w (calls.HashDestroy addr) = few_given (entries_in (as_hash (thing_at w addr)) ++ addr ∷ [])
+few_answered w (calls.Uncatlg name) = few_given (block_of (name_of w.names name))
+few_answered w call = omega arith
+
 few_blocks : (w : World) (call : Call) (reply : Reply) → blocks_taken (dry_moves w call reply) ≤ 1
-few_blocks w (calls.String text) (replies.At addr) = omega arith
-few_blocks w (calls.String text) reply = omega arith
-few_blocks w (calls.StringRead addr) reply = omega arith
-few_blocks w (calls.Catlg name kind object) replies.Done = omega arith
-few_blocks w (calls.Catlg name kind object) reply = omega arith
-few_blocks w call reply = omega arith
+few_blocks w call (replies.Refused refusal) = omega arith
+few_blocks w call reply = few_answered w call
 
 taken_left : (close : Close) (w current : World) → (left_by close w current).taken ≡ current.taken
 taken_left closes.Ended w current = refl
@@ -55,6 +66,8 @@ few_transacts m h t' events.Begin answer s =
 few_transacts m h t' (events.Say call) answer s =
     in_option h.doom s (λ r. few_replies (transaction_of h m.current) t' call answer r) (λ reason d. omega (arith, ap (λ t. t.world.taken) d.2))
 few_transacts m h t' events.End answer s = omega (arith, ap (λ t. t.world.taken) s.2)
+few_transacts m h t' events.Exit answer s = omega (arith, ap (λ t. t.world.taken) s.2)
+few_transacts m h t' events.Cancel answer s = omega (arith, ap (λ t. t.world.taken) s.2)
 few_transacts m h t' event answer s = absurd s
 
 few_serves : (m m' : Machine) (h : Holder) (event : Event) (answer : Answer) → Serves m h event answer (event_moves m event answer) m' → Few m m'
@@ -62,7 +75,7 @@ few_serves m m' h event answer s =
     in_bool (is_opening (transaction_of h m.current) event) s
     (λ o. few_of (with_transaction m h (record (transaction_of h m.current) { depth = 1 })) o.2 (omega arith) (omega arith))
     (λ s'. in_bool (is_closing (transaction_of h m.current) event) s'
-    (λ c. let close = closing (transaction_of h m.current) in
+    (λ c. let close = closing (transaction_of h m.current) event in
     few_of (with_next m (left_by close m.world m.current)) c.2 (omega arith) (omega (arith, taken_left close m.world m.current)))
     (λ w. few_of (with_transaction m h w.after) w.others (omega arith) (few_transacts m h w.after event answer w.transacts)))
 
@@ -73,11 +86,18 @@ few_waits m m' h event answer s =
 
 few_holds : (m m' : Machine) (h : Holder) (event : Event) (answer : Answer) → Holds m h event answer (event_moves m event answer) m' → Few m m'
 few_holds m m' h events.Request answer s = few_same s.2
+few_holds m m' h (events.Look ticket) answer s =
+    in_bool (h.depth == 0) s
+    (λ s'. in_bool (served_number m.holders == h.number) s' (λ g. few_of _ g.2 (omega arith) (omega arith)) (λ g. few_same g.2))
+    (λ g. few_same g.2)
 few_holds m m' h event answer s = few_waits m m' h event answer s
 
 few_comes : (m m' : Machine) (daemon : ℕ) (event : Event) (answer : Answer) → Comes m daemon event answer (event_moves m event answer) m' → Few m m'
 few_comes m m' daemon events.Request answer s = few_of _ s.2 (omega arith) (omega arith)
 few_comes m m' daemon events.Begin answer s = few_of _ s.2 (omega arith) (omega arith)
+few_comes m m' daemon (events.Look ticket) answer s =
+    in_bool (served_number m.holders == 0) s
+    (λ g. few_of _ g.2 (omega arith) (omega arith)) (λ g. few_of _ g.2 (omega arith) (omega arith))
 few_comes m m' daemon event answer s = few_same s.2
 
 pub few : (m m' : Machine) (daemon : ℕ) (event : Event) (answer : Answer) → MachineStep m daemon event answer (event_moves m event answer) m' → Few m m'

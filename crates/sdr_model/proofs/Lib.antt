@@ -1,6 +1,11 @@
 pub mod Cases
 pub mod CountLemmas
-pub mod DraftLemmas
+pub mod DryLemmas
 pub mod MachineLemmas
+pub mod MapLemmas
 pub mod NamesLemmas
-pub mod StringsLemmas
+pub mod OrderLemmas
+pub mod PresentLemmas
+pub mod SpotLemmas
+pub mod StoreLemmas
+pub mod TableLemmas

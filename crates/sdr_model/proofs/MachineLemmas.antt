@@ -6,7 +6,7 @@ use Rattle.sdr_model.specs.Transaction.{Transacts, transaction_of}
 use Rattle.sdr_model.specs.declared.answer.Answer.{Answer}
 use Rattle.sdr_model.specs.declared.event.Event.{Event}
 use Rattle.sdr_model.specs.declared.holder.Holder.{Holder}
-use Rattle.sdr_model.specs.declared.world.World.{World}
+use Rattle.sdr_model.specs.World.{World}
 
 -- The served transaction goes on where the holder in front has come to what the transaction has.
 pub works : (m m' : Machine) (h h' : Holder) (w : World) (event : Event) (answer : Answer) (moves : List Move)
@@ -17,7 +17,7 @@ pub works : (m m' : Machine) (h h' : Holder) (w : World) (event : Event) (answer
 works m m' h h' w event answer moves daemon number transacts is = record {
   after = transaction_of h' w;
   transacts = transacts;
-  others = is ∙ (λ i. record m { holders = record { daemon = daemon i; number = number i; depth = h'.depth; doom = h'.doom } ∷ drop 1 m.holders; current = w });
+  others = is ∙ (λ i. record m { holders = record { daemon = daemon i; number = number i; depth = h'.depth; doom = h'.doom; modified = h'.modified } ∷ drop 1 m.holders; current = w });
 }
 
 -- where the test is false, the second holds

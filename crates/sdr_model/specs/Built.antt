@@ -7,16 +7,45 @@ use Rattle.sdr_model.specs.declared.event.Event.TheVariants as events
 
 -- whether it serves the call
 abbrev pub is_built : Call → Bool
-is_built (calls.String text) = true
-is_built (calls.StringRead addr) = true
-is_built (calls.Catlg name kind object) = true
-is_built (calls.Find name) = true
-is_built call = false
+is_built (calls.HashInsert addr key value) = false
+is_built (calls.Hash key_length buckets) = false
+is_built (calls.HashRetrieve addr key) = false
+is_built (calls.HashRevise addr key value) = false
+is_built (calls.HashRemove addr key) = false
+is_built (calls.HashCount addr) = false
+is_built (calls.HashDestroy addr) = false
+is_built (calls.FileRef path length) = false
+is_built (calls.BulkRef item length) = false
+is_built (calls.ObjRef addr) = false
+is_built (calls.DestroyRef addr) = false
+is_built (calls.Count addr) = false
+is_built (calls.Occupancy acct space) = false
+is_built (calls.Maximum acct space) = false
+is_built (calls.SetMaximum acct space value) = false
+is_built (calls.Create acct ticket) = false
+is_built (calls.AppendExtent addr ticket source offset length) = false
+is_built (calls.PrependHeader addr ticket text) = false
+is_built (calls.AppendTrailer addr ticket text) = false
+is_built (calls.DiscardFirstHeader addr) = false
+is_built (calls.DiscardLastTrailer addr) = false
+is_built (calls.Bond addr ticket) = false
+is_built (calls.ClonePart addr ticket offset length) = false
+is_built (calls.Delimit addr offset length) = false
+is_built (calls.Strip addr) = false
+is_built (calls.ZcoLength addr) = false
+is_built (calls.SourceLength addr) = false
+is_built (calls.Destroy addr) = false
+is_built (calls.Transmit addr place count) = false
+is_built (calls.ReceiveHeaders addr place count) = false
+is_built (calls.ReceiveSource addr place count) = false
+is_built (calls.ReceiveTrailers addr place count) = false
+is_built (calls.Request acct file bulk heap coarse fine) = false
+is_built (calls.Awarded ticket) = false
+is_built (calls.Shred ticket) = false
+is_built call = true
 
 -- whether it serves the event
 abbrev pub is_built_event : Event → Bool
-is_built_event events.Request = true
-is_built_event events.Begin = true
 is_built_event (events.Say call) = is_built call
-is_built_event events.End = true
-is_built_event event = false
+is_built_event (events.Leaves leave) = false
+is_built_event event = true

@@ -10,7 +10,7 @@ use Rattle.sdr_model.specs.declared.event.Event.TheVariants as events
 use Rattle.sdr_model.specs.declared.journal.Entry.{Entry}
 use Rattle.sdr_model.specs.declared.journal.Said.{Said}
 use Rattle.sdr_model.specs.declared.journal.What.TheVariants as whats
-use Rattle.sdr_model.specs.declared.world.World.{World}
+use Rattle.sdr_model.specs.World.{World}
 
 -- what a daemon has said in its open transaction
 pub record Work : Type 0 where
@@ -41,11 +41,13 @@ said_by works daemon = flat_map (λ w. w.said) (filter (λ w. w.daemon == daemon
 abbrev pub without_work : List Work → ℕ → List Work
 without_work works daemon = filter (λ w. not (w.daemon == daemon)) works
 
--- an event stands in no entry where it is a request, or is refused to a daemon outside a transaction or not served
+-- an event stands in no entry where it is a request, is refused to a daemon outside a transaction or not served, or is a
+-- look at a ticket that isn't there
 abbrev pub is_passed_over : Event → Answer → Bool
 is_passed_over events.Request answer = true
 is_passed_over event (answers.Reply (replies.Refused refusals.NotBegun)) = true
 is_passed_over event (answers.Reply (replies.Refused (refusals.Suspended serving mine))) = true
+is_passed_over (events.Look ticket) (answers.Reply (replies.Refused (refusals.BadTicket missing))) = true
 is_passed_over event answer = false
 
 -- the open transactions after a daemon said this in one

@@ -6,16 +6,14 @@ use Rattle.sdr_base.specs.declared.moves.Move.{Move}
 use Rattle.sdr_base.specs.declared.refusal.Refusal.TheVariants as refusals
 use Rattle.sdr_model.specs.Dry.{dry_moves}
 use Rattle.sdr_model.specs.Transaction.{Transaction, transaction_of, Transacts, is_opening, is_closing, closing, left_by, refused}
-use Rattle.sdr_model.specs.World.{empty_world}
 use Rattle.sdr_model.specs.contracts.holder.Holder as holder
-use Rattle.sdr_model.specs.contracts.world.World as world
 use Rattle.sdr_model.specs.declared.answer.Answer.{Answer}
 use Rattle.sdr_model.specs.declared.answer.Answer.TheVariants as answers
 use Rattle.sdr_model.specs.declared.call.Call.{Call}
 use Rattle.sdr_model.specs.declared.event.Event.{Event}
 use Rattle.sdr_model.specs.declared.event.Event.TheVariants as events
 use Rattle.sdr_model.specs.declared.holder.Holder.{Holder}
-use Rattle.sdr_model.specs.declared.world.World.{World}
+use Rattle.sdr_model.specs.World.{World, coded_world, empty_world}
 
 -- who may come, who holds a number, and the worlds before and in the served transaction
 pub record Machine : Type 0 where
@@ -31,7 +29,7 @@ pub record Machine : Type 0 where
 -- a machine as its parts
 abbrev pub coded_machine : Coded Machine
 coded_machine = code_by (List ℕ × (ℕ × (List Holder × (World × World))))
-    (coded× (coded_list coded_ℕ) (coded× coded_ℕ (coded× (coded_list holder.the_row.coded) (coded× world.the_row.coded world.the_row.coded))))
+    (coded× (coded_list coded_ℕ) (coded× coded_ℕ (coded× (coded_list holder.the_row.coded) (coded× coded_world coded_world))))
     (λ m. (m.daemons, (m.drawn, (m.holders, (m.world, m.current)))))
     (λ p. record { daemons = p.0; drawn = p.1.0; holders = p.1.1.0; world = p.1.1.1.0; current = p.1.1.1.1 })
     (λ _. refl)
@@ -54,18 +52,29 @@ abbrev pub Draws : Machine → ℕ → ℕ → Answer → List Move → Machine 
 Draws m daemon depth answer moves m' =
     let number = m.drawn + 1 in
     Goes answer moves m' (answers.Lock number)
-    (record m { drawn = number; holders = m.holders ++ record { daemon = daemon; number = number; depth = depth; doom = None } ∷ [] })
+    (record m { drawn = number; holders = m.holders ++ record { daemon = daemon; number = number; depth = depth; doom = None; modified = false } ∷ [] })
 
--- a daemon without a number draws one by a request or a begin
+-- A look at a ticket, of which there is none yet, of a daemon without a number: it draws one, which is done at once
+-- where it is served, and else is kept.
+abbrev pub ComesLooking : Machine → ℕ → ℕ → Answer → List Move → Machine → Type 0
+ComesLooking m daemon ticket answer moves m' =
+    let number = m.drawn + 1 in
+    MatchBool (served_number m.holders == 0)
+    (Goes answer moves m' (refused (refusals.BadTicket ticket)) (record m { drawn = number }))
+    (Goes answer moves m' (refused (refusals.Suspended (served_number m.holders) number))
+    (record m { drawn = number; holders = m.holders ++ record { daemon = daemon; number = number; depth = 0; doom = None; modified = false } ∷ [] }))
+
+-- a daemon without a number draws one by a request, a begin or a look
 abbrev pub Comes : Machine → ℕ → Event → Answer → List Move → Machine → Type 0
 Comes m daemon events.Request answer moves m' = Draws m daemon 0 answer moves m'
 Comes m daemon events.Begin answer moves m' = Draws m daemon 1 answer moves m'
+Comes m daemon (events.Look ticket) answer moves m' = ComesLooking m daemon ticket answer moves m'
 Comes m daemon event answer moves m' = Goes answer moves m' (refused refusals.NotBegun) m
 
 -- the machine with the served holder's transaction come to this
 abbrev pub with_transaction : Machine → Holder → Transaction → Machine
 with_transaction m h t =
-    record m { holders = record h { depth = t.depth; doom = t.doom } ∷ drop 1 m.holders; current = t.world }
+    record m { holders = record h { depth = t.depth; doom = t.doom; modified = t.modified } ∷ drop 1 m.holders; current = t.world }
 
 -- The served transaction goes on.
 pub record Works (m : Machine) (h : Holder) (event : Event) (answer : Answer) (moves : List Move) (m' : Machine) : Type 0 where
@@ -83,9 +92,9 @@ abbrev pub with_next : Machine → World → Machine
 with_next m w = record m { holders = drop 1 m.holders; world = w; current = w }
 
 -- The served transaction closes, and its number is done.
-abbrev pub Closes : Machine → Holder → Answer → List Move → Machine → Type 0
-Closes m h answer moves m' =
-    let close = closing (transaction_of h m.current) in
+abbrev pub Closes : Machine → Holder → Event → Answer → List Move → Machine → Type 0
+Closes m h event answer moves m' =
+    let close = closing (transaction_of h m.current) event in
     Goes answer moves m' (answers.Closed close) (with_next m (left_by close m.world m.current))
 
 -- one event of the served holder
@@ -93,7 +102,7 @@ abbrev pub Serves : Machine → Holder → Event → Answer → List Move → Ma
 Serves m h event answer moves m' =
     let t = transaction_of h m.current in
     MatchBool (is_opening t event) (Opens m h answer moves m')
-    (MatchBool (is_closing t event) (Closes m h answer moves m') (Works m h event answer moves m'))
+    (MatchBool (is_closing t event) (Closes m h event answer moves m') (Works m h event answer moves m'))
 
 -- the daemon has a number, but is in no transaction
 abbrev pub is_outside : Holder → Event → Bool
@@ -109,9 +118,19 @@ Waits m h event answer moves m' =
     (Serves m h event answer moves m')
     (Goes answer moves m' (refused (refusals.Suspended (served_number m.holders) h.number)) m))
 
+-- A look of a holder: it is refused in a transaction, and where the number isn't served; else the number is done.
+abbrev pub Looks : Machine → Holder → ℕ → Answer → List Move → Machine → Type 0
+Looks m h ticket answer moves m' =
+    MatchBool (h.depth == 0)
+    (MatchBool (served_number m.holders == h.number)
+    (Goes answer moves m' (refused (refusals.BadTicket ticket)) (record m { holders = drop 1 m.holders }))
+    (Goes answer moves m' (refused (refusals.Suspended (served_number m.holders) h.number)) m))
+    (Goes answer moves m' (refused (refusals.InTransaction h.number)) m)
+
 -- one event of a holder: a request changes nothing
 abbrev pub Holds : Machine → Holder → Event → Answer → List Move → Machine → Type 0
 Holds m h events.Request answer moves m' = Goes answer moves m' (answers.Lock h.number) m
+Holds m h (events.Look ticket) answer moves m' = Looks m h ticket answer moves m'
 Holds m h event answer moves m' = Waits m h event answer moves m'
 
 -- From m, the machine may answer the daemon's event so, with these moves, and go on to m'.

@@ -25,3 +25,8 @@ coded_name = code_by (ℕ × (List ℕ × (ℕ × ℕ))) (coded× coded_ℕ (cod
     (λ n. (n.block, (n.name, (n.kind, n.object))))
     (λ p. record { block = p.0; name = p.1.0; kind = p.1.1.0; object = p.1.1.1 })
     (λ _. refl)
+
+-- the entries without that of a name
+abbrev pub without_name : List Name → List ℕ → List Name
+without_name [] name = []
+without_name (n ∷ names) name = if pointwise nat_eq name n.name then names else n ∷ without_name names name

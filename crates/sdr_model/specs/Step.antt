@@ -1,74 +1,66 @@
 -- One step of the machine.
-use Rattle.std.specs.Prelude.{◌≡◌, ℕ, ◌+◌, List, [], ◌∷◌, ◌++◌, length, nat_lt, ◌||◌, Bool, true, false, MatchBool, MatchOption}
-use Rattle.std.specs.FinMap as map
+use Rattle.std.specs.Prelude.{ℕ, ◌+◌, List, length}
 use Rattle.sdr_base.specs.declared.moves.Move.{Move}
-use Rattle.sdr_base.specs.declared.moves.Move.TheVariants.{Took}
-use Rattle.sdr_base.specs.declared.refusal.Refusal.{Refusal}
-use Rattle.sdr_base.specs.declared.refusal.Refusal.TheVariants as refusals
-use Rattle.sdr_model.specs.Names.{name_of}
-use Rattle.sdr_model.specs.World.{no_string}
+use Rattle.sdr_model.specs.RawSteps as raw
+use Rattle.sdr_model.specs.ListSteps as list
+use Rattle.sdr_model.specs.TableSteps as table
+use Rattle.sdr_model.specs.HashSteps as hash
+use Rattle.sdr_model.specs.NameSteps as catalogue
+use Rattle.sdr_model.specs.Steps.{Outcome}
+use Rattle.sdr_model.specs.World.{World}
 use Rattle.sdr_model.specs.declared.answer.Reply.{Reply}
-use Rattle.sdr_model.specs.declared.answer.Reply.TheVariants as replies
 use Rattle.sdr_model.specs.declared.call.Call.{Call}
 use Rattle.sdr_model.specs.declared.call.Call.TheVariants as calls
-use Rattle.sdr_model.specs.declared.world.World.{World}
 
--- a string has at most so many bytes
-abbrev pub longest_string : ℕ
-longest_string = 255
-
--- a name in the catalogue has at most so many bytes, and at least one
-abbrev pub longest_name : ℕ
-longest_name = 31
-
--- a catalogue entry fills so many bytes
-abbrev pub name_need : ℕ
-name_need = 56
-
--- the call is refused, and leaves the world
-abbrev pub Refuses : World → List Move → World → Reply → Refusal → Type 0
-Refuses w moves w' reply refusal = (moves ≡ []) × (w' ≡ w) × (reply ≡ replies.Refused refusal)
-
--- the call only reads: the world shows these bytes, and else stays
-abbrev pub Reads : World → List Move → World → Reply → List ℕ → Reply → Type 0
-Reads w moves w' reply bytes answer = (moves ≡ []) × (w' ≡ record w { shown = bytes }) × (reply ≡ answer)
-
--- the one move takes a block of this need, and its address has P
-abbrev pub TakesOne : List Move → ℕ → (ℕ → Type 0) → Type 0
-TakesOne (Took n addr ∷ []) need P = (n ≡ need) × P addr
-TakesOne moves need P = ⊥
-
--- no name has so many bytes
-abbrev pub is_no_name : ℕ → Bool
-is_no_name bytes = nat_lt bytes 1 || nat_lt longest_name bytes
+-- From the world w, the call may come to this.
+abbrev pub StepTo : World → Outcome → Call → Type 0
+StepTo w o (calls.Malloc bytes) = raw.Malloc w o bytes
+StepTo w o (calls.Free addr) = raw.Free w o addr
+StepTo w o (calls.Length addr) = raw.Length w o addr
+StepTo w o (calls.Read addr place count) = raw.Read w o addr place count
+StepTo w o (calls.Write addr place bytes) = raw.Write w o addr place bytes
+StepTo w o (calls.Stage addr count) = raw.Stage w o addr count
+StepTo w o (calls.String text) = raw.Text w o text
+StepTo w o (calls.StringLength addr) = raw.TextLength w o addr
+StepTo w o (calls.StringRead addr) = raw.TextRead w o addr
+StepTo w o (calls.StringDup addr) = raw.TextDup w o addr
+StepTo w o (calls.List user) = list.MakeList w o user
+StepTo w o (calls.ListDestroy addr) = list.ListDestroy w o addr
+StepTo w o (calls.ListLength addr) = list.ReadsList w o addr (λ row. length row.elements)
+StepTo w o (calls.ListUser addr) = list.ReadsList w o addr (λ row. row.user)
+StepTo w o (calls.SetListUser addr user) = list.SetListUser w o addr user
+StepTo w o (calls.InsertFirst addr datum) = list.InsertAt w o addr (λ row. 0) datum
+StepTo w o (calls.InsertLast addr datum) = list.InsertAt w o addr (λ row. length row.elements) datum
+StepTo w o (calls.InsertBefore element datum) = list.InsertBeside w o element (λ place. place) datum
+StepTo w o (calls.InsertAfter element datum) = list.InsertBeside w o element (λ place. place + 1) datum
+StepTo w o (calls.InsertOrdered addr datum by) = list.InsertAt w o addr (list.ordered_place w by datum) datum
+StepTo w o (calls.Search addr datum by) = list.FindsInList w o addr (list.equal_addr w by datum)
+StepTo w o (calls.Delete element) = list.Delete w o element
+StepTo w o (calls.First addr) = list.FindsInList w o addr (λ row. list.element_addr row.elements 0)
+StepTo w o (calls.Last addr) = list.FindsInList w o addr (λ row. list.last_addr row.elements)
+StepTo w o (calls.Next element) = list.FindsBeside w o element (λ s. list.element_addr s.row.elements (s.place + 1))
+StepTo w o (calls.Prev element) = list.FindsBeside w o element list.addr_before
+StepTo w o (calls.Datum element) = list.Datum w o element
+StepTo w o (calls.SetDatum element datum) = list.SetDatum w o element datum
+StepTo w o (calls.Table rows size user) = table.MakeTable w o rows size user
+StepTo w o (calls.Row addr row) = table.Row w o addr row
+StepTo w o (calls.SetRow addr row bytes) = table.SetRow w o addr row bytes
+StepTo w o (calls.Dimensions addr) = table.Dimensions w o addr
+StepTo w o (calls.TableUser addr) = table.TableUser w o addr
+StepTo w o (calls.TableDestroy addr) = table.TableDestroy w o addr
+StepTo w o (calls.Hash key_length buckets) = hash.MakeHash w o key_length buckets
+StepTo w o (calls.HashInsert addr key value) = hash.HashInsert w o addr key value
+StepTo w o (calls.HashRetrieve addr key) = hash.HashRetrieve w o addr key
+StepTo w o (calls.HashRevise addr key value) = hash.HashRevise w o addr key value
+StepTo w o (calls.HashRemove addr key) = hash.HashRemove w o addr key
+StepTo w o (calls.HashCount addr) = hash.HashCount w o addr
+StepTo w o (calls.HashDestroy addr) = hash.HashDestroy w o addr
+StepTo w o (calls.Catlg name kind object) = catalogue.Catlg w o name kind object
+StepTo w o (calls.Find name) = catalogue.Find w o name
+StepTo w o (calls.Uncatlg name) = catalogue.Uncatlg w o name
+StepTo w o (calls.Entry place) = catalogue.Entry w o place
+StepTo w o call = ⊥
 
 -- From the world w, the machine may answer the call so, with these moves, and go on to w'.
 abbrev pub Step : World → Call → List Move → World → Reply → Type 0
--- a string of the text is made
-Step w (calls.String text) moves w' reply =
-    MatchBool (nat_lt longest_string (length text))
-    (Refuses w moves w' reply (refusals.BadLength (length text) longest_string))
-    (TakesOne moves (1 + length text) (λ addr.
-    (w' ≡ record w { strings = map.insert w.strings addr text; shown = [] }) × (reply ≡ replies.At addr)))
--- the string's text is given
-Step w (calls.StringRead addr) moves w' reply =
-    MatchOption (map.get w.strings addr)
-    (Refuses w moves w' reply (no_string w addr))
-    (λ text. Reads w moves w' reply text (replies.Bytes (length text)))
--- a new name is last in the catalogue
-Step w (calls.Catlg name kind object) moves w' reply =
-    MatchBool (is_no_name (length name))
-    (Refuses w moves w' reply (refusals.BadLength (length name) longest_name))
-    (MatchOption (name_of w.names name)
-    (TakesOne moves name_need (λ addr.
-    (w' ≡ record w { names = w.names ++ record { block = addr; name = name; kind = kind; object = object } ∷ []; shown = [] })
-    × (reply ≡ replies.Done)))
-    (λ n. Refuses w moves w' reply (refusals.NameTaken n.object)))
--- the type and the object of the name are given
-Step w (calls.Find name) moves w' reply =
-    MatchBool (is_no_name (length name))
-    (Refuses w moves w' reply (refusals.BadLength (length name) longest_name))
-    (MatchOption (name_of w.names name)
-    (Refuses w moves w' reply refusals.NotFound)
-    (λ n. Reads w moves w' reply [] (replies.Pair n.kind n.object)))
-Step w call moves w' reply = ⊥
+Step w call moves w' reply = StepTo w (record { moves = moves; after = w'; reply = reply }) call

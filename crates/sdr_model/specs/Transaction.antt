@@ -1,5 +1,5 @@
 -- A transaction of the machine: what its events do to its depth, its doom and the world.
-use Rattle.std.specs.Prelude.{◌≡◌, ℕ, ◌+◌, ◌-◌, List, [], Bool, false, Option, Some, unwrap_or, nat_le, ◌==◌, if◌then◌else◌, MatchBool, MatchOption}
+use Rattle.std.specs.Prelude.{◌≡◌, ℕ, ◌+◌, ◌-◌, List, [], Bool, true, false, Option, Some, unwrap_or, nat_le, ◌==◌, if◌then◌else◌, MatchBool, MatchOption}
 use Rattle.std.specs.Option.{option_map_or}
 use Rattle.sdr_base.specs.Refusal.{refusal_number}
 use Rattle.sdr_base.specs.declared.moves.Move.{Move}
@@ -7,6 +7,7 @@ use Rattle.sdr_base.specs.declared.refusal.Reason.{Reason}
 use Rattle.sdr_base.specs.declared.refusal.Reason.TheVariants as reasons
 use Rattle.sdr_base.specs.declared.refusal.Refusal.{Refusal}
 use Rattle.sdr_base.specs.declared.refusal.Refusal.TheVariants as refusals
+use Rattle.sdr_model.specs.Draft.{at_rest}
 use Rattle.sdr_model.specs.Dry.{StepsDry}
 use Rattle.sdr_model.specs.Reading.{is_reading}
 use Rattle.sdr_model.specs.declared.answer.Answer.{Answer}
@@ -19,31 +20,37 @@ use Rattle.sdr_model.specs.declared.call.Call.{Call}
 use Rattle.sdr_model.specs.declared.event.Event.{Event}
 use Rattle.sdr_model.specs.declared.event.Event.TheVariants as events
 use Rattle.sdr_model.specs.declared.holder.Holder.{Holder}
-use Rattle.sdr_model.specs.declared.world.World.{World}
+use Rattle.sdr_model.specs.World.{World}
 
 -- transactions are nested to this depth at most
 abbrev pub deepest : ℕ
 deepest = 64
 
--- an open transaction: how deep it is nested, its doom, and the world as it has made it
+-- an open transaction: how deep it is nested, its doom, whether a changing call was answered in it, and the world as it
+-- has made it
 pub record Transaction : Type 0 where
   pub depth : ℕ
   pub doom : Option Reason
+  pub modified : Bool
   pub world : World
 
 -- a holder's transaction, where it has made this world
 abbrev pub transaction_of : Holder → World → Transaction
-transaction_of h w = record { depth = h.depth; doom = h.doom; world = w }
+transaction_of h w = record { depth = h.depth; doom = h.doom; modified = h.modified; world = w }
 
 -- the transaction can only be cancelled, for the first reason that there was
 abbrev pub doomed_for : Reason → Transaction → Transaction
 doomed_for reason t = record t { doom = Some (unwrap_or t.doom reason) }
 
--- a refused changing call dooms its transaction, and no other reply does
+-- the transaction has changed something
+abbrev pub modified : Transaction → Transaction
+modified t = record t { modified = true }
+
+-- a refused changing call dooms its transaction, and one that was answered has modified it
 abbrev pub after_reply : Call → Reply → Transaction → Transaction
 after_reply call (replies.Refused refusal) t =
     if is_reading call then t else doomed_for (reasons.Refused (refusal_number refusal)) t
-after_reply call reply t = t
+after_reply call reply t = if is_reading call then t else modified t
 
 -- the answer is this refusal
 abbrev pub refused : Refusal → Answer
@@ -60,9 +67,13 @@ Deepens t answer moves t' =
     (Becomes answer moves t' (refused refusals.TooDeep) (doomed_for (reasons.Refused 23) t))
     (Becomes answer moves t' (answers.Depth (t.depth + 1)) (record t { depth = t.depth + 1 }))
 
--- An inner end is one less deep.
+-- An inner end or exit is one less deep.
 abbrev pub Rises : Transaction → Answer → List Move → Transaction → Type 0
 Rises t answer moves t' = Becomes answer moves t' (answers.Depth (t.depth - 1)) (record t { depth = t.depth - 1 })
+
+-- An inner cancel is one less deep, and dooms.
+abbrev pub Retreats : Transaction → Answer → List Move → Transaction → Type 0
+Retreats t answer moves t' = Becomes answer moves t' (answers.Depth (t.depth - 1)) (record (doomed_for reasons.Inner t) { depth = t.depth - 1 })
 
 -- the answer is the reply, by one step of the machine
 abbrev pub Replies : Transaction → Call → Answer → List Move → Transaction → Type 0
@@ -83,6 +94,8 @@ Transacts t events.Request answer moves t' = ⊥
 Transacts t events.Begin answer moves t' = Deepens t answer moves t'
 Transacts t (events.Say call) answer moves t' = Says t call answer moves t'
 Transacts t events.End answer moves t' = Rises t answer moves t'
+Transacts t events.Exit answer moves t' = Rises t answer moves t'
+Transacts t events.Cancel answer moves t' = Retreats t answer moves t'
 Transacts t event answer moves t' = ⊥
 
 -- the event is the transaction's first begin
@@ -90,16 +103,24 @@ abbrev pub is_opening : Transaction → Event → Bool
 is_opening t events.Begin = t.depth == 0
 is_opening t event = false
 
--- the event closes the transaction: it is the outermost end
+-- the event closes the transaction: it is the outermost end, cancel or exit
 abbrev pub is_closing : Transaction → Event → Bool
 is_closing t events.End = nat_le t.depth 1
+is_closing t events.Cancel = nat_le t.depth 1
+is_closing t events.Exit = nat_le t.depth 1
 is_closing t event = false
 
--- how the outermost end closes the transaction
-abbrev pub closing : Transaction → Close
-closing t = option_map_or (λ reason. closes.Cancelled reason) t.doom closes.Ended
+-- how the event closes a transaction that isn't doomed: an exit cancels where something was changed
+abbrev pub close_of : Event → Bool → Close
+close_of events.Cancel modified = closes.Cancelled reasons.Asked
+close_of events.Exit modified = if modified then closes.Cancelled reasons.Modified else closes.Exited
+close_of event modified = closes.Ended
+
+-- how the event closes the transaction: a doomed one is cancelled for the first reason that there was
+abbrev pub closing : Transaction → Event → Close
+closing t event = option_map_or (λ reason. closes.Cancelled reason) t.doom (close_of event t.modified)
 
 -- The world that a closed transaction leaves, where it was w before. Blocks once taken stay counted.
 abbrev pub left_by : Close → World → World → World
-left_by closes.Ended w current = record current { shown = [] }
+left_by closes.Ended w current = at_rest current
 left_by close w current = record w { taken = current.taken }

@@ -1,18 +1,76 @@
--- The world, as maps and lists.
-use Rattle.std.specs.Prelude.{ℕ, ◌==◌, [], if◌then◌else◌}
-use Rattle.std.specs.FinMap as map
+-- The world: all that a user sees in a heap, as maps and lists.
+use Rattle.std.specs.Prelude.{ℕ, Bool, List, [], ◌==◌, map, Option, None, Some, refl}
+use Rattle.std.specs.Coded.{Coded, code_by, coded×, coded_ℕ, coded_list}
+use Rattle.std.specs.FinMap as finite
 use Rattle.std.specs.List.{list_any}
+use Rattle.std.specs.Option.{option_map, option_or}
+use Rattle.std.specs.Ordering.{nat_cmp}
+use Rattle.sdr_base.specs.declared.kind.Kind.{Kind}
 use Rattle.sdr_base.specs.declared.refusal.Refusal.{Refusal}
 use Rattle.sdr_base.specs.declared.refusal.Refusal.TheVariants as refusals
-use Rattle.sdr_model.specs.declared.world.World.{World}
+use Rattle.sdr_model.specs.Kinds.{kind_number}
+use Rattle.sdr_model.specs.Names.{coded_name}
+use Rattle.sdr_model.specs.Things.{Spot, Things, own_block, name_block, block_among, inner_among, spot_among}
+use Rattle.sdr_model.specs.declared.names.Name.{Name}
+use Rattle.sdr_model.specs.declared.things.Block.{Block}
+use Rattle.sdr_model.specs.declared.things.Thing.{Thing}
+use Rattle.sdr_model.specs.declared.things.Thing.TheVariants as things
+use Rattle.sdr_model.specs.contracts.things.Thing as thing
+
+-- the things by their addresses, the catalogue, oldest entry first, the addresses marked in the open
+-- transaction, the bytes that the last answered call gave, and how many blocks were taken without a heap
+pub record World : Type 0 where
+  pub things : Things
+  pub names : List Name
+  pub marks : List ℕ
+  pub shown : List ℕ
+  pub taken : ℕ
 
 -- the world without things
 abbrev pub empty_world : World
-empty_world = record { strings = map.empty; names = []; shown = []; taken = 0 }
+empty_world = record { things = finite.empty; names = []; marks = []; shown = []; taken = 0 }
 
--- why the address of no string is refused: it is another thing's, or no block begins there
-abbrev pub no_string : World → ℕ → Refusal
-no_string w addr =
-    if list_any (λ n. n.block == addr) w.names
-    then refusals.WrongKind addr 8
-    else refusals.BadAddress addr
+-- a world as its parts
+abbrev pub coded_world : Coded World
+coded_world = code_by (Things × (List Name × (List ℕ × (List ℕ × ℕ))))
+    (coded× (finite.code coded_ℕ thing.the_row.coded) (coded× (coded_list coded_name) (coded× (coded_list coded_ℕ) (coded× (coded_list coded_ℕ) coded_ℕ))))
+    (λ w. (w.things, (w.names, (w.marks, (w.shown, w.taken)))))
+    (λ p. record { things = p.0; names = p.1.0; marks = p.1.1.0; shown = p.1.1.1.0; taken = p.1.1.1.1 })
+    (λ _. refl)
+
+-- the thing at an address
+abbrev pub thing_at : World → ℕ → Option Thing
+thing_at w addr = finite.get w.things addr
+
+-- the block that begins at an address: a thing's own, one inside a thing, or a name's
+abbrev pub block_at : World → ℕ → Option Block
+block_at w addr =
+    option_or (option_map (own_block addr) (thing_at w addr))
+    (option_or (inner_among addr (finite.entries w.things)) (block_among addr (map name_block w.names)))
+
+-- why an address is refused where this block, or none, begins there: a kind that the call doesn't take
+abbrev pub refusal_for : ℕ → Option Block → Refusal
+refusal_for addr None = refusals.BadAddress addr
+refusal_for addr (Some block) = refusals.WrongKind addr (kind_number block.kind)
+
+-- why an address is refused to a call
+abbrev pub misnamed : World → ℕ → Refusal
+misnamed w addr = refusal_for addr (block_at w addr)
+
+-- the raw object's bytes, where the thing is one
+abbrev pub as_raw : Option Thing → Option (List ℕ)
+as_raw (Some (things.Raw bytes)) = Some bytes
+as_raw thing = None
+
+-- the string's text, where the thing is one
+abbrev pub as_text : Option Thing → Option (List ℕ)
+as_text (Some (things.Text text)) = Some text
+as_text thing = None
+
+-- whether the address was taken or staged in this transaction
+abbrev pub is_marked : World → ℕ → Bool
+is_marked w addr = list_any (λ m. m == addr) w.marks
+
+-- where the element at an address stands
+abbrev pub spot_of : World → ℕ → Option Spot
+spot_of w element = spot_among element (finite.entries w.things)

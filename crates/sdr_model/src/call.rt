@@ -181,9 +181,43 @@ impl Call {
     pub fn is_built(&self) -> bool
         ensures { result ≡ is_built self.now }
     {
-        matches!(
+        !matches!(
             self,
-            Call::String(_) | Call::StringRead(_) | Call::Catlg(_, _, _) | Call::Find(_)
+            Call::Hash(_, _)
+                | Call::HashInsert(_, _, _)
+                | Call::HashRetrieve(_, _)
+                | Call::HashRevise(_, _, _)
+                | Call::HashRemove(_, _)
+                | Call::HashCount(_)
+                | Call::HashDestroy(_)
+                | Call::FileRef(_, _)
+                | Call::BulkRef(_, _)
+                | Call::ObjRef(_)
+                | Call::DestroyRef(_)
+                | Call::Count(_)
+                | Call::Occupancy(_, _)
+                | Call::Maximum(_, _)
+                | Call::SetMaximum(_, _, _)
+                | Call::Create(_, _)
+                | Call::AppendExtent(_, _, _, _, _)
+                | Call::PrependHeader(_, _, _)
+                | Call::AppendTrailer(_, _, _)
+                | Call::DiscardFirstHeader(_)
+                | Call::DiscardLastTrailer(_)
+                | Call::Bond(_, _)
+                | Call::ClonePart(_, _, _, _)
+                | Call::Delimit(_, _, _)
+                | Call::Strip(_)
+                | Call::ZcoLength(_)
+                | Call::SourceLength(_)
+                | Call::Destroy(_)
+                | Call::Transmit(_, _, _)
+                | Call::ReceiveHeaders(_, _, _)
+                | Call::ReceiveSource(_, _, _)
+                | Call::ReceiveTrailers(_, _, _)
+                | Call::Request(_, _, _, _, _, _)
+                | Call::Awarded(_)
+                | Call::Shred(_)
         )
     }
 }

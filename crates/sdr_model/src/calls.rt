@@ -1,153 +1,104 @@
-// What a call does to a plain world.
-ghost use Rattle.std.specs.Prelude.{◌≡◌, ◌<◌, ◌^◌, IfOk, OnErr, [], length, true};
+// What a call does to a world.
+ghost use Rattle.std.specs.Prelude.{◌≡◌, ◌<◌, ◌^◌, true};
+ghost use Rattle.sdr_model.specs.Answers.{Answers};
 ghost use Rattle.sdr_model.specs.Built.{is_built};
-ghost use Rattle.sdr_model.specs.Dry.{StepsDry, dry_moves, next_addr};
-ghost use Rattle.sdr_model.specs.Step.{is_no_name};
-ghost use Rattle.sdr_model.specs.World.{no_string};
 
-use crate::{Call, Named, Reply, World};
-use sdr_base::{Addr, Bytes, Kind, NoMemory, Refusal};
+use crate::element_calls::{datum, delete, next, prev, set_datum};
+use crate::insert_calls::{insert_after, insert_before, insert_first, insert_last};
+use crate::list_calls::{first, last, list_destroy, list_length, list_user, make_list, set_list_user};
+use crate::name_calls::{catlg, entry, find, uncatlg};
+use crate::ordered_calls::{insert_ordered, search};
+use crate::raw_calls::{free, length, malloc, read, stage, write};
+use crate::table_calls::{dimensions, make_table, row, set_row, table_destroy, table_user};
+use crate::text_calls::{string, string_dup, string_length, string_read};
+use crate::{Call, Reply, World};
+use sdr_base::NoMemory;
 use std::alloc::Global;
-
-/// A string has at most so many bytes.
-const LONGEST_STRING: u64 = 255;
-
-/// A name in the catalogue has at most so many bytes, and at least one.
-const LONGEST_NAME: u64 = 31;
-
-// The address of the block that is taken next.
-fn next_addr(world: &World) -> Addr
-    requires { world.now.taken < 2 ^ 60 }
-    ensures { result ≡ next_addr world.now.taken }
-{
-    8 * (world.taken + 1)
-}
-
-fn string(alloc: Global, world: &mut World, text: &Bytes) -> Result<Reply, NoMemory>
-    requires { world.old.taken < 2 ^ 60 }
-    ensures step { IfOk result (λ reply. let call = Call.String text.now in
-        StepsDry world.old call (dry_moves world.old call reply) world.new reply) }
-    ensures err { OnErr result (world.new ≡ world.old) }
-{
-    let length = text.len() as u64;
-    if length > LONGEST_STRING {
-        return Ok(Reply::Refused(Refusal::BadLength {
-            length,
-            most: LONGEST_STRING,
-        }));
-    }
-    let addr = next_addr(world);
-    let copy = Bytes::copied(alloc, text.as_slice())?;
-    world.strings.insert(addr, copy)?;
-    world.shown = Bytes::new(alloc);
-    world.taken += 1;
-    Ok(Reply::At { addr })
-}
-
-// Why the address of no string is refused.
-fn no_string(world: &World, addr: Addr) -> Refusal
-    ensures { result ≡ no_string world.now addr }
-{
-    if world.names.has_block(addr) {
-        let kind = Kind::Name as u8;
-        Refusal::WrongKind { addr, kind }
-    } else {
-        Refusal::BadAddress { addr }
-    }
-}
-
-fn string_read(alloc: Global, world: &mut World, addr: Addr) -> Result<Reply, NoMemory>
-    ensures step { IfOk result (λ reply. StepsDry world.old (Call.StringRead addr) [] world.new reply) }
-    ensures err { OnErr result (world.new ≡ world.old) }
-{
-    let Some(text) = world.strings.get(addr) else {
-        return Ok(Reply::Refused(no_string(world, addr)));
-    };
-    let count = text.len() as u64;
-    let shown = Bytes::copied(alloc, text.as_slice())?;
-    world.shown = shown;
-    Ok(Reply::Bytes { count })
-}
-
-// Whether a name has no byte or too many.
-fn is_no_name(name: &Bytes) -> bool
-    ensures { result ≡ is_no_name (length name.now) }
-{
-    let length = name.len() as u64;
-    length < 1 || length > LONGEST_NAME
-}
-
-fn bad_name(name: &Bytes) -> Reply
-    ensures { result ≡ Reply.Refused (Refusal.BadLength (length name.now) LONGEST_NAME) }
-{
-    Reply::Refused(Refusal::BadLength {
-        length: name.len() as u64,
-        most: LONGEST_NAME,
-    })
-}
-
-fn catlg(
-    alloc: Global,
-    world: &mut World,
-    name: &Bytes,
-    kind: u32,
-    object: u64,
-) -> Result<Reply, NoMemory>
-    requires { world.old.taken < 2 ^ 60 }
-    ensures step { IfOk result (λ reply. let call = Call.Catlg name.now kind object in
-        StepsDry world.old call (dry_moves world.old call reply) world.new reply) }
-    ensures err { OnErr result (world.new ≡ world.old) }
-{
-    if is_no_name(name) {
-        return Ok(bad_name(name));
-    }
-    if let Some(taken) = world.names.get(name.as_slice()) {
-        let addr = taken.object;
-        return Ok(Reply::Refused(Refusal::NameTaken { addr }));
-    }
-    let block = next_addr(world);
-    let entry = Named {
-        block,
-        kind,
-        object,
-    };
-    world.names.push(alloc, name.as_slice(), entry)?;
-    world.shown = Bytes::new(alloc);
-    world.taken += 1;
-    Ok(Reply::Done)
-}
-
-fn find(alloc: Global, world: &mut World, name: &Bytes) -> Result<Reply, NoMemory>
-    ensures step { IfOk result (λ reply. StepsDry world.old (Call.Find name.now) [] world.new reply) }
-    ensures err { OnErr result (world.new ≡ world.old) }
-{
-    if is_no_name(name) {
-        return Ok(bad_name(name));
-    }
-    let Some(found) = world.names.get(name.as_slice()) else {
-        return Ok(Reply::Refused(Refusal::NotFound));
-    };
-    world.shown = Bytes::new(alloc);
-    Ok(Reply::Pair {
-        first: u64::from(found.kind),
-        second: found.object,
-    })
-}
 
 /// Makes a call on a plain world, where the k-th block that is taken has address 8 k. A refused call
 /// changes nothing, and want of memory leaves the world as before.
+///
+/// A call on an element, and one that is refused for its address, looks at each thing in turn. Calls on
+/// lists are linear in the list, `uncatlg` in the catalogue, and the first change of a thing in a
+/// transaction in that thing. All others take about the logarithm of the world.
 pub fn apply(alloc: Global, world: &mut World, call: &Call) -> Result<Reply, NoMemory>
-    requires taken { world.old.taken < 2 ^ 60 }
+    requires taken { world.old.now.taken < 2 ^ 60 }
     requires built { is_built call.now ≡ true }
-    ensures step { IfOk result (λ reply.
-        StepsDry world.old call.now (dry_moves world.old call.now reply) world.new reply) }
-    ensures err { OnErr result (world.new ≡ world.old) }
+    ensures { Answers call.now world.old world.new result }
 {
     match call {
+        Call::Malloc(bytes) => malloc(alloc, world, *bytes),
+        Call::Free(addr) => free(world, *addr),
+        Call::Length(addr) => length(world, *addr),
+        Call::Read(addr, place, count) => read(alloc, world, *addr, *place, *count),
+        Call::Write(addr, place, bytes) => write(world, *addr, *place, bytes),
+        Call::Stage(addr, count) => stage(alloc, world, *addr, *count),
         Call::String(text) => string(alloc, world, text),
+        Call::StringLength(addr) => string_length(world, *addr),
         Call::StringRead(addr) => string_read(alloc, world, *addr),
-        Call::Catlg(name, kind, object) => catlg(alloc, world, name, *kind, *object),
-        Call::Find(name) => find(alloc, world, name),
-        _ => unreachable!(),
+        Call::StringDup(addr) => string_dup(alloc, world, *addr),
+        Call::List(user) => make_list(alloc, world, *user),
+        Call::ListDestroy(addr) => list_destroy(world, *addr),
+        Call::ListLength(addr) => list_length(world, *addr),
+        Call::ListUser(addr) => list_user(world, *addr),
+        Call::SetListUser(addr, user) => set_list_user(world, *addr, *user),
+        Call::InsertFirst(addr, datum) => insert_first(world, *addr, *datum),
+        Call::InsertLast(addr, datum) => insert_last(world, *addr, *datum),
+        Call::InsertBefore(element, datum) => insert_before(world, *element, *datum),
+        Call::InsertAfter(element, datum) => insert_after(world, *element, *datum),
+        Call::InsertOrdered(addr, datum, by) => insert_ordered(world, *addr, *datum, *by),
+        Call::Search(addr, datum, by) => search(world, *addr, *datum, *by),
+        Call::Delete(element) => delete(world, *element),
+        Call::First(addr) => first(world, *addr),
+        Call::Last(addr) => last(world, *addr),
+        Call::Next(element) => next(world, *element),
+        Call::Prev(element) => prev(world, *element),
+        Call::Datum(element) => datum(world, *element),
+        Call::SetDatum(element, value) => set_datum(world, *element, *value),
+        Call::Table(rows, size, user) => make_table(alloc, world, *rows, *size, *user),
+        Call::Row(addr, at) => row(alloc, world, *addr, *at),
+        Call::SetRow(addr, at, bytes) => set_row(world, *addr, *at, bytes),
+        Call::Dimensions(addr) => dimensions(world, *addr),
+        Call::TableUser(addr) => table_user(world, *addr),
+        Call::TableDestroy(addr) => table_destroy(world, *addr),
+        Call::Catlg(name, kind, object) => catlg(world, name, *kind, *object),
+        Call::Find(name) => find(world, name),
+        Call::Uncatlg(name) => uncatlg(world, name),
+        Call::Entry(place) => entry(alloc, world, *place),
+        Call::Hash(_, _)
+        | Call::HashInsert(_, _, _)
+        | Call::HashRetrieve(_, _)
+        | Call::HashRevise(_, _, _)
+        | Call::HashRemove(_, _)
+        | Call::HashCount(_)
+        | Call::HashDestroy(_) => unreachable!(),
+        Call::FileRef(_, _)
+        | Call::BulkRef(_, _)
+        | Call::ObjRef(_)
+        | Call::DestroyRef(_)
+        | Call::Count(_)
+        | Call::Occupancy(_, _)
+        | Call::Maximum(_, _)
+        | Call::SetMaximum(_, _, _)
+        | Call::Create(_, _)
+        | Call::AppendExtent(_, _, _, _, _)
+        | Call::PrependHeader(_, _, _)
+        | Call::AppendTrailer(_, _, _)
+        | Call::DiscardFirstHeader(_)
+        | Call::DiscardLastTrailer(_)
+        | Call::Bond(_, _)
+        | Call::ClonePart(_, _, _, _)
+        | Call::Delimit(_, _, _)
+        | Call::Strip(_)
+        | Call::ZcoLength(_)
+        | Call::SourceLength(_)
+        | Call::Destroy(_)
+        | Call::Transmit(_, _, _)
+        | Call::ReceiveHeaders(_, _, _)
+        | Call::ReceiveSource(_, _, _)
+        | Call::ReceiveTrailers(_, _, _)
+        | Call::Request(_, _, _, _, _, _)
+        | Call::Awarded(_)
+        | Call::Shred(_) => unreachable!(),
     }
 }

@@ -43,9 +43,9 @@ impl Event {
         ensures { result ≡ is_built_event self.now }
     {
         match self {
-            Event::Request | Event::Begin | Event::End => true,
             Event::Say(call) => call.is_built(),
-            Event::Cancel | Event::Exit | Event::Look(_) | Event::Leaves(_) => false,
+            Event::Leaves(_) => false,
+            _ => true,
         }
     }
 }

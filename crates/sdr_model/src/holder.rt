@@ -11,4 +11,6 @@ pub struct Holder {
     pub depth: u64,
     /// Why its transaction can only be cancelled, if it is doomed.
     pub doom: Option<Reason>,
+    /// Whether a changing call was answered in its transaction.
+    pub modified: bool,
 }

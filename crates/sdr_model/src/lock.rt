@@ -2,10 +2,10 @@
 ghost use Rattle.std.specs.Prelude.{◌≡◌, ◌<◌, ◌^◌, ◌==◌, IfOk, OnErr, find, length, drop, true, [], ◌∷◌};
 ghost use Rattle.std.specs.List.{list_any};
 ghost use Rattle.sdr_model.specs.Built.{is_built, is_built_event};
-ghost use Rattle.sdr_model.specs.Machine.{MachineStep, Draws, Comes, Opens, Serves, Closes, Waits, Holds, event_moves, says_moves, first_machine, served_number, is_outside};
+ghost use Rattle.sdr_model.specs.Machine.{MachineStep, Draws, Comes, ComesLooking, Looks, Opens, Serves, Closes, Waits, Holds, event_moves, says_moves, first_machine, served_number, is_outside};
 
-use crate::transaction::{close, deepen, refused, rise, say};
-use crate::{Answer, Call, Draft, Event, Holder, World};
+use crate::transaction::{close, deepen, refused, retreat, rise, say};
+use crate::{Answer, Call, Event, Holder, World};
 use sdr_base::{NoMemory, Refusal};
 use std::alloc::Global;
 use std::marker::Model;
@@ -18,7 +18,8 @@ pub struct Lock {
     drawn: u64,
     /// By rising number, so the first is served.
     holders: Vec<Holder>,
-    draft: Draft,
+    alloc: Global,
+    world: World,
 }
 
 impl Model for Lock {
@@ -33,8 +34,8 @@ impl Model for Lock {
       daemons = s.daemons.items;
       drawn = s.drawn;
       holders = s.holders.items;
-      world = s.draft.begun;
-      current = s.draft.now;
+      world = s.world.begun;
+      current = s.world.now;
     } };
 }
 
@@ -82,15 +83,16 @@ impl Lock {
             daemons: Vec::from_slice(alloc, daemons)?,
             drawn: 0,
             holders: Vec::new(alloc),
-            draft: Draft::new(alloc),
+            alloc,
+            world: World::new(alloc),
         })
     }
 
-    /// The world of the served transaction.
-    pub fn world(&self) -> &World
-        ensures { result.now ≡ self.now.current }
+    /// The bytes that the world of the served transaction shows.
+    pub fn shown(&self) -> &[u8]
+        ensures { result.now ≡ self.now.current.shown }
     {
-        self.draft.world()
+        self.world.shown()
     }
 
     fn draw(&mut self, daemon: u8, depth: u64) -> Result<Answer, NoMemory>
@@ -104,9 +106,26 @@ impl Lock {
             number,
             depth,
             doom: None,
+            modified: false,
         })?;
         self.drawn = number;
         Ok(Answer::Lock { number })
+    }
+
+    // A look of a daemon without a number: it draws one, which is done at once where it is served.
+    fn comes_looking(&mut self, daemon: u8, ticket: u64) -> Result<Answer, NoMemory>
+        requires { self.old.drawn < 2 ^ 60 }
+        ensures comes { IfOk result (λ answer. ComesLooking self.old daemon ticket answer [] self.new) }
+        ensures err { OnErr result (self.new ≡ self.old) }
+    {
+        let serving = served_number(&self.holders);
+        if serving == 0 {
+            self.drawn += 1;
+            return Ok(refused(Refusal::BadTicket { ticket }));
+        }
+        self.draw(daemon, 0)?;
+        let mine = self.drawn;
+        Ok(refused(Refusal::Suspended { serving, mine }))
     }
 
     // An event of a daemon without a number.
@@ -118,6 +137,7 @@ impl Lock {
         match event {
             Event::Request => self.draw(daemon, 0),
             Event::Begin => self.draw(daemon, 1),
+            Event::Look(ticket) => self.comes_looking(daemon, *ticket),
             _ => Ok(refused(Refusal::NotBegun)),
         }
     }
@@ -131,11 +151,11 @@ impl Lock {
     }
 
     // Closes the served holder's transaction: its number is done.
-    fn finish(&mut self, holder: &Holder) -> Answer
+    fn finish(&mut self, holder: &Holder, event: &Event) -> Answer
         requires { 0 < length self.old.holders }
-        ensures { Closes self.old holder.now result [] self.new }
+        ensures { Closes self.old holder.now event.now result [] self.new }
     {
-        let close = close(holder, &mut self.draft);
+        let close = close(holder, &mut self.world, event);
         let _ = self.holders.remove(0);
         Answer::Closed(close)
     }
@@ -173,7 +193,7 @@ impl Lock {
             Serves self.old holder (Event.Say call.now) answer (says_moves self.old.current call.now answer) self.new) }
         ensures err { OnErr result (self.new ≡ self.old) }
     {
-        let answer = say(&mut holder, &mut self.draft, call)?;
+        let answer = say(self.alloc, &mut holder, &mut self.world, call)?;
         self.put(holder);
         Ok(answer)
     }
@@ -184,11 +204,54 @@ impl Lock {
         ensures { Serves self.old holder Event.End result [] self.new }
     {
         if holder.depth <= 1 {
-            return self.finish(&holder);
+            return self.finish(&holder, &Event::End);
         }
         let answer = rise(&mut holder);
         self.put(holder);
         answer
+    }
+
+    // An exit of the served holder: the outermost one, or an inner one.
+    fn exit(&mut self, mut holder: Holder) -> Answer
+        requires { 0 < length self.old.holders }
+        ensures { Serves self.old holder Event.Exit result [] self.new }
+    {
+        if holder.depth <= 1 {
+            return self.finish(&holder, &Event::Exit);
+        }
+        let answer = rise(&mut holder);
+        self.put(holder);
+        answer
+    }
+
+    // A cancel of the served holder: the outermost one, or an inner one.
+    fn cancel(&mut self, mut holder: Holder) -> Answer
+        requires { 0 < length self.old.holders }
+        ensures { Serves self.old holder Event.Cancel result [] self.new }
+    {
+        if holder.depth <= 1 {
+            return self.finish(&holder, &Event::Cancel);
+        }
+        let answer = retreat(&mut holder);
+        self.put(holder);
+        answer
+    }
+
+    // A look of a holder: it is refused in a transaction, and where the number isn't served.
+    fn look(&mut self, holder: Holder, ticket: u64) -> Answer
+        requires { 0 < length self.old.holders }
+        ensures { Looks self.old holder ticket result [] self.new }
+    {
+        let mine = holder.number;
+        if holder.depth > 0 {
+            return refused(Refusal::InTransaction { mine });
+        }
+        let serving = served_number(&self.holders);
+        if serving != mine {
+            return refused(Refusal::Suspended { serving, mine });
+        }
+        let _ = self.holders.remove(0);
+        refused(Refusal::BadTicket { ticket })
     }
 
     // One event of a daemon that holds a number.
@@ -204,6 +267,9 @@ impl Lock {
         if let Event::Request = event {
             return Ok(Answer::Lock { number: mine });
         }
+        if let Event::Look(ticket) = event {
+            return Ok(self.look(holder, *ticket));
+        }
         if is_outside(&holder, event) {
             return Ok(refused(Refusal::NotBegun));
         }
@@ -215,6 +281,8 @@ impl Lock {
             Event::Request | Event::Begin => Ok(self.begin(holder)),
             Event::Say(call) => self.say(holder, call),
             Event::End => Ok(self.end(holder)),
+            Event::Cancel => Ok(self.cancel(holder)),
+            Event::Exit => Ok(self.exit(holder)),
             _ => unreachable!(),
         }
     }

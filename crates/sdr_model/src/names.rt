@@ -1,12 +1,14 @@
 // The catalogue.
-ghost use Rattle.std.specs.Prelude.{◌≡◌, ◌==◌, List, OnOk, OnErr, None, ◌++◌, ◌∷◌, [], take, length};
+ghost use Rattle.std.specs.Prelude.{◌≡◌, ◌==◌, List, IfOk, OnOk, OnErr, None, ◌++◌, ◌∷◌, [], take, length, map, slice_get};
 ghost use Rattle.std.specs.List.{list_any};
 ghost use Rattle.std.specs.Option.{option_map};
 ghost use Rattle.indexmap.specs.IndexMap.{values};
-ghost use Rattle.sdr_model.specs.Names.{name_of, named_of};
+ghost use Rattle.sdr_model.specs.Names.{name_of, named_of, without_name};
+ghost use Rattle.sdr_model.specs.Things.{block_among, name_block};
 
 use indexmap::IndexMap;
-use sdr_base::{Addr, Bytes, NoMemory};
+use crate::Block;
+use sdr_base::{Addr, Bytes, Kind, NoMemory};
 use std::alloc::Global;
 use std::marker::Model;
 
@@ -80,11 +82,15 @@ impl Names {
         self.entries.get(name).copied()
     }
 
-    /// Whether an entry's own block begins at an address.
-    pub fn has_block(&self, addr: Addr) -> bool
-        ensures { result ≡ list_any (λ n. n.block == addr) self.now }
+    /// The block of an entry, where one begins at an address.
+    pub fn block(&self, addr: Addr) -> Option<Block>
+        ensures { result ≡ block_among addr (map name_block self.now) }
     {
-        has_block(&self.entries, addr)
+        if has_block(&self.entries, addr) {
+            let kind = Kind::Name;
+            return Some(Block { addr, kind, bytes: 56 });
+        }
+        None
     }
 
     /// Adds an entry at the end. Want of memory leaves the catalogue as before.
@@ -104,5 +110,30 @@ impl Names {
         ensures { self.new ≡ take len self.old }
     {
         self.entries.truncate(len);
+    }
+
+    /// The entry at a place, from 0, with its name.
+    pub fn at(&self, place: usize) -> Option<(&[u8], Named)>
+        ensures name { option_map (λ found. found.0.now) result ≡ option_map (λ n. n.name) (slice_get self.now place) }
+        ensures entry { option_map (λ found. found.1) result ≡ option_map named_of (slice_get self.now place) }
+    {
+        let (key, entry) = self.entries.get_index(place)?;
+        Some((key.as_slice(), *entry))
+    }
+
+    /// Takes the entry of a name out.
+    pub fn remove(&mut self, name: &[u8])
+        ensures { self.new ≡ without_name self.old name.now }
+    {
+        let _ = self.entries.shift_remove(name);
+    }
+
+    /// A copy of the catalogue.
+    pub fn copied(&self) -> Result<Names, NoMemory>
+        ensures { IfOk result (λ names. names ≡ self.now) }
+    {
+        Ok(Names {
+            entries: self.entries.clone()?,
+        })
     }
 }

@@ -3,7 +3,7 @@ ghost use Rattle.std.specs.Prelude.{◌≡◌, ◌<◌, ◌+◌, IfOk, OnOk, OnE
 ghost use Rattle.sdr_model.specs.Built.{is_built_event};
 ghost use Rattle.sdr_model.specs.Machine.{MachineStep, event_moves, first_machine};
 
-use crate::{Answer, Event, Lock, World};
+use crate::{Answer, Event, Lock};
 use sdr_base::NoMemory;
 use std::alloc::Global;
 use std::marker::Model;
@@ -39,11 +39,11 @@ impl Plain {
         Ok(Plain { lock, events: 0 })
     }
 
-    /// The world of the served transaction, which shows the bytes of the last answered call.
-    pub fn world(&self) -> &World
-        ensures { result.now ≡ self.now.machine.current }
+    /// The bytes that the last answered call of the served transaction gave.
+    pub fn shown(&self) -> &[u8]
+        ensures { result.now ≡ self.now.machine.current.shown }
     {
-        self.lock.world()
+        self.lock.shown()
     }
 
     /// Makes an event of a daemon, of a statement on this line. Want of memory leaves all as before.

@@ -1,12 +1,13 @@
 // The events of an open transaction.
 ghost use Rattle.std.specs.Prelude.{◌≡◌, ◌<◌, ◌≤◌, ◌^◌, IfOk, OnErr, None, Some, unwrap_or, [], true};
 ghost use Rattle.sdr_model.specs.Built.{is_built};
-ghost use Rattle.sdr_model.specs.Transaction.{transaction_of, Deepens, Rises, Says, refused, closing, left_by};
+ghost use Rattle.sdr_model.specs.Transaction.{transaction_of, Deepens, Rises, Retreats, Says, after_reply, refused, close_of, closing, left_by};
 ghost use Rattle.sdr_model.specs.Machine.{says_moves};
-ghost use Rattle.sdr_model.specs.declared.world.World.{World};
+ghost use Rattle.sdr_model.specs.World.{World as PlainWorld};
 
-use crate::{Answer, Call, Close, Draft, Holder, Reply};
+use crate::{Answer, Call, Close, Event, Holder, Reply, World, apply};
 use sdr_base::{NoMemory, Reason, Refusal};
+use std::alloc::Global;
 
 /// Transactions are nested to this depth at most.
 const DEEPEST: u64 = 64;
@@ -27,7 +28,7 @@ fn doom(holder: &mut Holder, reason: Reason)
 
 /// An inner begin.
 pub fn deepen(holder: &mut Holder) -> Answer
-    ensures deepens { (w : World) → Deepens (transaction_of holder.old w) result [] (transaction_of holder.new w) }
+    ensures deepens { (w : PlainWorld) → Deepens (transaction_of holder.old w) result [] (transaction_of holder.new w) }
     ensures daemon { holder.new.daemon ≡ holder.old.daemon }
     ensures number { holder.new.number ≡ holder.old.number }
 {
@@ -42,10 +43,10 @@ pub fn deepen(holder: &mut Holder) -> Answer
     }
 }
 
-/// An inner end.
+/// An inner end or exit.
 pub fn rise(holder: &mut Holder) -> Answer
     requires { 0 < holder.old.depth }
-    ensures rises { (w : World) → Rises (transaction_of holder.old w) result [] (transaction_of holder.new w) }
+    ensures rises { (w : PlainWorld) → Rises (transaction_of holder.old w) result [] (transaction_of holder.new w) }
     ensures daemon { holder.new.daemon ≡ holder.old.daemon }
     ensures number { holder.new.number ≡ holder.old.number }
 {
@@ -55,44 +56,86 @@ pub fn rise(holder: &mut Holder) -> Answer
     }
 }
 
+/// An inner cancel.
+pub fn retreat(holder: &mut Holder) -> Answer
+    requires { 0 < holder.old.depth }
+    ensures retreats { (w : PlainWorld) → Retreats (transaction_of holder.old w) result [] (transaction_of holder.new w) }
+    ensures daemon { holder.new.daemon ≡ holder.old.daemon }
+    ensures number { holder.new.number ≡ holder.old.number }
+{
+    holder.depth -= 1;
+    doom(holder, Reason::Inner);
+    Answer::Depth {
+        depth: holder.depth,
+    }
+}
+
+// What a call that was answered so makes of its transaction.
+fn note(holder: &mut Holder, call: &Call, reply: Reply)
+    ensures noted { (w : PlainWorld) → transaction_of holder.new w
+        ≡ after_reply call.now reply (transaction_of holder.old w) }
+    ensures daemon { holder.new.daemon ≡ holder.old.daemon }
+    ensures number { holder.new.number ≡ holder.old.number }
+{
+    if call.is_reading() {
+        return;
+    }
+    match reply {
+        Reply::Refused(refusal) => doom(holder, Reason::Refused(refusal.number())),
+        _ => holder.modified = true,
+    }
+}
+
 /// A call. Want of memory leaves all as before.
-pub fn say(holder: &mut Holder, draft: &mut Draft, call: &Call) -> Result<Answer, NoMemory>
-    requires taken { draft.old.now.taken < 2 ^ 60 }
+pub fn say(
+    alloc: Global,
+    holder: &mut Holder,
+    world: &mut World,
+    call: &Call,
+) -> Result<Answer, NoMemory>
+    requires taken { world.old.now.taken < 2 ^ 60 }
     requires built { is_built call.now ≡ true }
-    ensures says { IfOk result (λ answer. Says (transaction_of holder.old draft.old.now) call.now answer
-        (says_moves draft.old.now call.now answer) (transaction_of holder.new draft.new.now)) }
-    ensures begun { draft.new.begun ≡ draft.old.begun }
+    ensures says { IfOk result (λ answer. Says (transaction_of holder.old world.old.now) call.now answer
+        (says_moves world.old.now call.now answer) (transaction_of holder.new world.new.now)) }
+    ensures begun { world.new.begun ≡ world.old.begun }
     ensures daemon { holder.new.daemon ≡ holder.old.daemon }
     ensures number { holder.new.number ≡ holder.old.number }
     ensures err_holder { OnErr result (holder.new ≡ holder.old) }
-    ensures err_draft { OnErr result (draft.new ≡ draft.old) }
+    ensures err_world { OnErr result (world.new.now ≡ world.old.now) }
 {
     if let Some(by) = holder.doom {
         return Ok(refused(Refusal::Doomed { by }));
     }
-    let reply = draft.call(call)?;
-    if let Reply::Refused(refusal) = reply {
-        if !call.is_reading() {
-            doom(holder, Reason::Refused(refusal.number()));
-        }
-    }
+    let reply = apply(alloc, world, call)?;
+    note(holder, call, reply);
     Ok(Answer::Reply(reply))
 }
 
-/// Closes the transaction of an outermost end.
-pub fn close(holder: &Holder, draft: &mut Draft) -> Close
-    ensures close { (w : World) → result ≡ closing (transaction_of holder.now w) }
-    ensures world { let left = left_by result draft.old.begun draft.old.now in
-        draft.new ≡ record { begun = left; now = left } }
+// How an event closes a transaction that isn't doomed.
+fn close_of(event: &Event, modified: bool) -> Close
+    ensures { result ≡ close_of event.now modified }
 {
-    match holder.doom {
-        None => {
-            draft.keep();
-            Close::Ended
-        }
-        Some(reason) => {
-            draft.put_back();
-            Close::Cancelled(reason)
-        }
+    match event {
+        Event::Cancel => Close::Cancelled(Reason::Asked),
+        Event::Exit if modified => Close::Cancelled(Reason::Modified),
+        Event::Exit => Close::Exited,
+        _ => Close::Ended,
     }
+}
+
+/// Closes the transaction of an outermost end, cancel or exit.
+pub fn close(holder: &Holder, world: &mut World, event: &Event) -> Close
+    ensures close { (w : PlainWorld) → result ≡ closing (transaction_of holder.now w) event.now }
+    ensures world { let left = left_by result world.old.begun world.old.now in
+        world.new ≡ record { begun = left; now = left; touched = [] } }
+{
+    let close = match holder.doom {
+        None => close_of(event, holder.modified),
+        Some(reason) => Close::Cancelled(reason),
+    };
+    match close {
+        Close::Ended => world.keep(),
+        _ => world.put_back(),
+    }
+    close
 }

@@ -1,34 +1,305 @@
-// The world.
-ghost use Rattle.std.specs.Prelude.{◌≡◌, []};
-ghost use Rattle.sdr_model.specs.World.{empty_world};
+// A world in the making.
+ghost use Rattle.std.specs.Prelude.{◌≡◌, ◌<◌, ◌+◌, ◌^◌, ◌++◌, length, take, ◌∷◌, [], IfOk, IfSome, OnOk, OnErr, IsSome, None, Some, Contains};
+ghost use Rattle.std.specs.FinMap as map;
+ghost use Rattle.std.specs.List.{list_any};
+ghost use Rattle.std.specs.Option.{option_copied};
+ghost use Rattle.sdr_model.specs.Draft.{with_taken, at_rest};
+ghost use Rattle.sdr_model.specs.Dry.{next_addr};
+ghost use Rattle.sdr_model.specs.Names.{name_of, without_name};
+ghost use Rattle.sdr_model.specs.Steps.{with_thing, without_thing};
+ghost use Rattle.sdr_model.specs.Things.{IsWithin, SpotIs};
+ghost use Rattle.sdr_model.specs.World.{block_at, empty_world, is_marked, spot_of, thing_at};
+ghost use Rattle.sdr_model.specs.declared.things.Thing.{Thing};
 
-use crate::{Names, Strings};
-use sdr_base::Bytes;
+use crate::catalogue::Catalogue;
+use crate::{Block, Named, Names, Spot, Store, Thing};
+use sdr_base::{Addr, Bytes, Items, NoMemory};
 use std::alloc::Global;
+use std::marker::Model;
 
-/// All that a user sees in a heap.
+/// A world, which can be put back to what it was at the begin of the open transaction. Contracts see the
+/// world at the begin, the world now, and the addresses of the things that were changed since.
 #[derive(Drop)]
 pub struct World {
-    /// The strings, by address.
-    pub strings: Strings,
-    /// The catalogue, oldest entry first.
-    pub names: Names,
-    /// The bytes that the last answered call gave, none between transactions.
-    pub shown: Bytes,
-    /// How many blocks were taken so far. A cancel doesn't put it back.
-    pub taken: u64,
+    alloc: Global,
+    things: Store,
+    catalogue: Catalogue,
+    /// The addresses marked in the open transaction.
+    marks: Items<Addr>,
+    /// The bytes that the last answered call gave.
+    shown: Bytes,
+    /// How many blocks were taken so far. Putting back leaves it.
+    taken: u64,
+    /// How many were taken before the begin.
+    taken_before: u64,
+}
+
+impl Model for World {
+    ghost use Rattle.std.specs.Prelude.{[]};
+    ghost use Rattle.sdr_model.specs.Draft as draft;
+
+    ghost Value = { draft.Draft };
+
+    ghost coded = { draft.coded_draft };
+
+    ghost view = { λ s. record {
+      begun = record { things = s.things.begun; names = s.catalogue.begun; marks = []; shown = []; taken = s.taken_before };
+      now = record { things = s.things.now; names = s.catalogue.now; marks = s.marks; shown = s.shown; taken = s.taken };
+      touched = s.things.touched;
+    } };
 }
 
 impl World {
-    /// A world without things. It takes no memory.
+    /// A world without things, where no transaction is open. It takes no memory.
     pub fn new(alloc: Global) -> World
-        ensures { result ≡ empty_world }
+        ensures { result ≡ record { begun = empty_world; now = empty_world; touched = [] } }
     {
         World {
-            strings: Strings::new(alloc),
-            names: Names::new(alloc),
+            alloc,
+            things: Store::new(alloc),
+            catalogue: Catalogue::new(alloc),
+            marks: Items::new(alloc),
             shown: Bytes::new(alloc),
             taken: 0,
+            taken_before: 0,
         }
+    }
+
+    /// The thing at an address.
+    pub fn thing(&self, addr: Addr) -> Option<&Thing>
+        ensures { option_copied result ≡ thing_at self.now.now addr }
+    {
+        self.things.get(addr)
+    }
+
+    /// The catalogue.
+    pub fn names(&self) -> &Names
+        ensures { result.now ≡ self.now.now.names }
+    {
+        self.catalogue.names()
+    }
+
+    /// The bytes that the last answered call gave, none between transactions.
+    pub fn shown(&self) -> &[u8]
+        ensures { result.now ≡ self.now.now.shown }
+    {
+        self.shown.as_slice()
+    }
+
+    /// Whether the address was taken or staged in this transaction.
+    pub fn is_marked(&self, addr: Addr) -> bool
+        ensures { result ≡ is_marked self.now.now addr }
+    {
+        self.marks.as_slice().contains(&addr)
+    }
+
+    /// The block that begins at an address. Where no thing's own block does, it looks at each thing in turn.
+    pub fn block(&self, addr: Addr) -> Option<Block>
+        ensures { result ≡ block_at self.now.now addr }
+    {
+        if let Some(thing) = self.things.get(addr) {
+            return Some(thing.own_block(addr));
+        }
+        match self.things.inner_block(addr) {
+            Some(block) => Some(block),
+            None => self.catalogue.names().block(addr),
+        }
+    }
+
+    /// Where the element at an address stands. It looks at each list in turn.
+    pub fn spot(&self, element: Addr) -> Option<Spot<'_>>
+        ensures is { SpotIs result (spot_of self.now.now element) }
+        ensures within { IsWithin result }
+        ensures there { IfSome result (λ s. thing_at self.now.now s.list ≡ Some (Thing.List s.row.now)) }
+    {
+        self.things.spot(element)
+    }
+
+    /// How many marks there are.
+    pub fn marks(&self) -> usize
+        ensures { result ≡ length self.now.now.marks }
+    {
+        self.marks.len()
+    }
+
+    /// Takes the marks behind the first so many off.
+    pub fn unmark(&mut self, marks: usize)
+        ensures unmarked { self.new.now ≡ record self.old.now { marks = take marks self.old.now.marks } }
+        ensures begun { self.new.begun ≡ self.old.begun }
+    {
+        self.marks.truncate(marks);
+    }
+
+    /// Counts a block that was taken, with no bytes shown.
+    pub fn count(&mut self)
+        requires taken { self.old.now.taken < 2 ^ 60 }
+        ensures counted { self.new.now ≡ record self.old.now { shown = []; taken = self.old.now.taken + 1 } }
+        ensures begun { self.new.begun ≡ self.old.begun }
+    {
+        self.shown = Bytes::new(self.alloc);
+        self.taken += 1;
+    }
+
+    /// Takes the next address, and marks it.
+    pub fn mark_next(&mut self) -> Result<Addr, NoMemory>
+        requires taken { self.old.now.taken < 2 ^ 60 }
+        ensures addr { IfOk result (λ addr. addr ≡ next_addr self.old.now.taken) }
+        ensures marked { IfOk result (λ addr.
+            self.new.now ≡ record self.old.now { marks = self.old.now.marks ++ addr ∷ [] }) }
+        ensures begun { self.new.begun ≡ self.old.begun }
+        ensures touched { self.new.touched ≡ self.old.touched }
+        ensures same { OnErr result (self.new.now ≡ self.old.now) }
+    {
+        let addr = 8 * (self.taken + 1);
+        self.marks.push(addr)?;
+        Ok(addr)
+    }
+
+    /// Makes a thing at the next address. Want of memory leaves the world as before.
+    pub fn make(&mut self, thing: Thing) -> Result<Addr, NoMemory>
+        requires taken { self.old.now.taken < 2 ^ 60 }
+        ensures addr { IfOk result (λ addr. addr ≡ next_addr self.old.now.taken) }
+        ensures made { IfOk result (λ addr.
+            self.new.now ≡ with_taken (with_thing self.old.now addr thing) addr) }
+        ensures begun { self.new.begun ≡ self.old.begun }
+        ensures same { OnErr result (self.new.now ≡ self.old.now) }
+    {
+        let marks = self.marks.len();
+        let addr = self.mark_next()?;
+        match self.things.replace(addr, Some(thing)) {
+            Ok(()) => {
+                self.shown = Bytes::new(self.alloc);
+                self.taken += 1;
+                Ok(addr)
+            }
+            Err(error) => {
+                self.marks.truncate(marks);
+                Err(error)
+            }
+        }
+    }
+
+    /// Lets the thing at an address go. Want of memory leaves the world as before.
+    pub fn lose(&mut self, addr: Addr) -> Result<(), NoMemory>
+        ensures lost { OnOk result (self.new.now ≡ record (without_thing self.old.now addr) { shown = [] }) }
+        ensures begun { self.new.begun ≡ self.old.begun }
+        ensures same { OnErr result (self.new.now ≡ self.old.now) }
+    {
+        self.things.replace(addr, None)?;
+        self.shown = Bytes::new(self.alloc);
+        Ok(())
+    }
+
+    /// Takes out the thing at an address, to be changed and put again. Want of memory leaves the world as
+    /// before.
+    pub fn take(&mut self, addr: Addr) -> Result<Thing, NoMemory>
+        requires some { IsSome (thing_at self.old.now addr) }
+        ensures taken { IfOk result (λ thing. thing_at self.old.now addr ≡ Some thing) }
+        ensures again { OnOk result ((thing : Thing) →
+            with_thing self.new.now addr thing ≡ with_thing self.old.now addr thing) }
+        ensures back { IfOk result (λ thing. with_thing self.new.now addr thing ≡ self.old.now) }
+        ensures touched { OnOk result (Contains self.new.touched addr) }
+        ensures begun { self.new.begun ≡ self.old.begun }
+        ensures same { OnErr result (self.new.now ≡ self.old.now) }
+    {
+        self.things.take(addr)
+    }
+
+    /// Puts a thing at an address that was touched.
+    pub fn put(&mut self, addr: Addr, thing: Thing)
+        requires touched { Contains self.old.touched addr }
+        ensures put { self.new.now ≡ with_thing self.old.now addr thing }
+        ensures begun { self.new.begun ≡ self.old.begun }
+    {
+        self.things.put(addr, Some(thing));
+    }
+
+    /// Shows no bytes.
+    pub fn hide(&mut self)
+        ensures hidden { self.new.now ≡ record self.old.now { shown = [] } }
+        ensures begun { self.new.begun ≡ self.old.begun }
+    {
+        self.shown = Bytes::new(self.alloc);
+    }
+
+    /// Shows these bytes.
+    pub fn show(&mut self, shown: Bytes)
+        ensures shown { self.new.now ≡ record self.old.now { shown = shown } }
+        ensures begun { self.new.begun ≡ self.old.begun }
+    {
+        self.shown = shown;
+    }
+
+    /// Marks the thing at an address, and shows these bytes. Want of memory leaves the world as before.
+    pub fn stage(&mut self, addr: Addr, shown: Bytes) -> Result<(), NoMemory>
+        ensures staged { OnOk result
+            (self.new.now ≡ record self.old.now { marks = self.old.now.marks ++ addr ∷ []; shown = shown }) }
+        ensures begun { self.new.begun ≡ self.old.begun }
+        ensures same { OnErr result (self.new.now ≡ self.old.now) }
+    {
+        self.marks.push(addr)?;
+        self.shown = shown;
+        Ok(())
+    }
+
+    /// Catalogues an object under a new name. Want of memory leaves the world as before.
+    pub fn name(&mut self, name: &[u8], kind: u32, object: u64) -> Result<(), NoMemory>
+        requires taken { self.old.now.taken < 2 ^ 60 }
+        requires new { name_of self.old.now.names name.now ≡ None }
+        ensures named { OnOk result (let addr = next_addr self.old.now.taken in
+            self.new.now ≡ with_taken (record self.old.now { names = self.old.now.names
+                ++ record { block = addr; name = name.now; kind = kind; object = object } ∷ [] }) addr) }
+        ensures begun { self.new.begun ≡ self.old.begun }
+        ensures same { OnErr result (self.new.now ≡ self.old.now) }
+    {
+        let marks = self.marks.len();
+        let block = self.mark_next()?;
+        let entry = Named { block, kind, object };
+        match self.catalogue.push(name, entry) {
+            Ok(()) => {
+                self.shown = Bytes::new(self.alloc);
+                self.taken += 1;
+                Ok(())
+            }
+            Err(error) => {
+                self.marks.truncate(marks);
+                Err(error)
+            }
+        }
+    }
+
+    /// Takes a name out of the catalogue. Want of memory leaves the world as before.
+    pub fn unname(&mut self, name: &[u8]) -> Result<(), NoMemory>
+        ensures unnamed { OnOk result (self.new.now
+            ≡ record self.old.now { names = without_name self.old.now.names name.now; shown = [] }) }
+        ensures begun { self.new.begun ≡ self.old.begun }
+        ensures same { OnErr result (self.new.now ≡ self.old.now) }
+    {
+        self.catalogue.remove(name)?;
+        self.shown = Bytes::new(self.alloc);
+        Ok(())
+    }
+
+    /// Takes the world now as the one to begin from.
+    pub fn keep(&mut self)
+        ensures { let kept = at_rest self.old.now in self.new ≡ record { begun = kept; now = kept; touched = [] } }
+    {
+        self.things.keep();
+        self.catalogue.keep();
+        self.marks = Items::new(self.alloc);
+        self.shown = Bytes::new(self.alloc);
+        self.taken_before = self.taken;
+    }
+
+    /// Puts the world back to the begin. Blocks once taken stay counted.
+    pub fn put_back(&mut self)
+        ensures { let left = record self.old.begun { taken = self.old.now.taken } in
+            self.new ≡ record { begun = left; now = left; touched = [] } }
+    {
+        self.things.put_back();
+        self.catalogue.put_back();
+        self.marks = Items::new(self.alloc);
+        self.shown = Bytes::new(self.alloc);
+        self.taken_before = self.taken;
     }
 }

@@ -8,12 +8,12 @@ pub returns : goal.returns
 returns c =
     let inside = c.self.inside in
     let close = c.close-close.result in
-    let left = left_by close inside.draft.begun inside.draft.now in
-    let m : Machine = record { daemons = inside.daemons.items; drawn = inside.drawn; holders = inside.holders.items; world = inside.draft.begun; current = inside.draft.now } in
+    let left = left_by close inside.world.begun inside.world.now in
+    let m : Machine = record { daemons = inside.daemons.items; drawn = inside.drawn; holders = inside.holders.items; world = inside.world.begun; current = inside.world.now } in
     let items : c.remove.new.self.items ≡ drop 1 inside.holders.items = c.remove.ensures.items in (
       ap answers.Closed (c.close-close.ensures.close c.args.self.now.current),
       refl,
       (λ i. record { daemons = inside.daemons.items; drawn = inside.drawn; holders = items i; world = (c.close-close.ensures.world i).begun; current = (c.close-close.ensures.world i).now })
           ∙ ap (λ r. with_next m (left_by r m.world m.current)) (c.close-close.ensures.close m.current)
-          ∙ ap (λ (n : Machine). with_next n (left_by (closing (transaction_of c.args.holder.now n.current)) n.world n.current)) c.self.view_is,
+          ∙ ap (λ (n : Machine). with_next n (left_by (closing (transaction_of c.args.holder.now n.current) c.args.event.now) n.world n.current)) c.self.view_is,
     )

@@ -1,0 +1,31 @@
+use Rattle.std.proofs.Common.{◌≡◌, Some, ap, sym, ◌∙◌}
+use Rattle.std.proofs.lemmas.Result.{on_ok_weaker}
+use Rattle.std.specs.FinMap.{get, insert}
+use Rattle.sdr_model.specs.Steps.{with_thing}
+use Rattle.sdr_model.specs.Things.{Things}
+use Rattle.sdr_model.specs.World.{World}
+use Rattle.sdr_model.specs.contracts.world.World.{the_view}
+use Rattle.sdr_model.proofs.Cases.{in_ok}
+use Rattle.sdr_model.proofs.StoreLemmas.{insert-removed, with_at-again}
+use Rattle.sdr_model.proofs.world.World.take.Goals as goal
+
+abbrev with_things : World → Things → World
+with_things w things = record w { things = things }
+
+pub returns-clause-again : goal.returns-clause-again
+returns-clause-again c =
+    on_ok_weaker c.take.result
+    (λ without thing.
+    ap (λ m. with_things (the_view c.self.inside).now (insert m c.args.addr thing)) without
+    ∙ ap (with_things (the_view c.self.inside).now) (insert-removed c.self.inside.things.now c.args.addr thing)
+    ∙ ap (λ d. with_thing d.now c.args.addr thing) c.self.view_is)
+    c.take.ensures.without
+
+pub returns-clause-back : goal.returns-clause-back
+returns-clause-back c =
+    in_ok c.take.result c.take.ensures.taken c.take.ensures.without
+    (λ thing is without.
+    ap (λ m. with_things (the_view c.self.inside).now (insert m c.args.addr thing)) without
+    ∙ ap (with_things (the_view c.self.inside).now)
+    (insert-removed c.self.inside.things.now c.args.addr thing ∙ with_at-again c.self.inside.things.now c.args.addr (Some thing) is)
+    ∙ ap (λ d. d.now) c.self.view_is)

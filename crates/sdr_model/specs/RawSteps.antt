@@ -1,0 +1,85 @@
+-- The steps of raw objects and strings.
+use Rattle.std.specs.Prelude.{ℕ, ◌+◌, ◌-◌, List, [], ◌∷◌, ◌++◌, length, take, replicate, nat_lt, MatchBool, Option, None}
+use Rattle.sdr_base.specs.Parts.{overwrite, part}
+use Rattle.sdr_base.specs.declared.refusal.Refusal.TheVariants as refusals
+use Rattle.sdr_model.specs.Limits.{longest_raw, longest_string, longest_read}
+use Rattle.sdr_model.specs.Steps.{Outcome, Refuses, Reads, Does, Makes, On, gave, with_thing, without_thing}
+use Rattle.sdr_model.specs.Things.{raw_need, text_need}
+use Rattle.sdr_model.specs.World.{World, thing_at, block_at, misnamed, as_raw, as_text, is_marked}
+use Rattle.sdr_model.specs.declared.answer.Reply.TheVariants as replies
+use Rattle.sdr_model.specs.declared.things.Thing.TheVariants as things
+use Rattle.sdr_base.specs.declared.kind.Kind.{Kind}
+use Rattle.sdr_base.specs.declared.kind.Kind.TheVariants as kinds
+
+-- a raw object of so many zero bytes is made
+abbrev pub Malloc : World → Outcome → ℕ → Type 0
+Malloc w o bytes =
+    MatchBool (nat_lt longest_raw bytes)
+    (Refuses w o (refusals.BadLength bytes longest_raw))
+    (Makes w o (raw_need bytes) (things.Raw (replicate bytes 0)))
+
+-- the raw object or the string goes
+abbrev pub FreesThing : World → Outcome → ℕ → Option (List ℕ) → Option (List ℕ) → Type 0
+FreesThing w o addr None None = Refuses w o (misnamed w addr)
+FreesThing w o addr raw text = Does o (gave (addr ∷ [])) (without_thing w addr) replies.Done
+
+abbrev pub Free : World → Outcome → ℕ → Type 0
+Free w o addr = FreesThing w o addr (as_raw (thing_at w addr)) (as_text (thing_at w addr))
+
+-- what a thing's length is, where its block has this kind and so many bytes: a raw object's is without the word before it
+abbrev pub length_as : Kind → ℕ → ℕ
+length_as kinds.Raw bytes = bytes - 8
+length_as kind bytes = bytes
+
+-- the length of the thing is given
+abbrev pub Length : World → Outcome → ℕ → Type 0
+Length w o addr = On w o addr (block_at w addr) (λ b. Reads w o [] (replies.Value (length_as b.kind b.bytes)))
+
+-- so many bytes of the raw object from a place on are given, of at most a page
+abbrev pub Read : World → Outcome → ℕ → ℕ → ℕ → Type 0
+Read w o addr place count =
+    On w o addr (as_raw (thing_at w addr)) (λ bytes.
+    MatchBool (nat_lt longest_read count)
+    (Refuses w o (refusals.BadLength count longest_read))
+    (MatchBool (nat_lt (length bytes) (place + count))
+    (Refuses w o (refusals.OutOfBounds addr place count))
+    (Reads w o (part place count bytes) (replies.Bytes count))))
+
+-- the bytes are written into the raw object from a place on, where it was taken or staged in this transaction
+abbrev pub Write : World → Outcome → ℕ → ℕ → List ℕ → Type 0
+Write w o addr place from =
+    On w o addr (as_raw (thing_at w addr)) (λ bytes.
+    MatchBool (nat_lt (length bytes) (place + length from))
+    (Refuses w o (refusals.OutOfBounds addr place (length from)))
+    (MatchBool (is_marked w addr)
+    (Does o [] (with_thing w addr (things.Raw (overwrite place from bytes))) replies.Done)
+    (Refuses w o (refusals.NotStaged addr))))
+
+-- the first bytes of the raw object are given, and it may be written from now on
+abbrev pub Stage : World → Outcome → ℕ → ℕ → Type 0
+Stage w o addr count =
+    On w o addr (as_raw (thing_at w addr)) (λ bytes.
+    MatchBool (nat_lt longest_read count)
+    (Refuses w o (refusals.BadLength count longest_read))
+    (MatchBool (nat_lt (length bytes) count)
+    (Refuses w o (refusals.OutOfBounds addr 0 count))
+    (Reads (record w { marks = w.marks ++ addr ∷ [] }) o (take count bytes) (replies.Bytes count))))
+
+-- a string of the text is made
+abbrev pub Text : World → Outcome → List ℕ → Type 0
+Text w o text =
+    MatchBool (nat_lt longest_string (length text))
+    (Refuses w o (refusals.BadLength (length text) longest_string))
+    (Makes w o (text_need (length text)) (things.Text text))
+
+-- the length of the string is given
+abbrev pub TextLength : World → Outcome → ℕ → Type 0
+TextLength w o addr = On w o addr (as_text (thing_at w addr)) (λ text. Reads w o [] (replies.Value (length text)))
+
+-- the string's text is given
+abbrev pub TextRead : World → Outcome → ℕ → Type 0
+TextRead w o addr = On w o addr (as_text (thing_at w addr)) (λ text. Reads w o text (replies.Bytes (length text)))
+
+-- a string of the same text is made
+abbrev pub TextDup : World → Outcome → ℕ → Type 0
+TextDup w o addr = On w o addr (as_text (thing_at w addr)) (λ text. Makes w o (text_need (length text)) (things.Text text))

@@ -1,0 +1,144 @@
+// Places by address.
+ghost use Rattle.std.specs.Prelude.{◌≡◌, IfOk, OnOk, OnErr, IsSome, Some, None, false};
+ghost use Rattle.std.specs.FinMap as map;
+ghost use Rattle.std.specs.Option.{option_copied};
+ghost use Rattle.sdr_model.specs.Store.{now_at, present, things_at};
+ghost use Rattle.std.specs.BTreeMap.{IsOrdered};
+ghost use Rattle.std.specs.Ordering.{nat_cmp};
+ghost use Rattle.sdr_model.specs.Things.{IsWithin, SpotIs, inner_among, spot_among, spot_in_thing};
+
+use crate::{Block, Spot, Thing};
+use crate::place::Place;
+use sdr_base::{Addr, NoMemory};
+use std::alloc::Global;
+use std::collections::BTreeMap;
+use std::marker::Model;
+use std::mem;
+
+/// Places by their addresses. Contracts see a finite map.
+#[derive(Drop)]
+pub struct Places {
+    inner: BTreeMap<u64, Place>,
+}
+
+impl Model for Places {
+    ghost use Rattle.std.specs.Ordering.{nat_cmp};
+    ghost use Rattle.std.specs.FinMap as map;
+    ghost use Rattle.std.specs.Coded.{coded_ℕ};
+    ghost use Rattle.sdr_model.specs.contracts.place.Place as place;
+    ghost use Rattle.sdr_model.specs.declared.place.Place.{Place};
+
+    ghost Value = { map.FinMap nat_cmp Place };
+
+    ghost coded = { map.code coded_ℕ place.the_row.coded };
+
+    ghost view = { λ s. map.from_entries s.inner.entries };
+}
+
+// The block at an address inside one of the things at these places.
+fn inner_block(inner: &BTreeMap<u64, Place>, addr: Addr) -> Option<Block>
+    ensures value { result ≡ inner_among addr (present inner.now.entries) }
+    ensures ordered { IsOrdered nat_cmp inner.now }
+{
+    for (_, place) in inner.iter() {
+        if let Some(block) = place.inner_block(addr) {
+            return Some(block);
+        }
+    }
+    None
+}
+
+// Where an element stands in the list at a place, if a list is there that has it.
+fn spot_in(list: Addr, place: &Place, element: Addr) -> Option<Spot<'_>>
+    ensures value { SpotIs result (spot_in_thing element list place.now.thing) }
+    ensures within { IsWithin result }
+{
+    match place.current() {
+        Some(Thing::List(row)) => {
+            let place = row.place_of(element)?;
+            Some(Spot { list, row, place })
+        }
+        _ => None,
+    }
+}
+
+// Where an element stands, in the first of the lists at these places that has it.
+fn spot(inner: &BTreeMap<u64, Place>, element: Addr) -> Option<Spot<'_>>
+    ensures value { SpotIs result (spot_among element (present inner.now.entries)) }
+    ensures within { IsWithin result }
+    ensures ordered { IsOrdered nat_cmp inner.now }
+{
+    for (list, place) in inner.iter() {
+        if let Some(spot) = spot_in(*list, place, element) {
+            return Some(spot);
+        }
+    }
+    None
+}
+
+impl Places {
+    /// No places. It takes no memory.
+    pub fn new(alloc: Global) -> Places
+        ensures { result ≡ map.empty }
+    {
+        Places {
+            inner: BTreeMap::new(alloc),
+        }
+    }
+
+    /// The place at an address.
+    pub fn get(&self, addr: Addr) -> Option<&Place>
+        ensures { option_copied result ≡ map.get self.now addr }
+    {
+        self.inner.get(&addr)
+    }
+
+    /// Puts a place at an address. Want of memory leaves all as before.
+    pub fn insert(&mut self, addr: Addr, place: Place) -> Result<(), NoMemory>
+        ensures ok { OnOk result (self.new ≡ map.insert self.old addr place) }
+        ensures same { OnErr result (self.new ≡ self.old) }
+    {
+        self.inner.insert(addr, place)?;
+        Ok(())
+    }
+
+    /// Takes out the place at an address, to be changed and set again. An empty one stands there meanwhile.
+    pub fn lift(&mut self, addr: Addr) -> Place
+        requires some { IsSome (map.get self.old addr) }
+        ensures lifted { map.get self.old addr ≡ Some result }
+        ensures empty { self.new ≡ map.insert self.old addr (record { touched = false; begun = None; thing = None }) }
+    {
+        match self.inner.get_mut(&addr) {
+            Some(place) => mem::replace(place, Place::empty()),
+            None => unreachable!(),
+        }
+    }
+
+    /// Sets the place at an address where one is already.
+    pub fn set(&mut self, addr: Addr, place: Place)
+        requires some { IsSome (map.get self.old addr) }
+        ensures { self.new ≡ map.insert self.old addr place }
+    {
+        match self.inner.get_mut(&addr) {
+            Some(slot) => *slot = place,
+            None => unreachable!(),
+        }
+    }
+
+    /// The block at an address inside one of the things now, of which the one with the lowest address that
+    /// has it counts. It looks at each thing in turn.
+    pub fn inner_block(&self, addr: Addr) -> Option<Block>
+        ensures { result ≡ inner_among addr (map.entries (things_at now_at self.now)) }
+    {
+        inner_block(&self.inner, addr)
+    }
+
+    /// Where an element stands, in the list with the lowest address that has it. It looks at each list in
+    /// turn.
+    pub fn spot(&self, element: Addr) -> Option<Spot<'_>>
+        ensures value { SpotIs result (spot_among element (map.entries (things_at now_at self.now))) }
+        ensures within { IsWithin result }
+    {
+        spot(&self.inner, element)
+    }
+}

@@ -1,0 +1,161 @@
+// The things of a world in the making, which can be put back to what they were at the begin.
+ghost use Rattle.std.specs.Prelude.{◌≡◌, IfOk, IfSome, OnOk, OnErr, IsSome, Some, None, Contains, [], ◌∷◌};
+ghost use Rattle.std.specs.FinMap as map;
+ghost use Rattle.std.specs.Option.{option_copied};
+ghost use Rattle.sdr_model.specs.Store.{with_at, with_place};
+ghost use Rattle.sdr_model.specs.Things.{IsWithin, SpotIs, inner_among, spot_among};
+ghost use Rattle.sdr_model.specs.declared.things.Thing.{Thing};
+
+use crate::{Block, Spot, Thing};
+use crate::place::Place;
+use crate::places::Places;
+use sdr_base::{Addr, NoMemory};
+use std::alloc::Global;
+use std::marker::Model;
+
+/// The things of a world by their addresses, now and at the begin of the open transaction. A thing is
+/// copied once in a transaction, when it is first changed in place.
+#[derive(Drop)]
+pub struct Store {
+    alloc: Global,
+    places: Places,
+    /// The addresses of all places that were touched since the begin.
+    touched: Vec<Addr>,
+}
+
+impl Model for Store {
+    ghost use Rattle.sdr_model.specs.Store as store;
+
+    ghost Value = { store.Store };
+
+    ghost coded = { store.coded_store };
+
+    ghost view = { λ s. record {
+      begun = store.things_at store.begun_at s.places;
+      now = store.things_at store.now_at s.places;
+      touched = s.touched.items;
+    } };
+
+    ghost invariant = { λ s. store.AreTouched s.places s.touched.items };
+}
+
+// Makes a place for an address where there is none.
+fn make_place(places: &mut Places, addr: Addr) -> Result<(), NoMemory>
+    ensures made { OnOk result (places.new ≡ with_place places.old addr) }
+    ensures same { OnErr result (places.new ≡ places.old) }
+{
+    match places.get(addr) {
+        Some(_) => Ok(()),
+        None => places.insert(addr, Place::empty()),
+    }
+}
+
+impl Store {
+    /// No things. It takes no memory.
+    pub fn new(alloc: Global) -> Store
+        ensures { result ≡ record { begun = map.empty; now = map.empty; touched = [] } }
+    {
+        Store {
+            alloc,
+            places: Places::new(alloc),
+            touched: Vec::new(alloc),
+        }
+    }
+
+    /// The thing at an address.
+    pub fn get(&self, addr: Addr) -> Option<&Thing>
+        ensures { option_copied result ≡ map.get self.now.now addr }
+    {
+        match self.places.get(addr) {
+            Some(place) => place.current(),
+            None => None,
+        }
+    }
+
+    /// The block at an address inside one of the things. It looks at each thing in turn.
+    pub fn inner_block(&self, addr: Addr) -> Option<Block>
+        ensures { result ≡ inner_among addr (map.entries self.now.now) }
+    {
+        self.places.inner_block(addr)
+    }
+
+    /// Where the element at an address stands. It looks at each list in turn.
+    pub fn spot(&self, element: Addr) -> Option<Spot<'_>>
+        ensures is { SpotIs result (spot_among element (map.entries self.now.now)) }
+        ensures within { IsWithin result }
+        ensures there { IfSome result (λ s. map.get self.now.now s.list ≡ Some (Thing.List s.row.now)) }
+    {
+        self.places.spot(element)
+    }
+
+    // Takes note that an address is touched, and makes a place for it where there is none.
+    fn touch(&mut self, addr: Addr) -> Result<(), NoMemory>
+        ensures begun { self.new.begun ≡ self.old.begun }
+        ensures now { self.new.now ≡ self.old.now }
+        ensures touched { OnOk result (Contains self.new.touched addr) }
+    {
+        make_place(&mut self.places, addr)?;
+        self.touched.push(addr)?;
+        Ok(())
+    }
+
+    /// Puts a thing, or nothing, at an address that was touched.
+    pub fn put(&mut self, addr: Addr, thing: Option<Thing>)
+        requires touched { Contains self.old.touched addr }
+        ensures now { self.new.now ≡ with_at self.old.now addr thing }
+        ensures begun { self.new.begun ≡ self.old.begun }
+    {
+        let mut place = self.places.lift(addr);
+        place.put(thing);
+        self.places.set(addr, place);
+    }
+
+    /// Puts a thing at an address, or lets the one there go. Want of memory leaves all as before.
+    pub fn replace(&mut self, addr: Addr, thing: Option<Thing>) -> Result<(), NoMemory>
+        ensures now { OnOk result (self.new.now ≡ with_at self.old.now addr thing) }
+        ensures begun { self.new.begun ≡ self.old.begun }
+        ensures same { OnErr result (self.new.now ≡ self.old.now) }
+    {
+        self.touch(addr)?;
+        self.put(addr, thing);
+        Ok(())
+    }
+
+    /// Takes out the thing at an address, to be changed and put back. Want of memory leaves all as before.
+    pub fn take(&mut self, addr: Addr) -> Result<Thing, NoMemory>
+        requires some { IsSome (map.get self.old.now addr) }
+        ensures taken { IfOk result (λ thing. map.get self.old.now addr ≡ Some thing) }
+        ensures without { OnOk result (self.new.now ≡ map.remove self.old.now addr) }
+        ensures touched { OnOk result (Contains self.new.touched addr) }
+        ensures begun { self.new.begun ≡ self.old.begun }
+        ensures same { OnErr result (self.new.now ≡ self.old.now) }
+    {
+        self.touch(addr)?;
+        let mut place = self.places.lift(addr);
+        let taken = place.take(self.alloc);
+        self.places.set(addr, place);
+        taken
+    }
+
+    /// Takes the things now as those to begin from.
+    pub fn keep(&mut self)
+        ensures { self.new ≡ record { begun = self.old.now; now = self.old.now; touched = [] } }
+    {
+        while let Some(addr) = self.touched.pop() {
+            let mut place = self.places.lift(addr);
+            place.keep();
+            self.places.set(addr, place);
+        }
+    }
+
+    /// Puts the things back to what they were at the begin.
+    pub fn put_back(&mut self)
+        ensures { self.new ≡ record { begun = self.old.begun; now = self.old.begun; touched = [] } }
+    {
+        while let Some(addr) = self.touched.pop() {
+            let mut place = self.places.lift(addr);
+            place.put_back();
+            self.places.set(addr, place);
+        }
+    }
+}
