@@ -8,3 +8,4 @@ pub mod SmallPoolLemmas
 pub mod StartBitsLemmas
 pub mod StoredLemmas
 pub mod WrittenLemmas
+mod LargeRows
