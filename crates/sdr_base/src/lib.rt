@@ -49,4 +49,7 @@ pub use sink::{Sink, SinkFault, write_all};
 pub use source::{Source, SourceFault};
 pub use start_bits::{clear_start_bit, set_start_bit};
 pub use stop::Stop;
-pub use stored::{read_leader_words, read_number, write_bare_leader, write_number};
+pub use stored::{
+    LastWord, read_last_word, read_leader_words, read_number, write_bare_leader, write_last_word,
+    write_number,
+};
