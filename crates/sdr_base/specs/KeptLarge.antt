@@ -22,10 +22,11 @@ pub record ListsFree (P : Pools) : Type 0 where
   pub listed : (order words addr : ℕ) → count_by (is_entry words addr) (P.large_lists order)
       ≡ cond (order == order_of words) (count_by (is_free_of words addr) P.large) 0
 
--- the large blocks tile the heap from `high` to its end, the free ones are listed, no two of them touch, and
--- the block at `high` isn't free
+-- the large blocks tile the heap from `high` to its end, above the first block place; the free ones are listed,
+-- no two of them touch, and the block at `high` isn't free
 pub record TilesLarge (P : Pools) : Type 0 where
   pub bounds : HasBounds P
+  pub least : P.start ≤ P.low
   pub follow : FollowsLarge P.high P.large P.end
   pub lists : ListsFree P
   pub apart : (words addr : ℕ) → 0 < count_by (is_free_of words addr) P.large →
