@@ -3,7 +3,8 @@ use Rattle.std.proofs.Common.{◌≡◌, ℕ, ◌+◌, ◌-◌, ◌*◌, List, [
 use Rattle.std.specs.Prelude.{Option, Some, None, option_map}
 use Rattle.sdr_base.specs.Pools.{Pools, fresh_pools}
 use Rattle.sdr_base.specs.SmallPool.{Taken, take_small, with_list, with_used, words_at}
-use Rattle.sdr_base.specs.LargePool.{take_large, give_large, order_of, front_from, without, placed, unlisted}
+use Rattle.sdr_base.specs.LargeGiving.{give_large}
+use Rattle.sdr_base.specs.LargePool.{take_large, order_of, front_from, without, placed, unlisted}
 
 -- the address of the block that was taken, and the pools afterwards
 abbrev addr_of : Option Taken → Option ℕ

@@ -3,6 +3,7 @@ pub mod Cells
 pub mod FreshHeap
 pub mod KeptLarge
 pub mod KeptPools
+pub mod LargeGiving
 pub mod LargePool
 pub mod Media
 pub mod MemorySink

@@ -1,0 +1,4 @@
+pub mod Calls
+pub mod Frame
+pub mod Gap
+pub mod Steps
