@@ -1,11 +1,11 @@
 -- The word that links back to a block, written.
-use Rattle.std.proofs.Common.{◌≡◌, ◌≢◌, ◌≤◌, ◌<◌, ◌⊎◌, inl, inr, ℕ, ◌+◌, ◌-◌, ◌*◌, ◌^◌, Bool, true, false, cond, ◌==◌}
-use Rattle.std.proofs.Common.{List, length, get_or, refl, sym, ap, ◌∙◌, arith, subst}
+use Rattle.std.proofs.Common.{◌≡◌, ◌≢◌, ◌≤◌, ◌<◌, inl, inr, ℕ, ◌+◌, ◌-◌, ◌*◌, ◌^◌, Bool, cond}
+use Rattle.std.proofs.Common.{List, length, get_or, ap, ◌∙◌, arith}
 use Rattle.std.proofs.lemmas.Bool.{cases_eq, eq-eqb, ne_eqb}
 use Rattle.sdr_base.specs.KeptPools.{IsOutside}
 use Rattle.sdr_base.specs.KeptLarge.{large_place}
 use Rattle.sdr_base.specs.Stored.{number_at, with_number, leader_words}
-use Rattle.sdr_base.proofs.StoredLemmas.{number_at-with_number, get_or-with_number, length-with_number, number_at-same}
+use Rattle.sdr_base.proofs.StoredLemmas.{number_at-with_number, get_or-with_number, length-with_number}
 use Rattle.sdr_large.specs.Steps.{link_place, with_before, ReachesBack}
 use Rattle.sdr_large.proofs.PlacesLemmas.{IsApart}
 

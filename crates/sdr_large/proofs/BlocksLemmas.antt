@@ -1,5 +1,5 @@
 -- One block taken out of the large blocks, or put among them: what passes a test afterwards.
-use Rattle.std.proofs.Common.{◌≡◌, ◌≢◌, ◌≤◌, ◌<◌, ◌⊎◌, inl, inr, ℕ, ◌+◌, ◌-◌, ◌*◌, Bool, true, false, not, cond, ◌&&◌, ◌==◌}
+use Rattle.std.proofs.Common.{◌≡◌, ◌≢◌, ◌≤◌, ◌<◌, ◌⊎◌, inl, inr, ℕ, ◌+◌, ◌*◌, Bool, true, false, not, cond, ◌&&◌, ◌==◌}
 use Rattle.std.proofs.Common.{List, [], ◌∷◌, ◌++◌, refl, sym, ap, ◌∙◌, arith}
 use Rattle.std.specs.Prelude.{filter, nat_lt}
 use Rattle.std.specs.List.{count_by}
@@ -10,7 +10,7 @@ use Rattle.sdr_base.specs.Pools.{PoolBlock, is_at, is_of, is_free_of, is_used_at
 use Rattle.sdr_base.specs.KeptLarge.{FollowsLarge, is_used_of}
 use Rattle.sdr_base.specs.LargeGiving.{is_free_at}
 use Rattle.sdr_base.specs.LargePool.{without, placed}
-use Rattle.sdr_base.proofs.PoolsLemmas.{count_by-append, count_by-yes, count_by-no, is_at-true, is_at-other}
+use Rattle.sdr_base.proofs.PoolsLemmas.{count_by-yes, count_by-no, is_at-true, is_at-other}
 use Rattle.sdr_large.proofs.FollowsLemmas.{follows-le}
 
 -- the elements kept of those that pass a test

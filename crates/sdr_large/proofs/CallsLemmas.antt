@@ -1,14 +1,13 @@
 -- What the calls do, from what their parts do.
-use Rattle.std.proofs.Common.{◌≡◌, ◌≢◌, ◌≤◌, ◌<◌, ℕ, ◌+◌, ◌-◌, ◌*◌, cond}
-use Rattle.std.proofs.Common.{List, refl, sym, ap, ◌∙◌, arith, subst}
+use Rattle.std.proofs.Common.{◌≡◌, ◌≤◌, ℕ}
+use Rattle.std.proofs.Common.{List, sym, subst}
 use Rattle.std.specs.Prelude.{Option, Some, None, Result, Ok, Err, IfOk, OnOk}
 use Rattle.sdr_base.specs.Pools.{Pools}
 use Rattle.sdr_base.specs.SmallPool.{Taken}
-use Rattle.sdr_base.specs.LargePool.{found_large, take_found, take_large, with_cut}
+use Rattle.sdr_base.specs.LargePool.{take_found, take_large, with_cut}
 use Rattle.sdr_base.specs.KeptLarge.{KeepsLarge, KeepsSomeLarge}
 use Rattle.sdr_large.specs.declared.block.Block.{Block}
 use Rattle.sdr_large.specs.Calls.{TakesBlock, TakesBy, Takes, TakesNew, KeepsUsedLarge, IsGiveable, CanCut, Cuts}
-use Rattle.sdr_large.specs.Gap.{IsFree}
 use Rattle.sdr_large.specs.Steps.{Finds}
 use Rattle.sdr_large.proofs.FoundLemmas.{IsFound, found_is}
 use Rattle.sdr_large.proofs.PlacesLemmas.{at_block, free_of}

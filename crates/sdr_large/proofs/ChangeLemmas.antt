@@ -1,13 +1,11 @@
 -- What stays of the large pool where only links, list fronts and the gap change.
-use Rattle.std.proofs.Common.{◌≡◌, ◌≢◌, ◌≤◌, ◌<◌, ◌⊎◌, inl, inr, ℕ, ◌+◌, ◌-◌, ◌*◌, ◌/◌, ◌%◌, Bool, true, false, cond, ◌==◌}
-use Rattle.std.proofs.Common.{List, [], ◌∷◌, length, get_or, refl, sym, ap, ◌∙◌, arith, subst}
+use Rattle.std.proofs.Common.{◌≡◌, ◌≤◌, ◌<◌, ◌⊎◌, inl, inr, ℕ, ◌+◌, ◌-◌, ◌*◌}
+use Rattle.std.proofs.Common.{List, length, get_or, ◌∙◌, arith, subst}
 use Rattle.std.specs.List.{count_by}
-use Rattle.sdr_base.specs.Pools.{PoolBlock, Pools, is_at, is_of, is_free_of, is_used_at}
+use Rattle.sdr_base.specs.Pools.{Pools, is_of}
 use Rattle.sdr_base.specs.KeptPools.{IsOutside}
-use Rattle.sdr_base.specs.KeptLarge.{Links, HoldsLarge, IsFreeBlock, IsUsedBlock, StaysUsed, is_used_of, is_entry, large_place}
-use Rattle.sdr_base.specs.KeptLarge.{last_word}
-use Rattle.sdr_base.specs.Stored.{number_at, leader_kind, leader_words, leader_length, start_bit}
-use Rattle.sdr_base.proofs.PartsLemmas.{sides}
+use Rattle.sdr_base.specs.KeptLarge.{HoldsLarge, IsFreeBlock, IsUsedBlock, StaysUsed, is_used_of, large_place}
+use Rattle.sdr_base.specs.Stored.{number_at, leader_words, start_bit}
 use Rattle.sdr_base.proofs.StoredLemmas.{number_at-same, leader_words-same, leader_kind-same, leader_length-same}
 use Rattle.sdr_large.specs.Gap.{TilesAround, IsFree, StaysBelow}
 use Rattle.sdr_large.proofs.PartedLemmas.{IsBeside}

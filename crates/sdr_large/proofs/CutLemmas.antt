@@ -1,25 +1,19 @@
 -- So many words cut from a free block.
-use Rattle.std.proofs.Common.{◌≡◌, ◌≢◌, ◌≤◌, ◌<◌, ◌⊎◌, inl, inr, ℕ, ◌+◌, ◌-◌, ◌*◌, ◌%◌, Bool, true, false, not, cond, ◌&&◌, ◌==◌}
-use Rattle.std.proofs.Common.{List, length, get_or, refl, sym, ap, ◌∙◌, arith, subst}
-use Rattle.std.specs.Prelude.{Option, Some, None, nat_lt}
+use Rattle.std.proofs.Common.{◌≡◌, ◌≢◌, ◌≤◌, inl, inr, ℕ, ◌+◌, ◌-◌, ◌*◌, Bool, true, false, ◌&&◌, ◌==◌}
+use Rattle.std.proofs.Common.{refl, sym, ap, arith, subst}
 use Rattle.std.specs.List.{count_by}
-use Rattle.std.proofs.lemmas.Bool.{cases_Bool, cases_eq, eq-eqb, ne_eqb, eqb-true, lt-ltb, le-ltb, and_parts}
-use Rattle.sdr_base.specs.Pools.{PoolBlock, Pools, IsUsed, is_at, is_of, is_free_of, is_used_at}
-use Rattle.sdr_base.specs.LargePool.{without, placed, with_unlinked, with_used_large, with_free_large, with_cut}
+use Rattle.std.proofs.lemmas.Bool.{cases_eq, ne_eqb, and_parts}
+use Rattle.sdr_base.specs.Pools.{PoolBlock, Pools, is_of, is_free_of}
+use Rattle.sdr_base.specs.LargePool.{without, with_unlinked, with_used_large, with_free_large}
 use Rattle.sdr_base.specs.LargeGiving.{is_free_at}
-use Rattle.sdr_base.specs.LargePool.{extent_of}
-use Rattle.sdr_base.specs.KeptLarge.{FollowsLarge, TilesLarge, HoldsLarge, KeepsLarge, is_used_of}
-use Rattle.sdr_base.proofs.PoolsLemmas.{free-le-of, is_of-true}
-use Rattle.sdr_base.proofs.StoredLemmas.{leader_kind-same, leader_length-same}
-use Rattle.sdr_large.specs.Calls.{Becomes, TakesBlock, CanCut, Cuts}
-use Rattle.sdr_large.specs.Gap.{TilesAround, IsFree, Steps}
-use Rattle.sdr_large.specs.Steps.{HoldsFree, HoldsGap, Unlinks, PutsUsed, PutsFree}
-use Rattle.sdr_large.proofs.BlocksLemmas.{count_by-placed, without-le, without-other, without-here, free_at_is, free_of_is}
+use Rattle.sdr_base.specs.KeptLarge.{TilesLarge}
+use Rattle.sdr_base.proofs.PoolsLemmas.{is_of-true}
+use Rattle.sdr_large.specs.Gap.{TilesAround, IsFree}
+use Rattle.sdr_large.proofs.BlocksLemmas.{without-le, without-here, free_of_is}
 use Rattle.sdr_large.proofs.GapLemmas.{put_or_was, not_put}
 use Rattle.sdr_large.proofs.PartedLemmas.{IsBeside, closed}
-use Rattle.sdr_large.proofs.PlacesLemmas.{InOrder, in_order, at_block, free_of, one_or_apart}
-use Rattle.sdr_large.proofs.StaysLemmas.{below_trans, small_stays, all_used, used_without, used_placed}
-use Rattle.sdr_large.proofs.TilesLemmas.{bounds_of, tiles_unlinked, tiles_used, tiles_free}
+use Rattle.sdr_large.proofs.PlacesLemmas.{at_block, free_of, one_or_apart}
+use Rattle.sdr_large.proofs.TilesLemmas.{tiles_unlinked, tiles_used, tiles_free}
 use Rattle.sdr_large.proofs.WalkLemmas.{tiles_whole}
 
 module _ (P : Pools) (has addr : ℕ) (tiles : TilesLarge P) (free : IsFree P has addr) where

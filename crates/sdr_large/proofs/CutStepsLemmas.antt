@@ -1,21 +1,19 @@
 -- The steps by which a free block is cut, one after another.
-use Rattle.std.proofs.Common.{◌≡◌, ◌≢◌, ◌≤◌, ◌<◌, ◌⊎◌, inl, inr, ℕ, ◌+◌, ◌-◌, ◌*◌, ◌%◌, Bool, true, false, cond, ◌&&◌, ◌==◌}
-use Rattle.std.proofs.Common.{List, length, get_or, refl, sym, ap, ◌∙◌, arith, subst}
-use Rattle.std.specs.Prelude.{Option, Some, None, nat_lt}
+use Rattle.std.proofs.Common.{◌≡◌, ◌≤◌, ◌<◌, inl, ℕ, ◌+◌, ◌-◌, ◌*◌, Bool, true, false, cond, ◌&&◌, ◌==◌}
+use Rattle.std.proofs.Common.{List, get_or, refl, sym, ap, ◌∙◌, arith, subst}
+use Rattle.std.specs.Prelude.{Some}
 use Rattle.std.specs.List.{count_by}
 use Rattle.std.proofs.lemmas.Bool.{eq-eqb, lt-ltb, le-ltb}
-use Rattle.sdr_base.specs.Pools.{PoolBlock, Pools, IsUsed, is_at, is_of, is_free_of, is_used_at}
-use Rattle.sdr_base.specs.LargePool.{without, placed, with_unlinked, with_used_large, with_free_large, with_cut}
-use Rattle.sdr_base.specs.KeptLarge.{FollowsLarge, TilesLarge, HoldsLarge, KeepsLarge, StaysUsed, is_used_of}
-use Rattle.sdr_base.specs.Stored.{leader_kind, leader_length}
+use Rattle.sdr_base.specs.Pools.{PoolBlock, Pools, IsUsed, is_used_at}
+use Rattle.sdr_base.specs.LargePool.{without, placed, with_unlinked, with_used_large, with_free_large}
+use Rattle.sdr_base.specs.KeptLarge.{TilesLarge, KeepsLarge, is_used_of}
 use Rattle.sdr_base.proofs.StoredLemmas.{leader_kind-same, leader_length-same}
-use Rattle.sdr_large.specs.Calls.{Becomes, TakesBlock, CanCut, Cuts}
-use Rattle.sdr_large.specs.Gap.{TilesAround, IsFree, Steps, StaysBelow}
+use Rattle.sdr_large.specs.Calls.{TakesBlock, CanCut, Cuts}
+use Rattle.sdr_large.specs.Gap.{IsFree, Steps, StaysBelow}
 use Rattle.sdr_large.specs.Steps.{HoldsFree, HoldsGap, Unlinks, PutsUsed, PutsFree}
 use Rattle.sdr_large.proofs.BlocksLemmas.{count_by-placed}
-use Rattle.sdr_large.proofs.CutLemmas.{beside, gap, begins, block, low_fits, low_tiles, whole_tiles, rest_fits, rest_begins}
+use Rattle.sdr_large.proofs.CutLemmas.{gap, begins, low_fits, low_tiles, whole_tiles, rest_fits, rest_begins}
 use Rattle.sdr_large.proofs.CutLemmas.{split_tiles}
-use Rattle.sdr_large.proofs.PlacesLemmas.{at_block, free_of}
 use Rattle.sdr_large.proofs.StaysLemmas.{below_trans, small_stays, all_used, used_without, used_placed}
 use Rattle.sdr_large.proofs.WalkLemmas.{tiles_whole}
 

@@ -1,11 +1,11 @@
 -- Large blocks that follow one another: where one stands, and that two lie apart.
-use Rattle.std.proofs.Common.{◌≡◌, ◌≢◌, ◌≤◌, ◌<◌, ◌⊎◌, inl, inr, ℕ, ◌+◌, ◌-◌, ◌*◌, ◌%◌, Bool, true, false, cond, ◌==◌}
-use Rattle.std.proofs.Common.{List, [], ◌∷◌, ◌++◌, refl, sym, ap, ◌∙◌, arith}
+use Rattle.std.proofs.Common.{◌≡◌, ◌≢◌, ◌≤◌, ◌<◌, ◌⊎◌, inl, inr, ℕ, ◌+◌, ◌-◌, ◌*◌, ◌%◌}
+use Rattle.std.proofs.Common.{List, [], ◌∷◌, refl, sym, ◌∙◌, arith}
 use Rattle.std.specs.List.{count_by}
 use Rattle.std.proofs.lemmas.Bool.{cases_Bool}
 use Rattle.sdr_base.specs.Pools.{PoolBlock, is_at, is_of}
 use Rattle.sdr_base.specs.KeptLarge.{FollowsLarge}
-use Rattle.sdr_base.proofs.PoolsLemmas.{count_by-append, count_by-yes, count_by-no, is_at-true, is_at-other, is_of-true}
+use Rattle.sdr_base.proofs.PoolsLemmas.{count_by-yes, count_by-no, is_at-true, is_at-other, is_of-true}
 
 pub follows-le : (from to : ℕ) (bs : List PoolBlock) → FollowsLarge from bs to → from ≤ to
 follows-le from to [] f = omega (arith, f)

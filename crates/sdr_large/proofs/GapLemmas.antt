@@ -1,21 +1,20 @@
 -- A block of so many words in the gap of a pool: what it is to the blocks that are there.
-use Rattle.std.proofs.Common.{◌≡◌, ◌≢◌, ◌≤◌, ◌<◌, ◌⊎◌, inl, inr, ℕ, ◌+◌, ◌-◌, ◌*◌, ◌/◌, ◌%◌, ◌^◌, Bool, true, false, not, cond, ◌&&◌, ◌==◌}
-use Rattle.std.proofs.Common.{List, [], ◌∷◌, length, get_or, refl, sym, ap, ◌∙◌, arith, subst}
+use Rattle.std.proofs.Common.{◌≡◌, ◌≢◌, ◌≤◌, ◌<◌, ◌⊎◌, inl, inr, ℕ, ◌+◌, ◌-◌, ◌*◌, Bool, true, false, cond}
+use Rattle.std.proofs.Common.{List, [], ◌∷◌, sym, ap, ◌∙◌, arith, subst}
 use Rattle.std.specs.List.{count_by}
-use Rattle.std.proofs.lemmas.Bool.{cases_eq, cases_Bool, eq-eqb, ne_eqb}
-use Rattle.std.proofs.lemmas.Bool.Decides.{nat_tests}
-use Rattle.sdr_base.specs.Pools.{PoolBlock, Pools, is_at, is_of, is_free_of, is_used_at}
+use Rattle.std.proofs.lemmas.Bool.{cases_Bool}
+use Rattle.sdr_base.specs.Pools.{PoolBlock, Pools, is_at, is_used_at}
 use Rattle.sdr_base.specs.LargePool.{placed, order_of}
 use Rattle.sdr_base.specs.KeptPools.{IsOutside}
-use Rattle.sdr_base.specs.KeptLarge.{Links, HoldsLarge, is_used_of, is_entry, large_place}
+use Rattle.sdr_base.specs.KeptLarge.{Links, HoldsLarge, is_entry, large_place}
 use Rattle.sdr_base.specs.Stored.{number_at}
-use Rattle.sdr_base.proofs.PoolsLemmas.{of-le-at, used-le-at, is_of-true}
+use Rattle.sdr_base.proofs.PoolsLemmas.{used-le-at}
 use Rattle.sdr_large.specs.Gap.{TilesAround, IsFree}
 use Rattle.sdr_large.proofs.BlocksLemmas.{count_by-placed}
 use Rattle.sdr_large.proofs.FollowsLemmas.{at_first, at_last}
 use Rattle.sdr_large.proofs.LinksLemmas.{FreeAt, first_entry}
 use Rattle.sdr_large.proofs.ListsLemmas.{entry_free}
-use Rattle.sdr_large.proofs.PartedLemmas.{IsBeside, both_sides}
+use Rattle.sdr_large.proofs.PartedLemmas.{both_sides}
 use Rattle.sdr_large.proofs.PlacesLemmas.{InOrder, in_order, at_block, free_of, entered_free, unique}
 
 -- what a block that is put among others passes, or they pass before

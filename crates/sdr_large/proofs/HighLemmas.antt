@@ -1,10 +1,10 @@
 -- The word that holds the end of the unassigned space, written.
-use Rattle.std.proofs.Common.{◌≡◌, ◌≢◌, ◌≤◌, ◌<◌, ◌⊎◌, inl, inr, ℕ, ◌+◌, ◌-◌, ◌*◌, ◌/◌, ◌%◌, ◌^◌}
-use Rattle.std.proofs.Common.{List, length, get_or, refl, sym, ap, ◌∙◌, arith, subst}
+use Rattle.std.proofs.Common.{◌≡◌, ◌≤◌, ◌<◌, ◌⊎◌, inl, inr, ℕ, ◌+◌, ◌-◌, ◌*◌, ◌/◌, ◌^◌}
+use Rattle.std.proofs.Common.{List, length, get_or, ◌∙◌, arith}
 use Rattle.std.specs.List.{count_by}
-use Rattle.sdr_base.specs.Pools.{Pools, is_of, is_free_of}
-use Rattle.sdr_base.specs.KeptLarge.{Links, HoldsLarge, StaysUsed, is_used_of, large_place}
-use Rattle.sdr_base.specs.Stored.{number_at, with_number, start_bit}
+use Rattle.sdr_base.specs.Pools.{Pools, is_of}
+use Rattle.sdr_base.specs.KeptLarge.{HoldsLarge, is_used_of, large_place}
+use Rattle.sdr_base.specs.Stored.{number_at, with_number}
 use Rattle.sdr_base.proofs.StartBitsLemmas.{start_bit-same}
 use Rattle.sdr_base.proofs.StoredLemmas.{number_at-with_number, get_or-with_number, length-with_number, number_at-same}
 use Rattle.sdr_base.proofs.StoredLemmas.{leader_words-same, leader_kind-same, leader_length-same}

@@ -9,9 +9,16 @@ pub mod FollowsLemmas
 pub mod FoundLemmas
 pub mod FrameLemmas
 pub mod GapLemmas
+pub mod GivenLemmas
+pub mod GivingLemmas
 pub mod HighLemmas
+pub mod JoinLemmas
+pub mod JoinedLemmas
 pub mod LinksLemmas
 pub mod ListsLemmas
+pub mod LooseLemmas
+pub mod LoosenLemmas
+pub mod NeighbourLemmas
 pub mod NewLemmas
 pub mod PartedLemmas
 pub mod PlacesLemmas

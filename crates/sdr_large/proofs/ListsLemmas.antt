@@ -1,19 +1,19 @@
 -- The lists of free blocks, when one leaves or comes.
 use Rattle.std.proofs.Common.{◌≡◌, ◌≢◌, ◌≤◌, ◌<◌, ◌⊎◌, inl, inr, ℕ, zero, suc, min, ◌+◌, ◌*◌, ◌^◌, Bool, true, false, not, cond, ◌&&◌, ◌==◌}
-use Rattle.std.proofs.Common.{List, [], ◌∷◌, ◌++◌, refl, sym, ap, ◌∙◌, arith, subst}
+use Rattle.std.proofs.Common.{List, ◌∷◌, refl, sym, ap, ◌∙◌, arith, subst}
 use Rattle.std.specs.Prelude.{nat_le}
 use Rattle.std.specs.List.{count_by}
-use Rattle.std.proofs.lemmas.Bool.{cases_Bool, cases_eq, eq-eqb, ne_eqb, eqb-true, eqb-false, le-leb, lt-leb, cases_lt, and_parts}
+use Rattle.std.proofs.lemmas.Bool.{cases_Bool, cases_eq, eq-eqb, ne_eqb, eqb-true, le-leb, lt-leb, cases_lt, and_parts}
 use Rattle.std.proofs.lemmas.Bool.Decides.{nat_tests}
 use Rattle.std.proofs.lemmas.List.Sums.{sum_by-cons}
 use Rattle.std.proofs.lemmas.Grind.{pow_more}
 use Rattle.std.proofs.Math.Pow.{pow_mono}
-use Rattle.sdr_base.specs.Pools.{PoolBlock, Pools, is_at, is_of, is_free_of, is_used_at}
+use Rattle.sdr_base.specs.Pools.{PoolBlock, Pools, is_at, is_of, is_free_of}
 use Rattle.sdr_base.specs.SmallPool.{with_list}
-use Rattle.sdr_base.specs.LargePool.{order_upto, order_of, without, placed, unlisted, with_unlinked, with_used_large}
+use Rattle.sdr_base.specs.LargePool.{order_upto, order_of, without, unlisted, with_unlinked, with_used_large}
 use Rattle.sdr_base.specs.LargePool.{with_free_large}
 use Rattle.sdr_base.specs.KeptLarge.{ListsFree, is_entry}
-use Rattle.sdr_base.proofs.PoolsLemmas.{count_by-yes, count_by-no, of-le-at, free-le-of, free-used-le-at, free-free-le-at}
+use Rattle.sdr_base.proofs.PoolsLemmas.{free-free-le-at}
 use Rattle.sdr_base.proofs.SmallPoolLemmas.{with_list-here, with_list-other}
 use Rattle.sdr_large.specs.Gap.{IsFree}
 use Rattle.sdr_large.proofs.BlocksLemmas.{filter_kept, filter_lost, without-other, without-here, free_of_is, count_by-placed}

@@ -1,26 +1,26 @@
 -- A new block at the end of the unassigned space.
-use Rattle.std.proofs.Common.{◌≡◌, ◌≢◌, ◌≤◌, ◌<◌, ◌⊎◌, inl, inr, ℕ, ◌+◌, ◌-◌, ◌*◌, ◌%◌, ◌^◌, Bool, true, false, not, cond, ◌&&◌, ◌==◌}
-use Rattle.std.proofs.Common.{List, length, get_or, refl, sym, ap, ◌∙◌, arith, subst}
+use Rattle.std.proofs.Common.{◌≡◌, ◌≤◌, ◌<◌, inl, inr, ℕ, ◌+◌, ◌-◌, ◌*◌, ◌^◌, Bool, true, false, not, cond, ◌&&◌, ◌==◌}
+use Rattle.std.proofs.Common.{List, refl, sym, ap, ◌∙◌, arith, subst}
 use Rattle.std.specs.Prelude.{Option, Some, None, nat_lt}
 use Rattle.std.specs.List.{count_by}
 use Rattle.std.proofs.lemmas.Bool.{eq-eqb, lt-ltb, le-ltb}
-use Rattle.sdr_base.specs.Pools.{PoolBlock, Pools, IsUsed, is_at, is_of, is_free_of, is_used_at}
+use Rattle.sdr_base.specs.Pools.{PoolBlock, Pools, is_at, is_of, is_free_of, is_used_at}
 use Rattle.sdr_base.specs.SmallPool.{Taken}
 use Rattle.sdr_base.specs.LargeGiving.{is_free_at}
-use Rattle.sdr_base.specs.LargePool.{placed, with_used_large, with_new_large, take_found}
-use Rattle.sdr_base.specs.KeptLarge.{TilesLarge, HoldsLarge, KeepsLarge, KeepsSomeLarge, is_used_of}
+use Rattle.sdr_base.specs.LargePool.{with_used_large, with_new_large, take_found}
+use Rattle.sdr_base.specs.KeptLarge.{TilesLarge, HoldsLarge, KeepsLarge, KeepsSomeLarge}
 use Rattle.sdr_base.specs.Stored.{number_at, with_number}
 use Rattle.sdr_base.proofs.PoolsLemmas.{count_by-le}
-use Rattle.sdr_large.specs.Calls.{Becomes, TakesBlock, TakesBy, TakesNew}
-use Rattle.sdr_large.specs.Gap.{TilesAround, IsFree, Steps, StaysBelow}
+use Rattle.sdr_large.specs.Calls.{TakesBlock, TakesBy, TakesNew}
+use Rattle.sdr_large.specs.Gap.{TilesAround, Steps}
 use Rattle.sdr_large.specs.Steps.{HoldsGap, PutsUsed}
 use Rattle.sdr_large.proofs.BlocksLemmas.{count_by-placed}
 use Rattle.sdr_large.proofs.FollowsLemmas.{at_first}
 use Rattle.sdr_large.proofs.GapLemmas.{put_or_was, not_put}
 use Rattle.sdr_large.proofs.HighLemmas.{high_holds, high_below, high_used}
 use Rattle.sdr_large.proofs.PartedLemmas.{lowered, closed}
-use Rattle.sdr_large.proofs.PlacesLemmas.{InOrder, in_order, at_block}
-use Rattle.sdr_large.proofs.StaysLemmas.{below_trans, small_stays, all_used, used_placed}
+use Rattle.sdr_large.proofs.PlacesLemmas.{InOrder, in_order}
+use Rattle.sdr_large.proofs.StaysLemmas.{below_trans, small_stays, all_used}
 use Rattle.sdr_large.proofs.TilesLemmas.{tiles_used}
 use Rattle.sdr_large.proofs.WalkLemmas.{tiles_whole}
 

@@ -1,15 +1,15 @@
 -- Large blocks with a gap: how it opens, widens, fills and closes.
-use Rattle.std.proofs.Common.{◌≡◌, ◌≢◌, ◌≤◌, ◌<◌, ◌⊎◌, inl, inr, ℕ, ◌+◌, ◌-◌, ◌*◌, ◌%◌, Bool, true, false, cond, ◌==◌}
-use Rattle.std.proofs.Common.{List, [], ◌∷◌, ◌++◌, refl, sym, ap, ◌∙◌, arith, subst, append_assoc, append-nil}
+use Rattle.std.proofs.Common.{◌≡◌, ◌≢◌, ◌≤◌, ◌<◌, ◌⊎◌, inl, inr, ℕ, ◌+◌, ◌-◌, ◌*◌, ◌%◌, Bool, true}
+use Rattle.std.proofs.Common.{List, [], ◌∷◌, ◌++◌, refl, sym, ap, ◌∙◌, arith, subst, append_assoc}
 use Rattle.std.specs.List.{count_by}
 use Rattle.std.proofs.lemmas.Bool.{cases_Bool, cases_lt}
 use Rattle.std.proofs.lemmas.Bool.Decides.{nat_tests}
 use Rattle.sdr_base.specs.Pools.{PoolBlock, is_at, is_of}
 use Rattle.sdr_base.specs.LargePool.{without, placed}
 use Rattle.sdr_base.specs.KeptLarge.{FollowsLarge}
-use Rattle.sdr_base.proofs.PoolsLemmas.{count_by-append, count_by-yes, count_by-no, is_at-true, is_of-true, of-le-at}
+use Rattle.sdr_base.proofs.PoolsLemmas.{count_by-append, count_by-no, is_of-true, of-le-at}
 use Rattle.sdr_large.specs.Gap.{IsParted}
-use Rattle.sdr_large.proofs.FollowsLemmas.{follows-le, IsWithin, within, at_first, at_last, at_once, apart, follows-whole}
+use Rattle.sdr_large.proofs.FollowsLemmas.{follows-le, within, at_first, at_last, at_once, apart, follows-whole}
 use Rattle.sdr_large.proofs.BlocksLemmas.{without-between, placed-between}
 
 -- one block at a place, between those before and behind it

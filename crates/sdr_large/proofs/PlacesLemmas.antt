@@ -1,14 +1,13 @@
 -- Where the blocks of a pool with a gap stand, and which words of theirs lie apart.
-use Rattle.std.proofs.Common.{◌≡◌, ◌≢◌, ◌≤◌, ◌<◌, ◌⊎◌, inl, inr, ℕ, ◌+◌, ◌-◌, ◌*◌, ◌/◌, ◌%◌, Bool, true, false, not, cond, ◌&&◌, ◌==◌}
-use Rattle.std.proofs.Common.{List, [], ◌∷◌, length, refl, sym, ap, ◌∙◌, arith, subst}
+use Rattle.std.proofs.Common.{◌≡◌, ◌≢◌, ◌≤◌, ◌<◌, ◌⊎◌, inl, inr, ℕ, ◌+◌, ◌-◌, ◌*◌, ◌/◌, ◌%◌, Bool, true, false, cond, ◌&&◌, ◌==◌}
+use Rattle.std.proofs.Common.{List, ap, arith, subst}
 use Rattle.std.specs.List.{count_by}
 use Rattle.std.proofs.lemmas.Bool.{cases_eq}
 use Rattle.std.proofs.lemmas.Bool.Decides.{nat_tests}
 use Rattle.sdr_base.specs.Pools.{PoolBlock, Pools, is_at, is_of, is_free_of, is_used_at}
-use Rattle.sdr_base.specs.KeptLarge.{is_used_of, is_entry, large_place}
-use Rattle.sdr_base.specs.LargePool.{order_of}
-use Rattle.sdr_base.proofs.PoolsLemmas.{count_by-le, count_by-both, of-le-at, free-le-of, free-used-le-at, free-free-le-at}
-use Rattle.sdr_large.specs.Gap.{TilesAround, IsParted, IsFree}
+use Rattle.sdr_base.specs.KeptLarge.{is_used_of, is_entry}
+use Rattle.sdr_base.proofs.PoolsLemmas.{count_by-le, count_by-both, of-le-at, free-le-of, free-used-le-at}
+use Rattle.sdr_large.specs.Gap.{TilesAround, IsFree}
 use Rattle.sdr_large.proofs.FollowsLemmas.{follows-le, follows-whole}
 use Rattle.sdr_large.proofs.PartedLemmas.{IsBeside, beside, blocks_apart}
 use Rattle.sdr_large.proofs.ListsLemmas.{entry_free, free_entry}

@@ -1,14 +1,14 @@
 -- A free block that comes to the gap, at the front of its list, in the bytes.
-use Rattle.std.proofs.Common.{◌≡◌, ◌≢◌, ◌≤◌, ◌<◌, ◌⊎◌, inl, inr, ℕ, ◌+◌, ◌-◌, ◌*◌, ◌/◌, ◌%◌, ◌^◌, Bool, true, false, not, cond, ◌&&◌, ◌==◌}
-use Rattle.std.proofs.Common.{List, [], ◌∷◌, length, get_or, refl, sym, ap, ◌∙◌, arith, subst}
+use Rattle.std.proofs.Common.{◌≡◌, ◌≢◌, ◌≤◌, ◌<◌, ◌⊎◌, inl, inr, ℕ, ◌+◌, ◌-◌, ◌*◌, ◌/◌, ◌^◌, Bool, true, false, ◌&&◌, ◌==◌}
+use Rattle.std.proofs.Common.{List, ◌∷◌, length, get_or, refl, sym, ap, ◌∙◌, arith, subst}
 use Rattle.std.specs.List.{count_by}
-use Rattle.std.proofs.lemmas.Bool.{cases_eq, eq-eqb, ne_eqb, and_parts}
-use Rattle.sdr_base.specs.Pools.{PoolBlock, Pools, is_at, is_of, is_free_of, is_used_at}
+use Rattle.std.proofs.lemmas.Bool.{cases_eq, and_parts}
+use Rattle.sdr_base.specs.Pools.{PoolBlock, Pools, is_of, is_free_of, is_used_at}
 use Rattle.sdr_base.specs.SmallPool.{with_list}
-use Rattle.sdr_base.specs.LargePool.{placed, order_of, with_free_large}
+use Rattle.sdr_base.specs.LargePool.{order_of, with_free_large}
 use Rattle.sdr_base.specs.KeptPools.{IsOutside}
 use Rattle.sdr_base.specs.KeptLarge.{Links, HoldsLarge, IsFreeBlock, is_used_of, is_entry, large_place}
-use Rattle.sdr_base.specs.Stored.{number_at, with_number, leader_kind, leader_words, leader_length, start_bit}
+use Rattle.sdr_base.specs.Stored.{number_at, with_number, leader_words, start_bit}
 use Rattle.sdr_base.proofs.PartsLemmas.{sides}
 use Rattle.sdr_base.proofs.PoolsLemmas.{is_of-true}
 use Rattle.sdr_base.proofs.SmallPoolLemmas.{with_list-here, with_list-other}
@@ -22,7 +22,7 @@ use Rattle.sdr_large.proofs.ChangeLemmas.{MayChange, ChangesOnly, leaders_kept, 
 use Rattle.sdr_large.proofs.ChangeLemmas.{control_kept, below_stays}
 use Rattle.sdr_large.proofs.GapLemmas.{put_or_was, not_put, positive, other_addr, next_out, back_out, front_free, front_order}
 use Rattle.sdr_large.proofs.LinksLemmas.{FreeAt, Links-same}
-use Rattle.sdr_large.proofs.ListsLemmas.{order_of-le, entry_free, free_entry}
+use Rattle.sdr_large.proofs.ListsLemmas.{order_of-le, entry_free}
 use Rattle.sdr_large.proofs.PartedLemmas.{IsBeside}
 use Rattle.sdr_large.proofs.PlacesLemmas.{IsApart, InOrder, in_order, at_block, free_of, unique, nonzero, entered_once}
 use Rattle.sdr_large.proofs.PlacesLemmas.{entered_free, next_back, back_back}

@@ -1,5 +1,5 @@
 -- What putting a block into a gap needs of the bytes, and what it does to them.
-use Rattle.std.proofs.Common.{◌≡◌, ◌≢◌, ◌≤◌, ◌<◌, ◌⊎◌, inl, inr, ℕ, ◌+◌, ◌-◌, ◌*◌, ◌/◌, ◌%◌, ◌^◌, Bool, true, false}
+use Rattle.std.proofs.Common.{◌≡◌, ◌≢◌, ◌≤◌, ◌<◌, inl, inr, ℕ, ◌+◌, ◌-◌, ◌*◌, ◌/◌, ◌%◌, ◌^◌, true, false}
 use Rattle.std.proofs.Common.{List, length, refl, sym, ap, ◌∙◌, arith, subst}
 use Rattle.std.proofs.lemmas.Bool.{cases_eq}
 use Rattle.sdr_base.specs.Stored.{number_at, with_number, SetsStartBit}
@@ -7,7 +7,6 @@ use Rattle.sdr_base.specs.LargePool.{order_of}
 use Rattle.sdr_base.specs.KeptLarge.{large_place}
 use Rattle.sdr_base.proofs.StoredLemmas.{leader_kind-same, leader_length-same}
 use Rattle.sdr_large.specs.Frame.{HasFrame}
-use Rattle.sdr_large.specs.Gap.{TilesAround, IsFree, Steps}
 use Rattle.sdr_large.specs.Steps.{link_place, with_before, ReachesBack, HoldsGap, PutsUsed, PutsFree}
 use Rattle.sdr_large.proofs.PartedLemmas.{IsBeside}
 use Rattle.sdr_large.proofs.PlacesLemmas.{InOrder, in_order, at_block, free_of}

@@ -1,20 +1,18 @@
 -- A block in use that comes to the gap, in the bytes.
-use Rattle.std.proofs.Common.{◌≡◌, ◌≢◌, ◌≤◌, ◌<◌, ◌⊎◌, inl, inr, ℕ, ◌+◌, ◌-◌, ◌*◌, ◌/◌, ◌%◌, ◌^◌, Bool, true, false, not, cond, ◌&&◌, ◌==◌}
-use Rattle.std.proofs.Common.{List, [], ◌∷◌, length, get_or, refl, sym, ap, ◌∙◌, arith, subst}
+use Rattle.std.proofs.Common.{◌≡◌, ◌≢◌, ◌≤◌, ◌<◌, ◌⊎◌, inl, inr, ℕ, ◌+◌, ◌-◌, ◌*◌, ◌/◌, Bool, true, false, cond, ◌&&◌}
+use Rattle.std.proofs.Common.{List, get_or, refl, sym, ap, ◌∙◌, arith, subst}
 use Rattle.std.specs.List.{count_by}
 use Rattle.std.proofs.lemmas.Bool.{cases_eq, eq-eqb, ne_eqb, and_parts}
-use Rattle.sdr_base.specs.Pools.{PoolBlock, Pools, is_at, is_of, is_free_of, is_used_at}
+use Rattle.sdr_base.specs.Pools.{PoolBlock, Pools, is_of, is_free_of, is_used_at}
 use Rattle.sdr_base.specs.LargePool.{placed, with_used_large}
 use Rattle.sdr_base.specs.KeptPools.{IsOutside}
-use Rattle.sdr_base.specs.KeptLarge.{Links, HoldsLarge, IsUsedBlock, is_used_of, is_entry, large_place}
-use Rattle.sdr_base.specs.Stored.{number_at, leader_kind, leader_words, leader_length, start_bit, SetsStartBit}
-use Rattle.sdr_base.proofs.PartsLemmas.{sides}
+use Rattle.sdr_base.specs.KeptLarge.{Links, HoldsLarge, IsUsedBlock, is_used_of, large_place}
+use Rattle.sdr_base.specs.Stored.{number_at, leader_words, start_bit, SetsStartBit}
 use Rattle.sdr_base.proofs.PoolsLemmas.{is_of-true}
 use Rattle.sdr_base.proofs.StartBitsLemmas.{start_bit-same}
-use Rattle.sdr_base.proofs.StoredLemmas.{number_at-same, leader_words-same, leader_kind-same, leader_length-same}
+use Rattle.sdr_base.proofs.StoredLemmas.{number_at-same, leader_words-same}
 use Rattle.sdr_large.specs.Frame.{HasFrame}
 use Rattle.sdr_large.specs.Gap.{TilesAround, IsFree, Steps}
-use Rattle.sdr_large.specs.Steps.{PutsUsed}
 use Rattle.sdr_large.proofs.BlocksLemmas.{count_by-placed}
 use Rattle.sdr_large.proofs.ChangeLemmas.{MayChange, ChangesOnly, leaders_kept, free_kept, used_kept, used_stays}
 use Rattle.sdr_large.proofs.ChangeLemmas.{control_kept, below_stays}

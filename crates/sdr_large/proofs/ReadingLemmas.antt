@@ -1,9 +1,8 @@
 -- What a row of reading calls leaves of a transaction.
 use Rattle.std.proofs.Common.{◌≡◌, ◌≤◌, ℕ, List, false, true, sym, ◌∙◌, arith, Result, Ok, Err}
-use Rattle.sdr_base.specs.Causes.{Rose}
 use Rattle.sdr_base.specs.declared.stop.Stop.{Stop}
 use Rattle.sdr_base.specs.declared.stop.Stop.TheVariants.{Refused, DiskFault, MediaFault, Failed}
-use Rattle.sdr_base.specs.Transaction.{Transaction, IfRefused, Explains, HasReason, TouchesNone}
+use Rattle.sdr_base.specs.Transaction.{Transaction, Explains, HasReason, TouchesNone}
 use Rattle.sdr_base.proofs.WrittenLemmas.{rose_later}
 
 -- nothing has changed, and no call has failed

@@ -1,14 +1,14 @@
 -- The links of a list from which a block leaves, and of one to which a block comes.
-use Rattle.std.proofs.Common.{◌≡◌, ◌≢◌, ◌≤◌, ◌<◌, ◌⊎◌, inl, inr, ℕ, ◌+◌, ◌-◌, ◌*◌, Bool, true, false, not, cond, ◌&&◌, ◌==◌}
+use Rattle.std.proofs.Common.{◌≡◌, ◌≢◌, ◌≤◌, ◌<◌, inl, inr, ℕ, ◌+◌, ◌-◌, ◌*◌, Bool, true, false, not, cond, ◌==◌}
 use Rattle.std.proofs.Common.{List, [], ◌∷◌, refl, sym, ap, ◌∙◌, arith, subst}
 use Rattle.std.specs.List.{count_by}
-use Rattle.std.proofs.lemmas.Bool.{cases_Bool, cases_eq, cases_lt, ne_eqb, eqb-true, eq-eqb, and_from}
+use Rattle.std.proofs.lemmas.Bool.{cases_Bool, cases_lt, ne_eqb, eqb-true, eq-eqb, and_from}
 use Rattle.std.proofs.lemmas.List.Sums.{sum_by-cons}
 use Rattle.sdr_base.specs.Pools.{PoolBlock, is_free_of}
 use Rattle.sdr_base.specs.LargePool.{unlisted}
 use Rattle.sdr_base.specs.KeptLarge.{Links, is_entry, large_place}
 use Rattle.sdr_base.specs.Stored.{number_at}
-use Rattle.sdr_base.proofs.PoolsLemmas.{count_by-yes, count_by-no}
+use Rattle.sdr_base.proofs.PoolsLemmas.{count_by-yes}
 use Rattle.sdr_large.specs.Steps.{link_place}
 use Rattle.sdr_large.proofs.LinksLemmas.{first_entry, later_entry, unlisted-none, Links-same}
 

@@ -1,16 +1,15 @@
 -- What stays over several steps.
-use Rattle.std.proofs.Common.{◌≡◌, ◌≢◌, ◌≤◌, ◌<◌, ◌⊎◌, inl, inr, ℕ, ◌+◌, ◌-◌, ◌*◌, ◌%◌, Bool, true, false, cond}
-use Rattle.std.proofs.Common.{List, length, get_or, refl, sym, ap, ◌∙◌, arith, subst}
+use Rattle.std.proofs.Common.{◌≡◌, ◌≢◌, ◌≤◌, ◌<◌, ◌⊎◌, inl, inr, ℕ, ◌+◌, ◌-◌, ◌*◌}
+use Rattle.std.proofs.Common.{List, get_or, sym, ◌∙◌, arith, subst}
 use Rattle.std.specs.List.{count_by}
-use Rattle.sdr_base.specs.Pools.{PoolBlock, Pools, is_at, is_of, is_used_at}
+use Rattle.sdr_base.specs.Pools.{PoolBlock, Pools}
 use Rattle.sdr_base.specs.LargePool.{without, placed}
 use Rattle.sdr_base.specs.KeptLarge.{FollowsLarge, HoldsLarge, StaysSmall, StaysUsed, is_used_of}
-use Rattle.sdr_base.specs.Stored.{start_bit}
 use Rattle.sdr_base.proofs.PoolsLemmas.{used-le-at}
 use Rattle.sdr_large.specs.Gap.{TilesAround, StaysBelow, IsFree}
 use Rattle.sdr_large.proofs.BlocksLemmas.{without-other, used_of_is, count_by-placed}
 use Rattle.sdr_large.proofs.FollowsLemmas.{at_first}
-use Rattle.sdr_large.proofs.PlacesLemmas.{InOrder, in_order, at_block, used_of, never_both}
+use Rattle.sdr_large.proofs.PlacesLemmas.{at_block, used_of, never_both}
 
 -- two steps one after another
 pub below_trans : (start low high : ℕ) (x y z : List ℕ) → StaysBelow start low high x y → StaysBelow start low high y z →

@@ -1,13 +1,13 @@
 -- What a step needs of the bytes, from the pool that they hold.
-use Rattle.std.proofs.Common.{◌≡◌, ◌≢◌, ◌≤◌, ◌<◌, ◌⊎◌, inl, inr, ℕ, ◌+◌, ◌-◌, ◌*◌, ◌/◌, ◌%◌, ◌^◌}
-use Rattle.std.proofs.Common.{List, length, refl, sym, ap, ◌∙◌, arith, subst}
+use Rattle.std.proofs.Common.{◌≡◌, ◌≢◌, ◌≤◌, ◌<◌, inl, inr, ℕ, ◌+◌, ◌-◌, ◌*◌, ◌%◌, ◌^◌}
+use Rattle.std.proofs.Common.{List, length, sym, ap, ◌∙◌, arith, subst}
 use Rattle.std.proofs.lemmas.Bool.{cases_eq}
 use Rattle.sdr_base.specs.Stored.{number_at, with_number}
 use Rattle.sdr_base.specs.LargePool.{order_of}
-use Rattle.sdr_large.specs.Gap.{TilesAround, IsFree, Steps}
-use Rattle.sdr_large.specs.Steps.{link_place, with_before, ReachesBack, HoldsFree, HoldsGap, Unlinks}
+use Rattle.sdr_large.specs.Gap.{IsFree}
+use Rattle.sdr_large.specs.Steps.{link_place, with_before, ReachesBack, HoldsFree, Unlinks}
 use Rattle.sdr_large.proofs.PartedLemmas.{IsBeside}
-use Rattle.sdr_large.proofs.PlacesLemmas.{InOrder, in_order, at_block, free_of}
+use Rattle.sdr_large.proofs.PlacesLemmas.{in_order, at_block, free_of}
 use Rattle.sdr_large.proofs.UnlinkLemmas.{links, next_fits, unlinked}
 
 -- what unlinking a block needs

@@ -1,17 +1,15 @@
 -- A pool that tiles with a gap, when a block leaves or comes.
-use Rattle.std.proofs.Common.{◌≡◌, ◌≢◌, ◌≤◌, ◌<◌, ◌⊎◌, inl, inr, ℕ, ◌+◌, ◌-◌, ◌*◌, ◌%◌, Bool, true, false}
-use Rattle.std.proofs.Common.{List, [], ◌∷◌, refl, sym, ap, ◌∙◌, arith, subst}
+use Rattle.std.proofs.Common.{◌≡◌, ◌≤◌, ◌<◌, ◌⊎◌, inl, inr, ℕ, ◌+◌, ◌-◌, ◌*◌, true, false}
+use Rattle.std.proofs.Common.{refl, ◌∙◌, arith}
 use Rattle.std.specs.List.{count_by}
-use Rattle.sdr_base.specs.Pools.{PoolBlock, Pools, HasBounds, is_at, is_of, is_free_of, is_used_at}
-use Rattle.sdr_base.specs.LargePool.{without, placed, with_unlinked, with_used_large, with_free_large}
-use Rattle.sdr_base.specs.KeptLarge.{TilesLarge, ListsFree}
-use Rattle.sdr_base.proofs.PoolsLemmas.{free-le-of}
+use Rattle.sdr_base.specs.Pools.{Pools, HasBounds, is_at}
+use Rattle.sdr_base.specs.LargePool.{with_unlinked, with_used_large, with_free_large}
+use Rattle.sdr_base.specs.KeptLarge.{TilesLarge}
 use Rattle.sdr_large.specs.Gap.{TilesAround, IsParted, IsFree}
-use Rattle.sdr_large.proofs.FollowsLemmas.{follows-le, follows-whole, within}
-use Rattle.sdr_large.proofs.PartedLemmas.{opened, filled, widened_below, widened_above, both_sides}
+use Rattle.sdr_large.proofs.PartedLemmas.{opened, filled, both_sides}
 use Rattle.sdr_large.proofs.ListsLemmas.{lists_unlinked, lists_used, lists_pushed}
 use Rattle.sdr_large.proofs.FollowsLemmas.{at_first, at_last, at_once}
-use Rattle.sdr_large.proofs.PlacesLemmas.{free_of, at_block}
+use Rattle.sdr_large.proofs.PlacesLemmas.{free_of}
 use Rattle.sdr_large.proofs.WalkLemmas.{tiles_whole}
 
 -- the bounds don't tell of blocks

@@ -1,9 +1,9 @@
 -- A free block that leaves its list, in the bytes.
-use Rattle.std.proofs.Common.{◌≡◌, ◌≢◌, ◌≤◌, ◌<◌, ◌⊎◌, inl, inr, ℕ, ◌+◌, ◌-◌, ◌*◌, ◌/◌, ◌%◌, ◌^◌, Bool, true, false, cond, ◌==◌}
-use Rattle.std.proofs.Common.{List, [], ◌∷◌, length, get_or, refl, sym, ap, ◌∙◌, arith, subst}
+use Rattle.std.proofs.Common.{◌≡◌, ◌≢◌, ◌≤◌, ◌<◌, ◌⊎◌, inl, inr, ℕ, ◌+◌, ◌-◌, ◌*◌, ◌/◌, ◌^◌}
+use Rattle.std.proofs.Common.{List, length, get_or, refl, sym, ap, ◌∙◌, arith, subst}
 use Rattle.std.specs.List.{count_by}
-use Rattle.std.proofs.lemmas.Bool.{cases_eq, cases_lt}
-use Rattle.sdr_base.specs.Pools.{PoolBlock, Pools, is_at, is_of, is_free_of, is_used_at}
+use Rattle.std.proofs.lemmas.Bool.{cases_eq}
+use Rattle.sdr_base.specs.Pools.{Pools, is_of, is_free_of, is_used_at}
 use Rattle.sdr_base.specs.SmallPool.{with_list}
 use Rattle.sdr_base.specs.LargePool.{order_of, without, unlisted, with_unlinked}
 use Rattle.sdr_base.specs.KeptPools.{IsOutside}
@@ -16,16 +16,16 @@ use Rattle.sdr_base.proofs.StartBitsLemmas.{start_bit-same}
 use Rattle.sdr_base.proofs.StoredLemmas.{number_at-with_number, get_or-with_number, length-with_number, number_at-same}
 use Rattle.sdr_large.specs.Gap.{TilesAround, IsFree, Steps}
 use Rattle.sdr_large.specs.Steps.{link_place, with_before, ReachesBack}
-use Rattle.sdr_large.proofs.BackLemmas.{outside_of, link_place-first, link_place-other, back_place, length-with_before}
+use Rattle.sdr_large.proofs.BackLemmas.{outside_of, link_place-first, link_place-other, length-with_before}
 use Rattle.sdr_large.proofs.BackLemmas.{get_or-with_before, number_at-with_before}
 use Rattle.sdr_large.proofs.BlocksLemmas.{without-other, without-here, used_at_is, without-le}
-use Rattle.sdr_large.proofs.ChangeLemmas.{IsLinkByte, MayChange, ChangesOnly, leaders_kept, free_kept, used_kept, used_stays}
+use Rattle.sdr_large.proofs.ChangeLemmas.{MayChange, ChangesOnly, leaders_kept, free_kept, used_kept, used_stays}
 use Rattle.sdr_large.proofs.ChangeLemmas.{control_kept, below_stays}
-use Rattle.sdr_large.proofs.LinksLemmas.{FreeAt, IsLinked, linked, Links-same}
+use Rattle.sdr_large.proofs.LinksLemmas.{IsLinked, linked, Links-same}
 use Rattle.sdr_large.proofs.ListsLemmas.{order_of-le, entry_free, free_entry}
 use Rattle.sdr_large.proofs.PartedLemmas.{IsBeside}
-use Rattle.sdr_large.proofs.PlacesLemmas.{IsApart, InOrder, in_order, at_block, free_of, unique, nonzero, never_both}
-use Rattle.sdr_large.proofs.PlacesLemmas.{used_of, used_of-le-at, entered_once, entered_free, next_next, next_back, back_back}
+use Rattle.sdr_large.proofs.PlacesLemmas.{IsApart, InOrder, in_order, at_block, free_of, unique, nonzero}
+use Rattle.sdr_large.proofs.PlacesLemmas.{entered_once, entered_free, next_next, next_back, back_back}
 use Rattle.sdr_large.proofs.RelinkLemmas.{links_without}
 
 module _ (P : Pools) (from to : ℕ) (x : List ℕ) (tiles : TilesAround P from to) (holds : HoldsLarge x P)

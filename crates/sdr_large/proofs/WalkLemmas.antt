@@ -1,24 +1,21 @@
 -- The way along a list of free blocks, and over the lists above an order.
-use Rattle.std.proofs.Common.{◌≡◌, ◌≢◌, ◌≤◌, ◌<◌, ◌⊎◌, inl, inr, ℕ, zero, suc, ◌+◌, ◌-◌, ◌*◌, ◌/◌, ◌%◌, Bool, true, false, not, cond, ◌&&◌, ◌==◌}
-use Rattle.std.proofs.Common.{List, [], ◌∷◌, ◌++◌, length, refl, sym, ap, ◌∙◌, arith, subst, append-nil}
-use Rattle.std.specs.Prelude.{Option, Some, None, filter, option_map, nat_le}
+use Rattle.std.proofs.Common.{◌≡◌, ◌≢◌, ◌≤◌, ◌<◌, ◌⊎◌, inl, inr, ℕ, ◌+◌, ◌-◌, ◌*◌, ◌/◌, Bool, true, false, not, cond, ◌&&◌, ◌==◌}
+use Rattle.std.proofs.Common.{List, [], ◌∷◌, length, refl, sym, ap, ◌∙◌, arith, append-nil}
+use Rattle.std.specs.Prelude.{Some, None, filter}
 use Rattle.std.specs.List.{count_by, find}
-use Rattle.std.proofs.lemmas.Bool.{cases_Bool, cases_eq, le-leb, lt-leb, ne_eqb, eqb-true, eqb-false, and_parts}
-use Rattle.std.proofs.lemmas.List.Sums.{sum_by-cons}
+use Rattle.std.proofs.lemmas.Bool.{cases_Bool, cases_eq, le-leb, lt-leb, eqb-true, and_parts}
 use Rattle.sdr_base.specs.Pools.{PoolBlock, Pools, is_of, is_free_of}
-use Rattle.sdr_base.specs.LargePool.{has_words, front_from, order_of, found_large}
+use Rattle.sdr_base.specs.LargePool.{has_words, order_of}
 use Rattle.sdr_base.specs.KeptLarge.{FollowsLarge, TilesLarge, KeepsLarge, KeepsSomeLarge, Links, is_entry, large_place}
 use Rattle.sdr_base.specs.Stored.{number_at, leader_words}
-use Rattle.sdr_base.proofs.PoolsLemmas.{count_by-yes, count_by-no, free-le-of, of-le-at}
+use Rattle.sdr_base.proofs.PoolsLemmas.{count_by-yes, count_by-no}
 use Rattle.sdr_large.specs.declared.block.Block.{Block}
 use Rattle.sdr_large.specs.Gap.{TilesAround, IsFree}
-use Rattle.sdr_large.specs.Steps.{named, FindsIn, FindsAbove, Finds, HasLeader}
+use Rattle.sdr_large.specs.Steps.{named, FindsIn, HasLeader}
 use Rattle.sdr_large.proofs.BlocksLemmas.{filter_kept, filter_lost}
 use Rattle.sdr_large.proofs.FollowsLemmas.{follows-le, follows-whole}
 use Rattle.sdr_large.proofs.LinksLemmas.{first_entry, later_entry}
-use Rattle.sdr_large.proofs.ListsLemmas.{free_entry, entry_free}
-use Rattle.sdr_large.proofs.PartedLemmas.{IsBeside}
-use Rattle.sdr_large.proofs.PlacesLemmas.{InOrder, in_order, at_block, free_of, nonzero, entered_free, entered_once}
+use Rattle.sdr_large.proofs.PlacesLemmas.{at_block, free_of, nonzero, entered_free, entered_once}
 
 -- a pool without a gap has an empty one at its end
 pub tiles_whole : (P : Pools) → TilesLarge P → TilesAround P P.end P.end

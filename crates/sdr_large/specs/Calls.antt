@@ -1,9 +1,9 @@
 -- What the calls of the large pool do to the pools that the bytes keep.
-use Rattle.std.specs.Prelude.{◌≡◌, ◌≤◌, ◌<◌, ◌+◌, ◌-◌, ◌*◌, ℕ, List, Option, Some, None, ⊤}
+use Rattle.std.specs.Prelude.{◌≡◌, ◌≤◌, ◌-◌, ◌*◌, ℕ, List, Option, Some, None, ⊤}
 use Rattle.sdr_base.specs.Pools.{Pools, IsUsed}
 use Rattle.sdr_base.specs.SmallPool.{Taken}
 use Rattle.sdr_base.specs.LargeGiving.{give_large}
-use Rattle.sdr_base.specs.LargePool.{extent_of, with_cut, take_found, take_large}
+use Rattle.sdr_base.specs.LargePool.{with_cut, take_found, take_large}
 use Rattle.sdr_base.specs.KeptLarge.{KeepsLarge, StaysSmall, StaysUsed}
 use Rattle.sdr_base.specs.Stored.{leader_kind, leader_length}
 use Rattle.sdr_base.specs.declared.line.TheConstants.{WORD}

@@ -1,7 +1,6 @@
 -- A large pool with a gap, from which a block was taken out or into which one will come.
-use Rattle.std.specs.Prelude.{◌≡◌, ◌≢◌, ◌≤◌, ◌<◌, ◌+◌, ◌-◌, ◌*◌, ◌%◌, ℕ, List, ◌++◌, length, get_or, count_by}
+use Rattle.std.specs.Prelude.{◌≡◌, ◌≤◌, ◌<◌, ◌+◌, ◌-◌, ◌*◌, ◌%◌, ℕ, List, ◌++◌, length, get_or, count_by}
 use Rattle.sdr_base.specs.Pools.{PoolBlock, Pools, HasBounds, is_free_of}
-use Rattle.sdr_base.specs.LargePool.{extent_of}
 use Rattle.sdr_base.specs.KeptLarge.{FollowsLarge, ListsFree, HoldsLarge, StaysUsed, large_place}
 use Rattle.sdr_base.specs.Stored.{start_bit}
 use Rattle.sdr_base.specs.declared.line.TheConstants.{WORD, START_BITS}

@@ -1,5 +1,5 @@
 -- What each step of a call does to the pools that the bytes hold.
-use Rattle.std.specs.Prelude.{◌≡◌, ◌≢◌, ◌≤◌, ◌<◌, ◌==◌, ◌+◌, ◌-◌, ◌*◌, ◌^◌, ℕ, List, cond, Option, option_map, length}
+use Rattle.std.specs.Prelude.{◌≡◌, ◌≤◌, ◌<◌, ◌==◌, ◌+◌, ◌-◌, ◌*◌, ◌^◌, ℕ, List, cond, Option, option_map, length}
 use Rattle.std.specs.List.{find}
 use Rattle.sdr_base.specs.Pools.{Pools}
 use Rattle.sdr_base.specs.LargePool.{extent_of, has_words, front_from, found_large, with_unlinked, with_used_large}

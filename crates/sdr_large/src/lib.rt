@@ -3,7 +3,9 @@
 
 mod block;
 mod finding;
+mod giving;
 mod links;
 mod taking;
 
+pub use giving::give;
 pub use taking::take;

@@ -1,6 +1,6 @@
 -- The block of the own list, or else that of a higher one.
 use Rattle.std.proofs.Common.{subst}
-use Rattle.std.specs.Prelude.{Option, Some}
+use Rattle.std.specs.Prelude.{Option}
 use Rattle.std.proofs.lemmas.Result.{IfOk-weaker}
 use Rattle.sdr_large.specs.declared.block.Block.{Block}
 use Rattle.sdr_large.specs.Steps.{FindsIn, FindsAbove, Finds}

@@ -1,5 +1,5 @@
 -- Each list that was looked at is empty, or its front is the block.
-use Rattle.std.proofs.Common.{ℕ, List, length, arith, ap, ◌∙◌, sym, subst}
+use Rattle.std.proofs.Common.{ℕ, List, length, arith, ap, ◌∙◌, subst}
 use Rattle.sdr_base.specs.Stored.{number_at}
 use Rattle.sdr_base.specs.KeptLarge.{large_place}
 use Rattle.sdr_large.specs.Steps.{HasLeader}

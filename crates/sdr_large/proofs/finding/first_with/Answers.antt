@@ -1,5 +1,5 @@
 -- The way along the list, a block further each time.
-use Rattle.std.proofs.Common.{ℕ, List, length, arith, ap, ◌∙◌, sym, subst, ◌/◌, ◌-◌}
+use Rattle.std.proofs.Common.{ℕ, List, length, arith, ap, ◌∙◌, subst, ◌/◌, ◌-◌}
 use Rattle.sdr_base.specs.Stored.{number_at}
 use Rattle.sdr_large.specs.Steps.{HasLeader}
 use Rattle.sdr_large.proofs.ReadingLemmas.{reads_first, reads_more}

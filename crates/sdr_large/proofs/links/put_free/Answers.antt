@@ -1,5 +1,5 @@
 -- The links are written, and then the frame in the gap.
-use Rattle.std.proofs.Common.{length, refl, arith, ap, ◌∙◌, sym}
+use Rattle.std.proofs.Common.{length, refl, arith, ap, ◌∙◌}
 use Rattle.std.proofs.lemmas.Result.{on_ok_weaker}
 use Rattle.sdr_large.proofs.PutLemmas.{can_put, can_link_back, puts_free}
 use Rattle.sdr_large.proofs.links.put_free.Goals as goal

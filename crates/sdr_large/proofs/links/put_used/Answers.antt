@@ -1,5 +1,5 @@
 -- The frame is written in the gap, and then the start bit.
-use Rattle.std.proofs.Common.{refl, arith}
+use Rattle.std.proofs.Common.{refl}
 use Rattle.std.proofs.lemmas.Result.{on_ok_weaker}
 use Rattle.sdr_large.proofs.PutLemmas.{can_put, puts_used}
 use Rattle.sdr_large.proofs.links.put_used.Goals as goal

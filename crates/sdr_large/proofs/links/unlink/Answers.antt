@@ -1,7 +1,7 @@
 -- The block's links are read and written where they stand.
-use Rattle.std.proofs.Common.{List, ℕ, length, arith, ap, ◌∙◌, sym, refl}
+use Rattle.std.proofs.Common.{length, arith, ap}
 use Rattle.std.proofs.lemmas.Result.{on_ok_weaker}
-use Rattle.sdr_large.proofs.StepsLemmas.{CanUnlink, can_unlink, can_link, unlinks_read}
+use Rattle.sdr_large.proofs.StepsLemmas.{can_unlink, can_link, unlinks_read}
 use Rattle.sdr_large.proofs.links.unlink.Goals as goal
 
 pub overflow_sub-block : goal.overflow_sub-block

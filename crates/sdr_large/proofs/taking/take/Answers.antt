@@ -1,6 +1,6 @@
 -- The block that was found, or a new one.
-use Rattle.std.proofs.Common.{ℕ, refl, arith, subst, sym}
-use Rattle.std.specs.Prelude.{Option, Some, None}
+use Rattle.std.proofs.Common.{subst}
+use Rattle.std.specs.Prelude.{Option}
 use Rattle.std.proofs.lemmas.Result.{IfOk-weaker}
 use Rattle.sdr_large.specs.declared.block.Block.{Block}
 use Rattle.sdr_large.specs.Calls.{Takes, TakesNew, IsGiveable}

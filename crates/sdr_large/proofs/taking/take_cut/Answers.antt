@@ -1,5 +1,5 @@
 -- The block leaves its list, and what is asked for is in use.
-use Rattle.std.proofs.Common.{refl, arith}
+use Rattle.std.proofs.Common.{arith}
 use Rattle.std.proofs.lemmas.Result.{on_ok_weaker}
 use Rattle.sdr_large.proofs.CutStepsLemmas.{cut_free, cut_gap, cut_rest, cuts_whole, cuts_low}
 use Rattle.sdr_large.proofs.StepsLemmas.{can_unlink}

@@ -1,5 +1,5 @@
 -- The block ends at `high`, and `high` becomes its begin.
-use Rattle.std.proofs.Common.{refl, arith}
+use Rattle.std.proofs.Common.{arith}
 use Rattle.sdr_large.proofs.NewLemmas.{new_put, new_done}
 use Rattle.sdr_large.proofs.taking.take_new.Goals as goal
 
