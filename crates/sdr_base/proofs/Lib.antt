@@ -1,7 +1,9 @@
 pub mod CellsLemmas
 pub mod FreshHeapLemmas
+pub mod FreshLargeLemmas
 pub mod FreshPoolsLemmas
 pub mod KeptPoolsLemmas
+pub mod MemoryCellsLemmas
 pub mod PartsLemmas
 pub mod PoolsLemmas
 pub mod SmallPoolLemmas

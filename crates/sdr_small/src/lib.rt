@@ -15,8 +15,6 @@
 
 mod giving;
 #[cfg(test)]
-mod memory;
-#[cfg(test)]
 mod plain;
 mod taking;
 #[cfg(test)]
