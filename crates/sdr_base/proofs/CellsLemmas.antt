@@ -1,5 +1,5 @@
 -- How many lines a write touches.
-use Rattle.std.proofs.Common.{◌≡◌, ℕ, ◌+◌, ◌*◌, ◌/◌, ◌-◌, ◌≤◌, Bool, true, false, not, cond, ◌==◌}
+use Rattle.std.proofs.Common.{◌≡◌, ℕ, ◌+◌, ◌*◌, ◌/◌, ◌%◌, ◌-◌, ◌≤◌, Bool, true, false, not, cond, ◌==◌}
 use Rattle.std.proofs.Common.{List, length, arith, subst, sym, ap, refl, Result, Ok, Err}
 use Rattle.std.proofs.lemmas.List.{length-append}
 use Rattle.std.proofs.lemmas.List.Filters.{length-filter_both}
@@ -76,3 +76,20 @@ pub touches_word : {T : Type 0} (n : ℕ) (old new : Transaction) (result : Resu
     TouchesLines (lines_of (8 * n) 8) old new result → TouchesAtMost 1 old new result
 touches_word n old new result t =
     TouchesAtMost-from_lines (lines_of (8 * n) 8) 1 old new result (omega (arith, length-lines_of_word n)) t
+
+-- so does a write of a word at a whole place
+pub touches_whole : {T : Type 0} (place : ℕ) (old new : Transaction) (result : Result T Stop) → place % 8 ≡ 0 →
+    TouchesLines (lines_of place 8) old new result → TouchesAtMost 1 old new result
+touches_whole place old new result whole t =
+    let is : place ≡ 8 * (place / 8) = omega (arith, whole) in
+    touches_word (place / 8) old new result (subst (λ (p : ℕ). TouchesLines (lines_of p 8) old new result) is t)
+
+length-lines_of_byte : (place : ℕ) → length (lines_of place 1) ≡ 1
+unfolding lines_of
+length-lines_of_byte place = omega (arith, length-range_with_len (place / 64) ((place + 1 - 1) / 64 + 1 - place / 64))
+
+-- and a write of a byte
+pub touches_byte : {T : Type 0} (place : ℕ) (old new : Transaction) (result : Result T Stop) →
+    TouchesLines (lines_of place 1) old new result → TouchesAtMost 1 old new result
+touches_byte place old new result t =
+    TouchesAtMost-from_lines (lines_of place 1) 1 old new result (omega (arith, length-lines_of_byte place)) t

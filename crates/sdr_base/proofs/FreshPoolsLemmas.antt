@@ -38,7 +38,7 @@ pub record IsEmpty (lines : ℕ) (bytes : List ℕ) : Type 0 where
   pub start : number_at 8 bytes ≡ first_block lines
   pub low : number_at 16 bytes ≡ first_block lines
   pub high : number_at 24 bytes ≡ 64 * lines
-  pub lists : (words : ℕ) → 1 ≤ words → words ≤ 64 → number_at (list_place words) bytes ≡ 0
+  pub links : (word : ℕ) → 4 ≤ word → word < 92 → number_at (8 * word) bytes ≡ 0
   pub zeros : (i : ℕ) → 1024 ≤ i → i < first_block lines → get_or bytes i 0 ≡ 0
 
 -- it keeps the pools of a fresh heap
@@ -60,7 +60,7 @@ empty_keeps lines bytes least most is = record {
   start = is.start;
   low = is.low;
   high = is.high;
-  lists = λ words some few. is.lists words some few;
+  lists = λ words some few. is.links (3 + words) (omega (arith, some)) (omega (arith, few));
   leaders = λ words addr some. absurd (omega (arith, some));
   kinds = λ words addr some. absurd (omega (arith, some));
   lengths = λ words addr some. absurd (omega (arith, some));
@@ -102,9 +102,9 @@ fresh_is_empty lines least most =
       start = word 1 (omega arith) (omega (arith, most));
       low = word 2 (omega arith) (omega (arith, most));
       high = word 3 (omega arith) (omega (arith, most));
-      lists = λ k some few.
-          let none = no_list k some few in
-          word (3 + k) (omega (arith, few)) (omega (arith, none)) ∙ none;
+      links = λ k some few.
+          let none = no_link k some few in
+          word k (omega (arith, few)) (omega (arith, none)) ∙ none;
       zeros = λ i ge lt.
           ap (λ (l : List ℕ). get_or l i 0) (fresh_heap-zeros lines least)
           ∙ get_or-append_right (fresh_control lines) (replicate (64 * lines - 1024) 0) 1024 i 0
@@ -118,15 +118,19 @@ fresh_is_empty lines least most =
         ap (λ (l : List ℕ). number_at (8 * n) l) (fresh_heap-zeros lines least)
         ∙ number_at-words (fresh_words lines) (replicate (64 * lines - 1024) 0) n lt fits
 
-    no_list : (k : ℕ) → 1 ≤ k → k ≤ 64 → get_or (fresh_words lines) (3 + k) 0 ≡ 0
-    no_list zero some few = absurd (omega (arith, some))
-    no_list (suc k) some few =
+    zero_word : (k : ℕ) → k < 88 → get_or (fresh_words lines) (suc (suc (suc (suc k)))) 0 ≡ 0
+    zero_word k few =
         let lists : List ℕ = replicate 88 0 in
-        let place : 3 + suc k ≡ suc (suc (suc (suc k))) = omega arith in
-        ap (λ (n : ℕ). get_or (fresh_words lines) n 0) place
-        ∙ get_or_append_left lists (fresh_account lines ++ fresh_account lines ++ 1 ∷ replicate 19 0) 0 k
+        get_or_append_left lists (fresh_account lines ++ fresh_account lines ++ 1 ∷ replicate 19 0) 0 k
         (omega (arith, few))
-        ∙ get_or-replicate 88 k 0 0 (omega (arith, few))
+        ∙ get_or-replicate 88 k 0 0 few
+
+    no_link : (k : ℕ) → 4 ≤ k → k < 92 → get_or (fresh_words lines) k 0 ≡ 0
+    no_link k some few =
+        ap (λ (n : ℕ). get_or (fresh_words lines) n 0) (behind k some) ∙ zero_word (k - 4) (omega (arith, some, few))
+      where
+        behind : (k : ℕ) → 4 ≤ k → k ≡ suc (suc (suc (suc (k - 4))))
+        behind k some = omega (arith, some)
 
 -- a fresh heap keeps its pools
 pub fresh_keeps : (lines : ℕ) → 32 ≤ lines → lines ≤ 262144 → KeepsSmall (fresh_heap lines) (fresh_pools lines)

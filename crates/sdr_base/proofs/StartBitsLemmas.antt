@@ -10,7 +10,7 @@ use Rattle.sdr_base.specs.Parts.{overwrite, part}
 use Rattle.sdr_base.specs.Stored.{start_bit, SetsStartBit}
 use Rattle.sdr_base.proofs.PartsLemmas.{get_or-part, get_or-overwrite_inside, get_or-overwrite_outside}
 use Rattle.sdr_base.proofs.PartsLemmas.{length-overwrite}
-use Rattle.sdr_base.proofs.CellsLemmas.{touches_range}
+use Rattle.sdr_base.proofs.CellsLemmas.{touches_byte}
 
 -- the start bit of a word whose byte is the same
 pub start_bit-same : (word : ℕ) (x y : List ℕ) → get_or y (1024 + word / 8) 0 ≡ get_or x (1024 + word / 8) 0 →
@@ -100,4 +100,4 @@ clears_bit (Ok value) word old now new piece in_it is same put =
     (SetsStartBit-clear word (get_or piece 0 0) old in_it (read_byte (1024 + word / 8) old piece is))
 clears_bit (Err stop) word old now new piece in_it is same put = tt
 
-pub ruleset bits = (touches_range)
+pub ruleset bits = (touches_byte)

@@ -10,7 +10,7 @@ use Rattle.sdr_base.specs.Stored.{number_at, with_number, leader_kind, leader_wo
 use Rattle.sdr_base.specs.Stored.{with_bare_leader}
 use Rattle.sdr_base.proofs.PartsLemmas.{get_or-part, get_or-overwrite_inside, get_or-overwrite_outside}
 use Rattle.sdr_base.proofs.PartsLemmas.{length-overwrite}
-use Rattle.sdr_base.proofs.CellsLemmas.{touches_range}
+use Rattle.sdr_base.proofs.CellsLemmas.{touches_range, touches_whole}
 
 -- the same bytes make the same number
 pub big_from-same : (p q n : ℕ) (x y : List ℕ) → ((i : ℕ) → i < n → get_or y (q + i) 0 ≡ get_or x (p + i) 0) →
@@ -41,7 +41,7 @@ big_number-in_part p d t n m x short le = big_number-same (p + d) n x (take t (d
     ∙ get_or-drop d (part p m x) i 0 ∙ get_or-part p m x (d + i) (omega (arith, lt))
     ∙ ap (λ (k : ℕ). get_or x k 0) (omega arith))
 
-pub ruleset writing = (touches_range)
+pub ruleset writing = (touches_range, touches_whole)
 
 -- a number that was put reads back
 pub number_at-with_number : (p v : ℕ) (x : List ℕ) → p + 8 ≤ length x → v < 2 ^ 64 → number_at p (with_number p v x) ≡ v

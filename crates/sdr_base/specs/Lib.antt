@@ -1,7 +1,10 @@
 pub mod Causes
 pub mod Cells
 pub mod FreshHeap
+pub mod KeptLarge
 pub mod KeptPools
+pub mod LargeGiving
+pub mod LargePool
 pub mod Media
 pub mod MemorySink
 pub mod MemorySource

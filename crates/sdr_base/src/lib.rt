@@ -19,6 +19,7 @@ mod kind;
 mod line;
 mod media;
 mod medium;
+mod memory_cells;
 mod memory_sink;
 mod memory_source;
 mod moves;
@@ -41,6 +42,7 @@ pub use kind::{Addr, Kind, Space};
 pub use line::{LEAST_LINES, LINE, MOST_LINES, START_BITS, WORD};
 pub use media::{Media, MediaFault, NoMedia};
 pub use medium::Medium;
+pub use memory_cells::{MemoryCells, Write};
 pub use memory_sink::MemorySink;
 pub use memory_source::MemorySource;
 pub use moves::Move;
@@ -49,4 +51,7 @@ pub use sink::{Sink, SinkFault, write_all};
 pub use source::{Source, SourceFault};
 pub use start_bits::{clear_start_bit, set_start_bit};
 pub use stop::Stop;
-pub use stored::{read_leader_words, read_number, write_bare_leader, write_number};
+pub use stored::{
+    LastWord, read_last_word, read_leader_words, read_number, write_bare_leader, write_last_word,
+    write_number,
+};

@@ -13,7 +13,7 @@ pub fn set_start_bit<C: Cells>(c: &mut C, word: u64) -> Result<(), Stop>
     ensures written { OnOk result (SetsStartBit word 1 (C.bytes c.old) (C.bytes c.new)) }
     ensures size { length (C.bytes c.new) ≡ length (C.bytes c.old) }
     ensures same { OnErr result (C.bytes c.new ≡ C.bytes c.old) }
-    ensures room { TouchesAtMost 2 (C.transaction c.old) (C.transaction c.new) result }
+    ensures room { TouchesAtMost 1 (C.transaction c.old) (C.transaction c.new) result }
     ensures cause { HasReason (C.transaction c.old) (C.transaction c.new) result }
     ensures quiet { C.quiet c.old c.new }
 {
@@ -30,7 +30,7 @@ pub fn clear_start_bit<C: Cells>(c: &mut C, word: u64) -> Result<(), Stop>
     ensures written { OnOk result (SetsStartBit word 0 (C.bytes c.old) (C.bytes c.new)) }
     ensures size { length (C.bytes c.new) ≡ length (C.bytes c.old) }
     ensures same { OnErr result (C.bytes c.new ≡ C.bytes c.old) }
-    ensures room { TouchesAtMost 2 (C.transaction c.old) (C.transaction c.new) result }
+    ensures room { TouchesAtMost 1 (C.transaction c.old) (C.transaction c.new) result }
     ensures cause { HasReason (C.transaction c.old) (C.transaction c.new) result }
     ensures quiet { C.quiet c.old c.new }
 {

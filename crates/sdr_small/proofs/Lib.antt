@@ -1,6 +1,5 @@
 pub mod CallsLemmas
 pub mod GiveLemmas
 pub mod GivenLemmas
-pub mod MemoryLemmas
 pub mod NewLemmas
 pub mod TakeLemmas

@@ -17,8 +17,6 @@ mod giving;
 #[cfg(test)]
 mod image_tests;
 #[cfg(test)]
-mod memory;
-#[cfg(test)]
 mod plain;
 mod taking;
 #[cfg(test)]

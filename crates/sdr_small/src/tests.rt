@@ -1,7 +1,7 @@
 // What no clause says: where the first blocks begin, and that calls on a region in memory succeed.
-use crate::memory::MemoryCells;
 use crate::plain::{Free, plain_take};
 use crate::{give, take};
+use sdr_base::MemoryCells;
 use std::test::Fail;
 
 #[test]

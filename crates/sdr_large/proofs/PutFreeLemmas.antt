@@ -1,0 +1,354 @@
+-- A free block that comes to the gap, at the front of its list, in the bytes.
+use Rattle.std.proofs.Common.{◌≡◌, ◌≢◌, ◌≤◌, ◌<◌, ◌⊎◌, inl, inr, ℕ, ◌+◌, ◌-◌, ◌*◌, ◌/◌, ◌^◌, Bool, true, false, ◌&&◌, ◌==◌}
+use Rattle.std.proofs.Common.{List, ◌∷◌, length, get_or, refl, sym, ap, ◌∙◌, arith, subst}
+use Rattle.std.specs.List.{count_by}
+use Rattle.std.proofs.lemmas.Bool.{cases_eq, and_parts}
+use Rattle.sdr_base.specs.Pools.{PoolBlock, Pools, is_of, is_free_of, is_used_at}
+use Rattle.sdr_base.specs.SmallPool.{with_list}
+use Rattle.sdr_base.specs.LargePool.{order_of, with_free_large}
+use Rattle.sdr_base.specs.KeptPools.{IsOutside}
+use Rattle.sdr_base.specs.KeptLarge.{Links, HoldsLarge, IsFreeBlock, is_used_of, is_entry, large_place}
+use Rattle.sdr_base.specs.Stored.{number_at, with_number, leader_words, start_bit}
+use Rattle.sdr_base.proofs.PartsLemmas.{sides}
+use Rattle.sdr_base.proofs.PoolsLemmas.{is_of-true}
+use Rattle.sdr_base.proofs.SmallPoolLemmas.{with_list-here, with_list-other}
+use Rattle.sdr_base.proofs.StartBitsLemmas.{start_bit-same}
+use Rattle.sdr_base.proofs.StoredLemmas.{number_at-with_number, get_or-with_number, length-with_number, number_at-same}
+use Rattle.sdr_large.specs.Frame.{HasFrame}
+use Rattle.sdr_large.specs.Gap.{TilesAround, IsFree, Steps}
+use Rattle.sdr_large.specs.Steps.{with_before, ReachesBack}
+use Rattle.sdr_large.proofs.BackLemmas.{outside_of, length-with_before, get_or-with_before, number_at-with_before}
+use Rattle.sdr_large.proofs.ChangeLemmas.{MayChange, ChangesOnly, leaders_kept, free_kept, used_kept, used_stays}
+use Rattle.sdr_large.proofs.ChangeLemmas.{control_kept, below_stays}
+use Rattle.sdr_large.proofs.GapLemmas.{put_or_was, not_put, positive, other_addr, next_out, back_out, front_free, front_order}
+use Rattle.sdr_large.proofs.LinksLemmas.{FreeAt, Links-same}
+use Rattle.sdr_large.proofs.ListsLemmas.{order_of-le, entry_free}
+use Rattle.sdr_large.proofs.PartedLemmas.{IsBeside}
+use Rattle.sdr_large.proofs.PlacesLemmas.{IsApart, InOrder, in_order, at_block, free_of, unique, nonzero, entered_once}
+use Rattle.sdr_large.proofs.PlacesLemmas.{entered_free, next_back, back_back}
+use Rattle.sdr_large.proofs.RelinkLemmas.{links_pushed}
+
+module _ (P : Pools) (from to : ℕ) (x : List ℕ) (tiles : TilesAround P from to) (holds : HoldsLarge x P)
+    (words addr : ℕ) (at : addr ≡ from + 16) (fits : from + 8 * (4 + words) ≤ to) (some : 1 ≤ words) where
+  abbrev pub list : ℕ
+  list = order_of words
+
+  abbrev pub front : ℕ
+  front = number_at (large_place list) x
+
+  order : InOrder P from to
+  order = in_order P from to tiles
+
+  pub first : front ≢ 0 → FreeAt P.large front
+  first some_front = front_free P from to x tiles holds words addr at fits list (order_of-le words) some_front
+
+  at_free : (w b : ℕ) → IsFree P w b → IsBeside P.high P.end from to w b P.large
+  at_free w b f = at_block P from to tiles w b (free_of P from to tiles w b f)
+
+  first_words : (s : front ≢ 0) → leader_words (front - 16) x ≡ (first s).words
+  first_words s = holds.leaders (first s).words front (free_of P from to tiles (first s).words front (first s).free)
+
+  pub first_fits : front ≢ 0 → ReachesBack front x
+  first_fits s =
+      let b = at_free (first s).words front (first s).free in
+      record {
+        short = omega (arith, holds.size, order.most);
+        least = omega (arith, b.first);
+        leader = omega (arith, b.last, holds.size);
+        inside = omega (arith, b.last, holds.size, first_words s);
+      }
+
+  abbrev back_at : ℕ
+  back_at = front + 8 * leader_words (front - 16) x
+
+  abbrev block : PoolBlock
+  block = record { addr = addr; words = words; used = false }
+
+  module _ (y : List ℕ) (frame : HasFrame false words addr front
+      (with_number (large_place list) addr (with_before front addr x)) y) where
+    was_in : large_place list + 8 ≤ length (with_before front addr x)
+    was_in = omega (
+      arith,
+      length-with_before x front addr first_fits,
+      holds.size,
+      order_of-le words,
+      order.control,
+      order.small,
+      order.order,
+      order.first,
+      order.gap,
+      order.second,
+    )
+
+    size : length y ≡ length x
+    size = frame.size ∙ length-with_number (large_place list) addr (with_before front addr x) was_in
+        ∙ length-with_before x front addr first_fits
+
+    -- a byte outside of the gap, of the front and of the link back
+    out : (i : ℕ) → IsOutside from to i → IsOutside (large_place list) (large_place list + 8) i →
+        (front ≢ 0 → IsOutside back_at (back_at + 8) i) → get_or y i 0 ≡ get_or x i 0
+    out i gap beside back =
+        frame.others i (frame_front gap) (frame_back gap)
+        ∙ get_or-with_number (large_place list) addr (with_before front addr x) i was_in beside
+        ∙ get_or-with_before x front addr first_fits i back
+      where
+        frame_front : IsOutside from to i → IsOutside (addr - 16) addr i
+        frame_front (inl lt) = inl (omega (arith, lt, at))
+        frame_front (inr ge) = inr (omega (arith, ge, at, fits))
+
+        frame_back : IsOutside from to i → IsOutside (addr + 8 * words) (addr + 8 * words + 16) i
+        frame_back (inl lt) = inl (omega (arith, lt, at))
+        frame_back (inr ge) = inr (omega (arith, ge, at, fits))
+
+    changes : ChangesOnly P from to x y
+    changes = record {
+      size = size;
+      bytes = λ i bits never. out i (not_gap i never (cases i)) (not_front i never (sides (large_place list) 8 i))
+          (λ s. not_back i s never (sides back_at 8 i));
+    }
+      where
+        cases : (i : ℕ) → ((i < from) ⊎ (to ≤ i)) ⊎ ((from ≤ i) × (i < to))
+        cases i = grind arith
+
+        not_gap : (i : ℕ) → (MayChange P from to i → ⊥) → ((i < from) ⊎ (to ≤ i)) ⊎ ((from ≤ i) × (i < to)) →
+            IsOutside from to i
+        not_gap i never (inl outside) = outside
+        not_gap i never (inr inside) = absurd (never (inr (inl inside)))
+
+        not_front : (i : ℕ) → (MayChange P from to i → ⊥) →
+            ((i < large_place list) ⊎ (large_place list + 8 ≤ i)) ⊎ ((large_place list ≤ i) × (i < large_place list + 8)) →
+            IsOutside (large_place list) (large_place list + 8) i
+        not_front i never (inl outside) = outside
+        not_front i never (inr inside) = absurd (never (inl (
+          omega (arith, inside.0),
+          omega (arith, inside.1, order_of-le words),
+        )))
+
+        not_back : (i : ℕ) → front ≢ 0 → (MayChange P from to i → ⊥) →
+            ((i < back_at) ⊎ (back_at + 8 ≤ i)) ⊎ ((back_at ≤ i) × (i < back_at + 8)) →
+            IsOutside back_at (back_at + 8) i
+        not_back i s never (inl outside) = outside
+        not_back i s never (inr inside) = absurd (never (inr (inr (record {
+          words = (first s).words;
+          addr = front;
+          free = (first s).free;
+          at = inr (omega (arith, inside.0, first_words s), omega (arith, inside.1, first_words s));
+        }))))
+
+    next_same : (w b : ℕ) → IsFree P w b → number_at (b - 8) y ≡ number_at (b - 8) x
+    next_same w b f = number_at-same (b - 8) x y (λ i ge lt. out i
+        (next_out P from to x tiles holds words addr at fits w b i f ge lt)
+        (inr (omega (
+          arith,
+          ge,
+          order_of-le words,
+          (at_free w b f).first,
+          order.control,
+          order.small,
+          order.order,
+        )))
+        (λ s. outside_of (b - 8) back_at i (apart s) ge lt))
+      where
+        apart : front ≢ 0 → IsApart (b - 8) back_at
+        apart s = subst (λ (n : ℕ). IsApart (b - 8) (front + 8 * n)) (sym (first_words s))
+            (next_back P from to tiles w b (first s).words front f (first s).free)
+
+    back_same : (w b : ℕ) → IsFree P w b → b ≢ front → number_at (b + 8 * w) y ≡ number_at (b + 8 * w) x
+    back_same w b f differ = number_at-same (b + 8 * w) x y (λ i ge lt. out i
+        (back_out P from to x tiles holds words addr at fits w b i f ge lt)
+        (inr (omega (
+          arith,
+          ge,
+          order_of-le words,
+          (at_free w b f).first,
+          order.control,
+          order.small,
+          order.order,
+        )))
+        (λ s. outside_of (b + 8 * w) back_at i (apart s) ge lt))
+      where
+        apart : front ≢ 0 → IsApart (b + 8 * w) back_at
+        apart s = subst (λ (n : ℕ). IsApart (b + 8 * w) (front + 8 * n)) (sym (first_words s))
+            (back_back P from to tiles w b (first s).words front f (first s).free (λ same. differ (sym same)))
+
+    front_same : (o : ℕ) → o ≤ 20 → o ≢ list → number_at (large_place o) y ≡ number_at (large_place o) x
+    front_same o le differ = number_at-same (large_place o) x y (λ i ge lt. out i
+        (inl (omega (arith, lt, le, order.control, order.small, order.order, order.first)))
+        (beside i ge lt (grind arith))
+        (λ s. inl (omega (
+          arith,
+          lt,
+          le,
+          (at_free (first s).words front (first s).free).first,
+          order.control,
+          order.small,
+          order.order,
+        ))))
+      where
+        beside : (i : ℕ) → large_place o ≤ i → i < large_place o + 8 → (o < list) ⊎ (list < o) →
+            IsOutside (large_place list) (large_place list + 8) i
+        beside i ge lt (inl less) = inl (omega (arith, lt, less))
+        beside i ge lt (inr more) = inr (omega (arith, ge, more))
+
+    addr_small : addr < 2 ^ 64
+    addr_small = omega (arith, at, fits, order.second, order.most)
+
+    front_is : number_at (large_place list) y ≡ addr
+    front_is =
+        number_at-same (large_place list) (with_number (large_place list) addr (with_before front addr x)) y
+        (λ i ge lt. frame.others i (low i lt) (low_back i lt))
+        ∙ number_at-with_number (large_place list) addr (with_before front addr x) was_in addr_small
+      where
+        low : (i : ℕ) → i < large_place list + 8 → IsOutside (addr - 16) addr i
+        low i lt = inl (omega (
+          arith,
+          lt,
+          at,
+          order_of-le words,
+          order.control,
+          order.small,
+          order.order,
+          order.first,
+        ))
+
+        low_back : (i : ℕ) → i < large_place list + 8 → IsOutside (addr + 8 * words) (addr + 8 * words + 16) i
+        low_back i lt = inl (omega (
+          arith,
+          lt,
+          at,
+          order_of-le words,
+          order.control,
+          order.small,
+          order.order,
+          order.first,
+        ))
+
+    back_is : (w : ℕ) → front ≢ 0 → IsFree P w front → number_at (front + 8 * w) y ≡ addr
+    back_is w s f =
+        let same : front + 8 * w ≡ back_at = ap (λ (n : ℕ). front + 8 * n)
+        (sym (holds.leaders w front (free_of P from to tiles w front f))) in
+        ap (λ (p : ℕ). number_at p y) same
+        ∙ number_at-same back_at (with_before front addr x) y (λ i ge lt.
+        frame.others i (not_frame i (omega (arith, ge, same)) (omega (arith, lt, same)))
+        (not_back i (omega (arith, ge, same)) (omega (arith, lt, same)))
+        ∙ get_or-with_number (large_place list) addr (with_before front addr x) i was_in
+        (inr (omega (
+          arith,
+          ge,
+          order_of-le words,
+          (at_free w front f).first,
+          order.control,
+          order.small,
+          order.order,
+        ))))
+        ∙ number_at-with_before x front addr first_fits s addr_small
+      where
+        not_frame : (i : ℕ) → front + 8 * w ≤ i → i < front + 8 * w + 8 → IsOutside (addr - 16) addr i
+        not_frame i ge lt = elim (back_out P from to x tiles holds words addr at fits w front i f ge lt) [
+          | inl less ↦ inl (omega (arith, less, at))
+          | inr more ↦ inr (omega (arith, more, at, fits))
+        ]
+
+        not_back : (i : ℕ) → front + 8 * w ≤ i → i < front + 8 * w + 8 →
+            IsOutside (addr + 8 * words) (addr + 8 * words + 16) i
+        not_back i ge lt = elim (back_out P from to x tiles holds words addr at fits w front i f ge lt) [
+          | inl less ↦ inl (omega (arith, less, at))
+          | inr more ↦ inr (omega (arith, more, at, fits))
+        ]
+
+    lists : (o : ℕ) → o ≤ 20 →
+        Links y (large_place o) 0 (with_list list ((addr, words) ∷ P.large_lists list) P.large_lists o)
+    lists o le = elim (cases_eq o list) [
+      | inl same ↦
+          subst (λ (k : ℕ). Links y (large_place k) 0
+          (with_list list ((addr, words) ∷ P.large_lists list) P.large_lists k)) (sym same)
+          (subst (λ (l : List (ℕ × ℕ)). Links y (large_place list) 0 l)
+          (sym (with_list-here list ((addr, words) ∷ P.large_lists list) P.large_lists))
+          (links_pushed x y P.large list words addr (positive P from to x tiles holds words addr at fits)
+          (nonzero P from to tiles) (unique P from to tiles) (P.large_lists list)
+          (holds.lists list (order_of-le words))
+          (λ w b there. entered_free P from to tiles list w b there)
+          (λ w b. entered_once P from to tiles list w b)
+          (λ w b f. other_addr P from to x tiles holds words addr at fits w b f)
+          front_is frame.before frame.link back_is next_same back_same))
+      | inr differ ↦
+          subst (λ (l : List (ℕ × ℕ)). Links y (large_place o) 0 l)
+          (sym (with_list-other list o ((addr, words) ∷ P.large_lists list) P.large_lists differ))
+          (Links-same x y addr (positive P from to x tiles holds words addr at fits) (large_place o) 0 (P.large_lists o)
+          (holds.lists o le) (λ other. front_same o le differ)
+          (λ w b there other. next_same w b (entered_free P from to tiles o w b there))
+          (λ w b there other. back_same w b (entered_free P from to tiles o w b there) (elsewhere w b there differ))
+          (λ zero_is. positive P from to x tiles holds words addr at fits (sym zero_is))
+          (λ w b there. other_addr P from to x tiles holds words addr at fits w b (entered_free P from to tiles o w b there)))
+    ]
+      where
+        -- the front of the block's list is in no other list
+        elsewhere : (w b : ℕ) → 0 < count_by (is_entry w b) (P.large_lists o) → o ≢ list → b ≢ front
+        elsewhere w b there differ is =
+            let f = entry_free P tiles.lists o w b there in
+            let s : front ≢ 0 = (λ none. nonzero P from to tiles w b f.1 (is ∙ none)) in
+            differ (f.0 ∙ ap order_of (unique P from to tiles w (first s).words front
+            (subst (λ (a : ℕ). IsFree P w a) is f.1) (first s).free)
+            ∙ front_order P from to x tiles holds words addr at fits list (first s).words (order_of-le words) s
+            (first s).free)
+
+    of_new : (w a : ℕ) → is_of w a block ≡ true → (w ≡ words) × (a ≡ addr)
+    of_new w a is = let b = is_of-true w a block is in (sym b.1, sym b.0)
+
+    bit_same : (word : ℕ) → word < 8 * (P.start - 1024) → start_bit word y ≡ start_bit word x
+    bit_same word within = start_bit-same word x y (out (1024 + word / 8)
+        (inl (omega (arith, within, order.small, order.order, order.first)))
+        (inr (omega (arith, order_of-le words)))
+        (λ s. inl (omega (
+          arith,
+          within,
+          (at_free (first s).words front (first s).free).first,
+          order.small,
+          order.order,
+        ))))
+
+    own_free : IsFreeBlock words addr y
+    own_free = record { kind = frame.kind; length = frame.bare; last = frame.last }
+
+    not_used : (n : ℕ) → is_used_at n block ≡ false
+    not_used n = never (addr == n)
+      where
+        never : (v : Bool) → (v && false) ≡ false
+        never true = refl
+        never false = refl
+
+    pub free_put : Steps P (with_free_large P addr words) 0 x y
+    free_put = record {
+      holds = record {
+        size = size ∙ holds.size;
+        low = control_kept P from to x y tiles holds changes 16 (omega arith) ∙ holds.low;
+        high = control_kept P from to x y tiles holds changes 24 (omega arith) ∙ holds.high;
+        lists = lists;
+        leaders = λ w a there. elim (put_or_was (is_of w a) block P.large there) [
+          | inl new ↦ ap (λ (n : ℕ). leader_words (n - 16) y) (of_new w a new).1 ∙ frame.named ∙ sym (of_new w a new).0
+          | inr was ↦ leaders_kept P from to x y tiles holds changes w a was
+        ];
+        free = λ w a there. elim (put_or_was (is_free_of w a) block P.large there) [
+          | inl new ↦
+              let is = of_new w a (and_parts (is_of w a block) true new).0 in
+              subst (λ (n : ℕ). IsFreeBlock n a y) (sym is.0)
+              (subst (λ (n : ℕ). IsFreeBlock words n y) (sym is.1) own_free)
+          | inr was ↦ free_kept P from to x y tiles holds changes w a was
+        ];
+        used = λ w a there. elim (put_or_was (is_used_of w a) block P.large there) [
+          | inl new ↦ absurd (false_not_true (never (is_of w a block)) new)
+          | inr was ↦ used_kept P from to x y tiles holds changes w a was
+        ];
+        bits = λ word within ge. bit_same word within ∙ holds.bits word within ge
+            ∙ sym (not_put (is_used_at (8 * word + 16)) block P.large (not_used (8 * word + 16)));
+      };
+      below = below_stays P from to x y tiles holds changes (λ word within lt. bit_same word within);
+      used = used_stays P from to x y tiles holds changes;
+    }
+      where
+        never : (v : Bool) → (v && false) ≡ false
+        never true = refl
+        never false = refl
+
+        false_not_true : {v : Bool} → v ≡ false → v ≡ true → ⊥
+        false_not_true no_it yes_it = cc

@@ -1,0 +1,57 @@
+-- The block that was found, or a new one.
+use Rattle.std.proofs.Common.{subst}
+use Rattle.std.specs.Prelude.{Option}
+use Rattle.std.proofs.lemmas.Result.{IfOk-weaker}
+use Rattle.sdr_large.specs.declared.block.Block.{Block}
+use Rattle.sdr_large.specs.Calls.{Takes, TakesNew, IsGiveable}
+use Rattle.sdr_large.specs.Steps.{Finds}
+use Rattle.sdr_large.proofs.CallsLemmas.{found_cut, takes_cut, takes_new, Takes-kept, Takes-used, OnOk-from}
+use Rattle.sdr_large.proofs.taking.take.Goals as goal
+
+pub take_cut-requires : goal.take_cut-requires
+take_cut-requires g c = record {
+  cut = found_cut (g.C.Cells.bytes c.args.c.now) (g.C.Cells.bytes c.find.new.c) c.args.words c.in-Some.block
+      c.requires.pools
+      (subst (λ (o : Option Block). Finds c.args.words o (g.C.Cells.bytes c.args.c.now)) c.in-Some.is
+      c.in_ok-block.ensures.found) c.in_ok-block.ensures.same c.requires.some;
+}
+
+pub returns-in_ok-take_cut-in-Some-clause-taken : goal.returns-in_ok-take_cut-in-Some-clause-taken
+returns-in_ok-take_cut-in-Some-clause-taken g c =
+    takes_cut (g.C.Cells.bytes c.args.c.now) (g.C.Cells.bytes c.find.new.c) (g.C.Cells.bytes c.take_cut.new.c) c.args.words
+    c.in-Some.block
+    (subst (λ (o : Option Block). Finds c.args.words o (g.C.Cells.bytes c.args.c.now)) c.in-Some.is
+    c.in_ok-block.ensures.found) c.in_ok-block.ensures.same c.requires.some c.in_ok-take_cut-in-Some.ensures.cut
+
+pub returns-in_ok-take_cut-in-Some-clause-used : goal.returns-in_ok-take_cut-in-Some-clause-used
+returns-in_ok-take_cut-in-Some-clause-used g c =
+    Takes-used _ _ c.args.words _ c.requires.pools (returns-in_ok-take_cut-in-Some-clause-taken g c)
+
+pub returns-in_ok-take_cut-in-Some-clause-kept : goal.returns-in_ok-take_cut-in-Some-clause-kept
+returns-in_ok-take_cut-in-Some-clause-kept g c =
+    Takes-kept _ _ c.args.words _ c.requires.pools (returns-in_ok-take_cut-in-Some-clause-taken g c)
+
+pub returns-in-None-clause-taken : goal.returns-in-None-clause-taken
+returns-in-None-clause-taken g c =
+    IfOk-weaker c.take_new.result
+    (λ found. TakesNew c.args.words found (g.C.Cells.bytes c.find.new.c) (g.C.Cells.bytes c.take_new.new.c))
+    (λ found. Takes c.args.words found (g.C.Cells.bytes c.args.c.now) (g.C.Cells.bytes c.take_new.new.c))
+    (λ found takes. takes_new (g.C.Cells.bytes c.args.c.now) (g.C.Cells.bytes c.find.new.c)
+    (g.C.Cells.bytes c.take_new.new.c) c.args.words found
+    (subst (λ (o : Option Block). Finds c.args.words o (g.C.Cells.bytes c.args.c.now)) c.in-None.is
+    c.in_ok-block.ensures.found) c.in_ok-block.ensures.same c.requires.some takes)
+    c.take_new.ensures.taken
+
+pub returns-in-None-clause-used : goal.returns-in-None-clause-used
+returns-in-None-clause-used g c =
+    IfOk-weaker c.take_new.result
+    (λ found. Takes c.args.words found (g.C.Cells.bytes c.args.c.now) (g.C.Cells.bytes c.take_new.new.c))
+    (λ found. IsGiveable found (g.C.Cells.bytes c.take_new.new.c))
+    (λ found takes. Takes-used _ _ c.args.words found c.requires.pools takes)
+    (returns-in-None-clause-taken g c)
+
+pub returns-in-None-clause-kept : goal.returns-in-None-clause-kept
+returns-in-None-clause-kept g c =
+    OnOk-from (λ found. Takes c.args.words found (g.C.Cells.bytes c.args.c.now) (g.C.Cells.bytes c.take_new.new.c))
+    c.take_new.result (λ found takes. Takes-kept _ _ c.args.words found c.requires.pools takes)
+    (returns-in-None-clause-taken g c)

@@ -1,0 +1,5 @@
+pub mod Calls
+pub mod Frame
+pub mod Gap
+pub mod Giving
+pub mod Steps
