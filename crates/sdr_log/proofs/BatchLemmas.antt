@@ -29,7 +29,8 @@ length-encoded : (r : Record) → length r.bytes ≡ 64 → length (encoded r) �
 unfolding encoded
 length-encoded r long = omega (arith, length-append (four r.line) r.bytes, length-four r.line, long)
 
-length-all_encoded : (records : List Record) → AreLines records → length (flat_map encoded records) ≡ 68 * length records
+length-all_encoded : (records : List Record) → AreLines records →
+    length (flat_map encoded records) ≡ 68 * length records
 length-all_encoded [] lines = refl
 length-all_encoded (r ∷ records) lines = omega (
   arith,

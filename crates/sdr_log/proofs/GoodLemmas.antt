@@ -61,7 +61,8 @@ pub put_records-all_own : (n : ℕ) (earlier records : List Record) (heap : List
 put_records-all_own n earlier [] heap good lines own_lines le own =
     ap (λ (l : List Record). put_records l heap) (append-nil earlier)
 put_records-all_own n earlier (r ∷ records) heap good lines own_lines le own =
-    let split : earlier ++ (r ∷ records) ≡ (earlier ++ r ∷ []) ++ records = sym (append_assoc earlier (r ∷ []) records) in
+    let split : earlier ++ (r ∷ records) ≡ (earlier ++ r ∷ []) ++ records =
+    sym (append_assoc earlier (r ∷ []) records) in
     let all : are_good n ((earlier ++ r ∷ []) ++ records) ≡ true = ap (are_good n) (sym split) ∙ good in
     let pushed = are_good-before n (earlier ++ r ∷ []) records all in
     let last = are_good-last n earlier r pushed in

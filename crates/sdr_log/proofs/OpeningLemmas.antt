@@ -132,7 +132,8 @@ module _ (f : Frame) (place : ℕ) (records : List Record) (x : List ℕ) (left 
   batch_same whole image of_left g =
       behind_same image
       (Agrees-trans _ x whole image
-      (Agrees-one_more (range (64 + place + 1) (length batch)) (lines_of f earlier) x whole (m.logged.pending whole of_left))
+      (Agrees-one_more (range (64 + place + 1) (length batch)) (lines_of f earlier) x whole
+      (m.logged.pending whole of_left))
       (Agrees-more (range (64 + place + 1) (length batch) ∷ []) _ whole image (λ i o. (o.0, tt)) g))
 
   batch_inside : 64 + place + 1 + length batch ≤ length x

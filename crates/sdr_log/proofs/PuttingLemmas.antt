@@ -191,8 +191,8 @@ module _ {D : Type 0} (moment : D → ℕ) (may_leave : D → ℕ → List ℕ �
 
   -- all lines put
   pub putting_all : (now : D) (rest : List Record) → rest ≡ [] →
-      (p : Putting moment may_leave bytes f lines rest old now x) → (y : List ℕ) → bytes now ≡ Some y → MayPut f lines x (may_leave old (moment old)) →
-      Puts f lines x y (may_leave now (moment now))
+      (p : Putting moment may_leave bytes f lines rest old now x) → (y : List ℕ) → bytes now ≡ Some y →
+      MayPut f lines x (may_leave old (moment old)) → Puts f lines x y (may_leave now (moment now))
   putting_all now rest none p y is m =
       let s = p.so_far m in
       subst (λ (z : List ℕ). Puts f lines x z (may_leave now (moment now))) (same_Some p.y y (sym p.told ∙ is)) record {

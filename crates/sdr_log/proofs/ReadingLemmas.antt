@@ -156,7 +156,8 @@ module _ (lines : ℕ) (log : List ℕ) (n : Noted) (gate : ℕ) (bytes : List �
       let count = number (take 4 bytes) in
       let own = records_of count (drop 4 bytes) in
       let g : (gate == 0) ≡ false = grind (arith, nat_tests, is_open) in
-      let t : (count == 0 || nat_le (length bytes) (4 + 68 * count)) ≡ false = grind (arith, nat_tests, r.some, r.inside) in
+      let t : (count == 0 || nat_le (length bytes) (4 + 68 * count)) ≡ false =
+      grind (arith, nat_tests, r.some, r.inside) in
       let batch : batches_of (suc (s.fuel - 1)) (gate ∷ bytes)
       ≡ option_map (λ more. own ++ more) (batches_of (s.fuel - 1) (drop (4 + 68 * count) bytes)) = rw (g, t) refl in
       record {

@@ -118,8 +118,8 @@ GivesNone-log f x r wrong head =
     by_good records false is e = refl
 
     by_log : (found : Option (List Record)) → batches_of (length (log_of f x)) (log_of f x) ≡ found →
-        option_and_then (λ records. cond (are_good f.heap_lines records) (Some (put_records records (heap_of f x))) None)
-        found ≡ None
+        option_and_then
+        (λ records. cond (are_good f.heap_lines records) (Some (put_records records (heap_of f x))) None) found ≡ None
     by_log None e = refl
     by_log (Some records) e = by_good records (are_good f.heap_lines records) refl e
 

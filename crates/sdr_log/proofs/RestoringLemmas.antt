@@ -1,7 +1,7 @@
 -- Open batches that are put back and closed.
 use Rattle.std.proofs.Common.{◌≡◌, ◌≤◌, ◌<◌, inl, inr, ℕ, zero, suc, ◌+◌, ◌-◌, ◌*◌, Bool, true, false, cond}
-use Rattle.std.proofs.Common.{◌||◌, ◌==◌, List, [], ◌∷◌, ◌++◌, length, take, drop, refl, sym, ap, ◌∙◌, subst, arith, Some}
-use Rattle.std.proofs.Common.{None, nat_le, ⊎_elim}
+use Rattle.std.proofs.Common.{◌||◌, ◌==◌, List, [], ◌∷◌, ◌++◌, length, take, drop, refl, sym, ap, ◌∙◌, subst, arith}
+use Rattle.std.proofs.Common.{Some, None, nat_le, ⊎_elim}
 use Rattle.std.specs.Prelude.{Option, option_map}
 use Rattle.std.proofs.lemmas.List.{drop_more}
 use Rattle.std.proofs.lemmas.Option.{same_Some, none-some}
@@ -179,7 +179,8 @@ module _ {D : Type 0} (bytes : D → Option (List ℕ)) (moment : D → ℕ) (ma
       (at_first moment may_leave old (GivesSame x) (λ image l. back_same f x image _ m l)) r.time r.past
 
   -- and while the batches are put back
-  pub at_restored : (new : D) → AtEach moment may_leave now new (GivesSame x) → AtEach moment may_leave old new (GivesSame x)
+  pub at_restored : (new : D) → AtEach moment may_leave now new (GivesSame x) →
+      AtEach moment may_leave old new (GivesSame x)
   at_restored new each =
       at_both moment may_leave old now new (GivesSame x) (GivesSame x) (GivesSame x) at_reads each
       (λ image s. s) (λ image s. s)

@@ -54,8 +54,12 @@ pub opens_may_put : (f : Frame) (place : ℕ) (records lines earlier : List Reco
 opens_may_put f place records lines earlier x y left o log named =
     let l = o.is_open.logged in
     let all : earlier ++ records ≡ l.records =
-    same_Some (earlier ++ records) l.records (sym (ap (option_map (λ rs. rs ++ records)) log) ∙ sym o.log ∙ l.logs.log) in
-    record { logged = l; named = subst (λ (rs : List Record). AreNamed rs lines) all (behind earlier records lines named) }
+    same_Some (earlier ++ records) l.records
+    (sym (ap (option_map (λ rs. rs ++ records)) log) ∙ sym o.log ∙ l.logs.log) in
+    record {
+      logged = l;
+      named = subst (λ (rs : List Record). AreNamed rs lines) all (behind earlier records lines named);
+    }
   where
     named_behind : (earlier records : List Record) (line : ℕ) → is_named records line ≡ true →
         is_named (earlier ++ records) line ≡ true

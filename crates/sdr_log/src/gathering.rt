@@ -7,7 +7,7 @@ use crate::Record;
 use byteorder::{BigEndian, ByteOrder};
 
 // Puts a record into a piece of a buffer.
-#[tactic(auto, using(std::proofs::lemmas::Slice::overwrites), unfolding(crate::specs::Batch::encoded, crate::specs::Frame::four))]
+#[tactic(auto, unfolding(crate::specs::Batch::encoded, crate::specs::Frame::four))]
 fn put_record(old: &Record, piece: &mut [u8])
     requires { length piece.old ≡ 68 }
     ensures put { piece.new ≡ encoded old.now }

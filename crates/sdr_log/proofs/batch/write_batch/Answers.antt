@@ -19,14 +19,13 @@ save_batch-requires-clause-inside g c = omega (
 
 pub returns-in_err-save_batch-clause-any_moment : goal.returns-in_err-save_batch-clause-any_moment
 returns-in_err-save_batch-clause-any_moment g c x is m =
-    at_batch _ _ _ _ _ _ x m c.gather-batch.ensures.lines c.requires.place.some c.requires.place.fits _ c.gather-batch.ensures.batch _
+    at_batch _ _ _ _ _ _ _ x m c.gather-batch.ensures.lines c.requires.place _ c.gather-batch.ensures.batch _
     c.save_batch.ensures.any_moment
 
 pub returns-in_err-open_gate-clause-any_moment : goal.returns-in_err-open_gate-clause-any_moment
 returns-in_err-open_gate-clause-any_moment g c x is m =
-    at_gate _ _ _ _ _ _ x m c.gather-batch.ensures.lines c.requires.place.some c.requires.place.fits _ c.gather-batch.ensures.batch _ _
-    (at_batch _ _ _ _ _ _ x m c.gather-batch.ensures.lines c.requires.place.some c.requires.place.fits _ c.gather-batch.ensures.batch _
-    c.save_batch.ensures.any_moment)
+    at_gate _ _ _ _ _ _ _ x m c.gather-batch.ensures.lines c.requires.place _ c.gather-batch.ensures.batch _ _
+    c.save_batch.ensures.any_moment
     (c.in_ok-save_batch.ensures.durable _ (c.in_ok-save_batch.ensures.written x is)) c.open_gate.ensures.any_moment
 
 pub returns-clause-next : goal.returns-clause-next
@@ -59,7 +58,6 @@ returns-clause-opens g c x is y now m =
 
 pub returns-clause-any_moment : goal.returns-clause-any_moment
 returns-clause-any_moment g c x is m =
-    at_gate _ _ _ _ _ _ x m c.gather-batch.ensures.lines c.requires.place.some c.requires.place.fits _ c.gather-batch.ensures.batch _ _
-    (at_batch _ _ _ _ _ _ x m c.gather-batch.ensures.lines c.requires.place.some c.requires.place.fits _ c.gather-batch.ensures.batch _
-    c.save_batch.ensures.any_moment)
+    at_gate _ _ _ _ _ _ _ x m c.gather-batch.ensures.lines c.requires.place _ c.gather-batch.ensures.batch _ _
+    c.save_batch.ensures.any_moment
     (c.in_ok-save_batch.ensures.durable _ (c.in_ok-save_batch.ensures.written x is)) c.open_gate.ensures.any_moment

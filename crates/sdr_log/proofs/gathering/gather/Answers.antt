@@ -1,4 +1,5 @@
-use Rattle.std.proofs.Common.{◌≡◌, ◌∙◌, ◌+◌, ◌++◌, List, ◌∷◌, [], get_or, ℕ, take, drop, length, sym, ap, refl, subst, arith, rules, append-nil}
+use Rattle.std.proofs.Common.{◌≡◌, ◌∙◌, ◌+◌, ◌++◌, List, ◌∷◌, [], get_or, ℕ, take, drop, length, sym, ap, refl}
+use Rattle.std.proofs.Common.{subst, arith, rules, append-nil}
 use Rattle.std.specs.Prelude.{flat_map}
 use Rattle.std.proofs.lemmas.List.{take_at, take_more, take_all, take_more_set, flat_map_more}
 use Rattle.std.proofs.lemmas.Slice.{overwrites}
@@ -41,7 +42,9 @@ pub returns-clause-batch : goal.returns-clause-batch
 unfolding batch_of
 returns-clause-batch c =
     let records = c.args.records.now in
-    let all : take c.loop-old.old-index records ≡ records = take_all c.loop-old.old-index records c.loop-old-test.false in
-    take_more_set c.loop-old.buffer c.loop-old.place 0 (omega (arith, c.loop-old.invariant.place, c.loop-old.auto.buffer))
+    let all : take c.loop-old.old-index records ≡ records =
+    take_all c.loop-old.old-index records c.loop-old-test.false in
+    take_more_set c.loop-old.buffer c.loop-old.place 0
+    (omega (arith, c.loop-old.invariant.place, c.loop-old.auto.buffer))
     ∙ ap (λ (l : List ℕ). l ++ 0 ∷ [])
     (c.loop-old.invariant.put ∙ ap (λ (l : List Record). four (length records) ++ flat_map encoded l) all)

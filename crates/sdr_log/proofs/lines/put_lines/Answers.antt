@@ -40,7 +40,8 @@ returns-clause-written g c x is =
 
 pub returns-clause-puts : goal.returns-clause-puts
 returns-clause-puts g c x is y now m =
-    putting_all _ _ _ _ _ _ x _ _ (nil_from_length _ c.in_default.ensures.cases) (c.loop-line.invariant.told x is) y now m
+    putting_all _ _ _ _ _ _ x _ _ (nil_from_length _ c.in_default.ensures.cases) (c.loop-line.invariant.told x is) y
+    now m
 
 pub returns-clause-any_moment : goal.returns-clause-any_moment
 returns-clause-any_moment g c x is m = ((c.loop-line.invariant.told x is).so_far m).each
