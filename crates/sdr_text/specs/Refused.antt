@@ -1,6 +1,5 @@
--- The printed texts. Each `.._on` is the line so far, which begins with the bytes handed in, with one more thing on it.
-use Rattle.std.specs.Prelude.{ℕ, List, [], ◌∷◌, ◌++◌, codes, decimal}
-use Rattle.hex.specs.Hex.{encode_lower}
+-- What is printed of refusals. Each `.._on` is the line so far, which begins with the bytes handed in, with one more thing on it.
+use Rattle.std.specs.Prelude.{ℕ, List, ◌++◌, codes, decimal}
 use Rattle.sdr_base.specs.Refusal.{refusal_number}
 use Rattle.sdr_base.specs.declared.kind.Space.{Space}
 use Rattle.sdr_base.specs.declared.kind.Space.TheVariants as spaces
@@ -8,12 +7,6 @@ use Rattle.sdr_base.specs.declared.refusal.Reason.{Reason}
 use Rattle.sdr_base.specs.declared.refusal.Reason.TheVariants as reasons
 use Rattle.sdr_base.specs.declared.refusal.Refusal.{Refusal}
 use Rattle.sdr_base.specs.declared.refusal.Refusal.TheVariants as refusals
-use Rattle.sdr_model.specs.Core.{Made}
-use Rattle.sdr_model.specs.declared.answer.Answer.{Answer}
-use Rattle.sdr_model.specs.declared.answer.Answer.TheVariants as answers
-use Rattle.sdr_model.specs.declared.answer.Close.TheVariants as closes
-use Rattle.sdr_model.specs.declared.answer.Reply.{Reply}
-use Rattle.sdr_model.specs.declared.answer.Reply.TheVariants as replies
 
 -- a refusal's name
 abbrev pub refusal_name : Refusal → List ℕ
@@ -94,34 +87,3 @@ fields_on t (refusals.InTransaction mine) = field_on t mine
 -- a refusal: its number, its name and its fields
 abbrev pub refusal_on : List ℕ → Refusal → List ℕ
 refusal_on t refusal = fields_on (t ++ decimal (refusal_number refusal) ++ codes " " ++ refusal_name refusal) refusal
-
--- a reply without the bytes that it gives
-abbrev pub reply_on : List ℕ → Reply → List ℕ
-reply_on t replies.Done = t ++ codes "ok"
-reply_on t (replies.At addr) = field_on (t ++ codes "at") addr
-reply_on t (replies.Pair first second) = field_on (field_on (t ++ codes "pair") first) second
-reply_on t (replies.Bytes count) = t ++ codes "bytes x"
-reply_on t (replies.Refused refusal) = refusal_on (t ++ codes "refused ") refusal
-
--- an answer without the bytes that its call gives
-abbrev pub answer_on : List ℕ → Answer → List ℕ
-answer_on t (answers.Lock number) = field_on (t ++ codes "lock") number
-answer_on t (answers.Depth depth) = field_on (t ++ codes "depth") depth
-answer_on t (answers.Closed closes.Ended) = t ++ codes "ended"
-answer_on t (answers.Closed (closes.Cancelled reason)) = reason_on (t ++ codes "cancelled ") reason
-answer_on t (answers.Reply reply) = reply_on t reply
-
--- the bytes that a call gave, in lower-case hexadecimal digits
-abbrev pub given_text : Answer → List ℕ → List ℕ
-given_text (answers.Reply (replies.Bytes count)) bytes = encode_lower bytes
-given_text answer bytes = []
-
--- the printed line of an answer: its line and daemon, what it is, and the bytes that were given
-abbrev pub line_text : ℕ → ℕ → Answer → List ℕ → List ℕ
-line_text line daemon answer bytes =
-    answer_on (field_on (decimal line) daemon ++ codes " ") answer ++ given_text answer bytes ++ codes "\n"
-
--- the printed lines of what was made
-abbrev pub made_text : List Made → List ℕ
-made_text [] = []
-made_text (e ∷ made) = line_text e.line e.daemon e.answer e.bytes ++ made_text made

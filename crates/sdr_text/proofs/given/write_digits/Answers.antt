@@ -2,8 +2,8 @@ use Rattle.std.proofs.Common.{subst, sym, arith}
 use Rattle.std.proofs.lemmas.Bool.{eqb-true}
 use Rattle.hex.specs.Hex.{encode_lower}
 use Rattle.sdr_base.proofs.WrittenLemmas.{Goes, goes_more, goes_part, goes_all}
-use Rattle.sdr_shell.proofs.TextLemmas.{digits_split, no_digits, on_err}
-use Rattle.sdr_shell.proofs.text.write_digits.Goals as goal
+use Rattle.sdr_text.proofs.TextLemmas.{digits_split, no_digits, on_err}
+use Rattle.sdr_text.proofs.given.write_digits.Goals as goal
 
 pub loop-rest-preserved : goal.loop-rest-preserved
 loop-rest-preserved g c =

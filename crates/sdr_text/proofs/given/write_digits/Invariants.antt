@@ -1,7 +1,7 @@
 use Rattle.std.proofs.Common.{◌≤◌, length}
 use Rattle.hex.specs.Hex.{encode_lower}
 use Rattle.sdr_base.proofs.WrittenLemmas.{Goes}
-use Rattle.sdr_shell.proofs.text.write_digits.Given as goal
+use Rattle.sdr_text.proofs.given.write_digits.Given as goal
 
 abbrev pub invariant-loop-rest : goal.invariant-loop-rest
 invariant-loop-rest g l = record {

@@ -1,6 +1,6 @@
 use Rattle.std.proofs.KnownBytes.{Appends-trans}
-use Rattle.sdr_shell.proofs.TextLemmas.{part_later, on_err_map}
-use Rattle.sdr_shell.proofs.text.write_given.Goals as goal
+use Rattle.sdr_text.proofs.TextLemmas.{part_later, on_err_map}
+use Rattle.sdr_text.proofs.given.write_given.Goals as goal
 
 pub returns-clause-err : goal.returns-clause-err
 returns-clause-err g c =
