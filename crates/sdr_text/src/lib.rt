@@ -13,4 +13,5 @@ mod refused;
 mod tests;
 
 pub use answer::write_answer;
+pub use given::are_text_bytes;
 pub use line::Line;

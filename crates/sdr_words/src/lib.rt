@@ -1,13 +1,13 @@
-// A library with one function.
+//! Scripts.
 #![tactic(auto)]
 
-ghost use Rattle.std.specs.Prelude.{◌≡◌};
-ghost use Rattle.sdr_words.specs.Echo.{echo_of};
+mod error;
+mod literals;
+mod verb;
+mod words;
 
-// The `ensures` clause is the contract: what `echo` returns is `echo_of` of its argument, a definition
-// in `specs/Echo.antt`, which a caller's clause can cite too.
-pub fn echo(x: usize) -> usize
-    ensures { result ≡ echo_of x }
-{
-    x
-}
+use error::LineError;
+pub use error::ScriptError;
+pub use literals::literal_of;
+pub use words::{daemon_of, is_name, number_of};
+pub use verb::{Shape, Verb, place_of, shapes_at, verb_at};

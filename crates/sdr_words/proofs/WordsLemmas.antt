@@ -10,7 +10,7 @@ use Rattle.std.specs.List.{list_all}
 use Rattle.std.specs.Result.{result_ok}
 use Rattle.std.specs.Str.{IsAscii, IsUtf8}
 use Rattle.std.specs.Str.Parse.{digits_value, ParsesUnsigned}
-use Rattle.sdr_shell.specs.Words.{is_decimal, number_of}
+use Rattle.sdr_words.specs.Words.{is_decimal, number_of}
 
 digit_is_ascii : (b : ℕ) → is_ascii_digit b ≡ true → b < 128
 digit_is_ascii b d = grind (arith, nat_tests)

@@ -1,0 +1,2 @@
+pub mod VerbLemmas
+pub mod WordsLemmas
