@@ -1,4 +1,5 @@
 pub mod ArgumentsLemmas
+pub mod BindingsLemmas
 pub mod DraftLemmas
 pub mod FieldsLemmas
 pub mod InputLemmas

@@ -6,18 +6,22 @@
 #![tactic(auto)]
 
 mod arguments;
+mod bindings;
 mod draft;
 mod error;
+mod events;
 mod fields;
+mod given;
 mod lines;
 mod literals;
 mod read;
 mod verb;
 mod words;
 
+pub use bindings::Bindings;
 use error::LineError;
 pub use error::ScriptError;
 pub use read::read_script;
 pub use verb::Verb;
-use verb::{Shape, place_of, shapes_at};
+use verb::{Shape, place_of, shapes_at, verb_at};
 pub use words::number_of;
