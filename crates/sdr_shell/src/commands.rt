@@ -1,31 +1,31 @@
 // The calls that wait for nobody.
 ghost use Rattle.std.specs.Prelude.{◌≡◌, ◌≢◌, ◌≤◌, ◌<◌, ◌+◌, ◌↔◌, ◌⊎◌, ◌++◌, List, ℕ, codes};
-ghost use Rattle.std.specs.Prelude.{None, Some, [], IsOk, IsErr, length, is_some};
-ghost use Rattle.std.specs.Io.KnownBytes.{Appends};
+ghost use Rattle.std.specs.Prelude.{None, Some, [], IfErr, IfOk, IsErrOf, IsOk, IsErr, OnOk, length, is_some};
+ghost use Rattle.std.specs.Io.KnownBytes.{Appends, IsAtEnd};
 ghost use Rattle.sdr_base.specs.Causes.{Rose};
 ghost use Rattle.sdr_log.specs.Frame.{disk_bytes};
 ghost use Rattle.sdr_shell.specs.Form.{form_of, OnFormat};
 ghost use Rattle.sdr_shell.specs.Formatting.{line_formatted, line_too_small, IsFormatted};
 ghost use Rattle.sdr_shell.specs.Formatting.{HasFormatted, IsFormatStatus, LeavesDisk};
-ghost use Rattle.sdr_shell.specs.Script.{input_script};
+ghost use Rattle.sdr_shell.specs.Served.{accepted_script, first_unserved};
 ghost use Rattle.sdr_shell.specs.Schedule.{SomeRun};
-ghost use Rattle.sdr_shell.specs.Still.{Writes, HadRun, IsDone, IsRefused, IsDryStatus, IsStarved, Tells, line_refused};
+ghost use Rattle.sdr_shell.specs.Still.{Writes, HadRun, HadScript, NamesBadLine, IsDone, IsRefused, IsDryStatus, IsStarved, Tells, line_refused};
 ghost use Rattle.sdr_base.specs.Written.{AppendsPart};
 
 use crate::Outcome;
 use crate::form::{Form, form_of};
 use crate::formatting::format_disk;
 use crate::last_line::last_line;
-use crate::line::Line;
-use crate::read::read_script;
+
 use crate::run::{RunError, run};
-use crate::script::{ScriptError, Step};
 use crate::status::{
     DISK_FAULT, DONE, INPUT_FAULT, NO_MEMORY, OUTPUT_FAULT, REFUSED_LINE, TOO_SMALL, USAGE,
 };
-use sdr_base::{Media, Sink, Source};
+use sdr_base::{Media, NoMemory, Sink, Source};
 use sdr_disk::Disk;
-use sdr_model::Journal;
+use sdr_model::{Journal, Script, Step};
+use sdr_text::Line;
+use sdr_words::{Bindings, ScriptError, read_script};
 use std::alloc::Global;
 use std::rc::RcStr;
 
@@ -44,7 +44,8 @@ fn refuse_line<K: Sink>(output: &mut K, line: u64)
 
 // Runs a script.
 fn run_script<K: Sink>(alloc: Global, script: &[Step], output: &mut K) -> u8
-    requires { length script.now ≤ 1048577 }
+    requires few { length script.now ≤ 1048577 }
+    requires served { first_unserved script.now ≡ None }
     ensures known { (result ≡ DONE) ⊎ (result ≡ OUTPUT_FAULT) ⊎ (result ≡ NO_MEMORY) }
     ensures later { K.faults output.old ≤ K.faults output.new }
     ensures done { result ≡ DONE → SomeRun script.now (λ rest text.
@@ -87,8 +88,41 @@ fn tell<K: Sink>(error: &ScriptError, output: &mut K) -> u8
     }
 }
 
-// A dry run of the input's script.
+// The line of the first statement that isn't served yet.
+fn first_unserved(alloc: Global, script: &[Step]) -> Result<Option<u64>, NoMemory>
+    ensures { IfOk result (λ line. line ≡ first_unserved script.now) }
+{
+    let nothing = Bindings::new(alloc);
+    let mut rest = script;
+    while let Some((step, after)) = rest.split_first() {
+        if !nothing.event(alloc, step)?.is_built() {
+            return Ok(Some(step.line));
+        }
+        rest = after;
+    }
+    Ok(None)
+}
+
+// Reads a script of statements that are all served.
 #[tactic(auto, using(crate::proofs::ScriptRead::read_scripts))]
+fn read_served<S: Source>(alloc: Global, input: &mut S) -> Result<Script, ScriptError>
+    ensures had { IfOk result (HadScript (S.left input.old)) }
+    ensures few { IfOk result (λ script. length script ≤ 1048577) }
+    ensures served { IfOk result (λ script. first_unserved script ≡ None) }
+    ensures at_end { OnOk result (IsAtEnd (S.left input.new)) }
+    ensures line { IfErr result (NamesBadLine (S.left input.old)) }
+    ensures later { S.faults input.old ≤ S.faults input.new }
+    ensures reads { S.reads input.new ≤ S.reads input.old + 1048577 }
+    ensures input { IsErrOf result ScriptError.Input → Rose (S.faults input.old) (S.faults input.new) }
+{
+    let script = read_script(alloc, input)?;
+    match first_unserved(alloc, script.as_slice())? {
+        Some(line) => Err(ScriptError::Line { line }),
+        None => Ok(script),
+    }
+}
+
+// A dry run of the input's script.
 fn dry<S: Source, K: Sink>(alloc: Global, input: &mut S, output: &mut K) -> u8
     ensures known { IsDryStatus result }
     ensures later { (S.faults input.old ≤ S.faults input.new) × (K.faults output.old ≤ K.faults output.new) }
@@ -107,7 +141,7 @@ fn dry<S: Source, K: Sink>(alloc: Global, input: &mut S, output: &mut K) -> u8
     ensures starved { result ≡ NO_MEMORY → IsStarved (S.left input.old)
         (K.taken output.old) (K.taken output.new) (K.faults output.old) (K.faults output.new) }
 {
-    match read_script(alloc, input) {
+    match read_served(alloc, input) {
         Ok(script) => run_script(alloc, script.as_slice(), output),
         Err(error) => tell(&error, output),
     }
@@ -179,11 +213,11 @@ pub fn still<D: Disk, M: Media, S: Source, K: Sink>(
         HadRun (S.left input.old) (λ rest text. AppendsPart (K.taken output.old) (K.taken output.new) text) }
     // A script that is refused is not run.
     ensures exact { (bytes : List ℕ) → form_of words.now ≡ Some Form.Dry →
-        S.left input.old ≡ Some bytes → IsErr (input_script bytes) →
+        S.left input.old ≡ Some bytes → IsErr (accepted_script bytes) →
         (result.status ≢ DONE) × (result.status ≢ OUTPUT_FAULT) }
     // A script that is accepted is run to its end, unless there is a fault or no memory.
     ensures complete { (bytes : List ℕ) → form_of words.now ≡ Some Form.Dry →
-        S.left input.old ≡ Some bytes → IsOk (input_script bytes) →
+        S.left input.old ≡ Some bytes → IsOk (accepted_script bytes) →
         ¬ Rose (S.faults input.old) (S.faults input.new) → ¬ Rose (K.faults output.old) (K.faults output.new) →
         (result.status ≡ DONE) ⊎ (result.status ≡ NO_MEMORY) }
 

@@ -9,7 +9,7 @@ ghost use Rattle.sdr_shell.specs.Formatting.{line_formatted, line_too_small, IsF
 ghost use Rattle.sdr_shell.specs.Still.{Writes};
 
 use crate::last_line::last_line;
-use crate::line::Line;
+use sdr_text::Line;
 use crate::status::{DISK_FAULT, DONE, OUTPUT_FAULT, TOO_SMALL};
 use sdr_base::{Sink, write_all};
 use sdr_disk::Disk;

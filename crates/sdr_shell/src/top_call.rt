@@ -8,7 +8,7 @@ ghost use Rattle.sdr_log.specs.Frame.{disk_bytes};
 ghost use Rattle.sdr_shell.specs.Form.{form_of, OnFormat};
 ghost use Rattle.sdr_shell.specs.Formatting.{line_formatted, line_too_small, IsFormatted};
 ghost use Rattle.sdr_shell.specs.Formatting.{HasFormatted, IsFormatStatus, LeavesDisk};
-ghost use Rattle.sdr_shell.specs.Script.{input_script};
+ghost use Rattle.sdr_shell.specs.Served.{accepted_script};
 ghost use Rattle.sdr_shell.specs.Still.{Writes, HadRun, IsDone, IsDryStatus, IsRefused, IsStarved};
 
 use crate::Outcome;
@@ -84,11 +84,11 @@ pub fn top<
         HadRun (S.left input.old) (λ rest text. AppendsPart (K.taken output.old) (K.taken output.new) text) }
     // A script that is refused is not run.
     ensures exact { (bytes : List ℕ) → form_of words.now ≡ Some Form.Dry →
-        S.left input.old ≡ Some bytes → IsErr (input_script bytes) →
+        S.left input.old ≡ Some bytes → IsErr (accepted_script bytes) →
         (result.status ≢ DONE) × (result.status ≢ OUTPUT_FAULT) }
     // A script that is accepted is run to its end, unless there is a fault or no memory.
     ensures complete { (bytes : List ℕ) → form_of words.now ≡ Some Form.Dry →
-        S.left input.old ≡ Some bytes → IsOk (input_script bytes) →
+        S.left input.old ≡ Some bytes → IsOk (accepted_script bytes) →
         ¬ Rose (S.faults input.old) (S.faults input.new) → ¬ Rose (K.faults output.old) (K.faults output.new) →
         (result.status ≡ DONE) ⊎ (result.status ≡ NO_MEMORY) }
 
