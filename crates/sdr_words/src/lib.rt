@@ -15,6 +15,8 @@ mod given;
 mod lines;
 mod literals;
 mod read;
+#[cfg(test)]
+mod tests;
 mod verb;
 mod words;
 
