@@ -14,7 +14,7 @@ pub fields_of-space : (b : ℕ) (rest : List ℕ) → b ≡ 32 → fields_of (b 
 fields_of-space b rest is = ap (λ b. fields_of (b ∷ rest)) is
 
 -- a part that has a byte is a field
-kept : (part : List ℕ) (parts : List (List ℕ)) → 0 < length part → filter (λ field. not (length field == 0)) (part ∷ parts)
+pub kept : (part : List ℕ) (parts : List (List ℕ)) → 0 < length part → filter (λ field. not (length field == 0)) (part ∷ parts)
     ≡ part ∷ filter (λ field. not (length field == 0)) parts
 kept part parts some =
     let t : not (length part == 0) ≡ true = grind (arith, nat_tests) in cond-true (not (length part == 0)) _ _ t

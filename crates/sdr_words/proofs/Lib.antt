@@ -1,5 +1,8 @@
 pub mod ArgumentsLemmas
 pub mod BindingsLemmas
+pub mod CanonicalArgs
+pub mod CanonicalFields
+pub mod CanonicalLine
 pub mod DraftLemmas
 pub mod FieldsLemmas
 pub mod InputLemmas

@@ -22,7 +22,8 @@ digits_are_ascii (b ∷ bs) d =
     let parts = and_parts (is_ascii_digit b) (list_all is_ascii_digit bs) d in
     IsAscii-cons b bs (digit_is_ascii b parts.0) (digits_are_ascii bs parts.1)
 
-decimal_has_digits : (bs : List ℕ) → is_decimal bs ≡ true → (0 < length bs) × (list_all is_ascii_digit bs ≡ true)
+-- a decimal number has digits alone, and at least one
+pub decimal_has_digits : (bs : List ℕ) → is_decimal bs ≡ true → (0 < length bs) × (list_all is_ascii_digit bs ≡ true)
 decimal_has_digits bs d =
     let front = (and_parts (nat_lt 0 (length bs) && list_all is_ascii_digit bs) _ d).0 in
     let parts = and_parts (nat_lt 0 (length bs)) (list_all is_ascii_digit bs) front in
@@ -32,7 +33,8 @@ decimal_has_digits bs d =
 pub decimal_is_text : (bs : List ℕ) → is_decimal bs ≡ true → IsUtf8 bs
 decimal_is_text bs d = IsUtf8-from_ascii bs (digits_are_ascii bs (decimal_has_digits bs d).1)
 
-own : IsNumeralModel (λ ds. list_all is_ascii_digit ds ≡ true) (digits_value 10)
+-- digits as a list of decimal digits
+pub own : IsNumeralModel (λ ds. list_all is_ascii_digit ds ≡ true) (digits_value 10)
 own = numerals_by_value _ (search rules)
 
 -- what parsing gives of decimal digits
