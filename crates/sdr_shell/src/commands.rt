@@ -16,7 +16,6 @@ use crate::Outcome;
 use crate::form::{Form, form_of};
 use crate::formatting::format_disk;
 use crate::last_line::last_line;
-
 use crate::run::{RunError, run};
 use crate::status::{
     DISK_FAULT, DONE, INPUT_FAULT, NO_MEMORY, OUTPUT_FAULT, REFUSED_LINE, TOO_SMALL, USAGE,

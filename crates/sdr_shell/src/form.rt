@@ -5,8 +5,8 @@ ghost use Rattle.sdr_log.specs.Frame.{IsInLimits};
 ghost use Rattle.sdr_shell.specs.Form.{frame_of, form_of, OnFormat};
 ghost use Rattle.sdr_words.specs.Words.{number_of};
 
-use sdr_words::number_of;
 use sdr_log::Frame;
+use sdr_words::number_of;
 use std::rc::RcStr;
 
 /// What the words ask for.

@@ -47,7 +47,12 @@ fn no_input(alloc: Global) -> MemorySource {
 }
 
 // What words leave: the status and the disk, beside what the output took.
-fn left_by(alloc: Global, words: &[RcStr], disk: MemoryDisk, output: &mut MemorySink) -> (u8, MemoryDisk) {
+fn left_by(
+    alloc: Global,
+    words: &[RcStr],
+    disk: MemoryDisk,
+    output: &mut MemorySink,
+) -> (u8, MemoryDisk) {
     let mut input = no_input(alloc);
     let outcome = still(alloc, words, disk, NoMedia::new(), &mut input, output);
     (outcome.status, outcome.disk)

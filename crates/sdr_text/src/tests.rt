@@ -27,7 +27,11 @@ fn each_answer_has_its_text(rt: HostRuntime) -> Result<(), Fail> {
         (Answer::Waits, b"waits".as_slice()),
         (Answer::Stalled, b"stalled".as_slice()),
     ] {
-        assert_eq!(rt; text_of(rt.alloc(), &answer, b"")?.as_slice(), text, "{text:?}");
+        assert_eq!(rt;
+            text_of(rt.alloc(), &answer, b"")?.as_slice(),
+            text,
+            "{text:?}"
+        );
     }
     Ok(())
 }
@@ -42,7 +46,11 @@ fn each_reason_has_its_text(rt: HostRuntime) -> Result<(), Fail> {
         (Reason::Left, b"cancelled left".as_slice()),
     ] {
         let answer = Answer::Closed(Close::Cancelled(reason));
-        assert_eq!(rt; text_of(rt.alloc(), &answer, b"")?.as_slice(), text, "{text:?}");
+        assert_eq!(rt;
+            text_of(rt.alloc(), &answer, b"")?.as_slice(),
+            text,
+            "{text:?}"
+        );
     }
     Ok(())
 }
@@ -84,7 +92,11 @@ fn each_reply_has_its_text(rt: HostRuntime) -> Result<(), Fail> {
         (Reply::Failed { moment: 9 }, b"failed".as_slice()),
     ] {
         let answer = Answer::Reply(reply);
-        assert_eq!(rt; text_of(rt.alloc(), &answer, b"")?.as_slice(), text, "{text:?}");
+        assert_eq!(rt;
+            text_of(rt.alloc(), &answer, b"")?.as_slice(),
+            text,
+            "{text:?}"
+        );
     }
     Ok(())
 }
@@ -97,7 +109,11 @@ fn bytes_are_printed_in_lower_case_digits(rt: HostRuntime) -> Result<(), Fail> {
         (b"\x00\xafz".as_slice(), b"bytes x00af7a".as_slice()),
         (b"hi".as_slice(), b"bytes x6869".as_slice()),
     ] {
-        assert_eq!(rt; text_of(rt.alloc(), &answer, bytes)?.as_slice(), text, "{text:?}");
+        assert_eq!(rt;
+            text_of(rt.alloc(), &answer, bytes)?.as_slice(),
+            text,
+            "{text:?}"
+        );
     }
     Ok(())
 }
@@ -116,7 +132,11 @@ fn a_name_is_printed_as_text_or_as_bytes(rt: HostRuntime) -> Result<(), Fail> {
         (b"a\"".as_slice(), b"named x6122 5 40".as_slice()),
         (b"\x7f".as_slice(), b"named x7f 5 40".as_slice()),
     ] {
-        assert_eq!(rt; text_of(rt.alloc(), &answer, bytes)?.as_slice(), text, "{text:?}");
+        assert_eq!(rt;
+            text_of(rt.alloc(), &answer, bytes)?.as_slice(),
+            text,
+            "{text:?}"
+        );
     }
     Ok(())
 }
@@ -130,7 +150,10 @@ fn the_first_refusals_have_their_texts(rt: HostRuntime) -> Result<(), Fail> {
             Refusal::LogFull { lines: 1, room: 2 },
             b"2 LogFull 1 2".as_slice(),
         ),
-        (Refusal::BadAddress { addr: 1 }, b"3 BadAddress 1".as_slice()),
+        (
+            Refusal::BadAddress { addr: 1 },
+            b"3 BadAddress 1".as_slice(),
+        ),
         (
             Refusal::WrongKind { addr: 1, kind: 13 },
             b"4 WrongKind 1 13".as_slice(),
@@ -166,7 +189,10 @@ fn the_next_refusals_have_their_texts(rt: HostRuntime) -> Result<(), Fail> {
             Refusal::InUse { addr: 1, count: 0 },
             b"10 InUse 1 0".as_slice(),
         ),
-        (Refusal::BadRow { row: 1, rows: 2 }, b"11 BadRow 1 2".as_slice()),
+        (
+            Refusal::BadRow { row: 1, rows: 2 },
+            b"11 BadRow 1 2".as_slice(),
+        ),
         (Refusal::KeyTaken { value: 1 }, b"12 KeyTaken 1".as_slice()),
         (
             Refusal::BadKeyLength { length: 1, want: 2 },
@@ -202,8 +228,14 @@ fn the_last_refusals_have_their_texts(rt: HostRuntime) -> Result<(), Fail> {
             },
             b"16 TooLarge bulk 1 2".as_slice(),
         ),
-        (Refusal::BadTicket { ticket: 1 }, b"17 BadTicket 1".as_slice()),
-        (Refusal::NotAwarded { ticket: 1 }, b"18 NotAwarded 1".as_slice()),
+        (
+            Refusal::BadTicket { ticket: 1 },
+            b"17 BadTicket 1".as_slice(),
+        ),
+        (
+            Refusal::NotAwarded { ticket: 1 },
+            b"18 NotAwarded 1".as_slice(),
+        ),
         (
             Refusal::SourceShort { have: 1, want: 2 },
             b"19 SourceShort 1 2".as_slice(),

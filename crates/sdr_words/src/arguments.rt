@@ -120,7 +120,8 @@ pub fn args_of(
     shapes: &[Shape],
     rest: &[u8],
 ) -> Result<Args, LineError>
-    ensures { GivesOr result (args_of (is_bound_by draft.now.steps daemon) shapes.now (fields_of rest.now)) }
+    ensures { GivesOr result
+        (args_of (is_bound_by draft.now.steps daemon) shapes.now (fields_of rest.now)) }
 {
     let mut args = Vec::new(alloc);
     let mut shapes = shapes;

@@ -9,5 +9,4 @@ ghost use Rattle.sdr_words.specs.Script.{line_says};
 pub fn canonical_lines_are_read()
     ensures { (earlier : List Step) (step : Step) → IsStep earlier step →
         line_says earlier step.line (line_for step) ≡ Ok (Some step) }
-{
-}
+{}

@@ -108,7 +108,14 @@ pub fn event_by(verb: Verb, given: Given) -> Event
         Verb::ReceiveHeaders => Event::Say(Call::ReceiveHeaders(a, b, c)),
         Verb::ReceiveSource => Event::Say(Call::ReceiveSource(a, b, c)),
         Verb::ReceiveTrailers => Event::Say(Call::ReceiveTrailers(a, b, c)),
-        Verb::Request => Event::Say(Call::Request(account, a, b, c, as_priority(d), as_priority(e))),
+        Verb::Request => Event::Say(Call::Request(
+            account,
+            a,
+            b,
+            c,
+            as_priority(d),
+            as_priority(e),
+        )),
         Verb::Awarded => Event::Say(Call::Awarded(a)),
         Verb::Shred => Event::Say(Call::Shred(a)),
     }

@@ -5,9 +5,9 @@ ghost use Rattle.sdr_words.specs.LineAnswers.{GivesScript};
 ghost use Rattle.sdr_words.specs.Reading.{ReadsScript, ReadsInput, NamesLine, NamesNoLine};
 ghost use Rattle.sdr_words.specs.Script.{script_of, refused_behind, input_script};
 
+use crate::ScriptError;
 use crate::draft::Draft;
 use crate::lines::{read_ended, read_line};
-use crate::ScriptError;
 use sdr_base::Source;
 use sdr_model::Script;
 use std::alloc::Global;

@@ -233,10 +233,7 @@ fn a_fault_of_the_source_ends_the_reading(rt: HostRuntime) -> Result<(), Fail> {
 fn a_step_has_its_line_its_daemon_its_name_its_verb_and_its_arguments(
     rt: HostRuntime,
 ) -> Result<(), Fail> {
-    let script = script_of(
-        rt.alloc(),
-        b"\n7: k = catlg \"ab\" 3 4\n7: catlg x 0 k\n",
-    )?;
+    let script = script_of(rt.alloc(), b"\n7: k = catlg \"ab\" 3 4\n7: catlg x 0 k\n")?;
     let [first, second] = script.as_slice() else {
         return Err("two steps")?;
     };
@@ -302,8 +299,18 @@ fn the_first_and_the_last_statements_make_their_events(rt: HostRuntime) -> Resul
     assert!(rt; matches!(event_of(alloc, b"1: cancel")?, Event::Cancel));
     assert!(rt; matches!(event_of(alloc, b"1: exit")?, Event::Exit));
     assert!(rt; matches!(event_of(alloc, b"1: await 5")?, Event::Look(5)));
-    assert!(rt; matches!(event_of(alloc, b"1: malloc 6")?, Event::Say(Call::Malloc(6))));
-    assert!(rt; matches!(event_of(alloc, b"1: awarded 7")?, Event::Say(Call::Awarded(7))));
+    assert!(rt;
+        matches!(
+            event_of(alloc, b"1: malloc 6")?,
+            Event::Say(Call::Malloc(6))
+        )
+    );
+    assert!(rt;
+        matches!(
+            event_of(alloc, b"1: awarded 7")?,
+            Event::Say(Call::Awarded(7))
+        )
+    );
     assert!(rt; matches!(event_of(alloc, b"1: shred 8")?, Event::Say(Call::Shred(8))));
     Ok(())
 }
