@@ -18,6 +18,8 @@ mod lines;
 mod literals;
 mod read;
 #[cfg(test)]
+mod statement_tests;
+#[cfg(test)]
 mod tests;
 mod verb;
 mod words;
@@ -27,6 +29,5 @@ pub use canonical::canonical_lines_are_read;
 use error::LineError;
 pub use error::ScriptError;
 pub use read::read_script;
-pub use verb::Verb;
-use verb::{Shape, place_of, shapes_at, verb_at};
+use verb::{Shape, Verb, place_of, shapes_at, verb_at};
 pub use words::number_of;

@@ -1,8 +1,8 @@
 // What no clause says: that scripts are read and names bound with ample memory; and the grammar, by
 // examples from outside.
 use crate::{Bindings, ScriptError, read_script};
-use sdr_base::{Acct, Bytes, MemorySource, Space};
-use sdr_model::{Answer, Arg, Call, Event, Keys, Reply, Script};
+use sdr_base::{Bytes, MemorySource};
+use sdr_model::{Answer, Arg, Call, Event, Reply, Script};
 use std::alloc::Global;
 use std::test::Fail;
 
@@ -279,69 +279,6 @@ fn each_form_of_a_literal_spells_its_bytes(rt: HostRuntime) -> Result<(), Fail> 
     ] {
         assert_eq!(rt; bytes_of(rt.alloc(), line)?.as_slice(), bytes, "{line:?}");
     }
-    Ok(())
-}
-
-// The event of the last line of a script, where all names hold 0.
-fn event_of(alloc: Global, input: &[u8]) -> Result<Event, ScriptError> {
-    let script = script_of(alloc, input)?;
-    match script.as_slice() {
-        [.., last] => Ok(Bindings::new(alloc).event(alloc, last)?),
-        [] => Err(ScriptError::Input),
-    }
-}
-
-#[test]
-fn the_first_and_the_last_statements_make_their_events(rt: HostRuntime) -> Result<(), Fail> {
-    let alloc = rt.alloc();
-    assert!(rt; matches!(event_of(alloc, b"1: begin")?, Event::Begin));
-    assert!(rt; matches!(event_of(alloc, b"1: end")?, Event::End));
-    assert!(rt; matches!(event_of(alloc, b"1: cancel")?, Event::Cancel));
-    assert!(rt; matches!(event_of(alloc, b"1: exit")?, Event::Exit));
-    assert!(rt; matches!(event_of(alloc, b"1: await 5")?, Event::Look(5)));
-    assert!(rt;
-        matches!(
-            event_of(alloc, b"1: malloc 6")?,
-            Event::Say(Call::Malloc(6))
-        )
-    );
-    assert!(rt;
-        matches!(
-            event_of(alloc, b"1: awarded 7")?,
-            Event::Say(Call::Awarded(7))
-        )
-    );
-    assert!(rt; matches!(event_of(alloc, b"1: shred 8")?, Event::Say(Call::Shred(8))));
-    Ok(())
-}
-
-#[test]
-fn arguments_keep_their_order(rt: HostRuntime) -> Result<(), Fail> {
-    let alloc = rt.alloc();
-    assert!(rt;
-        matches!(
-            event_of(alloc, b"1: append_extent 1 2 3 4 5")?,
-            Event::Say(Call::AppendExtent(1, 2, 3, 4, 5))
-        )
-    );
-    assert!(rt;
-        matches!(
-            event_of(alloc, b"1: request out 1 2 3 4 5")?,
-            Event::Say(Call::Request(Acct::Outbound, 1, 2, 3, 4, 5))
-        )
-    );
-    assert!(rt;
-        matches!(
-            event_of(alloc, b"1: set_maximum in bulk 9")?,
-            Event::Say(Call::SetMaximum(Acct::Inbound, Space::Bulk, 9))
-        )
-    );
-    assert!(rt;
-        matches!(
-            event_of(alloc, b"1: search 1 2 length")?,
-            Event::Say(Call::Search(1, 2, Keys::ByLength))
-        )
-    );
     Ok(())
 }
 
