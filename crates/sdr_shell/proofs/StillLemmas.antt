@@ -1,14 +1,16 @@
 -- What a last line adds to a run, and what follows from the statuses.
-use Rattle.std.proofs.Common.{◌≡◌, ◌≤◌, ℕ, List, ◌++◌, inl, inr, Option, Some, None, Ok, IsErr, true≢false, refl, sym, subst, arith}
+use Rattle.std.proofs.Common.{◌≡◌, ◌≤◌, ◌<◌, ◌↔◌, ℕ, List, ◌++◌, ◌⊎◌, inl, inr, Option, Some, None, Ok, Err, IsOk, IsErr, true≢false, refl, sym, subst, arith}
 use Rattle.std.specs.Io.KnownBytes.{Appends}
 use Rattle.std.proofs.KnownBytes.{Appends-trans}
+use Rattle.sdr_base.specs.Causes.{Rose}
 use Rattle.sdr_base.proofs.WrittenLemmas.{rose_later}
 use Rattle.sdr_shell.specs.Schedule.{SomeRun}
+use Rattle.sdr_shell.specs.Formatting.{IsFormatStatus}
 use Rattle.sdr_shell.specs.Served.{accepted_script}
-use Rattle.sdr_shell.specs.Still.{Writes, HadScript, HadBadLine, HadRun, IsRefused, NamesBadLine, Tells}
+use Rattle.sdr_shell.specs.Still.{Writes, HadScript, HadBadLine, HadRun, IsDryStatus, IsRefused, NamesBadLine, Tells}
 use Rattle.sdr_words.specs.declared.error.ScriptError.{ScriptError}
 use Rattle.sdr_words.specs.declared.error.ScriptError.TheVariants as errors
-use Rattle.sdr_shell.specs.declared.status.TheConstants.{REFUSED_LINE}
+use Rattle.sdr_shell.specs.declared.status.TheConstants.{DONE, INPUT_FAULT, OUTPUT_FAULT, DISK_FAULT, REFUSED_LINE, NO_MEMORY, TOO_SMALL}
 use Rattle.sdr_model.specs.declared.script.Step.{Step}
 use Rattle.sdr_text.proofs.TextLemmas.{part_later}
 
@@ -46,3 +48,31 @@ pub tells_refused : (error : ScriptError) (status : ℕ) (left old new : Option 
 tells_refused errors.Input status left old new before now t is bad = absurd (omega (arith, t.0, is))
 tells_refused (errors.Line line) status left old new before now t is bad = record { line = line; input = bad; written = t.1 }
 tells_refused errors.NoMemory status left old new before now t is bad = absurd (omega (arith, t.0, is))
+
+told_line : (left : Option (List ℕ)) (bytes : List ℕ) (line : ℕ) → left ≡ Some bytes → HadBadLine left line → accepted_script bytes ≡ Err line
+told_line None bytes line told h = cc
+told_line (Some input) bytes line told h = cc (told, h.had, h.refused)
+
+-- a dry run of an accepted script ends well, unless there is a fault or no memory
+pub dry_completes : (status : ℕ) (left old new : Option (List ℕ)) (source source' before now : ℕ) (bytes : List ℕ) → IsDryStatus status
+    → (status ≡ INPUT_FAULT → Rose source source') → (status ≡ OUTPUT_FAULT → Rose before now) → (status ≡ REFUSED_LINE → IsRefused left old new before now)
+    → left ≡ Some bytes → IsOk (accepted_script bytes) → ¬ Rose source source' → ¬ Rose before now → (status ≡ DONE) ⊎ (status ≡ NO_MEMORY)
+dry_completes status left old new source source' before now bytes known input output refused told ok no_input no_output =
+    elim known [
+      | inl done ↦ inl done
+      | inr (inl is) ↦ absurd (no_input (input is))
+      | inr (inr (inl is)) ↦ absurd (no_output (output is))
+      | inr (inr (inr (inl is))) ↦ absurd (true≢false (sym (subst IsOk (told_line left bytes (refused is).line told (refused is).input) ok)))
+      | inr (inr (inr (inr is))) ↦ inr is
+    ]
+
+-- a disk that is long enough is formatted, unless there is a fault
+pub format_completes : (status size need disk disk' before now : ℕ) → IsFormatStatus status → (status ≡ TOO_SMALL) ↔ (size < need)
+    → (status ≡ DISK_FAULT → Rose disk disk') → (status ≡ OUTPUT_FAULT → Rose before now) → need ≤ size → ¬ Rose disk disk' → ¬ Rose before now → status ≡ DONE
+format_completes status size need disk disk' before now known small fault output enough no_disk no_output =
+    elim known [
+      | inl done ↦ done
+      | inr (inl is) ↦ absurd (no_output (output is))
+      | inr (inr (inl is)) ↦ absurd (no_disk (fault is))
+      | inr (inr (inr is)) ↦ let short = small.0 is in absurd (omega (arith, short, enough))
+    ]
