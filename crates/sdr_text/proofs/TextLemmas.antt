@@ -9,7 +9,7 @@ use Rattle.hex.specs.Hex.{encode_with, encode_lower, lower_digits}
 use Rattle.sdr_base.specs.Written.{AppendsPart}
 use Rattle.sdr_base.proofs.WrittenLemmas.{rose_later}
 use Rattle.sdr_text.specs.Refused.{field_on}
-use Rattle.sdr_text.specs.Text.{is_text_byte, bytes_text, literal_text}
+use Rattle.sdr_text.specs.Text.{is_text_byte, literal_text}
 
 -- a part of the front is a part of the whole
 pub part_front : (old new : Option (List ℕ)) (text more : List ℕ) → AppendsPart old new text → AppendsPart old new (text ++ more)

@@ -1,19 +1,17 @@
 -- Each canonical line is read as its step.
-use Rattle.std.proofs.Common.{◌≡◌, ◌==◌, ◌&&◌, ◌<◌, ◌≤◌, ◌^◌, ◌+◌, ◌-◌, ◌⊎◌, inl, inr, ℕ, zero, suc, List, [], ◌∷◌, ◌++◌, Bool, true, false, not, Option, None, Some, Ok, Result, cond, option_and_then, length, length-append, slice_index, slice_get, take, map, codes, decimal, nat_lt, nat_le, nat_eq, refl, ap, sym, ◌∙◌, unwrap_or, arith}
+use Rattle.std.proofs.Common.{◌≡◌, ◌==◌, ◌<◌, ◌≤◌, ◌^◌, ◌+◌, ◌-◌, ◌⊎◌, inl, inr, ℕ, zero, suc, List, [], ◌∷◌, ◌++◌, Bool, true, false, not, Option, None, Some, Ok, cond, option_and_then, length, length-append, slice_index, slice_get, take, map, codes, decimal, nat_le, refl, ap, ◌∙◌, unwrap_or, arith}
 use Rattle.std.proofs.lemmas.Bool.{and_parts, and_from, cond-true, cond-false}
 use Rattle.std.proofs.lemmas.Bool.Decides.{nat_tests}
 use Rattle.std.proofs.lemmas.Fmt.{decimal_nonempty}
 use Rattle.std.proofs.lemmas.List.Folds.{list_all-append}
-use Rattle.std.specs.Cmp.Lexicographic.{pointwise}
-use Rattle.std.specs.List.{join_with_byte, list_all, range_with_len}
+use Rattle.std.specs.List.{list_all, range_with_len}
 use Rattle.sdr_model.specs.declared.script.Arg.{Arg}
 use Rattle.sdr_model.specs.declared.script.Step.{Step}
 use Rattle.sdr_words.proofs.CanonicalArgs.{args_again, decimal_digits, number_of-decimal}
 use Rattle.sdr_words.proofs.CanonicalFields.{arg_is_no_equals, args_are_fields, decimal_in_field, field_from, fields_of-join, is_field, is_field_byte, is_skipped-join, line_bytes-join, name_is_field}
 use Rattle.sdr_words.specs.Arguments.{◌>>=◌, args_of}
 use Rattle.sdr_words.specs.Canonical.{IsStep, AreArgs, arg_text, fields_for, line_for, name_fields}
-use Rattle.sdr_words.specs.Fields.{fields_of}
-use Rattle.sdr_words.specs.Script.{is_line_byte, is_skipped, line_says, step_or_line}
+use Rattle.sdr_words.specs.Script.{is_line_byte, line_says, step_or_line}
 use Rattle.sdr_words.specs.Statements.{is_bound_by, name_and_rest, step_of, verb_and_args}
 use Rattle.sdr_words.specs.Verbs.{names, name_at, place_of, shapes_at}
 use Rattle.sdr_words.specs.Words.{among_daemons, daemon_of, is_name, number_of}

@@ -1,5 +1,5 @@
 -- The place of a name among the rows of a table.
-use Rattle.std.proofs.Common.{suc, ◌≡◌, ◌+◌, ◌<◌, ℕ, List, [], ◌∷◌, Bool, not, cond, map, length, ap, sym, ◌∙◌, refl, Some, None, nat_lt}
+use Rattle.std.proofs.Common.{suc, ◌≡◌, ◌+◌, List, [], ◌∷◌, Bool, not, cond, map, length, ap, sym, refl, Some, None, nat_lt}
 use Rattle.std.specs.List.{position, position_or_len}
 
 position_or_len-map : {A B : Type 0} (p : B → Bool) (f : A → B) (xs : List A) → position_or_len p (map f xs) ≡ position_or_len (λ x. p (f x)) xs

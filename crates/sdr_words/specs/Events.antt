@@ -1,5 +1,5 @@
 -- The event that a verb makes of its arguments.
-use Rattle.std.specs.Prelude.{ℕ, List, [], ◌∷◌, ◌++◌, min, slice_index}
+use Rattle.std.specs.Prelude.{ℕ, [], min, slice_index}
 use Rattle.sdr_base.specs.declared.account.Acct.TheVariants as accounts
 use Rattle.sdr_base.specs.declared.kind.Space.TheVariants as spaces
 use Rattle.sdr_model.specs.declared.call.Call.TheVariants as calls

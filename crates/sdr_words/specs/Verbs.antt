@@ -1,5 +1,5 @@
 -- The table of verbs, as the grammar reads it.
-use Rattle.std.specs.Prelude.{ℕ, List, [], Option, Some, None, map, slice_get, unwrap_or, nat_eq}
+use Rattle.std.specs.Prelude.{ℕ, List, [], Option, map, slice_get, unwrap_or, nat_eq}
 use Rattle.std.specs.Cmp.Lexicographic.{pointwise}
 use Rattle.std.specs.List.{position}
 use Rattle.sdr_words.specs.declared.verb.Shape.{Shape}
