@@ -23,7 +23,7 @@ use Rattle.sdr_image.specs.Opened.{Opened, lines_named, HoldsHeap, IsImage}
 use Rattle.sdr_image.specs.Undo.{Olds}
 use Rattle.sdr_image.specs.Saved.{saved_lines, Saves}
 use Rattle.sdr_image.proofs.FormatLemmas.{told_length}
-use Rattle.sdr_image.proofs.ImageLemmas.{is_among-lines_named}
+use Rattle.sdr_image.proofs.TouchedLemmas.{is_among-lines_named}
 
 -- the first of the lines is inside a region, where all of them are, and so are the others
 pub inside_all : (lines after : List ℕ) (first n : ℕ) → lines ≡ first ∷ after →

@@ -13,7 +13,7 @@ ghost use Rattle.sdr_log.specs.Log.{first_gate, heap_of, put_back_of};
 ghost use Rattle.sdr_base.specs.Parts.{part};
 ghost use Rattle.sdr_image.specs.Opening.{HasImageCause, OnNotFormatted, IsFound};
 ghost use Rattle.sdr_image.specs.Opened.{transaction_of, IsFailed};
-ghost use Rattle.sdr_image.specs.Saved.{Saves, KeepsDisk};
+ghost use Rattle.sdr_image.specs.Saved.{Saves, KeepsDisk, moments_of};
 
 use crate::opening::{find_frame, read_heap};
 use crate::region::{Region, span};
@@ -156,7 +156,9 @@ impl<D: Disk> Image<D> {
     }
 
     /// The disk's moment.
-    pub fn now(&self) -> u64 {
+    pub fn now(&self) -> u64
+        ensures { result ≡ D.moment self.now.disk }
+    {
         self.disk.now()
     }
 
@@ -251,6 +253,8 @@ impl<D: Disk> Image<D> {
           is_open = false;
         }) }
         ensures saved { OnOk result (Saves D.bytes self.old self.new) }
+        ensures calls { OnOk result (D.moment self.new.disk
+            ≡ D.moment self.old.disk + moments_of (length self.old.touched)) }
         ensures idle { self.old.touched ≡ [] → self.new.disk ≡ self.old.disk }
 
         ensures answered { IfRefused result (λ _. ⊥) }
@@ -280,6 +284,8 @@ impl<D: Disk> Image<D> {
           is_open = false;
         }) }
         ensures saved { OnOk result (Saves D.bytes self.old self.new) }
+        ensures calls { OnOk result (D.moment self.new.disk
+            ≡ D.moment self.old.disk + 2 * (length self.old.touched + 1)) }
         ensures answered { IfRefused result (λ _. ⊥) }
         ensures cause { HasReason (transaction_of D.faults self.old)
             (transaction_of D.faults self.new) result }

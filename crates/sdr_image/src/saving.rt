@@ -1,13 +1,13 @@
 // The touched lines, written to the disk.
-ghost use Rattle.std.specs.Prelude.{◌≡◌, ◌≤◌, ◌<◌, ◌+◌, ◌*◌, ◌^◌, ℕ, true, length, OnOk, Some};
-ghost use Rattle.std.specs.Prelude.{is_some, vec_capacity, IsPermutation, IsSorted};
+ghost use Rattle.std.specs.Prelude.{◌≡◌, ◌≤◌, ◌<◌, ◌+◌, ◌*◌, ◌^◌, ℕ, [], ◌∷◌, true, length};
+ghost use Rattle.std.specs.Prelude.{OnOk, Some, is_some, vec_capacity, IsPermutation, IsSorted};
 ghost use Rattle.std.specs.Ordering.{nat_cmp};
 ghost use Rattle.sdr_base.specs.Causes.{HasCause};
 ghost use Rattle.sdr_base.specs.Cells.{is_among};
 ghost use Rattle.sdr_base.specs.Parts.{overwrite, part};
-ghost use Rattle.sdr_disk.specs.Told.{Told};
+ghost use Rattle.sdr_disk.specs.Told.{Both, Told};
 ghost use Rattle.sdr_image.specs.Opened.{lines_named};
-ghost use Rattle.sdr_image.specs.Saved.{saved_lines};
+ghost use Rattle.sdr_image.specs.Saved.{ChangesLines, saved_lines};
 
 use crate::region::Region;
 use sdr_base::LINE;
@@ -35,6 +35,8 @@ fn save_line<D: Disk>(disk: &mut D, place: u64, region: &Region, line: u32) -> R
     requires small { place < 2 ^ 60 }
     ensures written { OnOk result (Told (D.bytes disk.old) (λ x. D.bytes disk.new
         ≡ Some (overwrite (place + LINE * line) (part (LINE * line) LINE region.now) x))) }
+    ensures rises { OnOk result (D.moment disk.new ≡ D.moment disk.old + 2) }
+    ensures others { Both (D.bytes disk.old) (D.bytes disk.new) (ChangesLines place (line ∷ [])) }
     ensures tells { is_some (D.bytes disk.new) ≡ is_some (D.bytes disk.old) }
     ensures size { D.size disk.new ≡ D.size disk.old }
     ensures cause { HasCause (D.faults disk.old) (D.faults disk.new) result }
@@ -56,6 +58,8 @@ fn save_lines<D: Disk>(
     requires small { place < 2 ^ 60 }
     ensures written { OnOk result (Told (D.bytes disk.old)
         (λ x. D.bytes disk.new ≡ Some (saved_lines place lines.now region.now x))) }
+    ensures rises { OnOk result (D.moment disk.new ≡ D.moment disk.old + 2 * length lines.now) }
+    ensures others { Both (D.bytes disk.old) (D.bytes disk.new) (ChangesLines place lines.now) }
     ensures tells { is_some (D.bytes disk.new) ≡ is_some (D.bytes disk.old) }
     ensures size { D.size disk.new ≡ D.size disk.old }
     ensures cause { HasCause (D.faults disk.old) (D.faults disk.new) result }
@@ -81,6 +85,9 @@ pub fn save<D: Disk>(
     requires small { place < 2 ^ 60 }
     ensures written { OnOk result (Told (D.bytes disk.old)
         (λ x. D.bytes disk.new ≡ Some (saved_lines place lines.now region.now x))) }
+    ensures rises { OnOk result
+        (D.moment disk.new ≡ D.moment disk.old + 2 * (length lines.now + 1)) }
+    ensures others { Both (D.bytes disk.old) (D.bytes disk.new) (ChangesLines place lines.now) }
     ensures tells { is_some (D.bytes disk.new) ≡ is_some (D.bytes disk.old) }
     ensures size { D.size disk.new ≡ D.size disk.old }
     ensures cause { HasCause (D.faults disk.old) (D.faults disk.new) result }

@@ -1,3 +1,16 @@
+pub mod BatchLemmas
+pub mod BehindLemmas
+pub mod ClosingLemmas
+pub mod FoundLemmas
 pub mod FrameLemmas
+pub mod GoodLemmas
 pub mod LogLemmas
+pub mod LoggedLemmas
+pub mod OpeningLemmas
+pub mod ProtocolLemmas
+pub mod PuttingLemmas
+pub mod ReadingLemmas
 pub mod RecordsLemmas
+pub mod RecoveryLemmas
+pub mod RestoringLemmas
+pub mod TransactionLemmas

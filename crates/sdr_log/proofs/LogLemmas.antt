@@ -46,7 +46,7 @@ unfolding batches_of four number
 row_of_a_batch_to_the_end = refl
 
 -- the log region begins with the first gate
-log_of-cons : (f : Frame) (x : List ℕ) (k : ℕ) → 64 * f.log_lines ≡ suc k → 64 + 64 * f.log_lines ≤ length x →
+pub log_of-cons : (f : Frame) (x : List ℕ) (k : ℕ) → 64 * f.log_lines ≡ suc k → 64 + 64 * f.log_lines ≤ length x →
     log_of f x ≡ get_or x 64 0 ∷ part 65 k x
 unfolding log_of
 log_of-cons f x k is le =

@@ -31,6 +31,11 @@ heap_place f = LINE + LINE * f.log_lines
 abbrev pub disk_bytes : Frame → ℕ
 disk_bytes f = LINE * (1 + f.log_lines + f.heap_lines)
 
+-- both regions are as long as is allowed, and lie inside a disk of so many bytes
+pub record LieInside (f : Frame) (size : ℕ) : Type 0 where
+  pub limits : IsInLimits f
+  pub inside : disk_bytes f ≤ size
+
 -- the number in the first four bytes
 unfoldable pub number : List ℕ → ℕ
 number bytes = big_number 4 bytes

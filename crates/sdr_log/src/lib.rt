@@ -1,5 +1,5 @@
-//! The undo log: the lines that a crash would put back, and the head of the disk that says where
-//! the log region and the heap region lie.
+//! The undo log: the lines that a crash would put back, the head of the disk that says where the
+//! log region and the heap region lie, and recovery.
 //!
 //! 1. A disk has a head of one line, then the log region, then the heap region.
 //! 2. A batch in the log region is a gate byte, a count, and as many records, each a line's number
@@ -8,12 +8,35 @@
 //!    closed one.
 //! 4. The heap put back is the heap region with the old bytes of each line that an open batch
 //!    names.
+//! 5. Lines are changed in steps, each synced before the next begins: `write_batch` writes the
+//!    batch of their old bytes behind its closed gate, with the next gate closed too, and opens its
+//!    gate; `put_lines` writes the lines; `close` closes the first gate.
+//! 6. Up to there a crash leaves what is put back to the heap from before, and from there on the
+//!    lines as changed.
+//! 7. `put_back` checks all open batches, puts their lines back and closes the first gate. A crash
+//!    on the way leaves what is put back to the same heap.
 #![tactic(auto)]
 
+mod batch;
+mod closing;
+mod error;
 mod frame;
+mod gathering;
+mod lines;
+mod noted;
+mod reading;
 mod record;
+mod recovery;
+#[cfg(test)]
+mod recovery_tests;
+mod saving;
 #[cfg(test)]
 mod tests;
 
+pub use batch::write_batch;
+pub use closing::close;
+pub use error::BackError;
 pub use frame::{Frame, LEAST_LOG, MOST_LOG};
+pub use lines::put_lines;
 pub use record::Record;
+pub use recovery::put_back;

@@ -2,17 +2,16 @@
 use Rattle.std.proofs.Common.{◌≡◌, ◌≢◌, ◌≤◌, ◌<◌, ◌⊎◌, inl, inr, ℕ, ◌+◌, ◌-◌, ◌*◌, ◌/◌, ◌^◌, false, ◌==◌}
 use Rattle.std.proofs.Common.{List, ◌∷◌, length, get_or, sym, ap, ◌∙◌, arith, subst}
 use Rattle.std.specs.List.{count_by}
-use Rattle.std.proofs.lemmas.Bool.{cases_eq, cases_lt}
-use Rattle.std.proofs.lemmas.Bool.Decides.{nat_tests}
+use Rattle.std.proofs.lemmas.Bool.{cases_eq}
 use Rattle.sdr_base.specs.Pools.{Pools, IsUsed, is_of, is_free_of, is_used_at, TilesSmall}
 use Rattle.sdr_base.specs.SmallPool.{with_used, with_list, words_at}
 use Rattle.sdr_base.specs.KeptPools.{Chain, KeepsSmall, StaysBeside, list_place}
 use Rattle.sdr_base.specs.Stored.{number_at, with_number, leader_kind, leader_words, leader_length, with_bare_leader}
 use Rattle.sdr_base.specs.Stored.{start_bit}
-use Rattle.sdr_base.proofs.PoolsLemmas.{count_by-no, apart, of-le-at, free-used-le-at}
-use Rattle.sdr_base.proofs.SmallPoolLemmas.{with_list-here, with_list-other, Follows-with_used, of-with_used}
+use Rattle.sdr_base.proofs.PoolsLemmas.{apart, free-used-le-at}
+use Rattle.sdr_base.proofs.SmallPoolLemmas.{with_list-here, with_list-other, of-with_used}
 use Rattle.sdr_base.proofs.SmallPoolLemmas.{words_at-is}
-use Rattle.sdr_base.proofs.SmallPoolLemmas.{free-with_used_other, free-with_used_given, used-with_used_other}
+use Rattle.sdr_base.proofs.SmallPoolLemmas.{free-with_used_other, used-with_used_other}
 use Rattle.sdr_base.proofs.SmallPoolLemmas.{used-with_used_given}
 use Rattle.sdr_base.proofs.StartBitsLemmas.{start_bit-same}
 use Rattle.sdr_base.proofs.StoredLemmas.{number_at-with_number, number_at-same, get_or-with_number, length-with_number}
@@ -21,7 +20,7 @@ use Rattle.sdr_base.proofs.StoredLemmas.{get_or-with_bare_leader, length-with_ba
 use Rattle.sdr_base.proofs.StoredLemmas.{leader_words-with_bare_leader, leader_kind-with_bare_leader}
 use Rattle.sdr_base.proofs.StoredLemmas.{leader_length-with_bare_leader}
 use Rattle.sdr_base.proofs.KeptPoolsLemmas.{Chain-moved, IsInOrder, in_order, IsBlock, is_block, free_is, listed_is}
-use Rattle.sdr_base.proofs.KeptPoolsLemmas.{front_is, next_fits}
+use Rattle.sdr_base.proofs.KeptPoolsLemmas.{next_fits}
 use Rattle.sdr_small.proofs.GivenLemmas.{given, tiles_given}
 use Rattle.sdr_small.specs.Calls.{PutsFront, GivesBlock}
 

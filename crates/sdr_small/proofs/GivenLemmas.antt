@@ -1,10 +1,10 @@
 -- A block given back: the blocks tile the heap as before, and it stands in the list of its words.
-use Rattle.std.proofs.Common.{◌≡◌, ◌≢◌, ◌≤◌, ◌<◌, ◌⊎◌, inl, inr, ℕ, ◌+◌, ◌-◌, ◌*◌, ◌/◌, ◌%◌, ◌^◌, true, false, ◌==◌}
-use Rattle.std.proofs.Common.{List, [], ◌∷◌, refl, sym, ap, ◌∙◌, arith, subst}
+use Rattle.std.proofs.Common.{◌≡◌, ◌≢◌, ◌≤◌, ◌<◌, ◌⊎◌, inl, inr, ℕ, false, ◌==◌}
+use Rattle.std.proofs.Common.{List, ◌∷◌, sym, ap, ◌∙◌, arith, subst}
 use Rattle.std.specs.List.{count_by}
 use Rattle.std.proofs.lemmas.Bool.{cases_eq, cases_lt}
 use Rattle.std.proofs.lemmas.Bool.Decides.{nat_tests}
-use Rattle.sdr_base.specs.Pools.{PoolBlock, Pools, IsUsed, is_at, is_of, is_free_of, is_used_at, Follows, TilesSmall}
+use Rattle.sdr_base.specs.Pools.{Pools, IsUsed, is_at, is_of, is_free_of, TilesSmall}
 use Rattle.sdr_base.specs.SmallPool.{with_used, with_list}
 use Rattle.sdr_base.proofs.PoolsLemmas.{count_by-no, of-le-at, free-used-le-at}
 use Rattle.sdr_base.proofs.SmallPoolLemmas.{with_list-here, with_list-other, Follows-with_used}

@@ -15,6 +15,8 @@
 
 mod giving;
 #[cfg(test)]
+mod image_tests;
+#[cfg(test)]
 mod memory;
 #[cfg(test)]
 mod plain;

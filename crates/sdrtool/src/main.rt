@@ -1,24 +1,39 @@
 //! `sdrtool` formats, inspects, recovers and migrates a heap, and runs scripted daemons on it.
 //!
-//! The first word says which disk; the others go to the top call, whose status the program ends with.
-//! Until a disk can be a file, the first word is `-`, an empty disk in memory.
+//! 1. The first word says which disk: `-` an empty one in memory, `PATH` a file, `PATH=N` a file that
+//!    is made, or lengthened with zero bytes, to N bytes. A file that can't be opened, lengthened or
+//!    locked ends the program with status 1.
+//! 2. The other words go to the top call, whose status the program ends with.
+//! 3. `--help` and `--version`, alone, are answered without a disk.
 #![tactic(auto)]
 
+mod about;
+mod file_disk;
+mod opening;
+mod place;
 mod real;
 #[cfg(test)]
 mod tests;
 
+use crate::about::{HELP, VERSION, print};
+use crate::file_disk::FileDisk;
+use crate::opening::{make_disk, open_disk};
+use crate::place::{Place, place_of};
 use crate::real::{StdSink, StdSource};
-use sdr_base::{NoGate, NoMedia, NoMemory};
-use sdr_disk::MemoryDisk;
+use sdr_base::{NoGate, NoMedia, NoMemory, Sink, Source};
+use sdr_disk::{Disk, MemoryDisk};
 use sdr_shell::{NO_MEMORY, top};
 use std::alloc::Global;
-use std::env;
 use std::env::{Args, Env};
+use std::fs::File;
 use std::io::ErrorKind;
 use std::iter::Skip;
 use std::process::ExitCode;
 use std::rc::RcStr;
+use std::rt::Files;
+use std::sync::Wait;
+use std::thread::Threads;
+use std::{env, io};
 
 /// The status where the disk can't be opened.
 const CANNOT_OPEN: u8 = 1;
@@ -52,12 +67,64 @@ fn shared(alloc: Global, args: Skip<Args<Global>>) -> Result<Vec<RcStr>, NoMemor
     Ok(words)
 }
 
-// The words behind the disk's, or nothing where that disk can't be opened.
-fn behind_disk(words: &[RcStr]) -> Option<&[RcStr]> {
+// The status of the top call on a disk.
+fn answer<R: Threads + Wait + Sync + AllocGlobal, D: Disk + Send + Drop, S: Source, K: Sink>(
+    rt: &R,
+    form: &[RcStr],
+    disk: D,
+    input: &mut S,
+    output: &mut K,
+) -> u8 {
+    let media = NoMedia::new();
+    top(rt, rt.alloc(), form, disk, media, input, output, &NoGate).status
+}
+
+// The same on a file, where it could be opened.
+fn answer_on_file<R: Threads + Wait + Sync + AllocGlobal + Eprint, S: Source, K: Sink>(
+    rt: &R,
+    form: &[RcStr],
+    opened: io::Result<FileDisk<File>>,
+    input: &mut S,
+    output: &mut K,
+) -> u8 {
+    match opened {
+        Ok(disk) => answer(rt, form, disk, input, output),
+        Err(_) => {
+            let _ = eprintln!(rt; "sdrtool: cannot open");
+            CANNOT_OPEN
+        }
+    }
+}
+
+// The same on an empty disk in memory.
+fn answer_in_memory<R: Threads + Wait + Sync + AllocGlobal, S: Source, K: Sink>(
+    rt: &R,
+    form: &[RcStr],
+    input: &mut S,
+    output: &mut K,
+) -> u8 {
+    let disk = MemoryDisk::new(Vec::new(rt.alloc()), Vec::new(rt.alloc()));
+    answer(rt, form, disk, input, output)
+}
+
+// The status of a command line.
+fn run<R: Threads + Wait + Sync + AllocGlobal + Eprint + Files<File = File>, S: Source, K: Sink>(
+    rt: &R,
+    words: &[RcStr],
+    input: &mut S,
+    output: &mut K,
+) -> u8 {
     match words {
-        [] => Some(words),
-        [disk, form @ ..] if disk.as_str() == "-" => Some(form),
-        _ => None,
+        [] => answer_in_memory(rt, words, input, output),
+        [word] if word.as_str() == "--help" => print(output, HELP),
+        [word] if word.as_str() == "--version" => print(output, VERSION),
+        [disk, form @ ..] => match place_of(disk.as_str()) {
+            Place::Memory => answer_in_memory(rt, form, input, output),
+            Place::File { path } => { answer_on_file(rt, form, open_disk(rt, path), input, output) }
+            Place::Sized { path, bytes } => {
+                answer_on_file(rt, form, make_disk(rt, path, bytes), input, output)
+            }
+        },
     }
 }
 
@@ -67,23 +134,7 @@ fn main(rt: HostRuntime) -> ExitCode {
         Words::NotText => Vec::new(rt.alloc()),
         Words::NoMemory => return ExitCode::from(NO_MEMORY),
     };
-    let Some(form) = behind_disk(words.as_slice()) else {
-        let _ = eprintln!(rt; "sdrtool: cannot open");
-        return ExitCode::from(CANNOT_OPEN);
-    };
-    let alloc = rt.alloc();
-    let disk = MemoryDisk::new(Vec::new(alloc), Vec::new(alloc));
     let mut input = StdSource::new(rt.stdin());
     let mut output = StdSink::new(rt.stdout());
-    let outcome = top(
-        &rt,
-        alloc,
-        form,
-        disk,
-        NoMedia::new(),
-        &mut input,
-        &mut output,
-        &NoGate,
-    );
-    ExitCode::from(outcome.status)
+    ExitCode::from(run(&rt, words.as_slice(), &mut input, &mut output))
 }

@@ -1,9 +1,19 @@
-// What no clause says of the adapters: which bytes they pass on, and that errors are counted.
+// What no clause says of the adapters and of files as disks: which bytes they pass on, and that errors
+// are counted.
+ghost use Rattle.std.specs.Prelude.{◌≤◌};
+
+use crate::file_disk::FileDisk;
+use crate::opening::{make_disk, open_disk};
+use crate::place::{Place, place_of};
 use crate::real::{StdSink, StdSource};
 use sdr_base::{Sink, SinkFault, Source, SourceFault};
-use std::io;
+use sdr_disk::{Disk, DiskFault};
+use std::fs::{File, Metadata, OpenFile};
 use std::io::{Cursor, Read, Write};
+use std::os::unix::fs::FileExt;
+use std::process::Abort;
 use std::test::Fail;
+use std::{fs, io};
 
 /// A reader and writer whose every call fails.
 #[derive(Drop)]
@@ -46,4 +56,111 @@ fn standard_output_takes_what_is_written_and_a_fault_where_that_fails(
     assert_eq!(rt; sink.write(b" 1"), Ok(0));
     assert_eq!(rt; StdSink::new(Broken).write(b"lock"), Err(SinkFault));
     Ok(())
+}
+
+// The file of the test of `FileDisk`, which it makes and removes.
+const PATH: &str = "sdrtool_test.disk";
+
+#[test]
+fn a_file_is_made_of_zeros_keeps_what_is_written_and_is_locked(
+    rt: HostRuntime,
+) -> Result<(), Fail> {
+    let _ = fs::remove_file(&rt, PATH);
+    assert!(rt; open_disk(&rt, PATH).is_err());
+    let mut disk = make_disk(&rt, PATH, 128)?;
+    assert_eq!(rt; disk.len(), 128);
+    assert!(rt; open_disk(&rt, PATH).is_err());
+    write_two_bytes(&rt, &mut disk);
+    drop(disk);
+    // A file that is long enough stays as it is.
+    let mut longer = make_disk(&rt, PATH, 64)?;
+    assert_eq!(rt; longer.len(), 128);
+    read_two_bytes(&rt, &mut longer);
+    fs::remove_file(&rt, PATH)?;
+    Ok(())
+}
+
+// Writes `ab` from place 62 on.
+fn write_two_bytes(rt: &impl Abort, disk: &mut FileDisk<File>)
+    requires { 128 ≤ ⟦<FileDisk<File> as Disk>⟧.size disk.old }
+{
+    assert_eq!(rt; disk.write_at(62, b"ab"), Ok(()));
+    assert_eq!(rt; disk.sync(), Ok(()));
+    assert_eq!(rt; disk.now(), 4);
+}
+
+// Reads them, between zeros.
+fn read_two_bytes(rt: &impl Abort, disk: &mut FileDisk<File>)
+    requires { 128 ≤ ⟦<FileDisk<File> as Disk>⟧.size disk.old }
+{
+    let mut piece = [9; 4];
+    assert_eq!(rt; disk.read_at(61, &mut piece), Ok(()));
+    assert_eq!(rt; &piece, b"\0ab\0");
+}
+
+/// A file whose every call fails.
+#[derive(Drop)]
+struct BrokenFile;
+
+impl FileExt for BrokenFile {
+    fn read_at(&self, _into: &mut [u8], _place: u64) -> io::Result<usize> {
+        Err(io::Error::from(io::ErrorKind::Other))
+    }
+
+    fn write_at(&self, _from: &[u8], _place: u64) -> io::Result<usize> {
+        Err(io::Error::from(io::ErrorKind::Other))
+    }
+}
+
+impl OpenFile for BrokenFile {
+    fn metadata(&self) -> io::Result<Metadata> {
+        Err(io::Error::from(io::ErrorKind::Other))
+    }
+
+    fn set_len(&self, _len: u64) -> io::Result<()> {
+        Err(io::Error::from(io::ErrorKind::Other))
+    }
+
+    fn sync_all(&self) -> io::Result<()> {
+        Err(io::Error::from(io::ErrorKind::Other))
+    }
+
+    fn sync_data(&self) -> io::Result<()> {
+        Err(io::Error::from(io::ErrorKind::Other))
+    }
+}
+
+#[test]
+fn each_error_of_a_file_is_a_fault_and_after_a_failed_sync_no_call_is_made(rt: HostRuntime) {
+    let mut disk = FileDisk::new(BrokenFile, 128);
+    assert_eq!(rt; disk.read_at(0, &mut [0]), Err(DiskFault));
+    assert_eq!(rt; disk.write_at(0, b"a"), Err(DiskFault));
+    assert_eq!(rt; disk.now(), 2);
+    assert_eq!(rt; disk.sync(), Err(DiskFault));
+    assert_eq!(rt; disk.now(), 4);
+    // The sync counts as a call that began and returned; what comes behind it doesn't.
+    assert_eq!(rt; disk.write_at(0, b"a"), Err(DiskFault));
+    assert_eq!(rt; disk.sync(), Err(DiskFault));
+    assert_eq!(rt; disk.now(), 4);
+}
+
+#[test]
+fn a_word_names_a_disk(rt: HostRuntime) {
+    assert!(rt; matches!(place_of("-"), Place::Memory));
+    assert!(rt; matches!(place_of("heap"), Place::File { .. }));
+    assert!(rt; matches!(place_of("a=b"), Place::File { .. }));
+    assert!(rt; matches!(place_of("heap="), Place::File { .. }));
+    assert!(rt; matches!(place_of("heap=0081984"), Place::File { .. }));
+    assert!(rt; matches!(place_of("heap=+81984"), Place::File { .. }));
+    assert!(rt; matches!(place_of("heap=18446744073709551616"), Place::File { .. }));
+    assert!(rt; matches!(place_of("heap=0"), Place::Sized { bytes: 0, .. }));
+    assert!(rt;
+        matches!(
+            place_of("a=b=81984"),
+            Place::Sized {
+                path: "a=b",
+                bytes: 81_984,
+            }
+        )
+    );
 }

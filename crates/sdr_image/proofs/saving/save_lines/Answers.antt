@@ -1,6 +1,7 @@
 use Rattle.std.proofs.Common.{◌∙◌, ap, sym, arith, List, ℕ, length, ◌+◌, ◌*◌}
 use Rattle.sdr_base.specs.Parts.{overwrite, part}
 use Rattle.sdr_image.specs.Saved.{saved_lines}
+use Rattle.sdr_image.proofs.ChangedLemmas.{Both-then, ChangesLines-then, other_line}
 use Rattle.sdr_image.proofs.SavedLemmas.{inside_all}
 use Rattle.sdr_image.proofs.saving.save_lines.Goals as goal
 
@@ -24,5 +25,13 @@ loop-line-preserved g c =
           );
       tells = more.tells ∙ c.loop-line.invariant.tells;
       size = more.size ∙ c.loop-line.invariant.size;
+      few = λ other none. (other_line _ _ _ other c.in-Some.ensures.cases.0 (c.loop-line.invariant.few other none)).1;
+      others =
+          Both-then _ _ _ _ _ _ c.loop-line.invariant.tells
+          (λ x y z f h. ChangesLines-then _ _ _ x y z
+          (λ other none. (other_line _ _ _ other c.in-Some.ensures.cases.0 (c.loop-line.invariant.few other none)).0)
+          f h)
+          c.loop-line.invariant.others more.others;
+      moved = omega (arith, more.rises, c.loop-line.invariant.moved, ap length c.in-Some.ensures.cases.0);
       later = omega (arith, more.cause.later, c.loop-line.invariant.later);
     }

@@ -1,8 +1,8 @@
-use Rattle.std.proofs.Common.{◌≡◌, ◌≤◌, ◌+◌, ◌*◌, ℕ, List, length, Some, true}
+use Rattle.std.proofs.Common.{◌≡◌, ◌≤◌, ◌+◌, ◌*◌, ℕ, List, length, Some, true, false}
 use Rattle.std.specs.Prelude.{is_some}
 use Rattle.sdr_base.specs.Cells.{is_among}
-use Rattle.sdr_disk.specs.Told.{Told}
-use Rattle.sdr_image.specs.Saved.{saved_lines}
+use Rattle.sdr_disk.specs.Told.{Both, Told}
+use Rattle.sdr_image.specs.Saved.{ChangesLines, saved_lines}
 use Rattle.sdr_image.proofs.saving.save_lines.Given as goal
 
 abbrev pub invariant-loop-line : goal.invariant-loop-line
@@ -12,6 +12,9 @@ invariant-loop-line g l = record {
       × (saved_lines l.place l.rest l.region y ≡ saved_lines l.place l.fn.lines l.region x));
   tells : is_some (g.D.Disk.bytes l.disk) ≡ is_some (g.D.Disk.bytes l.fn.disk);
   size : g.D.Disk.size l.disk ≡ g.D.Disk.size l.fn.disk;
+  few : (line : ℕ) → is_among l.fn.lines line ≡ false → is_among l.rest line ≡ false;
+  others : Both (g.D.Disk.bytes l.fn.disk) (g.D.Disk.bytes l.disk) (ChangesLines l.place l.fn.lines);
+  moved : g.D.Disk.moment l.disk + 2 * length l.rest ≡ g.D.Disk.moment l.fn.disk + 2 * length l.fn.lines;
   later : g.D.Disk.faults l.fn.disk ≤ g.D.Disk.faults l.disk;
 }
 

@@ -1,7 +1,9 @@
-use Rattle.std.proofs.Common.{ap, ◌∙◌, ℕ}
+use Rattle.std.proofs.Common.{ap, ◌∙◌, arith, length, ℕ}
 use Rattle.std.specs.Prelude.{Some, vec_capacity}
-use Rattle.sdr_image.specs.Opened.{Opened}
+use Rattle.sdr_image.specs.Opened.{Opened, lines_named}
 use Rattle.sdr_image.specs.Saved.{saved_lines}
+use Rattle.std.proofs.lemmas.List.Sorted.{length_permutation}
+use Rattle.sdr_image.proofs.ChangedLemmas.{KeepsDisk-from}
 use Rattle.sdr_image.proofs.SavedLemmas.{SavesAs, gathered, inside_named, Saves-lines, Saves-from, IsImage-saved}
 use Rattle.sdr_image.proofs.image.Image.save.Goals as goal
 
@@ -51,3 +53,37 @@ returns-clause-saved g c =
     (ap (λ (v : Opened g.row.D.Denot). v.frame) c.self.view_is)
     (ap (λ (v : Opened g.row.D.Denot). v.bytes) c.self.view_is)
     saved
+
+pub returns-in_default-clause-disk : goal.returns-in_default-clause-disk
+returns-in_default-clause-disk g c =
+    let old = c.self.inside in
+    let p = gathered old.undo.olds c.olds.result.now c.deref.result.now c.gather_rising.new.into.items c.olds.ensures
+    c.deref.ensures.value c.gather_rising.ensures.lines in
+    KeepsDisk-from g.D.Disk.size g.D.Disk.bytes c.args.self.now _ old.disk old.frame (lines_named old.undo.olds)
+    c.deref.result.now c.heap_place-place.result
+    (ap (λ (v : Opened g.row.D.Denot). v.disk) c.self.view_is)
+    (ap (λ (v : Opened g.row.D.Denot). v.frame) c.self.view_is)
+    (ap (λ (v : Opened g.row.D.Denot). v.touched) c.self.view_is)
+    c.heap_place-place.ensures p c.in_default.ensures.size c.in_default.ensures.tells c.in_default.ensures.others
+
+pub returns-clause-disk : goal.returns-clause-disk
+returns-clause-disk g c =
+    let old = c.self.inside in
+    let p = gathered old.undo.olds c.olds.result.now c.deref.result.now c.gather_rising.new.into.items c.olds.ensures
+    c.deref.ensures.value c.gather_rising.ensures.lines in
+    KeepsDisk-from g.D.Disk.size g.D.Disk.bytes c.args.self.now _ old.disk old.frame (lines_named old.undo.olds)
+    c.deref.result.now c.heap_place-place.result
+    (ap (λ (v : Opened g.row.D.Denot). v.disk) c.self.view_is)
+    (ap (λ (v : Opened g.row.D.Denot). v.frame) c.self.view_is)
+    (ap (λ (v : Opened g.row.D.Denot). v.touched) c.self.view_is)
+    c.heap_place-place.ensures p c.in-Ok.ensures.size c.in-Ok.ensures.tells c.in-Ok.ensures.others
+
+pub returns-clause-calls : goal.returns-clause-calls
+returns-clause-calls g c =
+    let old = c.self.inside in
+    let p = gathered old.undo.olds c.olds.result.now c.deref.result.now c.gather_rising.new.into.items c.olds.ensures
+    c.deref.ensures.value c.gather_rising.ensures.lines in
+    let many = length_permutation (lines_named old.undo.olds) c.deref.result.now p in
+    let disk = ap (λ (v : Opened g.row.D.Denot). g.D.Disk.moment v.disk) c.self.view_is in
+    let touched = ap (λ (v : Opened g.row.D.Denot). length v.touched) c.self.view_is in
+    omega (arith, c.in-Ok.ensures.rises, many, disk, touched)

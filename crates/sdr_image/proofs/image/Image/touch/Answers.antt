@@ -5,7 +5,8 @@ use Rattle.sdr_log.specs.Log.{is_named, put_records}
 use Rattle.sdr_log.specs.declared.record.Record.{Record}
 use Rattle.sdr_image.specs.Undo.{Olds}
 use Rattle.sdr_image.specs.Opened.{Opened, lines_named}
-use Rattle.sdr_image.proofs.ImageLemmas.{begun-keep, IsImage-keep, few_more, lines_named-push, lines_named-again}
+use Rattle.sdr_image.proofs.ImageLemmas.{begun-keep, IsImage-keep}
+use Rattle.sdr_image.proofs.TouchedLemmas.{few_more, lines_named-push, lines_named-again}
 use Rattle.sdr_image.proofs.image.Image.touch.Goals as goal
 
 pub keep-requires-clause-room : goal.keep-requires-clause-room

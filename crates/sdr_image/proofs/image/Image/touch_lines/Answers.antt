@@ -4,7 +4,7 @@ use Rattle.std.specs.List.{range_with_len}
 use Rattle.sdr_base.specs.Cells.{is_among, with_lines}
 use Rattle.sdr_log.specs.Frame.{room_of}
 use Rattle.sdr_image.specs.Opened.{Opened}
-use Rattle.sdr_image.proofs.ImageLemmas.{with_lines-none, with_lines-next, few_next}
+use Rattle.sdr_image.proofs.TouchedLemmas.{with_lines-none, with_lines-next, few_next}
 use Rattle.sdr_image.proofs.image.Image.touch_lines.Goals as goal
 
 pub loop-line-init : goal.loop-line-init

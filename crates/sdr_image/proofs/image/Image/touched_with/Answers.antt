@@ -3,7 +3,7 @@ use Rattle.std.specs.List.{range_with_len}
 use Rattle.std.proofs.lemmas.List.FromFn.{length-range_with_len}
 use Rattle.sdr_base.proofs.CellsLemmas.{length-with_lines}
 use Rattle.sdr_image.specs.Opened.{Opened}
-use Rattle.sdr_image.proofs.ImageLemmas.{touched_count, touched_few}
+use Rattle.sdr_image.proofs.TouchedLemmas.{touched_count, touched_few}
 use Rattle.sdr_image.proofs.image.Image.touched_with.Goals as goal
 
 pub overflow_add-result : goal.overflow_add-result

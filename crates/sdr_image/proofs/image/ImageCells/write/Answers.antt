@@ -1,7 +1,7 @@
 use Rattle.std.proofs.Common.{◌∙◌, ap, List, ℕ}
 use Rattle.sdr_base.specs.Cells.{is_among, with_lines}
 use Rattle.sdr_image.specs.Opened.{Opened}
-use Rattle.sdr_image.proofs.ImageLemmas.{is_among-with_lines}
+use Rattle.sdr_image.proofs.TouchedLemmas.{is_among-with_lines}
 use Rattle.sdr_image.proofs.image.ImageCells.write.Goals as goal
 
 pub put-requires-clause-touched : goal.put-requires-clause-touched

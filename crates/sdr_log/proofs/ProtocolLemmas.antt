@@ -1,0 +1,38 @@
+-- The steps of a batch and of its closing, at every moment.
+use Rattle.std.proofs.Common.{◌≡◌, ◌<◌, ℕ, ◌+◌, ◌*◌, List, [], ◌∷◌, length, ap, ◌∙◌, subst}
+use Rattle.sdr_disk.specs.Moments.{AtEach, IsTorn, Only}
+use Rattle.sdr_disk.specs.Ranges.{Agrees, overwrite, range}
+use Rattle.sdr_disk.proofs.MomentsLemmas.{at_both, at_then}
+use Rattle.sdr_log.specs.Batch.{batch_of, batch_size}
+use Rattle.sdr_log.specs.Calls.{MayOpen}
+use Rattle.sdr_log.specs.Log.{AreLines}
+use Rattle.sdr_log.specs.Logged.{GivesSame}
+use Rattle.sdr_log.specs.declared.frame.Frame.{Frame}
+use Rattle.sdr_log.specs.declared.record.Record.{Record}
+use Rattle.sdr_log.proofs.OpeningLemmas.{batch_same, gate_same}
+
+module _ {D : Type 0} (moment : D → ℕ) (may_leave : D → ℕ → List ℕ → Type 0) where
+  -- A batch may be opened on a disk of these bytes.
+  module _ (f : Frame) (place : ℕ) (records : List Record) (old : D) (x : List ℕ)
+      (m : MayOpen f place records x (may_leave old (moment old))) (lines : AreLines records)
+      (some : 0 < length records) (fits : place + batch_size (length records) < 64 * f.log_lines)
+      (batch : List ℕ) (is : batch ≡ batch_of records) where
+    -- while it is written
+    pub at_batch : (now : D) → AtEach moment may_leave old now
+        (IsTorn (may_leave old (moment old)) (64 + place + 1) (length batch)) →
+        AtEach moment may_leave old now (GivesSame x)
+    at_batch now each =
+        at_then moment may_leave old now _ (GivesSame x) each
+        (λ image t. batch_same f place records x (may_leave old (moment old)) m lines some fits t.whole image t.left_before
+        (subst (λ (b : List ℕ). Agrees (range (64 + place + 1) (length b) ∷ []) t.whole image) is t.agrees))
+
+    -- and while its gate is opened
+    pub at_gate : (mid now : D) → AtEach moment may_leave old mid (GivesSame x) →
+        Only (overwrite (64 + place + 1) batch x) (may_leave mid (moment mid)) →
+        AtEach moment may_leave mid now (IsTorn (may_leave mid (moment mid)) (64 + place) 1) →
+        AtEach moment may_leave old now (GivesSame x)
+    at_gate mid now so_far only each =
+        at_both moment may_leave old mid now (GivesSame x) _ (GivesSame x) so_far each (λ image same. same)
+        (λ image t. gate_same f place records x (may_leave old (moment old)) m lines some fits image
+        (subst (λ (y : List ℕ). Agrees (range (64 + place) 1 ∷ []) y image)
+        (only t.whole t.left_before ∙ ap (λ (b : List ℕ). overwrite (64 + place + 1) b x) is) t.agrees))

@@ -1,0 +1,209 @@
+-- Lines that open batches name, written to their places.
+use Rattle.std.proofs.Common.{◌≡◌, ◌≤◌, ◌<◌, ◌⊎◌, inl, inr, ℕ, ◌+◌, ◌*◌, true, List, [], ◌∷◌}
+use Rattle.std.proofs.Common.{length, refl, sym, ap, ◌∙◌, subst, arith, Some}
+use Rattle.std.specs.Prelude.{Option}
+use Rattle.std.proofs.lemmas.Option.{same_Some}
+use Rattle.std.proofs.lemmas.Bool.{cases_eq}
+use Rattle.std.proofs.lemmas.Bool.Decides.{nat_tests}
+use Rattle.sdr_base.proofs.PartsLemmas.{overwrite-inside, overwrite-part, part-overwrite}
+use Rattle.sdr_disk.specs.Moments.{AtEach, IsTorn, Writes}
+use Rattle.sdr_disk.specs.Ranges.{Agrees, IsOutside, overwrite, part, range}
+use Rattle.sdr_disk.proofs.MomentsLemmas.{at_first, at_written}
+use Rattle.sdr_disk.proofs.RangesLemmas.{Agrees-more, Agrees-overwrite, Agrees-sym, Agrees-trans, length-overwrite}
+use Rattle.sdr_disk.proofs.RangesLemmas.{length-part}
+use Rattle.sdr_log.specs.Calls.{AreNamed, MayPut, Puts, with_lines}
+use Rattle.sdr_log.specs.Frame.{heap_place}
+use Rattle.sdr_log.specs.Log.{first_gate, heap_of, is_named, put_records, read_log}
+use Rattle.sdr_log.specs.Logged.{GivesSame, HasRegions, IsLogged, Logs, lines_of}
+use Rattle.sdr_log.specs.declared.frame.Frame.{Frame}
+use Rattle.sdr_log.specs.declared.record.Record.{Record}
+use Rattle.sdr_log.proofs.GoodLemmas.{is_named-below}
+use Rattle.sdr_log.proofs.LoggedLemmas.{HasRegions-limits, logged_same, pending_gate, pending_log, pending_logs}
+use Rattle.sdr_log.proofs.LoggedLemmas.{pending_same}
+
+-- a line written to the disk, as a line of the heap
+heap_of-overwrite : (f : Frame) (line : ℕ) (bytes x : List ℕ) → HasRegions f x → length bytes ≡ 64 →
+    line < f.heap_lines →
+    heap_of f (overwrite (heap_place f + 64 * line) bytes x) ≡ overwrite (64 * line) bytes (heap_of f x)
+unfolding heap_of
+heap_of-overwrite f line bytes x regions long below =
+    let n = 64 * f.heap_lines in
+    let p = heap_place f in
+    let heap = part p n x in
+    let wide : p + n ≤ length x = omega (arith, regions.inside) in
+    let size : length heap ≡ n = length-part p n x wide in
+    let new : length (overwrite (64 * line) bytes heap) ≡ n =
+    length-overwrite (64 * line) bytes heap (omega (arith, size, long, below)) ∙ size in
+    ap (λ (y : List ℕ). part p n (overwrite (p + 64 * line) bytes y)) (sym (overwrite-part p n x wide))
+    ∙ ap (part p n) (overwrite-inside p (64 * line) heap bytes x (omega (arith, size, wide))
+    (omega (arith, size, long, below)))
+    ∙ ap (λ (k : ℕ). part p k (overwrite p (overwrite (64 * line) bytes heap) x)) (sym new)
+    ∙ part-overwrite p (overwrite (64 * line) bytes heap) x (omega (arith, new, wide))
+
+-- a place outside all named lines is outside each of them
+named_outside : (f : Frame) (records : List Record) (line i : ℕ) → is_named records line ≡ true →
+    IsOutside (lines_of f records) i → (i < heap_place f + 64 * line) ⊎ (heap_place f + 64 * line + 64 ≤ i)
+named_outside f [] line i is o = absurd cc
+named_outside f (r ∷ records) line i is o = elim (cases_eq r.line line) [
+  | inl same ↦
+      let e : heap_place f + 64 * r.line ≡ heap_place f + 64 * line = omega arith in
+      subst (λ (k : ℕ). (i < k) ⊎ (k + 64 ≤ i)) e o.0
+  | inr other ↦ named_outside f records line i (grind (arith, nat_tests)) o.1
+]
+
+Agrees-named : (f : Frame) (records : List Record) (line : ℕ) (a b : List ℕ) → is_named records line ≡ true →
+    Agrees (range (heap_place f + 64 * line) 64 ∷ []) a b → Agrees (lines_of f records) a b
+Agrees-named f records line a b is g =
+    Agrees-more (range (heap_place f + 64 * line) 64 ∷ []) (lines_of f records) a b
+    (λ i o. (named_outside f records line i is o, tt)) g
+
+-- A logged line, over a disk of these bytes.
+module _ (f : Frame) (x : List ℕ) (left : List ℕ → Type 0) (l : IsLogged f x left) (r : Record)
+    (named : is_named l.records r.line ≡ true) (long : length r.bytes ≡ 64) where
+  abbrev pub put : List ℕ
+  put = overwrite (heap_place f + 64 * r.line) r.bytes x
+
+  below : r.line < f.heap_lines
+  below = is_named-below f.heap_lines l.records r.line l.logs.good named
+
+  put_agrees : Agrees (lines_of f l.records) x put
+  put_agrees =
+      Agrees-named f l.records r.line x put named
+      (subst (λ (n : ℕ). Agrees (range (heap_place f + 64 * r.line) n ∷ []) x put) long
+      (Agrees-overwrite (heap_place f + 64 * r.line) r.bytes x [] (omega (arith, below, long, l.logs.regions.inside))))
+
+  -- the open batches are the same
+  pub put_logs : Logs f put l.records
+  put_logs = pending_logs f x put l.records l.logs put_agrees
+
+  pub put_heap : heap_of f put ≡ overwrite (64 * r.line) r.bytes (heap_of f x)
+  put_heap = heap_of-overwrite f r.line r.bytes x l.logs.regions long below
+
+  pub put_log : read_log f put ≡ read_log f x
+  put_log = pending_log f x put l.records l.logs put_agrees
+
+  pub put_gate : first_gate put ≡ first_gate x
+  put_gate = let w = HasRegions-limits f x l.logs.regions in
+      pending_gate f x put l.records l.logs put_agrees (omega (arith, w.least_log))
+
+  pub put_same : GivesSame x put
+  put_same = pending_same f x put l.records l.logs put_agrees
+
+  -- what a crash leaves of the write
+  pub torn_same : (whole image : List ℕ) → left whole →
+      Agrees (range (heap_place f + 64 * r.line) 64 ∷ []) whole image → GivesSame x image
+  torn_same whole image of_left g =
+      pending_same f x image l.records l.logs
+      (Agrees-trans (lines_of f l.records) x whole image (l.pending whole of_left)
+      (Agrees-named f l.records r.line whole image named g))
+
+  -- all that is pending then is logged, as before
+  pub put_logged : (left' : List ℕ → Type 0) →
+      ((image : List ℕ) → left' image → IsTorn left (heap_place f + 64 * r.line) 64 image) → IsLogged f put left'
+  put_logged left' torn = record {
+    records = l.records;
+    logs = put_logs;
+    pending = λ image of_left.
+        let t = torn image of_left in
+        Agrees-trans (lines_of f l.records) put x image (Agrees-sym (lines_of f l.records) x put put_agrees)
+        (Agrees-trans (lines_of f l.records) x t.whole image (l.pending t.whole t.left_before)
+        (Agrees-named f l.records r.line t.whole image named t.agrees));
+  }
+
+-- what stands where so many lines are put and these are left
+pub record PutSoFar {D : Type 0} (moment : D → ℕ) (may_leave : D → ℕ → List ℕ → Type 0) (f : Frame)
+    (lines rest : List Record) (old now : D) (x y : List ℕ) : Type 0 where
+  pub may : MayPut f rest y (may_leave now (moment now))
+  pub heap : put_records rest (heap_of f y) ≡ put_records lines (heap_of f x)
+  pub log : read_log f y ≡ read_log f x
+  pub gate : first_gate y ≡ first_gate x
+  pub back : GivesSame x y
+  pub each : AtEach moment may_leave old now (GivesSame x)
+
+-- the bytes then, of a disk that tells them
+pub record Putting {D : Type 0} (moment : D → ℕ) (may_leave : D → ℕ → List ℕ → Type 0)
+    (bytes : D → Option (List ℕ)) (f : Frame) (lines rest : List Record) (old now : D) (x : List ℕ) : Type 0 where
+  pub y : List ℕ
+  pub told : bytes now ≡ Some y
+  pub written : with_lines f rest y ≡ with_lines f lines x
+  pub so_far : MayPut f lines x (may_leave old (moment old)) →
+      PutSoFar moment may_leave f lines rest old now x y
+
+module _ {D : Type 0} (moment : D → ℕ) (may_leave : D → ℕ → List ℕ → Type 0) (bytes : D → Option (List ℕ))
+    (f : Frame) (lines : List Record) (old : D) (x : List ℕ) where
+  pub putting_none : bytes old ≡ Some x → Putting moment may_leave bytes f lines lines old old x
+  putting_none is = record {
+    y = x;
+    told = is;
+    written = refl;
+    so_far = λ m. record {
+      may = m;
+      heap = refl;
+      log = refl;
+      gate = refl;
+      back = refl;
+      each = at_first moment may_leave old (GivesSame x) (λ image l. logged_same f x image _ m.logged l);
+    };
+  }
+
+  -- One line more.
+  module _ (now new : D) (all rest : List Record) (r : Record) (split : all ≡ r ∷ rest) (long : length r.bytes ≡ 64)
+      (p : Putting moment may_leave bytes f lines all old now x)
+      (w : Writes moment may_leave (heap_place f + 64 * r.line) 64 now new) where
+    abbrev place : ℕ
+    place = heap_place f + 64 * r.line
+
+    -- at each moment of its write
+    pub putting_each : MayPut f lines x (may_leave old (moment old)) → AtEach moment may_leave old new (GivesSame x)
+    putting_each m =
+        let s = p.so_far m in
+        let named = (subst (λ (l : List Record). AreNamed s.may.logged.records l) split s.may.named).0 in
+        at_written moment may_leave old now new (GivesSame x) place 64 s.each w
+        (λ whole image of_left g. torn_same f p.y _ s.may.logged r named long whole image of_left g ∙ s.back)
+
+    -- and once it is done
+    pub putting_more : bytes new ≡ Some (overwrite place r.bytes p.y) → moment new ≡ moment now + 2 →
+        Putting moment may_leave bytes f lines rest old new x
+    unfolding put_logged
+    putting_more is rises = record {
+      y = overwrite place r.bytes p.y;
+      told = is;
+      written = subst (λ (l : List Record). with_lines f l p.y ≡ with_lines f lines x) split p.written;
+      so_far = λ m.
+          let s = p.so_far m in
+          let named = subst (λ (l : List Record). AreNamed s.may.logged.records l) split s.may.named in
+          let l = s.may.logged in
+          record {
+            may = record {
+              logged = put_logged f p.y _ l r named.0 long (may_leave new (moment new))
+                  (λ image of_left. w.torn (moment new) image (omega arith) (omega arith) of_left);
+              named = named.1;
+            };
+            heap = ap (put_records rest) (put_heap f p.y _ l r named.0 long)
+                ∙ subst (λ (l : List Record). put_records l (heap_of f p.y) ≡ put_records lines (heap_of f x)) split
+                s.heap;
+            log = put_log f p.y _ l r named.0 long ∙ s.log;
+            gate = put_gate f p.y _ l r named.0 long ∙ s.gate;
+            back = put_same f p.y _ l r named.0 long ∙ s.back;
+            each = putting_each m;
+          };
+    }
+
+  -- all lines put
+  pub putting_all : (now : D) (rest : List Record) → rest ≡ [] →
+      (p : Putting moment may_leave bytes f lines rest old now x) → (y : List ℕ) → bytes now ≡ Some y → MayPut f lines x (may_leave old (moment old)) →
+      Puts f lines x y (may_leave now (moment now))
+  putting_all now rest none p y is m =
+      let s = p.so_far m in
+      subst (λ (z : List ℕ). Puts f lines x z (may_leave now (moment now))) (same_Some p.y y (sym p.told ∙ is)) record {
+        logged = s.may.logged;
+        heap = subst (λ (l : List Record). put_records l (heap_of f p.y) ≡ put_records lines (heap_of f x)) none s.heap;
+        log = s.log;
+        gate = s.gate;
+        back = s.back;
+      }
+
+  pub putting_written : (now : D) (rest : List Record) → rest ≡ [] →
+      Putting moment may_leave bytes f lines rest old now x → bytes now ≡ Some (with_lines f lines x)
+  putting_written now rest none p =
+      p.told ∙ ap Some (subst (λ (l : List Record). with_lines f l p.y ≡ with_lines f lines x) none p.written)

@@ -1,0 +1,46 @@
+use Rattle.std.proofs.Common.{◌∙◌, ap, refl, arith, length}
+use Rattle.std.proofs.lemmas.List.{nil_from_length}
+use Rattle.sdr_log.proofs.PuttingLemmas.{putting_all, putting_each, putting_more, putting_none, putting_written}
+use Rattle.sdr_log.proofs.lines.put_lines.Goals as goal
+
+pub loop-line-init : goal.loop-line-init
+loop-line-init g c = record {
+  size = refl;
+  tells = refl;
+  below = c.requires.below;
+  later = omega arith;
+  calls = omega arith;
+  told = λ x is. putting_none _ _ _ _ _ _ x is;
+}
+
+pub returns-in_err-put_line-clause-any_moment : goal.returns-in_err-put_line-clause-any_moment
+returns-in_err-put_line-clause-any_moment g c x is m =
+    putting_each _ _ _ _ _ _ x _ _ _ _ _ c.in-Some.ensures.cases.0 c.put_line.ensures.long
+    (c.loop-line.invariant.told x is) c.put_line.ensures.moments m
+
+pub loop-line-preserved : goal.loop-line-preserved
+loop-line-preserved g c =
+    let split = c.in-Some.ensures.cases.0 in
+    let put = c.put_line.ensures in
+    record {
+      size = put.size ∙ c.loop-line.invariant.size;
+      tells = put.tells ∙ c.loop-line.invariant.tells;
+      below = (rw split at c.loop-line.invariant.below).1;
+      later = omega (arith, put.cause.later, c.loop-line.invariant.later);
+      calls = omega (arith, c.in_ok-put_line.ensures.rises, c.loop-line.invariant.calls, ap length split);
+      told = λ x is.
+          let p = c.loop-line.invariant.told x is in
+          putting_more _ _ _ _ _ _ x _ _ _ _ _ split put.long p put.moments
+          (c.in_ok-put_line.ensures.written p.y p.told) c.in_ok-put_line.ensures.rises;
+    }
+
+pub returns-clause-written : goal.returns-clause-written
+returns-clause-written g c x is =
+    putting_written _ _ _ _ _ _ x _ _ (nil_from_length _ c.in_default.ensures.cases) (c.loop-line.invariant.told x is)
+
+pub returns-clause-puts : goal.returns-clause-puts
+returns-clause-puts g c x is y now m =
+    putting_all _ _ _ _ _ _ x _ _ (nil_from_length _ c.in_default.ensures.cases) (c.loop-line.invariant.told x is) y now m
+
+pub returns-clause-any_moment : goal.returns-clause-any_moment
+returns-clause-any_moment g c x is m = ((c.loop-line.invariant.told x is).so_far m).each

@@ -1,0 +1,20 @@
+use Rattle.std.proofs.Common.{◌≡◌, ◌≤◌, ◌+◌, ◌*◌, length}
+use Rattle.std.specs.Prelude.{is_some}
+use Rattle.sdr_disk.specs.Told.{Told}
+use Rattle.sdr_log.specs.Calls.{AreBelow}
+use Rattle.sdr_log.proofs.PuttingLemmas.{Putting}
+use Rattle.sdr_log.proofs.lines.put_lines.Given as goal
+
+abbrev pub invariant-loop-line : goal.invariant-loop-line
+invariant-loop-line g l = record {
+  size : g.D.Disk.size l.disk ≡ g.D.Disk.size l.fn.disk;
+  tells : is_some (g.D.Disk.bytes l.disk) ≡ is_some (g.D.Disk.bytes l.fn.disk);
+  below : AreBelow l.frame.heap_lines l.rest;
+  later : g.D.Disk.faults l.fn.disk ≤ g.D.Disk.faults l.disk;
+  calls : g.D.Disk.moment l.disk + 2 * length l.rest ≤ g.D.Disk.moment l.fn.disk + 2 * length l.fn.lines;
+  told : Told (g.D.Disk.bytes l.fn.disk) (λ x.
+      Putting g.D.Disk.moment g.D.Disk.may_leave g.D.Disk.bytes l.frame l.fn.lines l.rest l.fn.disk l.disk x);
+}
+
+abbrev pub decreases-loop-line : goal.decreases-loop-line
+decreases-loop-line g l = length l.rest

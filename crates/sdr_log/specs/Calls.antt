@@ -1,0 +1,97 @@
+-- When the calls of the log may be made, and what they change.
+use Rattle.std.specs.Prelude.{◌≡◌, ◌≤◌, ◌<◌, ℕ, ◌+◌, ◌*◌, ◌⊎◌, ⊤, true, List, [], ◌∷◌, ◌++◌, length}
+use Rattle.std.specs.Prelude.{Option, Some, None, is_some, option_map}
+use Rattle.sdr_base.specs.declared.line.TheConstants.{LINE}
+use Rattle.sdr_disk.specs.Moments.{Only}
+use Rattle.sdr_disk.specs.Ranges.{overwrite, part}
+use Rattle.sdr_log.specs.Batch.{batch_size, log_end}
+use Rattle.sdr_log.specs.Frame.{frame_of, heap_place}
+use Rattle.sdr_log.specs.Log.{are_good, first_gate, heap_of, is_named, put_back_of, put_records}
+use Rattle.sdr_log.specs.Log.{read_log}
+use Rattle.sdr_log.specs.Logged.{Gives, GivesSame, IsAtRest, IsLogged, IsOpen, Logs}
+use Rattle.sdr_log.specs.declared.frame.Frame.{Frame}
+use Rattle.sdr_log.specs.declared.record.Record.{Record}
+
+-- each record has the bytes of its line
+abbrev pub HoldLines : List ℕ → List Record → Type 0
+HoldLines heap [] = ⊤
+HoldLines heap (r ∷ records) = (r.bytes ≡ part (LINE * r.line) LINE heap) × HoldLines heap records
+
+-- the lines are of the heap
+abbrev pub AreBelow : ℕ → List Record → Type 0
+AreBelow lines [] = ⊤
+AreBelow lines (r ∷ records) = (r.line < lines) × AreBelow lines records
+
+-- these records name the lines of all of the others
+abbrev pub AreNamed : List Record → List Record → Type 0
+AreNamed records [] = ⊤
+AreNamed records (r ∷ others) = (is_named records r.line ≡ true) × AreNamed records others
+
+-- the disk with these records' bytes in place of their lines
+abbrev pub with_lines : Frame → List Record → List ℕ → List ℕ
+with_lines f [] x = x
+with_lines f (r ∷ records) x = with_lines f records (overwrite (heap_place f + LINE * r.line) r.bytes x)
+
+-- a batch of so many records has room in the log region from a place on, and in a buffer of so many bytes
+pub record HasPlace (f : Frame) (place count bytes : ℕ) : Type 0 where
+  pub some : 0 < count
+  pub fits : place + batch_size count < LINE * f.log_lines
+  pub gathered : batch_size count ≤ bytes
+
+-- A batch may be opened at a place: the open batches end there, and no line of the new one is named before.
+-- The new one has the bytes of its lines.
+pub record MayOpen (f : Frame) (place : ℕ) (records : List Record) (x : List ℕ) (left : List ℕ → Type 0) : Type 0 where
+  pub logged : IsLogged f x left
+  pub ends : log_end f x ≡ Some place
+  pub good : are_good f.heap_lines (logged.records ++ records) ≡ true
+  pub own : HoldLines (heap_of f x) records
+
+-- the batch is open, behind the others, and opening the disk gives the same heap as before
+pub record Opens (f : Frame) (place : ℕ) (records : List Record) (x y : List ℕ) (left : List ℕ → Type 0) : Type 0 where
+  pub is_open : IsOpen f y left
+  pub log : read_log f y ≡ option_map (λ earlier. earlier ++ records) (read_log f x)
+  pub ends : log_end f y ≡ Some (place + batch_size (length records))
+  pub heap : heap_of f y ≡ heap_of f x
+  pub back : GivesSame x y
+
+-- lines may be put: open batches name each of them
+pub record MayPut (f : Frame) (lines : List Record) (x : List ℕ) (left : List ℕ → Type 0) : Type 0 where
+  pub logged : IsLogged f x left
+  pub named : AreNamed logged.records lines
+
+-- the lines are put, the open batches are as before, and opening the disk gives the same heap as before
+pub record Puts (f : Frame) (lines : List Record) (x y : List ℕ) (left : List ℕ → Type 0) : Type 0 where
+  pub logged : IsLogged f y left
+  pub heap : heap_of f y ≡ put_records lines (heap_of f x)
+  pub log : read_log f y ≡ read_log f x
+  pub gate : first_gate y ≡ first_gate x
+  pub back : GivesSame x y
+
+-- no batch is open, nothing is pending, and the heap region is the heap
+pub record Closes (f : Frame) (x y : List ℕ) (left : List ℕ → Type 0) : Type 0 where
+  pub rest : IsAtRest f y left
+  pub heap : heap_of f y ≡ heap_of f x
+  pub gives : Gives (heap_of f x) y
+
+-- nothing is pending, or all that is pending is logged
+abbrev pub MayPutBack : Frame → List ℕ → (List ℕ → Type 0) → Type 0
+MayPutBack f x left = Only x left ⊎ IsLogged f x left
+
+-- opening gives no heap of these regions: where the head tells of them, it gives none
+abbrev pub GivesNone : Frame → List ℕ → Type 0
+GivesNone f x = frame_of (part 0 LINE x) ≡ Some f → put_back_of x ≡ None
+
+-- so many lines are put back and the first gate is closed, and no other byte changes: the heap region is the heap
+-- that opening gave, and no batch is open
+pub record PutsBack (f : Frame) (count : ℕ) (x y : List ℕ) : Type 0 where
+  pub records : List Record
+  pub logs : Logs f x records
+  pub lines : count ≡ length records
+  pub written : y ≡ overwrite LINE (0 ∷ []) (with_lines f records x)
+  pub gives : Gives (heap_of f y) x
+  pub gate : first_gate y ≡ 0
+
+-- the disk is as long as it was, and tells its bytes if it did
+pub record KeepsDisk {D : Type 0} (size_of : D → ℕ) (bytes : D → Option (List ℕ)) (old new : D) : Type 0 where
+  pub size : size_of new ≡ size_of old
+  pub tells : is_some (bytes new) ≡ is_some (bytes old)

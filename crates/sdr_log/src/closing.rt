@@ -1,0 +1,75 @@
+// The first gate, closed.
+ghost use Rattle.std.specs.Prelude.{◌≡◌, ◌≤◌, ◌<◌, ◌+◌, ◌⊎◌, ◌∷◌, [], OnOk, Some, is_some};
+ghost use Rattle.sdr_base.specs.Causes.{HasCause};
+ghost use Rattle.sdr_disk.specs.Moments.{AtEach, IsTorn, Only, Syncs};
+ghost use Rattle.sdr_disk.specs.Ranges.{overwrite};
+ghost use Rattle.sdr_disk.specs.Told.{Both, Told};
+ghost use Rattle.sdr_log.specs.Calls.{Closes, KeepsDisk};
+ghost use Rattle.sdr_log.specs.Frame.{LieInside};
+ghost use Rattle.sdr_log.specs.Log.{heap_of};
+ghost use Rattle.sdr_log.specs.Logged.{Gives, GivesSame, IsOpen};
+
+use crate::Frame;
+use crate::saving::save_at;
+use sdr_base::LINE;
+use sdr_disk::{Disk, DiskFault};
+
+// Step 1: the lines are on the disk before the gate is closed.
+fn save_lines<D: Disk>(disk: &mut D) -> Result<(), DiskFault>
+    ensures cause { HasCause (D.faults disk.old) (D.faults disk.new) result }
+
+    ensures same { D.bytes disk.new ≡ D.bytes disk.old }
+    ensures size { D.size disk.new ≡ D.size disk.old }
+
+    ensures durable { OnOk result (Told (D.bytes disk.new)
+        (λ x. Only x (D.may_leave disk.new (D.moment disk.new)))) }
+    ensures moments { Syncs D.moment D.may_leave disk.old disk.new }
+{
+    disk.sync()
+}
+
+// Step 2: the first gate, as closed. From here on a crash leaves the heap region as it is.
+fn close_gate<D: Disk>(disk: &mut D) -> Result<(), DiskFault>
+    requires { LINE < D.size disk.old }
+
+    ensures written { OnOk result (Told (D.bytes disk.old)
+        (λ x. D.bytes disk.new ≡ Some (overwrite LINE (0 ∷ []) x))) }
+    ensures cause { HasCause (D.faults disk.old) (D.faults disk.new) result }
+
+    ensures tells { is_some (D.bytes disk.new) ≡ is_some (D.bytes disk.old) }
+    ensures size { D.size disk.new ≡ D.size disk.old }
+
+    ensures durable { OnOk result (Told (D.bytes disk.new)
+        (λ x. Only x (D.may_leave disk.new (D.moment disk.new)))) }
+    ensures calls { D.moment disk.new ≤ D.moment disk.old + 4 }
+    ensures any_moment { AtEach D.moment D.may_leave disk.old disk.new
+        (IsTorn (D.may_leave disk.old (D.moment disk.old)) LINE 1) }
+{
+    save_at(disk, LINE, &[0])
+}
+
+/// Closes the first gate, and with it all batches, once the lines are synced. At `Ok` the heap is
+/// the heap region as it stands. It makes a sync, a write and a sync.
+pub fn close<D: Disk>(disk: &mut D, frame: Frame) -> Result<(), DiskFault>
+    requires regions { LieInside frame (D.size disk.old) }
+
+    ensures written { OnOk result (Told (D.bytes disk.old)
+        (λ x. D.bytes disk.new ≡ Some (overwrite LINE (0 ∷ []) x))) }
+    ensures cause { HasCause (D.faults disk.old) (D.faults disk.new) result }
+
+    ensures disk { KeepsDisk D.size D.bytes disk.old disk.new }
+
+    ensures closes { OnOk result (Both (D.bytes disk.old) (D.bytes disk.new)
+        (λ x y. IsOpen frame x (D.may_leave disk.old (D.moment disk.old))
+        → Closes frame x y (D.may_leave disk.new (D.moment disk.new)))) }
+    ensures calls { D.moment disk.new ≤ D.moment disk.old + 6 }
+    // A crash leaves the heap from before the call, or the heap region as it stands.
+    ensures any_moment { Told (D.bytes disk.old)
+        (λ x. IsOpen frame x (D.may_leave disk.old (D.moment disk.old))
+        → AtEach D.moment D.may_leave disk.old disk.new
+        (λ image. GivesSame x image ⊎ Gives (heap_of frame x) image)) }
+{
+    save_lines(disk)?;
+    close_gate(disk)?;
+    Ok(())
+}

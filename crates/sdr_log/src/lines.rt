@@ -1,0 +1,60 @@
+// Lines of the heap region, written to their places.
+ghost use Rattle.std.specs.Prelude.{◌≡◌, ◌≤◌, ◌<◌, ◌+◌, ◌*◌, length, OnOk, Some, is_some};
+ghost use Rattle.sdr_base.specs.Causes.{HasCause};
+ghost use Rattle.sdr_disk.specs.Moments.{AtEach, Writes};
+ghost use Rattle.sdr_disk.specs.Ranges.{overwrite};
+ghost use Rattle.sdr_disk.specs.Told.{Both, Told};
+ghost use Rattle.sdr_log.specs.Calls.{AreBelow, KeepsDisk, MayPut, Puts, with_lines};
+ghost use Rattle.sdr_log.specs.Frame.{LieInside, heap_place};
+ghost use Rattle.sdr_log.specs.Logged.{GivesSame};
+
+use crate::{Frame, Record};
+use sdr_base::LINE;
+use sdr_disk::{Disk, DiskFault};
+
+// Writes a line to its place.
+fn put_line<D: Disk>(disk: &mut D, frame: Frame, line: &Record) -> Result<(), DiskFault>
+    requires regions { LieInside frame (D.size disk.old) }
+    requires below { line.now.line < frame.heap_lines }
+
+    ensures written { OnOk result (Told (D.bytes disk.old) (λ x. D.bytes disk.new
+        ≡ Some (overwrite (heap_place frame + LINE * line.now.line) line.now.bytes x))) }
+    ensures long { length line.now.bytes ≡ LINE }
+    ensures rises { OnOk result (D.moment disk.new ≡ D.moment disk.old + 2) }
+    ensures cause { HasCause (D.faults disk.old) (D.faults disk.new) result }
+
+    ensures tells { is_some (D.bytes disk.new) ≡ is_some (D.bytes disk.old) }
+    ensures size { D.size disk.new ≡ D.size disk.old }
+
+    ensures moments { Writes D.moment D.may_leave (heap_place frame + LINE * line.now.line) LINE
+        disk.old disk.new }
+{
+    disk.write_at(frame.heap_place() + LINE * line.line as u64, &line.bytes)
+}
+
+/// Writes lines to their places, in order, and doesn't sync. It makes a write for each.
+pub fn put_lines<D: Disk>(disk: &mut D, frame: Frame, lines: &[Record]) -> Result<(), DiskFault>
+    requires regions { LieInside frame (D.size disk.old) }
+    requires below { AreBelow frame.heap_lines lines.now }
+
+    ensures written { OnOk result (Told (D.bytes disk.old)
+        (λ x. D.bytes disk.new ≡ Some (with_lines frame lines.now x))) }
+    ensures cause { HasCause (D.faults disk.old) (D.faults disk.new) result }
+
+    ensures disk { KeepsDisk D.size D.bytes disk.old disk.new }
+
+    ensures puts { OnOk result (Both (D.bytes disk.old) (D.bytes disk.new)
+        (λ x y. MayPut frame lines.now x (D.may_leave disk.old (D.moment disk.old))
+        → Puts frame lines.now x y (D.may_leave disk.new (D.moment disk.new)))) }
+    ensures calls { D.moment disk.new ≤ D.moment disk.old + 2 * length lines.now }
+    ensures any_moment { Told (D.bytes disk.old)
+        (λ x. MayPut frame lines.now x (D.may_leave disk.old (D.moment disk.old))
+        → AtEach D.moment D.may_leave disk.old disk.new (GivesSame x)) }
+{
+    let mut rest = lines;
+    while let Some((line, after)) = rest.split_first() {
+        put_line(disk, frame, line)?;
+        rest = after;
+    }
+    Ok(())
+}

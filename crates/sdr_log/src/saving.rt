@@ -1,0 +1,30 @@
+// A write that is synced at once.
+ghost use Rattle.std.specs.Prelude.{◌≡◌, ◌≤◌, ◌+◌, length, OnOk, Some, is_some};
+ghost use Rattle.sdr_base.specs.Causes.{HasCause};
+ghost use Rattle.sdr_disk.specs.Moments.{AtEach, IsTorn, Only};
+ghost use Rattle.sdr_disk.specs.Ranges.{overwrite};
+ghost use Rattle.sdr_disk.specs.Told.{Told};
+
+use sdr_disk::{Disk, DiskFault};
+
+/// Writes bytes from a place on, and syncs. At `Ok` a crash leaves them, and all that was written
+/// before.
+pub fn save_at<D: Disk>(disk: &mut D, place: u64, from: &[u8]) -> Result<(), DiskFault>
+    requires { place + length from.now ≤ D.size disk.old }
+
+    ensures written { OnOk result (Told (D.bytes disk.old)
+        (λ x. D.bytes disk.new ≡ Some (overwrite place from.now x))) }
+    ensures cause { HasCause (D.faults disk.old) (D.faults disk.new) result }
+
+    ensures tells { is_some (D.bytes disk.new) ≡ is_some (D.bytes disk.old) }
+    ensures size { D.size disk.new ≡ D.size disk.old }
+
+    ensures durable { OnOk result (Told (D.bytes disk.new)
+        (λ x. Only x (D.may_leave disk.new (D.moment disk.new)))) }
+    ensures calls { D.moment disk.new ≤ D.moment disk.old + 4 }
+    ensures any_moment { AtEach D.moment D.may_leave disk.old disk.new
+        (IsTorn (D.may_leave disk.old (D.moment disk.old)) place (length from.now)) }
+{
+    disk.write_at(place, from)?;
+    disk.sync()
+}

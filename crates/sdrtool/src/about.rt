@@ -1,0 +1,56 @@
+// What the program says of itself.
+ghost use Rattle.std.specs.Prelude.{◌≡◌, ◌≢◌, ◌⊎◌};
+ghost use Rattle.std.specs.Io.KnownBytes.{Appends};
+ghost use Rattle.sdr_base.specs.Causes.{Rose};
+ghost use Rattle.sdr_base.specs.Written.{AppendsPart};
+
+use sdr_base::{Sink, write_all};
+use sdr_shell::{DONE, OUTPUT_FAULT};
+
+pub const VERSION: &str = "sdrtool 0.1.0\n";
+
+pub const HELP: &str = "\
+sdrtool formats a heap on a disk, and runs the script of its daemons.
+
+    sdrtool DISK format L H      makes an empty heap of the disk: L lines of log
+                                 (2 to 65536), H lines of heap (32 to 262144)
+    sdrtool DISK dry < SCRIPT    runs the script on a machine with no disk
+    sdrtool --help
+    sdrtool --version
+
+DISK    PATH      a file
+        PATH=N    a file that is made, or lengthened with zero bytes, to N bytes
+        -         an empty disk in memory
+
+A line has 64 bytes, and the head of a disk is one line more.
+
+Status    When                                           Last line printed
+0         all was done
+1         the disk can't be opened                       sdrtool: cannot open
+2         the words are none of these forms              usage
+3         the input failed                               input fault
+4         the output failed
+5         the disk failed                                disk fault
+8         line N of the script is refused                line N
+9         want of memory                                 no memory
+10        the disk has HAVE bytes and NEED are needed    too small NEED HAVE
+
+An example: a disk of 81984 bytes has 256 lines of log and 1024 of heap.
+
+    $ sdrtool heap.disk=81984 format 256 1024
+    formatted 256 1024
+";
+
+/// Prints a text, and gives the status.
+pub fn print<K: Sink>(output: &mut K, text: &str) -> u8
+    ensures known { (result ≡ DONE) ⊎ (result ≡ OUTPUT_FAULT) }
+    ensures done { result ≡ DONE → Appends (K.taken output.old) (K.taken output.new) text.now }
+    ensures part { result ≡ OUTPUT_FAULT →
+        AppendsPart (K.taken output.old) (K.taken output.new) text.now }
+    ensures cause { result ≡ OUTPUT_FAULT → Rose (K.faults output.old) (K.faults output.new) }
+{
+    match write_all(output, text.as_bytes()) {
+        Ok(()) => DONE,
+        Err(_) => OUTPUT_FAULT,
+    }
+}
