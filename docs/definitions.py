@@ -5,7 +5,7 @@ import re
 
 root = pathlib.Path(__file__).resolve().parent.parent
 crates = [line.split(":")[0] for line in (root / "crates.txt").read_text().splitlines() if line and line[0] != "#"]
-head = re.compile(r"^(?:abbrev )?pub (?:record |data )?(\S+)")
+head = re.compile(r"^(?:abbrev |unfoldable )?pub (?:record |data )?(\S+)")
 
 out = ["# Definitions", "", "What contracts say, they say with these. Each is one sentence here, as above the definition itself.",
        "`docs/definitions.py` writes this page from the sources.", ""]

@@ -12,16 +12,17 @@ use Rattle.sdr_model.specs.declared.call.Call.TheVariants as calls
 use Rattle.sdr_model.specs.declared.event.Event.TheVariants as events
 use Rattle.sdr_model.specs.declared.world.World.{World}
 use Rattle.sdr_shell.specs.Schedule.{RunsDry}
-use Rattle.sdr_shell.specs.Text.{made_text}
-use Rattle.sdr_shell.specs.declared.script.Statement.TheVariants as statements
-use Rattle.sdr_shell.specs.declared.script.Step.{Step}
+use Rattle.sdr_text.specs.Text.{made_text}
+use Rattle.sdr_words.specs.Verbs.{verbs}
+use Rattle.sdr_model.specs.declared.script.Arg.TheVariants as args
+use Rattle.sdr_model.specs.declared.script.Step.{Step}
 
 -- begin, string "hi", end
 abbrev three_lines : List Step
 three_lines =
-    record { line = 1; daemon = 1; name = []; statement = statements.Begin }
-    ∷ record { line = 2; daemon = 1; name = []; statement = statements.String (codes "hi") }
-    ∷ record { line = 3; daemon = 1; name = []; statement = statements.End } ∷ []
+    record { line = 1; daemon = 1; name = []; verb = 0; args = [] }
+    ∷ record { line = 2; daemon = 1; name = []; verb = 11; args = args.Text (codes "hi") ∷ [] }
+    ∷ record { line = 3; daemon = 1; name = []; verb = 1; args = [] } ∷ []
 
 abbrev opening : Made
 opening = record { line = 1; daemon = 1; event = events.Begin; answer = answers.Lock 1; bytes = [] }
@@ -82,6 +83,7 @@ closes_it : CoreStep core_2 closing core_3
 closes_it = record { machine = (refl, refl, refl); bytes = refl; history = refl }
 
 three_lines_run : RunsDry three_lines [] (opening ∷ making ∷ closing ∷ [])
+unfolding verbs
 three_lines_run = record {
   front = three_lines;
   steps = refl;

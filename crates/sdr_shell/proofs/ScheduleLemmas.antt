@@ -9,11 +9,11 @@ use Rattle.sdr_model.specs.Machine.{Machine, MachineStep, event_moves, first_mac
 use Rattle.sdr_model.specs.declared.answer.Answer.{Answer}
 use Rattle.sdr_model.specs.declared.answer.Answer.TheVariants as answers
 use Rattle.sdr_model.specs.declared.answer.Reply.TheVariants as replies
-use Rattle.sdr_shell.specs.Bindings.{Binding, bound, event_of}
+use Rattle.sdr_words.specs.Bindings.{Binding, bound, event_of}
 use Rattle.sdr_shell.specs.Schedule.{Answers, Follows, MakesEvent, RunsDry, SomeAnswer, SomeRun, answer_line, daemons_of}
-use Rattle.sdr_shell.proofs.TextLemmas.{part_later}
-use Rattle.sdr_shell.specs.Text.{given_text, line_text, made_text}
-use Rattle.sdr_shell.specs.declared.script.Step.{Step}
+use Rattle.sdr_text.proofs.TextLemmas.{part_later}
+use Rattle.sdr_text.specs.Text.{given_text, line_text, made_text}
+use Rattle.sdr_model.specs.declared.script.Step.{Step}
 
 -- what the names hold after the steps were answered so
 abbrev pub bindings_after : List Binding → List Step → List Made → List Binding
@@ -25,7 +25,7 @@ abbrev pub made_of : List Binding → Step → Answer → Machine → Made
 made_of bindings step answer m' = record {
   line = step.line;
   daemon = step.daemon;
-  event = event_of bindings step.daemon step.statement;
+  event = event_of bindings step;
   answer = answer;
   bytes = given_bytes answer m'.current;
 }
@@ -64,7 +64,7 @@ at_start script m is = record {
 
 -- one more step was made
 pub at_next : (script : List Step) (step : Step) (rest : List Step) (made : List Made) (bindings : List Binding) (m m' : Machine) (answer : Answer)
-    → At script (step ∷ rest) made bindings m → Answers m step (event_of bindings step.daemon step.statement) answer m'
+    → At script (step ∷ rest) made bindings m → Answers m step (event_of bindings step) answer m'
     → At script rest (made ++ made_of bindings step answer m' ∷ []) (bound bindings step answer) m'
 at_next script step rest made bindings m m' answer at answers_so =
     let e = made_of bindings step answer m' in
@@ -110,7 +110,7 @@ running_start script m old is = record { made = []; at = at_start script m is; p
 
 -- one more line was printed
 pub running_next : (script : List Step) (step : Step) (rest : List Step) (bindings : List Binding) (m m' : Machine) (old now later : Option (List ℕ)) (answer : Answer)
-    → Running script (step ∷ rest) bindings m old now → Answers m step (event_of bindings step.daemon step.statement) answer m'
+    → Running script (step ∷ rest) bindings m old now → Answers m step (event_of bindings step) answer m'
     → Appends now later (answer_line step answer m') → Running script rest (bound bindings step answer) m' old later
 running_next script step rest bindings m m' old now later answer r answers_so line =
     let e = made_of bindings step answer m' in

@@ -5,12 +5,13 @@ use Rattle.std.proofs.lemmas.Bool.Decides.{leb_tells}
 use Rattle.std.proofs.lemmas.List.Splits.{length-slice_split}
 use Rattle.std.proofs.lemmas.List.Sums.{count_by-le-length}
 use Rattle.std.specs.Io.KnownBytes.{Consumes, IsAtEnd}
-use Rattle.sdr_shell.specs.Reading.{ReadsScript, RefusesLine, NamesLine}
-use Rattle.sdr_shell.specs.Script.{Reading, ◌>>=◌, nothing_read, lines_of, longest_input, line_says, read_line, read_lines, script_of}
-use Rattle.sdr_shell.specs.Still.{Had, HadScript, HadBadLine}
-use Rattle.sdr_shell.specs.declared.script.ScriptError.{ScriptError}
-use Rattle.sdr_shell.specs.declared.script.ScriptError.TheVariants as errors
-use Rattle.sdr_shell.specs.declared.script.Step.{Step}
+use Rattle.sdr_words.specs.Reading.{ReadsScript, RefusesLine, NamesLine}
+use Rattle.sdr_words.specs.Script.{Reading, ◌>>=◌, nothing_read, lines_of, longest_input, line_says, read_line, read_lines, script_of}
+use Rattle.sdr_shell.specs.Served.{accepted_script, first_unserved, script_unless, served}
+use Rattle.sdr_shell.specs.Still.{Had, HadScript, HadBadLine, NamesBadLine}
+use Rattle.sdr_words.specs.declared.error.ScriptError.{ScriptError}
+use Rattle.sdr_words.specs.declared.error.ScriptError.TheVariants as errors
+use Rattle.sdr_model.specs.declared.script.Step.{Step}
 
 -- what two results that are Ok hold is the same
 one_result : {A B : Type 0} {x y : A} → (r : Result A B) → r ≡ Ok x → r ≡ Ok y → x ≡ y
@@ -22,28 +23,39 @@ had_all None new bytes taken end = tt
 had_all (Some xs) None bytes taken end = absurd taken
 had_all (Some xs) (Some ys) bytes taken end = taken ∙ ap (λ l. bytes ++ l) end ∙ append-nil bytes
 
-pub had_script : (old new : Option (List ℕ)) (steps : List Step) → ReadsScript old new steps → HadScript old steps
-had_script old new steps reads = record {
+-- what was read as a script is one
+spelled : (old new : Option (List ℕ)) (steps : List Step) (reads : ReadsScript old new steps) → accepted_script reads.bytes ≡ served steps
+spelled old new steps reads =
+    elim (leb_tells (length reads.bytes) longest_input) [
+      | inl within ↦ ap (λ r. r >>= served) (cond-true _ _ _ within.0 ∙ reads.script)
+      | inr beyond ↦ absurd (omega (arith, beyond.1, reads.within))
+    ]
+
+-- a script of which each statement is served
+pub had_script : (old new : Option (List ℕ)) (steps : List Step) → ReadsScript old new steps → first_unserved steps ≡ None → HadScript old steps
+had_script old new steps reads none = record {
   input = reads.bytes;
   had = had_all old new reads.bytes reads.taken reads.at_end;
-  spells = elim (leb_tells (length reads.bytes) longest_input) [
-    | inl within ↦ cond-true _ _ _ within.0 ∙ reads.script
-    | inr beyond ↦ absurd (omega (arith, beyond.1, reads.within))
-  ];
+  spells = spelled old new steps reads ∙ ap (script_unless steps) none;
 }
 
-same_line : (a b : ℕ) → errors.Line a ≡ errors.Line b → a ≡ b
-same_line a b is = cc
+-- a script of which this line is not served
+pub had_unserved : (old new : Option (List ℕ)) (steps : List Step) (line : ℕ) → ReadsScript old new steps → first_unserved steps ≡ Some line → HadBadLine old line
+had_unserved old new steps line reads is = record {
+  input = reads.bytes;
+  had = had_all old new reads.bytes reads.taken reads.at_end;
+  refused = spelled old new steps reads ∙ ap (script_unless steps) is;
+}
 
 had_bad_line : (old new : Option (List ℕ)) (line : ℕ) → RefusesLine old new line → HadBadLine old line
-had_bad_line None new line reads = record { input = reads.bytes; had = tt; refused = reads.refused }
-had_bad_line (Some input) new line reads = record { input = input; had = refl; refused = reads.whole }
+had_bad_line None new line reads = record { input = reads.bytes; had = tt; refused = ap (λ r. r >>= served) reads.refused }
+had_bad_line (Some input) new line reads = record { input = input; had = refl; refused = ap (λ r. r >>= served) reads.whole }
 
 -- a named line was refused
-pub bad_line_of : (old new : Option (List ℕ)) (error : ScriptError) (line : ℕ) → NamesLine old new error → error ≡ errors.Line line → HadBadLine old line
-bad_line_of old new errors.Input line names is = cc
-bad_line_of old new (errors.Line line') line names is = had_bad_line old new line (subst (RefusesLine old new) (same_line line' line is) names)
-bad_line_of old new errors.NoMemory line names is = cc
+pub bad_line_of : (old new : Option (List ℕ)) (error : ScriptError) → NamesLine old new error → NamesBadLine old error
+bad_line_of old new errors.Input names = tt
+bad_line_of old new (errors.Line line) names = had_bad_line old new line names
+bad_line_of old new errors.NoMemory names = tt
 
 -- a line gives one step at most
 steps_of_line : (reading : Reading) (says : Result (Option Step) ℕ) (now : Reading)
@@ -81,4 +93,4 @@ read_steps_are_few old new steps reads = omega (arith, few_steps reads.bytes ste
 pub read_to_the_end : (old new : Option (List ℕ)) (steps : List Step) → ReadsScript old new steps → IsAtEnd new
 read_to_the_end old new steps reads = reads.at_end
 
-pub ruleset read_scripts = (had_script, read_steps_are_few, read_to_the_end)
+pub ruleset read_scripts = (had_script, had_unserved, bad_line_of, read_steps_are_few, read_to_the_end)

@@ -1,16 +1,18 @@
 -- What a last line adds to a run, and what follows from the statuses.
-use Rattle.std.proofs.Common.{◌≡◌, ◌≤◌, ℕ, List, ◌++◌, inl, inr, Option, Some, None, Ok, IsErr, true≢false, refl, sym, subst, arith}
+use Rattle.std.proofs.Common.{◌≡◌, ◌≤◌, ◌<◌, ◌↔◌, ℕ, List, ◌++◌, ◌⊎◌, inl, inr, Option, Some, None, Ok, Err, IsOk, IsErr, true≢false, refl, sym, subst, arith}
 use Rattle.std.specs.Io.KnownBytes.{Appends}
 use Rattle.std.proofs.KnownBytes.{Appends-trans}
+use Rattle.sdr_base.specs.Causes.{Rose}
 use Rattle.sdr_base.proofs.WrittenLemmas.{rose_later}
 use Rattle.sdr_shell.specs.Schedule.{SomeRun}
-use Rattle.sdr_shell.specs.Script.{input_script}
-use Rattle.sdr_shell.specs.Still.{Writes, HadScript, HadBadLine, HadRun, IsRefused, Tells}
-use Rattle.sdr_shell.specs.declared.script.ScriptError.{ScriptError}
-use Rattle.sdr_shell.specs.declared.script.ScriptError.TheVariants as errors
-use Rattle.sdr_shell.specs.declared.status.TheConstants.{REFUSED_LINE}
-use Rattle.sdr_shell.specs.declared.script.Step.{Step}
-use Rattle.sdr_shell.proofs.TextLemmas.{part_later}
+use Rattle.sdr_shell.specs.Formatting.{IsFormatStatus}
+use Rattle.sdr_shell.specs.Served.{accepted_script}
+use Rattle.sdr_shell.specs.Still.{Writes, HadScript, HadBadLine, HadRun, IsDryStatus, IsRefused, NamesBadLine, Tells}
+use Rattle.sdr_words.specs.declared.error.ScriptError.{ScriptError}
+use Rattle.sdr_words.specs.declared.error.ScriptError.TheVariants as errors
+use Rattle.sdr_shell.specs.declared.status.TheConstants.{DONE, INPUT_FAULT, OUTPUT_FAULT, DISK_FAULT, REFUSED_LINE, NO_MEMORY, TOO_SMALL}
+use Rattle.sdr_model.specs.declared.script.Step.{Step}
+use Rattle.sdr_text.proofs.TextLemmas.{part_later}
 
 -- a last line behind a text that was written whole
 writes_behind : (old mid new : Option (List ℕ)) (before between now : ℕ) (text line : List ℕ)
@@ -31,18 +33,46 @@ some_behind script old mid new before between now line r later w = record {
 }
 
 -- what a told input spells
-told_script : (left : Option (List ℕ)) (bytes : List ℕ) (script : List Step) → left ≡ Some bytes → HadScript left script → input_script bytes ≡ Ok script
+told_script : (left : Option (List ℕ)) (bytes : List ℕ) (script : List Step) → left ≡ Some bytes → HadScript left script → accepted_script bytes ≡ Ok script
 told_script None bytes script told h = cc
 told_script (Some input) bytes script told h = cc (told, h.had, h.spells)
 
 -- an input that is refused was not run
-pub not_run : (left : Option (List ℕ)) (bytes : List ℕ) (P : List Step → List ℕ → Type 0) → left ≡ Some bytes → IsErr (input_script bytes) → HadRun left P → ⊥
+pub not_run : (left : Option (List ℕ)) (bytes : List ℕ) (P : List Step → List ℕ → Type 0) → left ≡ Some bytes → IsErr (accepted_script bytes) → HadRun left P → ⊥
 not_run left bytes P told refused run = absurd (true≢false (sym (subst IsErr (told_script left bytes run.script told run.input) refused)))
 
 -- a status that tells of a refused line stands for one
 pub tells_refused : (error : ScriptError) (status : ℕ) (left old new : Option (List ℕ)) (before now : ℕ)
-    → Tells error status old new before now → status ≡ REFUSED_LINE → ((line : ℕ) → error ≡ errors.Line line → HadBadLine left line)
+    → Tells error status old new before now → status ≡ REFUSED_LINE → NamesBadLine left error
     → IsRefused left old new before now
 tells_refused errors.Input status left old new before now t is bad = absurd (omega (arith, t.0, is))
-tells_refused (errors.Line line) status left old new before now t is bad = record { line = line; input = bad line refl; written = t.1 }
+tells_refused (errors.Line line) status left old new before now t is bad = record { line = line; input = bad; written = t.1 }
 tells_refused errors.NoMemory status left old new before now t is bad = absurd (omega (arith, t.0, is))
+
+told_line : (left : Option (List ℕ)) (bytes : List ℕ) (line : ℕ) → left ≡ Some bytes → HadBadLine left line → accepted_script bytes ≡ Err line
+told_line None bytes line told h = cc
+told_line (Some input) bytes line told h = cc (told, h.had, h.refused)
+
+-- a dry run of an accepted script ends well, unless there is a fault or no memory
+pub dry_completes : (status : ℕ) (left old new : Option (List ℕ)) (source source' before now : ℕ) (bytes : List ℕ) → IsDryStatus status
+    → (status ≡ INPUT_FAULT → Rose source source') → (status ≡ OUTPUT_FAULT → Rose before now) → (status ≡ REFUSED_LINE → IsRefused left old new before now)
+    → left ≡ Some bytes → IsOk (accepted_script bytes) → ¬ Rose source source' → ¬ Rose before now → (status ≡ DONE) ⊎ (status ≡ NO_MEMORY)
+dry_completes status left old new source source' before now bytes known input output refused told ok no_input no_output =
+    elim known [
+      | inl done ↦ inl done
+      | inr (inl is) ↦ absurd (no_input (input is))
+      | inr (inr (inl is)) ↦ absurd (no_output (output is))
+      | inr (inr (inr (inl is))) ↦ absurd (true≢false (sym (subst IsOk (told_line left bytes (refused is).line told (refused is).input) ok)))
+      | inr (inr (inr (inr is))) ↦ inr is
+    ]
+
+-- a disk that is long enough is formatted, unless there is a fault
+pub format_completes : (status size need disk disk' before now : ℕ) → IsFormatStatus status → (status ≡ TOO_SMALL) ↔ (size < need)
+    → (status ≡ DISK_FAULT → Rose disk disk') → (status ≡ OUTPUT_FAULT → Rose before now) → need ≤ size → ¬ Rose disk disk' → ¬ Rose before now → status ≡ DONE
+format_completes status size need disk disk' before now known small fault output enough no_disk no_output =
+    elim known [
+      | inl done ↦ done
+      | inr (inl is) ↦ absurd (no_output (output is))
+      | inr (inr (inl is)) ↦ absurd (no_disk (fault is))
+      | inr (inr (inr is)) ↦ let short = small.0 is in absurd (omega (arith, short, enough))
+    ]

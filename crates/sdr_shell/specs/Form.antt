@@ -6,7 +6,7 @@ use Rattle.std.specs.Cmp.Lexicographic.{pointwise}
 use Rattle.std.specs.Rc.{rc_str_bytes}
 use Rattle.sdr_log.specs.Frame.{is_in_limits}
 use Rattle.sdr_log.specs.declared.frame.Frame.{Frame}
-use Rattle.sdr_shell.specs.Words.{number_of}
+use Rattle.sdr_words.specs.Words.{number_of}
 use Rattle.sdr_shell.specs.declared.form.Form.{Form}
 use Rattle.sdr_shell.specs.declared.form.Form.TheVariants as forms
 

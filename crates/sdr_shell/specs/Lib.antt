@@ -1,13 +1,6 @@
-pub mod Bindings
-pub mod BoundKeys
-pub mod Draft
+pub mod Answers
 pub mod Form
 pub mod Formatting
-pub mod LineAnswers
-pub mod Reading
 pub mod Schedule
-pub mod Script
-pub mod Statements
+pub mod Served
 pub mod Still
-pub mod Text
-pub mod Words

@@ -5,9 +5,9 @@ use Rattle.sdr_model.specs.Core.{Core, Made, RunsCore, first_core, given_bytes}
 use Rattle.sdr_model.specs.Machine.{Machine, MachineStep, event_moves}
 use Rattle.sdr_model.specs.declared.answer.Answer.{Answer}
 use Rattle.sdr_model.specs.declared.event.Event.{Event}
-use Rattle.sdr_shell.specs.Bindings.{Binding, event_of, bound}
-use Rattle.sdr_shell.specs.Text.{line_text, made_text}
-use Rattle.sdr_shell.specs.declared.script.Step.{Step}
+use Rattle.sdr_words.specs.Bindings.{Binding, event_of, bound}
+use Rattle.sdr_text.specs.Text.{line_text, made_text}
+use Rattle.sdr_model.specs.declared.script.Step.{Step}
 
 -- the numbers that daemons may have, from 1 to 16
 abbrev pub all_daemons : List ℕ
@@ -21,7 +21,7 @@ daemons_of script = filter (λ daemon. list_any (λ step. step.daemon == daemon)
 pub record MakesEvent (bindings : List Binding) (step : Step) (e : Made) : Type 0 where
   pub line : e.line ≡ step.line
   pub daemon : e.daemon ≡ step.daemon
-  pub event : e.event ≡ event_of bindings step.daemon step.statement
+  pub event : e.event ≡ event_of bindings step
 
 -- The steps make these events in order. Each answer gives its step's name what it holds from then on.
 abbrev pub Follows : List Binding → List Step → List Made → Type 0
@@ -46,7 +46,7 @@ pub record SomeLine (m : Machine) (step : Step) (event : Event) (m' : Machine) (
 
 -- Some answer to a step under what the names hold, of whose printed line P tells.
 abbrev pub SomeAnswer : Machine → List Binding → Step → Machine → (List ℕ → Type 0) → Type 0
-SomeAnswer m bindings step m' P = SomeLine m step (event_of bindings step.daemon step.statement) m' P
+SomeAnswer m bindings step m' P = SomeLine m step (event_of bindings step) m' P
 
 -- The same, where the step's name holds from then on what the answer gave it.
 pub record SomeStep (m : Machine) (bindings : List Binding) (step : Step) (m' : Machine) (bindings' : List Binding) (P : List ℕ → Type 0) : Type 0 where

@@ -4,10 +4,10 @@ use Rattle.std.specs.Io.KnownBytes.{Appends, IsAtEnd}
 use Rattle.sdr_base.specs.Causes.{Rose}
 use Rattle.sdr_base.specs.Written.{AppendsPart}
 use Rattle.sdr_shell.specs.Schedule.{SomeRun}
-use Rattle.sdr_shell.specs.Script.{input_script}
-use Rattle.sdr_shell.specs.declared.script.ScriptError.{ScriptError}
-use Rattle.sdr_shell.specs.declared.script.ScriptError.TheVariants as errors
-use Rattle.sdr_shell.specs.declared.script.Step.{Step}
+use Rattle.sdr_shell.specs.Served.{accepted_script}
+use Rattle.sdr_words.specs.declared.error.ScriptError.{ScriptError}
+use Rattle.sdr_words.specs.declared.error.ScriptError.TheVariants as errors
+use Rattle.sdr_model.specs.declared.script.Step.{Step}
 use Rattle.sdr_shell.specs.declared.status.TheConstants.{DONE, INPUT_FAULT, OUTPUT_FAULT, REFUSED_LINE, NO_MEMORY}
 
 -- the text was written whole, or a part of it from the front where the sink's count of faults rose
@@ -23,13 +23,19 @@ Had (Some left) input = left ≡ input
 pub record HadScript (left : Option (List ℕ)) (script : List Step) : Type 0 where
   pub input : List ℕ
   pub had : Had left input
-  pub spells : input_script input ≡ Ok script
+  pub spells : accepted_script input ≡ Ok script
 
 -- the first refused line of the source's input is this one
 pub record HadBadLine (left : Option (List ℕ)) (line : ℕ) : Type 0 where
   pub input : List ℕ
   pub had : Had left input
-  pub refused : input_script input ≡ Err line
+  pub refused : accepted_script input ≡ Err line
+
+-- where an error names a line, that line of the source's input is the first that is refused
+abbrev pub NamesBadLine : Option (List ℕ) → ScriptError → Type 0
+NamesBadLine left errors.Input = ⊤
+NamesBadLine left (errors.Line line) = HadBadLine left line
+NamesBadLine left errors.NoMemory = ⊤
 
 -- The source's input spelled a script, of which some run of the first steps went so.
 pub record HadRun (left : Option (List ℕ)) (P : List Step → List ℕ → Type 0) : Type 0 where

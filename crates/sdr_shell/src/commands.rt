@@ -1,31 +1,31 @@
 // The calls that wait for nobody.
 ghost use Rattle.std.specs.Prelude.{◌≡◌, ◌≢◌, ◌≤◌, ◌<◌, ◌+◌, ◌↔◌, ◌⊎◌, ◌++◌, List, ℕ, codes};
-ghost use Rattle.std.specs.Prelude.{None, Some, [], IsOk, IsErr, length, is_some};
-ghost use Rattle.std.specs.Io.KnownBytes.{Appends};
+ghost use Rattle.std.specs.Prelude.{None, Some, [], IfErr, IfOk, IsErrOf, IsOk, IsErr, OnOk, length, is_some};
+ghost use Rattle.std.specs.Io.KnownBytes.{Appends, IsAtEnd};
 ghost use Rattle.sdr_base.specs.Causes.{Rose};
 ghost use Rattle.sdr_log.specs.Frame.{disk_bytes};
+ghost use Rattle.sdr_shell.specs.Answers.{AnswersDry, AnswersFormat, Wrote, seen};
 ghost use Rattle.sdr_shell.specs.Form.{form_of, OnFormat};
 ghost use Rattle.sdr_shell.specs.Formatting.{line_formatted, line_too_small, IsFormatted};
 ghost use Rattle.sdr_shell.specs.Formatting.{HasFormatted, IsFormatStatus, LeavesDisk};
-ghost use Rattle.sdr_shell.specs.Script.{input_script};
+ghost use Rattle.sdr_shell.specs.Served.{accepted_script, first_unserved};
 ghost use Rattle.sdr_shell.specs.Schedule.{SomeRun};
-ghost use Rattle.sdr_shell.specs.Still.{Writes, HadRun, IsDone, IsRefused, IsDryStatus, IsStarved, Tells, line_refused};
+ghost use Rattle.sdr_shell.specs.Still.{Writes, HadRun, HadScript, NamesBadLine, IsDone, IsRefused, IsDryStatus, IsStarved, Tells, line_refused};
 ghost use Rattle.sdr_base.specs.Written.{AppendsPart};
 
 use crate::Outcome;
 use crate::form::{Form, form_of};
 use crate::formatting::format_disk;
 use crate::last_line::last_line;
-use crate::line::Line;
-use crate::read::read_script;
 use crate::run::{RunError, run};
-use crate::script::{ScriptError, Step};
 use crate::status::{
     DISK_FAULT, DONE, INPUT_FAULT, NO_MEMORY, OUTPUT_FAULT, REFUSED_LINE, TOO_SMALL, USAGE,
 };
-use sdr_base::{Media, Sink, Source};
+use sdr_base::{Media, NoMemory, Sink, Source};
 use sdr_disk::Disk;
-use sdr_model::Journal;
+use sdr_model::{Journal, Script, Step};
+use sdr_text::Line;
+use sdr_words::{Bindings, ScriptError, read_script};
 use std::alloc::Global;
 use std::rc::RcStr;
 
@@ -44,7 +44,8 @@ fn refuse_line<K: Sink>(output: &mut K, line: u64)
 
 // Runs a script.
 fn run_script<K: Sink>(alloc: Global, script: &[Step], output: &mut K) -> u8
-    requires { length script.now ≤ 1048577 }
+    requires few { length script.now ≤ 1048577 }
+    requires served { first_unserved script.now ≡ None }
     ensures known { (result ≡ DONE) ⊎ (result ≡ OUTPUT_FAULT) ⊎ (result ≡ NO_MEMORY) }
     ensures later { K.faults output.old ≤ K.faults output.new }
     ensures done { result ≡ DONE → SomeRun script.now (λ rest text.
@@ -87,8 +88,41 @@ fn tell<K: Sink>(error: &ScriptError, output: &mut K) -> u8
     }
 }
 
-// A dry run of the input's script.
+// The line of the first statement that isn't served yet.
+fn first_unserved(alloc: Global, script: &[Step]) -> Result<Option<u64>, NoMemory>
+    ensures { IfOk result (λ line. line ≡ first_unserved script.now) }
+{
+    let nothing = Bindings::new(alloc);
+    let mut rest = script;
+    while let Some((step, after)) = rest.split_first() {
+        if !nothing.event(alloc, step)?.is_built() {
+            return Ok(Some(step.line));
+        }
+        rest = after;
+    }
+    Ok(None)
+}
+
+// Reads a script of statements that are all served.
 #[tactic(auto, using(crate::proofs::ScriptRead::read_scripts))]
+fn read_served<S: Source>(alloc: Global, input: &mut S) -> Result<Script, ScriptError>
+    ensures had { IfOk result (HadScript (S.left input.old)) }
+    ensures few { IfOk result (λ script. length script ≤ 1048577) }
+    ensures served { IfOk result (λ script. first_unserved script ≡ None) }
+    ensures at_end { OnOk result (IsAtEnd (S.left input.new)) }
+    ensures line { IfErr result (NamesBadLine (S.left input.old)) }
+    ensures later { S.faults input.old ≤ S.faults input.new }
+    ensures reads { S.reads input.new ≤ S.reads input.old + 1048577 }
+    ensures input { IsErrOf result ScriptError.Input → Rose (S.faults input.old) (S.faults input.new) }
+{
+    let script = read_script(alloc, input)?;
+    match first_unserved(alloc, script.as_slice())? {
+        Some(line) => Err(ScriptError::Line { line }),
+        None => Ok(script),
+    }
+}
+
+// A dry run of the input's script.
 fn dry<S: Source, K: Sink>(alloc: Global, input: &mut S, output: &mut K) -> u8
     ensures known { IsDryStatus result }
     ensures later { (S.faults input.old ≤ S.faults input.new) × (K.faults output.old ≤ K.faults output.new) }
@@ -107,7 +141,7 @@ fn dry<S: Source, K: Sink>(alloc: Global, input: &mut S, output: &mut K) -> u8
     ensures starved { result ≡ NO_MEMORY → IsStarved (S.left input.old)
         (K.taken output.old) (K.taken output.new) (K.faults output.old) (K.faults output.new) }
 {
-    match read_script(alloc, input) {
+    match read_served(alloc, input) {
         Ok(script) => run_script(alloc, script.as_slice(), output),
         Err(error) => tell(&error, output),
     }
@@ -138,72 +172,26 @@ pub fn still<D: Disk, M: Media, S: Source, K: Sink>(
     input: &mut S,
     output: &mut K,
 ) -> Outcome<D, M>
-    // which statuses
+    // The words are no form.
     ensures usage { (result.status ≡ USAGE) ↔ (form_of words.now ≡ None) }
-    ensures known_dry { form_of words.now ≡ Some Form.Dry → IsDryStatus result.status }
-    ensures known_format { OnFormat (form_of words.now) (λ _. IsFormatStatus result.status) }
-
-    // every form
     ensures usage_text { result.status ≡ USAGE →
-        Writes (K.taken output.old) (K.taken output.new) (K.faults output.old) (K.faults output.new)
-        (codes "usage\n") }
-    ensures later { (S.faults input.old ≤ S.faults input.new) × (K.faults output.old ≤ K.faults output.new) }
-    ensures disk_later { D.faults disk ≤ D.faults result.disk }
-    ensures reads { S.reads input.new ≤ S.reads input.old + 1048577 }
-    ensures media { result.media ≡ media }
-    ensures journal { result.journal ≡ [] }
-    ensures input { result.status ≡ INPUT_FAULT → Rose (S.faults input.old) (S.faults input.new) }
-    ensures input_text { result.status ≡ INPUT_FAULT →
-        Writes (K.taken output.old) (K.taken output.new) (K.faults output.old) (K.faults output.new)
-        (codes "input fault\n") }
-    ensures output { result.status ≡ OUTPUT_FAULT → Rose (K.faults output.old) (K.faults output.new) }
-    ensures fault { result.status ≡ DISK_FAULT → Rose (D.faults disk) (D.faults result.disk) }
-    ensures fault_text { result.status ≡ DISK_FAULT →
-        Writes (K.taken output.old) (K.taken output.new) (K.faults output.old) (K.faults output.new)
-        (codes "disk fault\n") }
-    ensures refused { result.status ≡ REFUSED_LINE → IsRefused (S.left input.old)
-        (K.taken output.old) (K.taken output.new) (K.faults output.old) (K.faults output.new) }
-    ensures starved { result.status ≡ NO_MEMORY → IsStarved (S.left input.old)
-        (K.taken output.old) (K.taken output.new) (K.faults output.old) (K.faults output.new) }
+        Wrote (seen K.taken K.faults output.old) (seen K.taken K.faults output.new) (codes "usage\n") }
 
-    // the disk
+    // What the forms answer.
+    ensures dry { form_of words.now ≡ Some Form.Dry → (result.disk ≡ disk) × AnswersDry result.status
+        (seen S.left S.faults input.old) (seen S.left S.faults input.new)
+        (seen K.taken K.faults output.old) (seen K.taken K.faults output.new) }
+    ensures format { OnFormat (form_of words.now) (λ frame. (input.new ≡ input.old)
+        × AnswersFormat result.status frame (D.size disk)
+        (seen D.bytes D.faults disk) (seen D.bytes D.faults result.disk)
+        (seen K.taken K.faults output.old) (seen K.taken K.faults output.new)) }
+
+    // Every form.
+    ensures counts { (S.faults input.old ≤ S.faults input.new) × (K.faults output.old ≤ K.faults output.new)
+        × (D.faults disk ≤ D.faults result.disk) × (S.reads input.new ≤ S.reads input.old + 1048577) }
+    ensures given { (result.media ≡ media) × (result.journal ≡ []) }
     ensures same { LeavesDisk result.status → result.disk ≡ disk }
-    ensures same_dry { form_of words.now ≡ Some Form.Dry → result.disk ≡ disk }
-    ensures tells { is_some (D.bytes result.disk) ≡ is_some (D.bytes disk) }
-    ensures size { D.size result.disk ≡ D.size disk }
-
-    // `dry`
-    ensures done { form_of words.now ≡ Some Form.Dry → result.status ≡ DONE →
-        IsDone (S.left input.old) (S.left input.new) (K.taken output.old) (K.taken output.new) }
-    ensures part { form_of words.now ≡ Some Form.Dry → result.status ≡ OUTPUT_FAULT →
-        HadRun (S.left input.old) (λ rest text. AppendsPart (K.taken output.old) (K.taken output.new) text) }
-    // A script that is refused is not run.
-    ensures exact { (bytes : List ℕ) → form_of words.now ≡ Some Form.Dry →
-        S.left input.old ≡ Some bytes → IsErr (input_script bytes) →
-        (result.status ≢ DONE) × (result.status ≢ OUTPUT_FAULT) }
-    // A script that is accepted is run to its end, unless there is a fault or no memory.
-    ensures complete { (bytes : List ℕ) → form_of words.now ≡ Some Form.Dry →
-        S.left input.old ≡ Some bytes → IsOk (input_script bytes) →
-        ¬ Rose (S.faults input.old) (S.faults input.new) → ¬ Rose (K.faults output.old) (K.faults output.new) →
-        (result.status ≡ DONE) ⊎ (result.status ≡ NO_MEMORY) }
-
-    // `format`
-    ensures unread { OnFormat (form_of words.now) (λ _. input.new ≡ input.old) }
-    ensures formatted { OnFormat (form_of words.now) (λ frame. HasFormatted result.status →
-        IsFormatted frame (D.bytes disk) (D.bytes result.disk)) }
-    ensures formatted_text { OnFormat (form_of words.now) (λ frame. result.status ≡ DONE →
-        Appends (K.taken output.old) (K.taken output.new) (line_formatted frame)) }
-    ensures formatted_part { OnFormat (form_of words.now) (λ frame. result.status ≡ OUTPUT_FAULT →
-        AppendsPart (K.taken output.old) (K.taken output.new) (line_formatted frame)) }
-    ensures small { OnFormat (form_of words.now) (λ frame.
-        (result.status ≡ TOO_SMALL) ↔ (D.size disk < disk_bytes frame)) }
-    ensures small_text { OnFormat (form_of words.now) (λ frame. result.status ≡ TOO_SMALL →
-        Writes (K.taken output.old) (K.taken output.new) (K.faults output.old) (K.faults output.new)
-        (line_too_small (disk_bytes frame) (D.size disk))) }
-    // A disk that is long enough is formatted, unless there is a fault.
-    ensures complete_format { OnFormat (form_of words.now) (λ frame. disk_bytes frame ≤ D.size disk →
-        ¬ Rose (D.faults disk) (D.faults result.disk) → ¬ Rose (K.faults output.old) (K.faults output.new) →
-        result.status ≡ DONE) }
+    ensures told { (is_some (D.bytes result.disk) ≡ is_some (D.bytes disk)) × (D.size result.disk ≡ D.size disk) }
 {
     match form_of(words) {
         Some(Form::Dry) => {

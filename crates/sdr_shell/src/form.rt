@@ -3,10 +3,10 @@ ghost use Rattle.std.specs.Prelude.{◌≡◌, IfSome};
 ghost use Rattle.std.specs.Rc.{rc_str_bytes};
 ghost use Rattle.sdr_log.specs.Frame.{IsInLimits};
 ghost use Rattle.sdr_shell.specs.Form.{frame_of, form_of, OnFormat};
-ghost use Rattle.sdr_shell.specs.Words.{number_of};
+ghost use Rattle.sdr_words.specs.Words.{number_of};
 
-use crate::words::number_of;
 use sdr_log::Frame;
+use sdr_words::number_of;
 use std::rc::RcStr;
 
 /// What the words ask for.

@@ -3,7 +3,7 @@
 use crate::{DISK_FAULT, DONE, OUTPUT_FAULT, TOO_SMALL, USAGE, still};
 use sdr_base::{Bytes, MemorySink, MemorySource, NoMedia};
 use sdr_disk::{Disk, MemoryDisk};
-use std::alloc::Global;
+use std::alloc::{AllocError, Global};
 use std::rc::RcStr;
 use std::test::Fail;
 
@@ -29,24 +29,50 @@ fn no_faults(alloc: Global) -> Faults {
     }
 }
 
-// What words are answered on a disk of so many bytes 7.
-fn answer_to(alloc: Global, words: &[&str], size: usize, faults: Faults) -> Result<Answered, Fail> {
+fn words_in(alloc: Global, words: &[&str]) -> Result<Vec<RcStr>, AllocError> {
     let mut given = Vec::new(alloc);
     for word in words {
         given.push(RcStr::from_str(alloc, word)?)?;
     }
-    let disk = MemoryDisk::new(vec![in alloc; 7; size]?, faults.disk);
-    let mut input = MemorySource::new(Bytes::copied(alloc, b"")?, Vec::new(alloc));
-    let mut output = MemorySink::new(alloc, faults.output);
-    let outcome = still(alloc, &given, disk, NoMedia::new(), &mut input, &mut output);
-    let mut disk = outcome.disk;
+    Ok(given)
+}
+
+// A disk of so many bytes 7.
+fn disk_in(alloc: Global, size: usize, failing: Vec<u64>) -> Result<MemoryDisk, AllocError> {
+    Ok(MemoryDisk::new(vec![in alloc; 7; size]?, failing))
+}
+
+fn no_input(alloc: Global) -> MemorySource {
+    MemorySource::new(Bytes::new(alloc), Vec::new(alloc))
+}
+
+// What words leave: the status and the disk, beside what the output took.
+fn left_by(
+    alloc: Global,
+    words: &[RcStr],
+    disk: MemoryDisk,
+    output: &mut MemorySink,
+) -> (u8, MemoryDisk) {
+    let mut input = no_input(alloc);
+    let outcome = still(alloc, words, disk, NoMedia::new(), &mut input, output);
+    (outcome.status, outcome.disk)
+}
+
+fn bytes_of(alloc: Global, mut disk: MemoryDisk) -> Result<Vec<u8>, Fail> {
     let mut bytes = vec![in alloc; 0; disk.len() as usize]?;
     disk.read_at(0, &mut bytes)?;
-    Ok(Answered {
-        status: outcome.status,
-        text: Vec::from_slice(alloc, output.taken())?,
-        disk: bytes,
-    })
+    Ok(bytes)
+}
+
+// What words are answered on a disk of so many bytes 7.
+fn answer_to(alloc: Global, words: &[&str], size: usize, faults: Faults) -> Result<Answered, Fail> {
+    let words = words_in(alloc, words)?;
+    let disk = disk_in(alloc, size, faults.disk)?;
+    let mut output = MemorySink::new(alloc, faults.output);
+    let (status, disk) = left_by(alloc, &words, disk, &mut output);
+    let disk = bytes_of(alloc, disk)?;
+    let text = Vec::from_slice(alloc, output.taken())?;
+    Ok(Answered { status, text, disk })
 }
 
 #[test]

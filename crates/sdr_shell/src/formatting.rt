@@ -9,12 +9,12 @@ ghost use Rattle.sdr_shell.specs.Formatting.{line_formatted, line_too_small, IsF
 ghost use Rattle.sdr_shell.specs.Still.{Writes};
 
 use crate::last_line::last_line;
-use crate::line::Line;
 use crate::status::{DISK_FAULT, DONE, OUTPUT_FAULT, TOO_SMALL};
 use sdr_base::{Sink, write_all};
 use sdr_disk::Disk;
 use sdr_image::{FormatError, format};
 use sdr_log::Frame;
+use sdr_text::Line;
 
 // Tells that the disk is formatted.
 fn tell_formatted<K: Sink>(output: &mut K, frame: Frame) -> u8

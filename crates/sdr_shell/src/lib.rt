@@ -8,28 +8,16 @@
 //!    stands survives a fault of the sink.
 #![tactic(auto)]
 
-mod bindings;
 mod commands;
-mod draft;
-mod fields;
 mod form;
 #[cfg(test)]
 mod form_tests;
 mod formatting;
 mod last_line;
-mod line;
-mod lines;
 mod outcome;
-mod read;
 mod run;
-mod script;
-#[cfg(test)]
-mod script_tests;
-mod statements;
 mod status;
-mod text;
 mod top_call;
-mod words;
 
 pub use commands::still;
 pub use outcome::Outcome;

@@ -1,17 +1,19 @@
 // A dry run.
-ghost use Rattle.std.specs.Prelude.{◌≡◌, ◌≤◌, ◌<◌, ◌+◌, IfOk, OnOk, ◌==◌, ◌⊎◌, length, [], filter};
+ghost use Rattle.std.specs.Prelude.{◌≡◌, ◌≤◌, ◌<◌, ◌+◌, IfOk, OnOk, ◌==◌, ◌⊎◌, length, None, true, [], filter};
 ghost use Rattle.std.specs.List.{list_any, range_with_len};
 ghost use Rattle.std.specs.Io.KnownBytes.{Appends, Keeps};
 ghost use Rattle.sdr_base.specs.Causes.{Rose};
 ghost use Rattle.sdr_base.specs.Written.{AppendsPart};
+ghost use Rattle.sdr_model.specs.Built.{is_built_event};
 ghost use Rattle.sdr_model.specs.Machine.{first_machine};
+ghost use Rattle.sdr_shell.specs.Served.{first_unserved};
+ghost use Rattle.sdr_words.specs.Bindings.{event_of};
 ghost use Rattle.sdr_shell.specs.Schedule.{Answers, SomeAnswer, SomeLine, SomeRun, SomeStep, answer_line, daemons_of, all_daemons};
 
-use crate::bindings::Bindings;
-use crate::script::Step;
-use crate::text::write_answer;
 use sdr_base::{NoMemory, Sink, SinkFault};
-use sdr_model::{Answer, Event, Plain};
+use sdr_model::{Answer, Event, Plain, Step};
+use sdr_text::write_answer;
+use sdr_words::Bindings;
 use std::alloc::{AllocFailed, Global};
 use thiserror::Error;
 
@@ -52,7 +54,8 @@ fn answer<K: Sink>(
     event: &Event,
     out: &mut K,
 ) -> Result<Answer, RunError>
-    requires { plain.old.events < 2_097_152 }
+    requires few { plain.old.events < 2_097_152 }
+    requires built { is_built_event event.now ≡ true }
     ensures answers { IfOk result (λ given.
         Answers plain.old.machine step.now event.now given plain.new.machine) }
     ensures printed { IfOk result (λ given.
@@ -71,6 +74,7 @@ fn answer<K: Sink>(
 }
 
 // Makes one step: its event, its printed answer, and what its name holds from then on.
+#[tactic(auto, using(crate::proofs::ServedLemmas::built_now))]
 fn make<K: Sink>(
     alloc: Global,
     plain: &mut Plain,
@@ -78,7 +82,8 @@ fn make<K: Sink>(
     step: &Step,
     out: &mut K,
 ) -> Result<(), RunError>
-    requires { plain.old.events < 2_097_152 }
+    requires few { plain.old.events < 2_097_152 }
+    requires served { is_built_event (event_of [] step.now) ≡ true }
     ensures ok { OnOk result (SomeStep plain.old.machine bindings.old step.now plain.new.machine bindings.new
         (Appends (K.taken out.old) (K.taken out.new))) }
     ensures events { OnOk result (plain.new.events ≡ plain.old.events + 1) }
@@ -112,6 +117,7 @@ fn daemons_of(alloc: Global, script: &[Step]) -> Result<Vec<u8>, NoMemory>
 }
 
 // Makes the steps of a script in order, on a machine before any event.
+#[tactic(auto, using(crate::proofs::ServedLemmas::serving))]
 fn run_on<K: Sink>(
     alloc: Global,
     plain: &mut Plain,
@@ -122,6 +128,7 @@ fn run_on<K: Sink>(
     requires few { length script.now < 2_097_152 }
     requires plain { plain.old ≡ record { machine = first_machine (daemons_of script.now); events = 0 } }
     requires bindings { bindings.old ≡ [] }
+    requires served { first_unserved script.now ≡ None }
     ensures ok { OnOk result (SomeRun script.now (λ rest text.
         (rest ≡ []) × Appends (K.taken out.old) (K.taken out.new) text)) }
     ensures memory { result ≡ Err RunError.NoMemory →
@@ -142,7 +149,8 @@ fn run_on<K: Sink>(
 /// Makes the steps of a script in order, on a plain machine of the daemons that it names, and prints
 /// the line of each answer.
 pub fn run<K: Sink>(alloc: Global, script: &[Step], out: &mut K) -> Result<(), RunError>
-    requires { length script.now < 2_097_152 }
+    requires few { length script.now < 2_097_152 }
+    requires served { first_unserved script.now ≡ None }
     ensures ok { OnOk result (SomeRun script.now (λ rest text.
         (rest ≡ []) × Appends (K.taken out.old) (K.taken out.new) text)) }
     ensures memory { result ≡ Err RunError.NoMemory →

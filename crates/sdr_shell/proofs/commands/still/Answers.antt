@@ -1,12 +1,56 @@
-use Rattle.std.proofs.Common.{sym, ◌∙◌}
-use Rattle.sdr_shell.proofs.StillLemmas.{not_run}
+use Rattle.std.proofs.Common.{◌≡◌, Some, refl, sym, subst}
+use Rattle.sdr_shell.specs.Answers.{AnswersDry, AnswersFormat, seen}
+use Rattle.sdr_shell.specs.Form.{form_of, OnFormat}
+use Rattle.sdr_shell.specs.declared.form.Form.TheVariants.{Format}
+use Rattle.sdr_shell.proofs.StillLemmas.{dry_completes, format_completes, not_run}
 use Rattle.sdr_shell.proofs.commands.still.Goals as goal
 
-pub returns-in-Some-Dry-clause-exact : goal.returns-in-Some-Dry-clause-exact
-returns-in-Some-Dry-clause-exact g c bytes form told refused = (
-  λ is. not_run _ bytes _ told refused (c.dry-status.ensures.done (sym c.outcome.ensures.status ∙ is)).run,
-  λ is. not_run _ bytes _ told refused (c.dry-status.ensures.part (sym c.outcome.ensures.status ∙ is)),
-)
+pub returns-in-Some-Dry-clause-dry : goal.returns-in-Some-Dry-clause-dry
+returns-in-Some-Dry-clause-dry g c form =
+    let source = seen g.S.Source.left g.S.Source.faults c.args.input.now in
+    let source' = seen g.S.Source.left g.S.Source.faults c.dry-status.new.input in
+    let sink = seen g.K.Sink.taken g.K.Sink.faults c.args.output.now in
+    let sink' = seen g.K.Sink.taken g.K.Sink.faults c.dry-status.new.output in
+    let e = c.dry-status.ensures in
+    let answers : AnswersDry c.dry-status.result source source' sink sink' = record {
+      known = e.known;
+      done = e.done;
+      input = e.input;
+      input_text = e.input_text;
+      output = e.output;
+      part = e.part;
+      refused = e.refused;
+      starved = e.starved;
+      exact = λ bytes told refused. (λ is. not_run _ bytes _ told refused (e.done is).run, λ is. not_run _ bytes _ told refused (e.part is));
+      complete = λ bytes told ok no_input no_output. dry_completes _ _ _ _ _ _ _ _ bytes e.known e.input e.output e.refused told ok no_input no_output;
+    } in
+    (c.outcome.ensures.disk, subst (λ s. AnswersDry s source source' sink sink') (sym c.outcome.ensures.status) answers)
 
-pub returns-in-Some-Format-clause-exact : goal.returns-in-Some-Format-clause-exact
-returns-in-Some-Format-clause-exact g c bytes form told refused = cc (form, c.in-Some-Format.ensures.form)
+pub returns-in-Some-Format-clause-format : goal.returns-in-Some-Format-clause-format
+returns-in-Some-Format-clause-format g c =
+    let disk = seen g.D.Disk.bytes g.D.Disk.faults c.args.disk in
+    let disk' = seen g.D.Disk.bytes g.D.Disk.faults c.format_disk-status.new.disk in
+    let sink = seen g.K.Sink.taken g.K.Sink.faults c.args.output.now in
+    let sink' = seen g.K.Sink.taken g.K.Sink.faults c.format_disk-status.new.output in
+    let e = c.format_disk-status.ensures in
+    let answers : AnswersFormat c.format_disk-status.result c.in-Some-Format.frame (g.D.Disk.size c.args.disk) disk disk' sink sink' = record {
+      known = e.known;
+      formatted = e.formatted;
+      text = e.text;
+      output = e.output;
+      part = e.part;
+      small = e.small;
+      small_text = e.small_text;
+      fault = e.fault;
+      fault_text = e.fault_text;
+      complete = λ enough no_disk no_output. format_completes _ _ _ _ _ _ _ e.known e.small e.fault e.output enough no_disk no_output;
+    } in
+    let form : form_of c.args.words.now ≡ Some (Format c.in-Some-Format.frame) = cc (c.in-Some-Format.ensures.form) in
+    let status = c.outcome-in-Some-Format.ensures.status in
+    let kept = c.outcome-in-Some-Format.ensures.disk in
+    subst (λ o. OnFormat o (λ frame. (c.args.input.now ≡ c.args.input.now) × AnswersFormat c.outcome-in-Some-Format.result.status frame (g.D.Disk.size c.args.disk)
+    disk (seen g.D.Disk.bytes g.D.Disk.faults c.outcome-in-Some-Format.result.disk) sink sink')) (sym form) (
+      refl,
+      subst (λ s. AnswersFormat s c.in-Some-Format.frame (g.D.Disk.size c.args.disk) disk (seen g.D.Disk.bytes g.D.Disk.faults c.outcome-in-Some-Format.result.disk) sink sink') (sym status)
+          (subst (λ d. AnswersFormat c.format_disk-status.result c.in-Some-Format.frame (g.D.Disk.size c.args.disk) disk (seen g.D.Disk.bytes g.D.Disk.faults d) sink sink') (sym kept) answers),
+    )

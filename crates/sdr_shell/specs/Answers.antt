@@ -1,0 +1,52 @@
+-- What each form answers: by status, what was read, written and changed.
+use Rattle.std.specs.Prelude.{◌≡◌, ◌≢◌, ◌≤◌, ◌<◌, ◌↔◌, ◌⊎◌, ℕ, List, Option, Some, IsOk, IsErr, codes}
+use Rattle.std.specs.Io.KnownBytes.{Appends}
+use Rattle.sdr_base.specs.Causes.{Rose}
+use Rattle.sdr_base.specs.Written.{AppendsPart}
+use Rattle.sdr_log.specs.Frame.{disk_bytes}
+use Rattle.sdr_log.specs.declared.frame.Frame.{Frame}
+use Rattle.sdr_shell.specs.Formatting.{line_formatted, line_too_small, IsFormatted, HasFormatted, IsFormatStatus}
+use Rattle.sdr_shell.specs.Served.{accepted_script}
+use Rattle.sdr_shell.specs.Still.{Writes, HadRun, IsDone, IsDryStatus, IsRefused, IsStarved}
+use Rattle.sdr_shell.specs.declared.status.TheConstants.{DONE, INPUT_FAULT, OUTPUT_FAULT, DISK_FAULT, REFUSED_LINE, NO_MEMORY, TOO_SMALL}
+
+-- what a source, a sink or a disk shows: its bytes, where it tells them, and how often it has failed
+pub record Seen : Type 0 where
+  pub bytes : Option (List ℕ)
+  pub faults : ℕ
+
+-- what is seen of one
+abbrev pub seen : {X : Type 0} → (X → Option (List ℕ)) → (X → ℕ) → X → Seen
+seen bytes faults x = record { bytes = bytes x; faults = faults x }
+
+-- the text was written whole, or a part of it from the front where the sink failed
+abbrev pub Wrote : Seen → Seen → List ℕ → Type 0
+Wrote sink sink' text = Writes sink.bytes sink'.bytes sink.faults sink'.faults text
+
+-- What a dry run answers. A script that is refused is not run; one that is accepted is run to its end, unless there is a
+-- fault or no memory.
+pub record AnswersDry (status : ℕ) (source source' sink sink' : Seen) : Type 0 where
+  pub known : IsDryStatus status
+  pub done : status ≡ DONE → IsDone source.bytes source'.bytes sink.bytes sink'.bytes
+  pub input : status ≡ INPUT_FAULT → Rose source.faults source'.faults
+  pub input_text : status ≡ INPUT_FAULT → Wrote sink sink' (codes "input fault\n")
+  pub output : status ≡ OUTPUT_FAULT → Rose sink.faults sink'.faults
+  pub part : status ≡ OUTPUT_FAULT → HadRun source.bytes (λ rest text. AppendsPart sink.bytes sink'.bytes text)
+  pub refused : status ≡ REFUSED_LINE → IsRefused source.bytes sink.bytes sink'.bytes sink.faults sink'.faults
+  pub starved : status ≡ NO_MEMORY → IsStarved source.bytes sink.bytes sink'.bytes sink.faults sink'.faults
+  pub exact : (bytes : List ℕ) → source.bytes ≡ Some bytes → IsErr (accepted_script bytes) → (status ≢ DONE) × (status ≢ OUTPUT_FAULT)
+  pub complete : (bytes : List ℕ) → source.bytes ≡ Some bytes → IsOk (accepted_script bytes) → ¬ Rose source.faults source'.faults
+      → ¬ Rose sink.faults sink'.faults → (status ≡ DONE) ⊎ (status ≡ NO_MEMORY)
+
+-- What formatting a disk of this size answers. One that is long enough is formatted, unless there is a fault.
+pub record AnswersFormat (status : ℕ) (frame : Frame) (size : ℕ) (disk disk' sink sink' : Seen) : Type 0 where
+  pub known : IsFormatStatus status
+  pub formatted : HasFormatted status → IsFormatted frame disk.bytes disk'.bytes
+  pub text : status ≡ DONE → Appends sink.bytes sink'.bytes (line_formatted frame)
+  pub output : status ≡ OUTPUT_FAULT → Rose sink.faults sink'.faults
+  pub part : status ≡ OUTPUT_FAULT → AppendsPart sink.bytes sink'.bytes (line_formatted frame)
+  pub small : (status ≡ TOO_SMALL) ↔ (size < disk_bytes frame)
+  pub small_text : status ≡ TOO_SMALL → Wrote sink sink' (line_too_small (disk_bytes frame) size)
+  pub fault : status ≡ DISK_FAULT → Rose disk.faults disk'.faults
+  pub fault_text : status ≡ DISK_FAULT → Wrote sink sink' (codes "disk fault\n")
+  pub complete : disk_bytes frame ≤ size → ¬ Rose disk.faults disk'.faults → ¬ Rose sink.faults sink'.faults → status ≡ DONE

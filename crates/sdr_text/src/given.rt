@@ -1,0 +1,94 @@
+// How bytes that a call gave are printed.
+ghost use Rattle.std.specs.Prelude.{◌≡◌, ◌≤◌, ◌++◌, OnOk, OnErr, length};
+ghost use Rattle.std.specs.Io.KnownBytes.{Appends};
+ghost use Rattle.std.specs.List.{list_all};
+ghost use Rattle.hex.specs.Hex.{encode_lower};
+ghost use Rattle.sdr_base.specs.Causes.{HasCause};
+ghost use Rattle.sdr_base.specs.Written.{AppendsPart};
+ghost use Rattle.sdr_text.specs.Text.{is_text_byte};
+
+use hex::encode_to_slice;
+use sdr_base::{Sink, SinkFault, write_all};
+
+/// So many bytes are put into digits at once.
+const PIECE: usize = 128;
+
+fn write_piece<K: Sink>(out: &mut K, piece: &[u8]) -> Result<(), SinkFault>
+    requires { length piece.now ≤ 128 }
+    ensures ok { OnOk result (Appends (K.taken out.old) (K.taken out.new) (encode_lower piece.now)) }
+    ensures err { OnErr result (AppendsPart (K.taken out.old) (K.taken out.new) (encode_lower piece.now)) }
+    ensures cause { HasCause (K.faults out.old) (K.faults out.new) result }
+{
+    let mut buffer = [0u8; 2 * PIECE];
+    let digits = &mut buffer[..2 * piece.len()];
+    encode_to_slice(piece, digits).unwrap();
+    write_all(out, digits)
+}
+
+// Writes bytes in hexadecimal digits.
+#[tactic(auto, using(sdr_base::proofs::WrittenLemmas::sending))]
+fn write_digits<K: Sink>(out: &mut K, bytes: &[u8]) -> Result<(), SinkFault>
+    ensures ok { OnOk result (Appends (K.taken out.old) (K.taken out.new) (encode_lower bytes.now)) }
+    ensures err { OnErr result (AppendsPart (K.taken out.old) (K.taken out.new) (encode_lower bytes.now)) }
+    ensures cause { HasCause (K.faults out.old) (K.faults out.new) result }
+{
+    let mut rest = bytes;
+    while !rest.is_empty() {
+        let (piece, after) = rest.split_at(rest.len().min(PIECE));
+        write_piece(out, piece)?;
+        rest = after;
+    }
+    Ok(())
+}
+
+/// Writes the front of a line, bytes in hexadecimal digits, and the end of the line.
+#[tactic(auto, using(crate::proofs::TextLemmas::parts))]
+pub fn write_given<K: Sink>(
+    out: &mut K,
+    front: &[u8],
+    bytes: &[u8],
+    end: &[u8],
+) -> Result<(), SinkFault>
+    ensures ok { OnOk result (Appends (K.taken out.old) (K.taken out.new)
+        (front.now ++ encode_lower bytes.now ++ end.now)) }
+    ensures err { OnErr result (AppendsPart (K.taken out.old) (K.taken out.new)
+        (front.now ++ encode_lower bytes.now ++ end.now)) }
+    ensures cause { HasCause (K.faults out.old) (K.faults out.new) result }
+{
+    write_all(out, front)?;
+    write_digits(out, bytes)?;
+    write_all(out, end)
+}
+
+/// Writes the front of a line, a text, and the end of the line.
+#[tactic(auto, using(crate::proofs::TextLemmas::parts))]
+pub fn write_text<K: Sink>(
+    out: &mut K,
+    front: &[u8],
+    text: &[u8],
+    end: &[u8],
+) -> Result<(), SinkFault>
+    ensures ok { OnOk result (Appends (K.taken out.old) (K.taken out.new)
+        (front.now ++ text.now ++ end.now)) }
+    ensures err { OnErr result (AppendsPart (K.taken out.old) (K.taken out.new)
+        (front.now ++ text.now ++ end.now)) }
+    ensures cause { HasCause (K.faults out.old) (K.faults out.new) result }
+{
+    write_all(out, front)?;
+    write_all(out, text)?;
+    write_all(out, end)
+}
+
+// Whether a byte stands for itself between quotation marks.
+fn is_text_byte(byte: u8) -> bool
+    ensures { result ≡ is_text_byte byte }
+{
+    (33..=126).contains(&byte) && byte != b'"'
+}
+
+/// Whether all bytes stand for themselves between quotation marks.
+pub fn are_text_bytes(bytes: &[u8]) -> bool
+    ensures { result ≡ list_all is_text_byte bytes.now }
+{
+    bytes.iter().all(|b| is_text_byte(*b))
+}

@@ -1,0 +1,17 @@
+//! The printed texts: a line for each answer.
+//!
+//! 1. A line is built in place and goes out in one write; a line that shows bytes goes out in pieces.
+//! 2. Nothing here takes memory.
+//! 3. Where the sink fails, a part of the text from its front was written.
+#![tactic(auto)]
+
+mod answer;
+mod given;
+mod line;
+mod refused;
+#[cfg(test)]
+mod tests;
+
+pub use answer::write_answer;
+pub use given::are_text_bytes;
+pub use line::Line;

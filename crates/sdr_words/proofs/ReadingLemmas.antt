@@ -1,0 +1,112 @@
+-- How an input is read line by line.
+use Rattle.std.proofs.Common.{◌≡◌, ◌==◌, ◌<◌, ◌≤◌, ◌+◌, ◌++◌, ℕ, List, [], ◌∷◌, None, Some, Ok, Err, length, ◌-◌, take, drop, refl, ap, sym, ◌∙◌, append_assoc, append-nil, arith}
+use Rattle.std.proofs.lemmas.List.Splits.{length-slice_split}
+use Rattle.sdr_words.proofs.SplitLemmas.{split_cut, split_uncut}
+use Rattle.std.proofs.KnownBytes.{Consumes-nil, Consumes-trans, Consumes-kept}
+use Rattle.sdr_base.specs.Causes.{Rose, counted}
+use Rattle.bstr.specs.Find.{IsFirstByte, is_byte}
+use Rattle.sdr_words.specs.LineAnswers.{Stops}
+use Rattle.sdr_words.specs.declared.error.ScriptError.{ScriptError}
+use Rattle.sdr_words.specs.declared.error.ScriptError.TheVariants as errors
+use Rattle.sdr_words.specs.Script.{◌>>=◌, Reading, lines_of, ended_lines, but_last, read_line, read_lines}
+
+-- an input cut at the first byte 10
+pub lines_cut : (bytes : List ℕ) (end : ℕ) → IsFirstByte (is_byte 10) bytes (Some end)
+    → lines_of bytes ≡ take end bytes ∷ lines_of (take (length bytes - (end + 1)) (drop (end + 1) bytes))
+lines_cut bytes end first = split_cut 10 bytes end first
+
+-- an input without the byte 10 is one line
+pub lines_uncut : (bytes : List ℕ) → IsFirstByte (is_byte 10) bytes None → lines_of bytes ≡ bytes ∷ []
+lines_uncut bytes none = split_uncut 10 bytes none
+
+pub ruleset cutting = (lines_cut, lines_uncut)
+
+but_last-append : {A : Type 0} (xs : List A) (y : A) (ys : List A) → but_last (xs ++ y ∷ ys) ≡ xs ++ but_last (y ∷ ys)
+but_last-append [] y ys = refl
+but_last-append (x ∷ []) y ys = refl
+but_last-append (x ∷ z ∷ xs) y ys = ap (λ l. x ∷ l) (but_last-append (z ∷ xs) y ys)
+
+-- lines behind others are read after them
+pub read_lines-append : (reading : Reading) (xs ys : List (List ℕ)) → read_lines reading (xs ++ ys)
+    ≡ (read_lines reading xs >>= λ now. read_lines now ys)
+read_lines-append reading [] ys = refl
+read_lines-append reading (x ∷ xs) ys =
+    elim (read_line reading x) as (λ r. (r >>= λ now. read_lines now (xs ++ ys))
+    ≡ (r >>= λ now. read_lines now xs) >>= λ now. read_lines now ys)
+    [ Ok now ↦ read_lines-append now xs ys | Err number ↦ refl ]
+
+-- all lines but those of a rest were read
+pub record HasRead (old now : Reading) (bytes rest : List ℕ) : Type 0 where
+  pub done : List (List ℕ)
+  pub parts : lines_of bytes ≡ done ++ lines_of rest
+  pub reads : read_lines old done ≡ Ok now
+
+pub HasRead-none : (old : Reading) (bytes : List ℕ) → HasRead old old bytes bytes
+HasRead-none old bytes = record { done = []; parts = refl; reads = refl }
+
+pub HasRead-more : (old now later : Reading) (bytes rest line after : List ℕ) → HasRead old now bytes rest
+    → lines_of rest ≡ line ∷ lines_of after → read_line now line ≡ Ok later → HasRead old later bytes after
+HasRead-more old now later bytes rest line after read cut reads = record {
+  done = read.done ++ line ∷ [];
+  parts = read.parts ∙ ap (λ l. read.done ++ l) cut ∙ sym (append_assoc read.done (line ∷ []) (lines_of after));
+  reads = read_lines-append old read.done (line ∷ []) ∙ ap (λ r. r >>= λ now. read_lines now (line ∷ [])) read.reads
+      ∙ ap (λ r. r >>= λ now. read_lines now []) reads;
+}
+
+first_of : {A : Type 0} (xs : List A) → 0 < length xs → (x : A) × (ys : List A) × (xs ≡ x ∷ ys)
+first_of [] some = absurd (omega arith)
+first_of (x ∷ xs) some = (x, xs, refl)
+
+-- the ended lines of an input that goes on behind a line
+ended_behind : (bytes line after : List ℕ) (done : List (List ℕ)) → lines_of bytes ≡ done ++ line ∷ lines_of after
+    → ended_lines bytes ≡ done ++ line ∷ ended_lines after
+ended_behind bytes line after done parts =
+    let next = first_of (lines_of after) (omega (arith, length-slice_split (λ b. b == 10) after)) in
+    ap but_last parts ∙ but_last-append done line (lines_of after)
+    ∙ ap (λ l. done ++ but_last (line ∷ l)) next.2 ∙ ap (λ l. done ++ line ∷ but_last l) (sym next.2)
+
+pub HasRead-refused : (old now : Reading) (bytes rest line after : List ℕ) (number : ℕ) → HasRead old now bytes rest
+    → lines_of rest ≡ line ∷ lines_of after → read_line now line ≡ Err number → read_lines old (ended_lines bytes)
+    ≡ Err number
+HasRead-refused old now bytes rest line after number read cut refused =
+    ap (read_lines old) (ended_behind bytes line after read.done (read.parts ∙ ap (λ l. read.done ++ l) cut))
+    ∙ read_lines-append old read.done (line ∷ ended_lines after)
+    ∙ ap (λ r. r >>= λ now. read_lines now (line ∷ ended_lines after)) read.reads
+    ∙ ap (λ r. r >>= λ now. read_lines now (ended_lines after)) refused
+
+-- why the ended lines are not read
+pub Stops-refused : (old now : Reading) (bytes rest line after : List ℕ) (error : ScriptError)
+    → HasRead old now bytes rest → lines_of rest ≡ line ∷ lines_of after
+    → Stops error (read_line now line) → Stops error (read_lines old (ended_lines bytes))
+Stops-refused old now bytes rest line after errors.Input read cut stops = stops
+Stops-refused old now bytes rest line after (errors.Line number) read cut stops =
+    HasRead-refused old now bytes rest line after number read cut stops
+Stops-refused old now bytes rest line after errors.NoMemory read cut stops = tt
+
+-- the ended lines are those before the last
+ended_are_done : (bytes rest : List ℕ) (done : List (List ℕ)) → lines_of bytes ≡ done ++ lines_of rest → lines_of rest
+    ≡ rest ∷ [] → ended_lines bytes ≡ done
+ended_are_done bytes rest done parts last = ap but_last (parts ∙ ap (λ l. done ++ l) last)
+    ∙ but_last-append done rest [] ∙ append-nil done
+
+pub HasRead-all : (old now : Reading) (bytes rest : List ℕ) → HasRead old now bytes rest → lines_of rest ≡ rest ∷ []
+    → read_lines old (ended_lines bytes) ≡ Ok now
+HasRead-all old now bytes rest read last = ap (read_lines old) (ended_are_done bytes rest read.done read.parts last)
+    ∙ read.reads
+
+pub HasRead-last : (old now : Reading) (bytes rest : List ℕ) → HasRead old now bytes rest → lines_of rest ≡ rest ∷ []
+    → lines_of bytes ≡ ended_lines bytes ++ rest ∷ []
+HasRead-last old now bytes rest read last =
+    read.parts ∙ ap (λ l. read.done ++ l) last
+    ∙ ap (λ l. l ++ rest ∷ []) (sym (ended_are_done bytes rest read.done read.parts last))
+
+pub ruleset reading = (HasRead-none, HasRead-more, HasRead-refused, HasRead-all, HasRead-last)
+
+pub rose_later : (first before now : ℕ) → first ≤ before → Rose before now → Rose first now
+rose_later first before now le rose = omega (arith, le, rose)
+
+-- a count goes up by one at most
+pub counted_once : (before now : ℕ) → now ≡ counted before → now ≤ before + 1
+counted_once before now is = omega (arith, is)
+
+pub ruleset taking = (Consumes-nil, Consumes-trans, Consumes-kept, rose_later, counted_once)

@@ -1,0 +1,101 @@
+-- The event that a verb makes of its arguments.
+use Rattle.std.specs.Prelude.{ℕ, [], min, slice_index}
+use Rattle.sdr_base.specs.declared.account.Acct.TheVariants as accounts
+use Rattle.sdr_base.specs.declared.kind.Space.TheVariants as spaces
+use Rattle.sdr_model.specs.declared.call.Call.TheVariants as calls
+use Rattle.sdr_model.specs.declared.event.Event.{Event}
+use Rattle.sdr_model.specs.declared.event.Event.TheVariants as events
+use Rattle.sdr_model.specs.declared.keys.Keys.TheVariants as keys
+use Rattle.sdr_words.specs.declared.given.Given.{Given}
+use Rattle.sdr_words.specs.declared.verb.Verb.{Verb}
+use Rattle.sdr_words.specs.declared.verb.Verb.TheVariants as verbs
+
+-- no arguments: no numbers, no bytes, and of what has no none the first
+abbrev pub nothing_given : Given
+nothing_given =
+    record { numbers = []; text = []; account = accounts.Inbound; space = spaces.File; order = keys.ByBytes }
+
+-- the number at a place among those that were given, 0 where there are no more
+abbrev pub number : Given → ℕ → ℕ
+number g place = slice_index g.numbers place
+
+-- the event of a verb with these arguments
+abbrev pub event_by : Verb → Given → Event
+event_by verbs.Begin g = events.Begin
+event_by verbs.End g = events.End
+event_by verbs.Cancel g = events.Cancel
+event_by verbs.Exit g = events.Exit
+event_by verbs.Await g = events.Look (number g 0)
+event_by verbs.Malloc g = events.Say (calls.Malloc (number g 0))
+event_by verbs.Free g = events.Say (calls.Free (number g 0))
+event_by verbs.Length g = events.Say (calls.Length (number g 0))
+event_by verbs.Read g = events.Say (calls.Read (number g 0) (number g 1) (number g 2))
+event_by verbs.Write g = events.Say (calls.Write (number g 0) (number g 1) g.text)
+event_by verbs.Stage g = events.Say (calls.Stage (number g 0) (number g 1))
+event_by verbs.String g = events.Say (calls.String g.text)
+event_by verbs.StringLength g = events.Say (calls.StringLength (number g 0))
+event_by verbs.StringRead g = events.Say (calls.StringRead (number g 0))
+event_by verbs.StringDup g = events.Say (calls.StringDup (number g 0))
+event_by verbs.List g = events.Say (calls.List (number g 0))
+event_by verbs.ListDestroy g = events.Say (calls.ListDestroy (number g 0))
+event_by verbs.ListLength g = events.Say (calls.ListLength (number g 0))
+event_by verbs.ListUser g = events.Say (calls.ListUser (number g 0))
+event_by verbs.SetListUser g = events.Say (calls.SetListUser (number g 0) (number g 1))
+event_by verbs.InsertFirst g = events.Say (calls.InsertFirst (number g 0) (number g 1))
+event_by verbs.InsertLast g = events.Say (calls.InsertLast (number g 0) (number g 1))
+event_by verbs.InsertBefore g = events.Say (calls.InsertBefore (number g 0) (number g 1))
+event_by verbs.InsertAfter g = events.Say (calls.InsertAfter (number g 0) (number g 1))
+event_by verbs.InsertOrdered g = events.Say (calls.InsertOrdered (number g 0) (number g 1) g.order)
+event_by verbs.Search g = events.Say (calls.Search (number g 0) (number g 1) g.order)
+event_by verbs.Delete g = events.Say (calls.Delete (number g 0))
+event_by verbs.First g = events.Say (calls.First (number g 0))
+event_by verbs.Last g = events.Say (calls.Last (number g 0))
+event_by verbs.Next g = events.Say (calls.Next (number g 0))
+event_by verbs.Prev g = events.Say (calls.Prev (number g 0))
+event_by verbs.Datum g = events.Say (calls.Datum (number g 0))
+event_by verbs.SetDatum g = events.Say (calls.SetDatum (number g 0) (number g 1))
+event_by verbs.Table g = events.Say (calls.Table (number g 0) (number g 1) (number g 2))
+event_by verbs.Row g = events.Say (calls.Row (number g 0) (number g 1))
+event_by verbs.SetRow g = events.Say (calls.SetRow (number g 0) (number g 1) g.text)
+event_by verbs.Dimensions g = events.Say (calls.Dimensions (number g 0))
+event_by verbs.TableUser g = events.Say (calls.TableUser (number g 0))
+event_by verbs.TableDestroy g = events.Say (calls.TableDestroy (number g 0))
+event_by verbs.Hash g = events.Say (calls.Hash (number g 0) (number g 1))
+event_by verbs.HashInsert g = events.Say (calls.HashInsert (number g 0) g.text (number g 1))
+event_by verbs.HashRetrieve g = events.Say (calls.HashRetrieve (number g 0) g.text)
+event_by verbs.HashRevise g = events.Say (calls.HashRevise (number g 0) g.text (number g 1))
+event_by verbs.HashRemove g = events.Say (calls.HashRemove (number g 0) g.text)
+event_by verbs.HashCount g = events.Say (calls.HashCount (number g 0))
+event_by verbs.HashDestroy g = events.Say (calls.HashDestroy (number g 0))
+event_by verbs.Catlg g = events.Say (calls.Catlg g.text (min (number g 0) 4294967295) (number g 1))
+event_by verbs.Find g = events.Say (calls.Find g.text)
+event_by verbs.Uncatlg g = events.Say (calls.Uncatlg g.text)
+event_by verbs.Entry g = events.Say (calls.Entry (number g 0))
+event_by verbs.FileRef g = events.Say (calls.FileRef g.text (number g 0))
+event_by verbs.BulkRef g = events.Say (calls.BulkRef (number g 0) (number g 1))
+event_by verbs.ObjRef g = events.Say (calls.ObjRef (number g 0))
+event_by verbs.DestroyRef g = events.Say (calls.DestroyRef (number g 0))
+event_by verbs.Count g = events.Say (calls.Count (number g 0))
+event_by verbs.Occupancy g = events.Say (calls.Occupancy g.account g.space)
+event_by verbs.Maximum g = events.Say (calls.Maximum g.account g.space)
+event_by verbs.SetMaximum g = events.Say (calls.SetMaximum g.account g.space (number g 0))
+event_by verbs.Create g = events.Say (calls.Create g.account (number g 0))
+event_by verbs.AppendExtent g = events.Say (calls.AppendExtent (number g 0) (number g 1) (number g 2) (number g 3) (number g 4))
+event_by verbs.PrependHeader g = events.Say (calls.PrependHeader (number g 0) (number g 1) g.text)
+event_by verbs.AppendTrailer g = events.Say (calls.AppendTrailer (number g 0) (number g 1) g.text)
+event_by verbs.DiscardFirstHeader g = events.Say (calls.DiscardFirstHeader (number g 0))
+event_by verbs.DiscardLastTrailer g = events.Say (calls.DiscardLastTrailer (number g 0))
+event_by verbs.Bond g = events.Say (calls.Bond (number g 0) (number g 1))
+event_by verbs.ClonePart g = events.Say (calls.ClonePart (number g 0) (number g 1) (number g 2) (number g 3))
+event_by verbs.Delimit g = events.Say (calls.Delimit (number g 0) (number g 1) (number g 2))
+event_by verbs.Strip g = events.Say (calls.Strip (number g 0))
+event_by verbs.ZcoLength g = events.Say (calls.ZcoLength (number g 0))
+event_by verbs.SourceLength g = events.Say (calls.SourceLength (number g 0))
+event_by verbs.Destroy g = events.Say (calls.Destroy (number g 0))
+event_by verbs.Transmit g = events.Say (calls.Transmit (number g 0) (number g 1) (number g 2))
+event_by verbs.ReceiveHeaders g = events.Say (calls.ReceiveHeaders (number g 0) (number g 1) (number g 2))
+event_by verbs.ReceiveSource g = events.Say (calls.ReceiveSource (number g 0) (number g 1) (number g 2))
+event_by verbs.ReceiveTrailers g = events.Say (calls.ReceiveTrailers (number g 0) (number g 1) (number g 2))
+event_by verbs.Request g = events.Say (calls.Request g.account (number g 0) (number g 1) (number g 2) (min (number g 3) 255) (min (number g 4) 255))
+event_by verbs.Awarded g = events.Say (calls.Awarded (number g 0))
+event_by verbs.Shred g = events.Say (calls.Shred (number g 0))
