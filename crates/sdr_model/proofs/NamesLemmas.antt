@@ -48,10 +48,10 @@ names_in-remove name (e ∷ es) =
     chosen (pointwise nat_eq name e.0.items)
     ∙ ap (λ rest. cond (pointwise nat_eq name e.0.items) (names_in es) (record { block = e.1.block; name = e.0.items; kind = e.1.kind; object = e.1.object } ∷ rest)) (names_in-remove name es)
   where
-  chosen : (b : Bool) → names_in (cond b es (e ∷ shift_remove_entry (λ k. pointwise nat_eq name k.items) es))
-      ≡ cond b (names_in es) (record { block = e.1.block; name = e.0.items; kind = e.1.kind; object = e.1.object } ∷ names_in (shift_remove_entry (λ k. pointwise nat_eq name k.items) es))
-  chosen true = refl
-  chosen false = refl
+    chosen : (b : Bool) → names_in (cond b es (e ∷ shift_remove_entry (λ k. pointwise nat_eq name k.items) es))
+        ≡ cond b (names_in es) (record { block = e.1.block; name = e.0.items; kind = e.1.kind; object = e.1.object } ∷ names_in (shift_remove_entry (λ k. pointwise nat_eq name k.items) es))
+    chosen true = refl
+    chosen false = refl
 
 -- what is a clone of each item is the same list, where a clone of an item is the same
 clones_same : {X : Type 0} (R : X → X → Type 0) → ((x y : X) → R x y → y ≡ x) → (xs ys : List X) → AllZip R xs ys → ys ≡ xs
@@ -83,14 +83,14 @@ pub block_among-names : (addr : ℕ) (names : List Name)
 block_among-names addr [] = refl
 block_among-names addr (n ∷ names) = by (n.block == addr) refl (block_among-names addr names)
   where
-  by : (b : Bool) → (n.block == addr) ≡ b
-      → block_among addr (map name_block names) ≡ cond (list_any (λ n. n.block == addr) names) (Some (record { addr = addr; kind = kinds.Name; bytes = name_need })) None
-      → cond (n.block == addr) (Some (name_block n)) (block_among addr (map name_block names))
-      ≡ cond ((n.block == addr) || list_any (λ n. n.block == addr) names) (Some (record { addr = addr; kind = kinds.Name; bytes = name_need })) None
-  by true at rest =
-      let same : n.block ≡ addr = eqb-true n.block addr at in
-      rw at (ap (λ a. Some (record { addr = a; kind = kinds.Name; bytes = name_need })) same)
-  by false at rest = rw at rest
+    by : (b : Bool) → (n.block == addr) ≡ b
+        → block_among addr (map name_block names) ≡ cond (list_any (λ n. n.block == addr) names) (Some (record { addr = addr; kind = kinds.Name; bytes = name_need })) None
+        → cond (n.block == addr) (Some (name_block n)) (block_among addr (map name_block names))
+        ≡ cond ((n.block == addr) || list_any (λ n. n.block == addr) names) (Some (record { addr = addr; kind = kinds.Name; bytes = name_need })) None
+    by true at rest =
+        let same : n.block ≡ addr = eqb-true n.block addr at in
+        rw at (ap (λ a. Some (record { addr = a; kind = kinds.Name; bytes = name_need })) same)
+    by false at rest = rw at rest
 
 -- the block of the map's catalogue at an address, where the test for it says so
 pub block_tested : (addr : ℕ) (es : List (Vec ℕ Global × Named)) (names : List Name) (b : Bool) → names_in es ≡ names

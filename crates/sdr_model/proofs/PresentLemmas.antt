@@ -76,7 +76,7 @@ pub inner_among-present : (addr k : ℕ) (place : Place) (es : List (ℕ × Plac
     ≡ option_or (option_and_then (λ thing. block_among addr (inner_blocks thing)) place.thing) (inner_among addr (present es))
 inner_among-present addr k place es = at place.thing
   where
-  at : (o : Option Thing) → inner_among addr (present_at k o (present es))
-      ≡ option_or (option_and_then (λ thing. block_among addr (inner_blocks thing)) o) (inner_among addr (present es))
-  at None = refl
-  at (Some thing) = refl
+    at : (o : Option Thing) → inner_among addr (present_at k o (present es))
+        ≡ option_or (option_and_then (λ thing. block_among addr (inner_blocks thing)) o) (inner_among addr (present es))
+    at None = refl
+    at (Some thing) = refl

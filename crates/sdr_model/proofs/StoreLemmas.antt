@@ -56,9 +56,9 @@ things_at-insert of places k place = same_things _ _ (λ q.
 pub with_at-again : (m : Things) (k : ℕ) (o : Option Thing) → get m k ≡ o → with_at m k o ≡ m
 with_at-again m k o is = same_things _ _ (λ q. get-with_at m k o q ∙ again (is_at (nat_cmp q) k) q refl)
   where
-  again : (b : Bool) (q : ℕ) → is_at (nat_cmp q) k ≡ b → cond b o (get m q) ≡ get m q
-  again false q at = refl
-  again true q at = sym (ap (get m) (same_address q k at) ∙ is)
+    again : (b : Bool) (q : ℕ) → is_at (nat_cmp q) k ≡ b → cond b o (get m q) ≡ get m q
+    again false q at = refl
+    again true q at = sym (ap (get m) (same_address q k at) ∙ is)
 
 -- the last of two that are put at an address is there
 pub insert-insert : (places : Places) (k : ℕ) (a b : Place) → insert (insert places k a) k b ≡ insert places k b
@@ -68,9 +68,9 @@ insert-insert places k a b = same_map nat_cmp_total nat_cmp-IsAntisymmetric _ _ 
     ∙ last (is_at (nat_cmp q) k) (get places q)
     ∙ sym (get-insert nat_cmp_total places k b q))
   where
-  last : (t : Bool) (o : Option Place) → cond t (Some b) (cond t (Some a) o) ≡ cond t (Some b) o
-  last true o = refl
-  last false o = refl
+    last : (t : Bool) (o : Option Place) → cond t (Some b) (cond t (Some a) o) ≡ cond t (Some b) o
+    last true o = refl
+    last false o = refl
 
 -- a place that has the same as the one there leaves the things
 pub things_at-same : (of : Place → Option Thing) (places : Places) (k : ℕ) (old new : Place)
@@ -99,9 +99,9 @@ module _ (places : Places) (k q : ℕ) (new : Place) where
   some-insert : is_some (get places q) ≡ true → is_some (get (insert places k new) q) ≡ true
   some-insert some = by (is_at (nat_cmp q) k) refl
     where
-    by : (b : Bool) → is_at (nat_cmp q) k ≡ b → is_some (get (insert places k new) q) ≡ true
-    by true at = ap is_some (get-insert_here at)
-    by false at = ap is_some (get-insert_apart at) ∙ some
+      by : (b : Bool) → is_at (nat_cmp q) k ≡ b → is_some (get (insert places k new) q) ≡ true
+      by true at = ap is_some (get-insert_here at)
+      by false at = ap is_some (get-insert_apart at) ∙ some
 
 -- a place that was put at an address is there
 pub some-inserted : (places : Places) (k : ℕ) (new : Place) → is_some (get (insert places k new) k) ≡ true
@@ -111,36 +111,36 @@ some-inserted places k new = ap is_some (get-insert_here places k k new (at_itse
 pub touched-set : (places : Places) (touched : List ℕ) (k : ℕ) (new : Place)
     → AreTouched places touched → Contains touched k → AreTouched (insert places k new) touched
 touched-set places touched k new are there = record {
-    among = λ q place is was. by q place is was (is_at (nat_cmp q) k) refl;
-    held = λ q has. some-insert places k q new (are.held q has);
-  }
+  among = λ q place is was. by q place is was (is_at (nat_cmp q) k) refl;
+  held = λ q has. some-insert places k q new (are.held q has);
+}
   where
-  by : (q : ℕ) (place : Place) → get (insert places k new) q ≡ Some place → place.touched ≡ true → (b : Bool) → is_at (nat_cmp q) k ≡ b → Contains touched q
-  by q place is was true at = subst (Contains touched) (sym (same_address q k at)) there
-  by q place is was false at = are.among q place (sym (get-insert_apart places k q new at) ∙ is) was
+    by : (q : ℕ) (place : Place) → get (insert places k new) q ≡ Some place → place.touched ≡ true → (b : Bool) → is_at (nat_cmp q) k ≡ b → Contains touched q
+    by q place is was true at = subst (Contains touched) (sym (same_address q k at)) there
+    by q place is was false at = are.among q place (sym (get-insert_apart places k q new at) ∙ is) was
 
 -- one more address was touched, which has a place
 pub touched-push : (places : Places) (touched : List ℕ) (k : ℕ)
     → AreTouched places touched → is_some (get places k) ≡ true → AreTouched places (touched ++ k ∷ [])
 touched-push places touched k are some = record {
-    among = λ q place is was. Contains-append_left touched (k ∷ []) q (are.among q place is was);
-    held = λ q has. ⊎_elim (are.held q) (λ last. subst (λ a. is_some (get places a) ≡ true) (sym (only q last)) some) (Contains-append_cases touched (k ∷ []) q has);
-  }
+  among = λ q place is was. Contains-append_left touched (k ∷ []) q (are.among q place is was);
+  held = λ q has. ⊎_elim (are.held q) (λ last. subst (λ a. is_some (get places a) ≡ true) (sym (only q last)) some) (Contains-append_cases touched (k ∷ []) q has);
+}
 
 -- an address is touched no more, and its place isn't
 pub touched-pop : (places : Places) (touched : List ℕ) (k : ℕ) (new : Place)
     → AreTouched places (touched ++ k ∷ []) → new.touched ≡ false → AreTouched (insert places k new) touched
 touched-pop places touched k new are isn't = record {
-    among = λ q place is was. by q place is was (is_at (nat_cmp q) k) refl;
-    held = λ q has. some-insert places k q new (are.held q (Contains-append_left touched (k ∷ []) q has));
-  }
+  among = λ q place is was. by q place is was (is_at (nat_cmp q) k) refl;
+  held = λ q has. some-insert places k q new (are.held q (Contains-append_left touched (k ∷ []) q has));
+}
   where
-  by : (q : ℕ) (place : Place) → get (insert places k new) q ≡ Some place → place.touched ≡ true → (b : Bool) → is_at (nat_cmp q) k ≡ b → Contains touched q
-  by q place is was true at = let same : Some new ≡ Some place = sym (get-insert_here places k q new at) ∙ is in cc
-  by q place is was false at =
-      ⊎_elim (λ left. left)
-      (λ last. absurd (true≢false (sym (at_itself k) ∙ ap (λ a. is_at (nat_cmp a) k) (sym (only q last)) ∙ at)))
-      (Contains-append_cases touched (k ∷ []) q (are.among q place (sym (get-insert_apart places k q new at) ∙ is) was))
+    by : (q : ℕ) (place : Place) → get (insert places k new) q ≡ Some place → place.touched ≡ true → (b : Bool) → is_at (nat_cmp q) k ≡ b → Contains touched q
+    by q place is was true at = let same : Some new ≡ Some place = sym (get-insert_here places k q new at) ∙ is in cc
+    by q place is was false at =
+        ⊎_elim (λ left. left)
+        (λ last. absurd (true≢false (sym (at_itself k) ∙ ap (λ a. is_at (nat_cmp a) k) (sym (only q last)) ∙ at)))
+        (Contains-append_cases touched (k ∷ []) q (are.among q place (sym (get-insert_apart places k q new at) ∙ is) was))
 
 -- a place that is made where there is none leaves the things
 pub things_at-with_place : (of : Place → Option Thing) (places : Places) (k : ℕ) → of empty_place ≡ None
@@ -148,55 +148,56 @@ pub things_at-with_place : (of : Place → Option Thing) (places : Places) (k : 
 unfolding with_place
 things_at-with_place of places k none = by (get places k) refl
   where
-  by : (o : Option Place) → get places k ≡ o → things_at of (cond (is_some (get places k)) places (insert places k empty_place)) ≡ things_at of places
-  by (Some place) is = ap (λ o. things_at of (cond (is_some o) places (insert places k empty_place))) is
-  by None is =
-      ap (λ o. things_at of (cond (is_some o) places (insert places k empty_place))) is
-      ∙ things_at-insert of places k empty_place
-      ∙ with_at-again (things_at of places) k (of empty_place) (get-things_at of places k ∙ ap (option_and_then of) is ∙ sym none)
+    by : (o : Option Place) → get places k ≡ o → things_at of (cond (is_some (get places k)) places (insert places k empty_place)) ≡ things_at of places
+    by (Some place) is = ap (λ o. things_at of (cond (is_some o) places (insert places k empty_place))) is
+    by None is =
+        ap (λ o. things_at of (cond (is_some o) places (insert places k empty_place))) is
+        ∙ things_at-insert of places k empty_place
+        ∙ with_at-again (things_at of places) k (of empty_place) (get-things_at of places k ∙ ap (option_and_then of) is ∙ sym none)
 
 -- and leaves what was touched
 pub touched-with_place : (places : Places) (touched : List ℕ) (k : ℕ) → AreTouched places touched → AreTouched (with_place places k) touched
 unfolding with_place
 touched-with_place places touched k are = by (is_some (get places k))
   where
-  made : AreTouched (insert places k empty_place) touched
-  made = record {
+    made : AreTouched (insert places k empty_place) touched
+    made = record {
       among = λ q place is was. apart q place is was (is_at (nat_cmp q) k) refl;
       held = λ q has. some-insert places k q empty_place (are.held q has);
     }
-    where
-    apart : (q : ℕ) (place : Place) → get (insert places k empty_place) q ≡ Some place → place.touched ≡ true → (b : Bool) → is_at (nat_cmp q) k ≡ b → Contains touched q
-    apart q place is was true at = let same : Some empty_place ≡ Some place = sym (get-insert_here places k q empty_place at) ∙ is in cc
-    apart q place is was false at = are.among q place (sym (get-insert_apart places k q empty_place at) ∙ is) was
-  by : (b : Bool) → AreTouched (cond b places (insert places k empty_place)) touched
-  by true = are
-  by false = made
+      where
+        apart : (q : ℕ) (place : Place) → get (insert places k empty_place) q ≡ Some place → place.touched ≡ true → (b : Bool) → is_at (nat_cmp q) k ≡ b → Contains touched q
+        apart q place is was true at = let same : Some empty_place ≡ Some place = sym (get-insert_here places k q empty_place at) ∙ is in cc
+        apart q place is was false at = are.among q place (sym (get-insert_apart places k q empty_place at) ∙ is) was
+
+    by : (b : Bool) → AreTouched (cond b places (insert places k empty_place)) touched
+    by true = are
+    by false = made
 
 -- there is a place where one is made
 pub some-with_place : (places : Places) (k : ℕ) → is_some (get (with_place places k) k) ≡ true
 unfolding with_place
 some-with_place places k = by (is_some (get places k)) refl
   where
-  by : (b : Bool) → is_some (get places k) ≡ b → is_some (get (cond b places (insert places k empty_place)) k) ≡ true
-  by true some = some
-  by false none = ap is_some (get-insert_here places k k empty_place (at_itself k))
+    by : (b : Bool) → is_some (get places k) ≡ b → is_some (get (cond b places (insert places k empty_place)) k) ≡ true
+    by true some = some
+    by false none = ap is_some (get-insert_here places k k empty_place (at_itself k))
 
 -- with nothing touched, the things at the begin are the things now
 pub nothing_touched : (places : Places) → AreTouched places [] → things_at begun_at places ≡ things_at now_at places
 nothing_touched places are = same_things _ _ (λ q.
     get-things_at begun_at places q ∙ same q (get places q) refl ∙ sym (get-things_at now_at places q))
   where
-  same : (q : ℕ) (o : Option Place) → get places q ≡ o → option_and_then begun_at o ≡ option_and_then now_at o
-  same q None is = refl
-  same q (Some place) is = by place.touched refl
-    where
-    by : (b : Bool) → place.touched ≡ b → begun_at place ≡ now_at place
-    by true was = absurd (none (are.among q place is was))
+    same : (q : ℕ) (o : Option Place) → get places q ≡ o → option_and_then begun_at o ≡ option_and_then now_at o
+    same q None is = refl
+    same q (Some place) is = by place.touched refl
       where
-      none : Contains [] q → ⊥
-      none has = omega (arith, has.1)
-    by false was = ap (λ b. cond b place.begun place.thing) was
+        by : (b : Bool) → place.touched ≡ b → begun_at place ≡ now_at place
+        by true was = absurd (none (are.among q place is was))
+          where
+            none : Contains [] q → ⊥
+            none has = omega (arith, has.1)
+        by false was = ap (λ b. cond b place.begun place.thing) was
 
 -- no place has no thing
 pub things_at-empty : (of : Place → Option Thing) → things_at of empty ≡ empty
@@ -206,9 +207,9 @@ things_at-empty of = same_things _ _ (λ q.
 -- and none of them was touched
 pub touched-none : AreTouched empty []
 touched-none = record {
-    among = λ q place is was. let none : None ≡ Some place = sym (get-empty nat_cmp q) ∙ is in cc;
-    held = λ q has. absurd (omega (arith, has.1));
-  }
+  among = λ q place is was. let none : None ≡ Some place = sym (get-empty nat_cmp q) ∙ is in cc;
+  held = λ q has. absurd (omega (arith, has.1));
+}
 
 -- what is at the address of a place is what it has
 pub thing_there : (places : Places) (k : ℕ) (place : Place) → get places k ≡ Some place → get (things_at now_at places) k ≡ place.thing
@@ -222,6 +223,6 @@ insert-removed things k thing = same_things _ _ (λ q.
     ∙ last (is_at (nat_cmp q) k) (get things q)
     ∙ sym (get-insert nat_cmp_total things k thing q))
   where
-  last : (t : Bool) (o : Option Thing) → cond t (Some thing) (cond t None o) ≡ cond t (Some thing) o
-  last true o = refl
-  last false o = refl
+    last : (t : Bool) (o : Option Thing) → cond t (Some thing) (cond t None o) ≡ cond t (Some thing) o
+    last true o = refl
+    last false o = refl

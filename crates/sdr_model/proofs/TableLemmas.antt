@@ -5,5 +5,5 @@ use Rattle.std.proofs.Common.{◌≡◌, ◌+◌, ◌*◌, ◌<◌, ◌≤◌, �
 pub row-within : (rows size row length : ℕ) → row < rows → length ≡ rows * size → size * row + size ≤ length
 row-within rows size row length inside whole = omega (arith, whole, mul-le-mul_right size (le inside))
   where
-  le : row < rows → row + 1 ≤ rows
-  le i = omega (arith, i)
+    le : row < rows → row + 1 ≤ rows
+    le i = omega (arith, i)

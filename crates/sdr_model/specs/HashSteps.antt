@@ -82,8 +82,10 @@ HashInsert w o addr key value =
     OnHash w o addr key (λ hash.
     MatchOption (position (has_key key) hash.entries)
     (Takes w o (entry_need (length key))
-    (λ block. with_thing w addr (things.Hash (record hash { entries =
-        insert hash.entries (bucket_place hash key) (record { block = block; key = key; value = value }) })))
+    (λ block. with_thing w addr (things.Hash (record hash {
+      entries =
+          insert hash.entries (bucket_place hash key) (record { block = block; key = key; value = value });
+    })))
     (λ block. replies.Done))
     (λ place. Refuses w o (refusals.KeyTaken (value_at hash.entries place))))
 
@@ -95,8 +97,10 @@ HashRetrieve w o addr key = OnKey w o addr key (λ hash place. Reads w o [] (rep
 abbrev pub HashRevise : World → Outcome → ℕ → List ℕ → ℕ → Type 0
 HashRevise w o addr key value =
     OnKey w o addr key (λ hash place.
-    Does o [] (with_thing w addr (things.Hash (record hash { entries =
-        set hash.entries place (record { block = entry_addr hash.entries place; key = key; value = value }) }))) replies.Done)
+    Does o [] (with_thing w addr (things.Hash (record hash {
+      entries =
+          set hash.entries place (record { block = entry_addr hash.entries place; key = key; value = value });
+    }))) replies.Done)
 
 -- the key goes
 abbrev pub HashRemove : World → Outcome → ℕ → List ℕ → Type 0

@@ -5,7 +5,9 @@ ghost use Rattle.sdr_model.specs.Built.{is_built};
 
 use crate::element_calls::{datum, delete, next, prev, set_datum};
 use crate::insert_calls::{insert_after, insert_before, insert_first, insert_last};
-use crate::list_calls::{first, last, list_destroy, list_length, list_user, make_list, set_list_user};
+use crate::list_calls::{
+    first, last, list_destroy, list_length, list_user, make_list, set_list_user,
+};
 use crate::name_calls::{catlg, entry, find, uncatlg};
 use crate::ordered_calls::{insert_ordered, search};
 use crate::raw_calls::{free, length, malloc, read, stage, write};

@@ -6,8 +6,8 @@ ghost use Rattle.indexmap.specs.IndexMap.{values};
 ghost use Rattle.sdr_model.specs.Names.{name_of, named_of, without_name};
 ghost use Rattle.sdr_model.specs.Things.{block_among, name_block};
 
-use indexmap::IndexMap;
 use crate::Block;
+use indexmap::IndexMap;
 use sdr_base::{Addr, Bytes, Kind, NoMemory};
 use std::alloc::Global;
 use std::marker::Model;
@@ -88,7 +88,11 @@ impl Names {
     {
         if has_block(&self.entries, addr) {
             let kind = Kind::Name;
-            return Some(Block { addr, kind, bytes: 56 });
+            return Some(Block {
+                addr,
+                kind,
+                bytes: 56,
+            });
         }
         None
     }

@@ -7,8 +7,8 @@ ghost use Rattle.std.specs.BTreeMap.{IsOrdered};
 ghost use Rattle.std.specs.Ordering.{nat_cmp};
 ghost use Rattle.sdr_model.specs.Things.{IsWithin, SpotIs, inner_among, spot_among, spot_in_thing};
 
-use crate::{Block, Spot, Thing};
 use crate::place::Place;
+use crate::{Block, Spot, Thing};
 use sdr_base::{Addr, NoMemory};
 use std::alloc::Global;
 use std::collections::BTreeMap;

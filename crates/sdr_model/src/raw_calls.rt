@@ -104,7 +104,11 @@ pub fn read(
     }
     if exceeds(place, count, bytes.len() as u64) {
         let length = count;
-        return Ok(Reply::Refused(Refusal::OutOfBounds { addr, place, length }));
+        return Ok(Reply::Refused(Refusal::OutOfBounds {
+            addr,
+            place,
+            length,
+        }));
     }
     let place = place as usize;
     let shown = Bytes::copied(alloc, &bytes.as_slice()[place..place + count as usize])?;
@@ -131,12 +135,7 @@ fn overwrite(world: &mut World, addr: Addr, place: usize, from: &[u8]) -> Result
     }
 }
 
-pub fn write(
-    world: &mut World,
-    addr: Addr,
-    place: u64,
-    from: &Bytes,
-) -> Result<Reply, NoMemory>
+pub fn write(world: &mut World, addr: Addr, place: u64, from: &Bytes) -> Result<Reply, NoMemory>
     ensures { Answers (Call.Write addr place from.now) world.old world.new result }
 {
     let Some(bytes) = raw(world, addr) else {
@@ -144,7 +143,11 @@ pub fn write(
     };
     let length = from.len() as u64;
     if exceeds(place, length, bytes.len() as u64) {
-        return Ok(Reply::Refused(Refusal::OutOfBounds { addr, place, length }));
+        return Ok(Reply::Refused(Refusal::OutOfBounds {
+            addr,
+            place,
+            length,
+        }));
     }
     if !world.is_marked(addr) {
         return Ok(Reply::Refused(Refusal::NotStaged { addr }));
@@ -153,12 +156,7 @@ pub fn write(
     Ok(Reply::Done)
 }
 
-pub fn stage(
-    alloc: Global,
-    world: &mut World,
-    addr: Addr,
-    count: u64,
-) -> Result<Reply, NoMemory>
+pub fn stage(alloc: Global, world: &mut World, addr: Addr, count: u64) -> Result<Reply, NoMemory>
     ensures { Answers (Call.Stage addr count) world.old world.new result }
 {
     let Some(bytes) = raw(world, addr) else {
@@ -169,7 +167,11 @@ pub fn stage(
     }
     if count > bytes.len() as u64 {
         let (place, length) = (0, count);
-        return Ok(Reply::Refused(Refusal::OutOfBounds { addr, place, length }));
+        return Ok(Reply::Refused(Refusal::OutOfBounds {
+            addr,
+            place,
+            length,
+        }));
     }
     let shown = Bytes::copied(alloc, &bytes.as_slice()[..count as usize])?;
     world.stage(addr, shown)?;

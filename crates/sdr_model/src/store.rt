@@ -6,9 +6,9 @@ ghost use Rattle.sdr_model.specs.Store.{with_at, with_place};
 ghost use Rattle.sdr_model.specs.Things.{IsWithin, SpotIs, inner_among, spot_among};
 ghost use Rattle.sdr_model.specs.declared.things.Thing.{Thing};
 
-use crate::{Block, Spot, Thing};
 use crate::place::Place;
 use crate::places::Places;
+use crate::{Block, Spot, Thing};
 use sdr_base::{Addr, NoMemory};
 use std::alloc::Global;
 use std::marker::Model;

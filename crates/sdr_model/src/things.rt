@@ -94,7 +94,10 @@ impl SdrList {
         ensures within { IfSome result (λ place. place < length self.now.elements) }
         ensures small { IfSome result (λ place. place < 2 ^ 63) }
     {
-        self.elements.as_slice().iter().position(|e| e.block == element)
+        self.elements
+            .as_slice()
+            .iter()
+            .position(|e| e.block == element)
     }
 
     // The block of the element at an address.
@@ -103,7 +106,11 @@ impl SdrList {
     {
         for element in self.elements.as_slice() {
             if element.block == addr {
-                return Some(Block { addr, kind: Kind::Element, bytes: 32 });
+                return Some(Block {
+                    addr,
+                    kind: Kind::Element,
+                    bytes: 32,
+                });
             }
         }
         None
@@ -144,7 +151,11 @@ impl SdrHash {
         for entry in self.entries.as_slice() {
             if entry.block == addr {
                 let bytes = 16 + count(entry.key.as_slice());
-                return Some(Block { addr, kind: Kind::HashEntry, bytes });
+                return Some(Block {
+                    addr,
+                    kind: Kind::HashEntry,
+                    bytes,
+                });
             }
         }
         None

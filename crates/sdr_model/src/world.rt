@@ -247,14 +247,20 @@ impl World {
         requires taken { self.old.now.taken < 2 ^ 60 }
         requires new { name_of self.old.now.names name.now ≡ None }
         ensures named { OnOk result (let addr = next_addr self.old.now.taken in
-            self.new.now ≡ with_taken (record self.old.now { names = self.old.now.names
-                ++ record { block = addr; name = name.now; kind = kind; object = object } ∷ [] }) addr) }
+            self.new.now ≡ with_taken (record self.old.now {
+              names = self.old.now.names
+                  ++ record { block = addr; name = name.now; kind = kind; object = object } ∷ [];
+            }) addr) }
         ensures begun { self.new.begun ≡ self.old.begun }
         ensures same { OnErr result (self.new.now ≡ self.old.now) }
     {
         let marks = self.marks.len();
         let block = self.mark_next()?;
-        let entry = Named { block, kind, object };
+        let entry = Named {
+            block,
+            kind,
+            object,
+        };
         match self.catalogue.push(name, entry) {
             Ok(()) => {
                 self.shown = Bytes::new(self.alloc);

@@ -1,16 +1,17 @@
 -- A string is made in a transaction: what the definitions say of a run of three lines.
-use Rattle.std.specs.Prelude.{◌≡◌, List, [], ◌∷◌, None, codes, length, refl}
+use Rattle.std.specs.Prelude.{◌≡◌, List, [], ◌∷◌, None, true, false, codes, length, refl}
 use Rattle.std.specs.FinMap as map
 use Rattle.std.specs.Fmt.{digits}
 use Rattle.sdr_model.specs.Core.{Core, Made, CoreStep, first_core, core_after}
 use Rattle.sdr_model.specs.Machine.{Machine, first_machine}
-use Rattle.sdr_model.specs.World.{empty_world}
+use Rattle.sdr_model.specs.Draft.{at_rest}
+use Rattle.sdr_model.specs.World.{World, empty_world}
 use Rattle.sdr_model.specs.declared.answer.Answer.TheVariants as answers
 use Rattle.sdr_model.specs.declared.answer.Close.TheVariants as closes
 use Rattle.sdr_model.specs.declared.answer.Reply.TheVariants as replies
 use Rattle.sdr_model.specs.declared.call.Call.TheVariants as calls
 use Rattle.sdr_model.specs.declared.event.Event.TheVariants as events
-use Rattle.sdr_model.specs.declared.world.World.{World}
+use Rattle.sdr_model.specs.declared.things.Thing.TheVariants as things
 use Rattle.sdr_shell.specs.Schedule.{RunsDry}
 use Rattle.sdr_text.specs.Text.{made_text}
 use Rattle.sdr_words.specs.Verbs.{verbs}
@@ -34,20 +35,20 @@ abbrev closing : Made
 closing = record { line = 3; daemon = 1; event = events.End; answer = answers.Closed closes.Ended; bytes = [] }
 
 abbrev with_hi : World
-with_hi = record empty_world { strings = map.insert map.empty 8 (codes "hi"); shown = []; taken = 1 }
+with_hi = record empty_world { things = map.insert map.empty 8 (things.Text (codes "hi")); marks = 8 ∷ []; taken = 1 }
 
 -- before the first line, and after each
 abbrev before : Machine
 before = first_machine (1 ∷ [])
 
 abbrev begun : Machine
-begun = record before { drawn = 1; holders = record { daemon = 1; number = 1; depth = 1; doom = None } ∷ [] }
+begun = record before { drawn = 1; holders = record { daemon = 1; number = 1; depth = 1; doom = None; modified = false } ∷ [] }
 
 abbrev hi : Machine
-hi = record begun { current = with_hi }
+hi = record begun { holders = record { daemon = 1; number = 1; depth = 1; doom = None; modified = true } ∷ []; current = with_hi }
 
 abbrev ended : Machine
-ended = record hi { holders = []; world = with_hi }
+ended = record hi { holders = []; world = at_rest with_hi; current = at_rest with_hi }
 
 abbrev core_0 : Core
 core_0 = first_core (1 ∷ [])
@@ -71,7 +72,7 @@ opens = record { machine = (refl, refl, refl); bytes = refl; history = refl }
 makes : CoreStep core_1 making core_2
 makes = record {
   machine = record {
-    after = record { depth = 1; doom = None; world = with_hi };
+    after = record { depth = 1; doom = None; modified = true; world = with_hi };
     transacts = (record { step = (refl, (refl, refl)); in_order = (refl, tt); counted = refl }, refl);
     others = refl;
   };

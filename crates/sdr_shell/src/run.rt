@@ -68,7 +68,7 @@ fn answer<K: Sink>(
     ensures cause { result ≡ Err RunError.Output → Rose (K.faults out.old) (K.faults out.new) }
 {
     let given = plain.event(step.daemon, step.line, event)?;
-    let shown = plain.world().shown.as_slice();
+    let shown = plain.shown();
     write_answer(out, step.line, step.daemon, &given, shown)?;
     Ok(given)
 }

@@ -27,13 +27,13 @@ loop-addr-preserved c =
 
 pub returns : goal.returns
 returns c =
-    let left : c.pop.new.self.items ≡ [] = 
+    let left : c.pop.new.self.items ≡ [] =
     c.in_default.ensures.rest ∙ ap (λ n. take (n - 1) c.loop-addr.self-inside.touched.items) c.in_default.ensures.cases.0 in
-    let none : c.loop-addr.self-inside.touched.items ≡ [] = 
+    let none : c.loop-addr.self-inside.touched.items ≡ [] =
     c.in_default.ensures.items ∙ append-nil c.pop.new.self.items ∙ left in
     λ i. record {
       begun = (nothing_touched c.loop-addr.self-inside.places
-      (subst (AreTouched c.loop-addr.self-inside.places) none c.loop-addr.invariant.touched) ∙ c.loop-addr.invariant.things) i;
+          (subst (AreTouched c.loop-addr.self-inside.places) none c.loop-addr.invariant.touched) ∙ c.loop-addr.invariant.things) i;
       now = c.loop-addr.invariant.things i;
       touched = left i;
     }

@@ -4,5 +4,9 @@ use Rattle.sdr_model.proofs.table.SdrTable.set_row.Goals as goal
 
 pub overflow_mul-self-inside : goal.overflow_mul-self-inside
 overflow_mul-self-inside c =
-    omega (arith, row-within c.self.inside.rows c.self.inside.size c.args.row (length c.self.inside.bytes)
-    (omega (arith, c.requires.inside, ap (λ t. t.rows) c.self.view_is)) c.self.invariant.0, c.self.invariant.1)
+    omega (
+      arith,
+      row-within c.self.inside.rows c.self.inside.size c.args.row (length c.self.inside.bytes)
+          (omega (arith, c.requires.inside, ap (λ t. t.rows) c.self.view_is)) c.self.invariant.0,
+      c.self.invariant.1,
+    )
