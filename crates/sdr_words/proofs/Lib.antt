@@ -6,6 +6,7 @@ pub mod CanonicalLine
 pub mod DraftLemmas
 pub mod FieldsLemmas
 pub mod InputLemmas
+pub mod ReadSteps
 pub mod ReadingLemmas
 mod ScriptExamples
 pub mod SplitLemmas

@@ -1,5 +1,5 @@
 // The canonical line of a step.
-ghost use Rattle.std.specs.Prelude.{◌≡◌, List, Ok, Some};
+ghost use Rattle.std.specs.Prelude.{◌≡◌, ℕ, List, Ok, Some};
 ghost use Rattle.sdr_model.specs.declared.script.Step.{Step};
 ghost use Rattle.sdr_words.specs.Canonical.{IsStep, line_for};
 ghost use Rattle.sdr_words.specs.Script.{line_says};
@@ -9,4 +9,11 @@ ghost use Rattle.sdr_words.specs.Script.{line_says};
 pub fn canonical_lines_are_read()
     ensures { (earlier : List Step) (step : Step) → IsStep earlier step →
         line_says earlier step.line (line_for step) ≡ Ok (Some step) }
+{}
+
+/// A law: what a line gives behind earlier steps is a step of this line that a script may have behind
+/// them. So each step of a script has its canonical line. It does nothing.
+pub fn lines_give_steps()
+    ensures { (earlier : List Step) (number : ℕ) (line : List ℕ) (step : Step) →
+        line_says earlier number line ≡ Ok (Some step) → (step.line ≡ number) × IsStep earlier step }
 {}

@@ -25,7 +25,7 @@ mod verb;
 mod words;
 
 pub use bindings::Bindings;
-pub use canonical::canonical_lines_are_read;
+pub use canonical::{canonical_lines_are_read, lines_give_steps};
 use error::LineError;
 pub use error::ScriptError;
 pub use read::read_script;
