@@ -101,6 +101,7 @@ module _ (x y z : List ℕ) (words has addr : ℕ) (unlinks : Unlinks has addr x
     used = put_is P addr words (without addr P.large);
     becomes = record {
       keeps = record { tiles = tiles; holds = second.holds };
+      still = λ w b there differ. used_then w b there;
       small = small_stays P (with_used_large (with_unlinked P addr has) addr words) P.high x z below (inl (omega arith))
           second.holds tiles.follow refl refl keeps.tiles.bounds.order;
       others = record { blocks = λ w b there differ i ge lt. used w b there i ge lt };
@@ -162,6 +163,9 @@ module _ (x y z : List ℕ) (words has addr : ℕ) (unlinks : Unlinks has addr x
           };
           becomes = record {
             keeps = record { tiles = tiles; holds = third.holds };
+            still = λ w b there differ.
+                used_placed (record { addr = addr + 8 * (4 + words); words = has - words - 4; used = false }) low.large w b
+                (used_then w b there);
             small = small_stays P cut P.high x v (below_trans P.start P.low P.high x z v below third.below)
                 (inl (omega arith)) third.holds tiles.follow refl refl keeps.tiles.bounds.order;
             others = record {

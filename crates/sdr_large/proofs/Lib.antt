@@ -1,6 +1,7 @@
 pub mod AboveLemmas
 pub mod BackLemmas
 pub mod BlocksLemmas
+pub mod BothPoolsLemmas
 pub mod CallsLemmas
 pub mod ChangeLemmas
 pub mod CutLemmas
@@ -23,6 +24,7 @@ pub mod NewLemmas
 pub mod PartedLemmas
 pub mod PlacesLemmas
 pub mod PutFreeLemmas
+pub mod PutFreedLemmas
 pub mod PutLemmas
 pub mod PutUsedLemmas
 pub mod ReadingLemmas
@@ -31,4 +33,5 @@ pub mod StaysLemmas
 pub mod StepsLemmas
 pub mod TilesLemmas
 pub mod UnlinkLemmas
+pub mod UnlinkedLemmas
 pub mod WalkLemmas

@@ -20,7 +20,7 @@ use Rattle.sdr_large.proofs.GapLemmas.{put_or_was, not_put}
 use Rattle.sdr_large.proofs.HighLemmas.{high_holds, high_below, high_used}
 use Rattle.sdr_large.proofs.PartedLemmas.{lowered, closed}
 use Rattle.sdr_large.proofs.PlacesLemmas.{InOrder, in_order}
-use Rattle.sdr_large.proofs.StaysLemmas.{below_trans, small_stays, all_used}
+use Rattle.sdr_large.proofs.StaysLemmas.{below_trans, small_stays, used_placed, all_used}
 use Rattle.sdr_large.proofs.TilesLemmas.{tiles_used}
 use Rattle.sdr_large.proofs.WalkLemmas.{tiles_whole}
 
@@ -130,6 +130,8 @@ module _ (x : List ℕ) (words : ℕ) (P : Pools) (keeps : KeepsLarge x P) (some
       };
       becomes = record {
         keeps = record { tiles = new_tiles; holds = step.holds };
+        still = λ w b there differ.
+            used_placed (record { addr = high + 16; words = words; used = true }) P.large w b there;
         small = small_stays P (with_used_large wider (high + 16) words) high x z
             (below_trans P.start P.low high x (with_number 24 high x) z
             (high_below P P.end P.end high x (tiles_whole P keeps.tiles) keeps.holds small high) step.below)

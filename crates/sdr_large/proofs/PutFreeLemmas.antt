@@ -28,6 +28,20 @@ use Rattle.sdr_large.proofs.PlacesLemmas.{IsApart, InOrder, in_order, at_block, 
 use Rattle.sdr_large.proofs.PlacesLemmas.{entered_free, next_back, back_back}
 use Rattle.sdr_large.proofs.RelinkLemmas.{links_pushed}
 
+-- the block is linked at the front of its list, and all other links stay
+pub record IsPushed (P : Pools) (from to words addr : ℕ) (x y : List ℕ) : Type 0 where
+  pub changes : ChangesOnly P from to x y
+  pub front_is : number_at (large_place (order_of words)) y ≡ addr
+  pub back_is : (w : ℕ) → number_at (large_place (order_of words)) x ≢ 0 →
+      IsFree P w (number_at (large_place (order_of words)) x) →
+      number_at (number_at (large_place (order_of words)) x + 8 * w) y ≡ addr
+  pub next_same : (w b : ℕ) → IsFree P w b → number_at (b - 8) y ≡ number_at (b - 8) x
+  pub back_same : (w b : ℕ) → IsFree P w b → b ≢ number_at (large_place (order_of words)) x →
+      number_at (b + 8 * w) y ≡ number_at (b + 8 * w) x
+  pub front_same : (o : ℕ) → o ≤ 20 → o ≢ order_of words →
+      number_at (large_place o) y ≡ number_at (large_place o) x
+  pub bits : (word : ℕ) → word < 8 * (P.start - 1024) → start_bit word y ≡ start_bit word x
+
 module _ (P : Pools) (from to : ℕ) (x : List ℕ) (tiles : TilesAround P from to) (holds : HoldsLarge x P)
     (words addr : ℕ) (at : addr ≡ from + 16) (fits : from + 8 * (4 + words) ≤ to) (some : 1 ≤ words) where
   abbrev pub list : ℕ
@@ -256,45 +270,6 @@ module _ (P : Pools) (from to : ℕ) (x : List ℕ) (tiles : TilesAround P from 
           | inr more ↦ inr (omega (arith, more, at, fits))
         ]
 
-    lists : (o : ℕ) → o ≤ 20 →
-        Links y (large_place o) 0 (with_list list ((addr, words) ∷ P.large_lists list) P.large_lists o)
-    lists o le = elim (cases_eq o list) [
-      | inl same ↦
-          subst (λ (k : ℕ). Links y (large_place k) 0
-          (with_list list ((addr, words) ∷ P.large_lists list) P.large_lists k)) (sym same)
-          (subst (λ (l : List (ℕ × ℕ)). Links y (large_place list) 0 l)
-          (sym (with_list-here list ((addr, words) ∷ P.large_lists list) P.large_lists))
-          (links_pushed x y P.large list words addr (positive P from to x tiles holds words addr at fits)
-          (nonzero P from to tiles) (unique P from to tiles) (P.large_lists list)
-          (holds.lists list (order_of-le words))
-          (λ w b there. entered_free P from to tiles list w b there)
-          (λ w b. entered_once P from to tiles list w b)
-          (λ w b f. other_addr P from to x tiles holds words addr at fits w b f)
-          front_is frame.before frame.link back_is next_same back_same))
-      | inr differ ↦
-          subst (λ (l : List (ℕ × ℕ)). Links y (large_place o) 0 l)
-          (sym (with_list-other list o ((addr, words) ∷ P.large_lists list) P.large_lists differ))
-          (Links-same x y addr (positive P from to x tiles holds words addr at fits) (large_place o) 0 (P.large_lists o)
-          (holds.lists o le) (λ other. front_same o le differ)
-          (λ w b there other. next_same w b (entered_free P from to tiles o w b there))
-          (λ w b there other. back_same w b (entered_free P from to tiles o w b there) (elsewhere w b there differ))
-          (λ zero_is. positive P from to x tiles holds words addr at fits (sym zero_is))
-          (λ w b there. other_addr P from to x tiles holds words addr at fits w b (entered_free P from to tiles o w b there)))
-    ]
-      where
-        -- the front of the block's list is in no other list
-        elsewhere : (w b : ℕ) → 0 < count_by (is_entry w b) (P.large_lists o) → o ≢ list → b ≢ front
-        elsewhere w b there differ is =
-            let f = entry_free P tiles.lists o w b there in
-            let s : front ≢ 0 = (λ none. nonzero P from to tiles w b f.1 (is ∙ none)) in
-            differ (f.0 ∙ ap order_of (unique P from to tiles w (first s).words front
-            (subst (λ (a : ℕ). IsFree P w a) is f.1) (first s).free)
-            ∙ front_order P from to x tiles holds words addr at fits list (first s).words (order_of-le words) s
-            (first s).free)
-
-    of_new : (w a : ℕ) → is_of w a block ≡ true → (w ≡ words) × (a ≡ addr)
-    of_new w a is = let b = is_of-true w a block is in (sym b.1, sym b.0)
-
     bit_same : (word : ℕ) → word < 8 * (P.start - 1024) → start_bit word y ≡ start_bit word x
     bit_same word within = start_bit-same word x y (out (1024 + word / 8)
         (inl (omega (arith, within, order.small, order.order, order.first)))
@@ -307,48 +282,13 @@ module _ (P : Pools) (from to : ℕ) (x : List ℕ) (tiles : TilesAround P from 
           order.order,
         ))))
 
-    own_free : IsFreeBlock words addr y
-    own_free = record { kind = frame.kind; length = frame.bare; last = frame.last }
-
-    not_used : (n : ℕ) → is_used_at n block ≡ false
-    not_used n = never (addr == n)
-      where
-        never : (v : Bool) → (v && false) ≡ false
-        never true = refl
-        never false = refl
-
-    pub free_put : Steps P (with_free_large P addr words) 0 x y
-    free_put = record {
-      holds = record {
-        size = size ∙ holds.size;
-        low = control_kept P from to x y tiles holds changes 16 (omega arith) ∙ holds.low;
-        high = control_kept P from to x y tiles holds changes 24 (omega arith) ∙ holds.high;
-        lists = lists;
-        leaders = λ w a there. elim (put_or_was (is_of w a) block P.large there) [
-          | inl new ↦ ap (λ (n : ℕ). leader_words (n - 16) y) (of_new w a new).1 ∙ frame.named ∙ sym (of_new w a new).0
-          | inr was ↦ leaders_kept P from to x y tiles holds changes w a was
-        ];
-        free = λ w a there. elim (put_or_was (is_free_of w a) block P.large there) [
-          | inl new ↦
-              let is = of_new w a (and_parts (is_of w a block) true new).0 in
-              subst (λ (n : ℕ). IsFreeBlock n a y) (sym is.0)
-              (subst (λ (n : ℕ). IsFreeBlock words n y) (sym is.1) own_free)
-          | inr was ↦ free_kept P from to x y tiles holds changes w a was
-        ];
-        used = λ w a there. elim (put_or_was (is_used_of w a) block P.large there) [
-          | inl new ↦ absurd (false_not_true (never (is_of w a block)) new)
-          | inr was ↦ used_kept P from to x y tiles holds changes w a was
-        ];
-        bits = λ word within ge. bit_same word within ∙ holds.bits word within ge
-            ∙ sym (not_put (is_used_at (8 * word + 16)) block P.large (not_used (8 * word + 16)));
-      };
-      below = below_stays P from to x y tiles holds changes (λ word within lt. bit_same word within);
-      used = used_stays P from to x y tiles holds changes;
+    pub pushed : IsPushed P from to words addr x y
+    pushed = record {
+      changes = changes;
+      front_is = front_is;
+      back_is = back_is;
+      next_same = next_same;
+      back_same = back_same;
+      front_same = front_same;
+      bits = bit_same;
     }
-      where
-        never : (v : Bool) → (v && false) ≡ false
-        never true = refl
-        never false = refl
-
-        false_not_true : {v : Bool} → v ≡ false → v ≡ true → ⊥
-        false_not_true no_it yes_it = cc

@@ -11,7 +11,8 @@ use Rattle.sdr_large.specs.Steps.{link_place, with_before, ReachesBack, HoldsGap
 use Rattle.sdr_large.proofs.PartedLemmas.{IsBeside}
 use Rattle.sdr_large.proofs.PlacesLemmas.{InOrder, in_order, at_block, free_of}
 use Rattle.sdr_large.proofs.PutUsedLemmas.{own, used_put}
-use Rattle.sdr_large.proofs.PutFreeLemmas.{first, first_fits, free_put}
+use Rattle.sdr_large.proofs.PutFreeLemmas.{first, first_fits, pushed}
+use Rattle.sdr_large.proofs.PutFreedLemmas.{free_put}
 
 -- what putting a block needs
 pub record CanPut (x : List ℕ) (words addr : ℕ) : Type 0 where
@@ -115,11 +116,14 @@ pub puts_free : (x z v w y : List ℕ) (words addr order front : ℕ) → order 
     w ≡ with_number (link_place order 0) addr v → HasFrame false words addr front w y → PutsFree words addr x y
 puts_free x z v w y words addr order front order_is front_is same v_is w_is frame = record {
   rule = λ P from to tiles holds at fits some.
-      free_put P from to x tiles holds words addr at fits some y
-      (subst (λ (n : ℕ). HasFrame false words addr n
+      let f = subst (λ (n : ℕ). HasFrame false words addr n
       (with_number (large_place (order_of words)) addr (with_before n addr x)) y)
       (front_is ∙ ap (λ (o : ℕ). number_at (large_place o) x) order_is)
-      (subst (λ (l : List ℕ). HasFrame false words addr front l y) written frame));
+      (subst (λ (l : List ℕ). HasFrame false words addr front l y) written frame) in
+      free_put P from to x y
+      (with_number (large_place (order_of words)) addr
+      (with_before (number_at (large_place (order_of words)) x) addr x))
+      tiles holds words addr at fits some f (pushed P from to x tiles holds words addr at fits some y f);
 }
   where
     written : w ≡ with_number (large_place (order_of words)) addr (with_before front addr x)

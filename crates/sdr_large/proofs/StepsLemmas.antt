@@ -8,7 +8,8 @@ use Rattle.sdr_large.specs.Gap.{IsFree}
 use Rattle.sdr_large.specs.Steps.{link_place, with_before, ReachesBack, HoldsFree, Unlinks}
 use Rattle.sdr_large.proofs.PartedLemmas.{IsBeside}
 use Rattle.sdr_large.proofs.PlacesLemmas.{in_order, at_block, free_of}
-use Rattle.sdr_large.proofs.UnlinkLemmas.{links, next_fits, unlinked}
+use Rattle.sdr_large.proofs.UnlinkLemmas.{links, next_fits, relinked}
+use Rattle.sdr_large.proofs.UnlinkedLemmas.{unlinked}
 
 -- what unlinking a block needs
 pub record CanUnlink (x : List ℕ) (words addr : ℕ) : Type 0 where
@@ -78,7 +79,8 @@ pub unlinks : (x y : List ℕ) (words addr : ℕ) →
     y ≡ with_number (link_place (order_of words) (number_at (addr + 8 * words) x)) (number_at (addr - 8) x)
     (with_before (number_at (addr - 8) x) (number_at (addr + 8 * words) x) x) → Unlinks words addr x y
 unlinks x y words addr is = record {
-  rule = λ P from to tiles holds free. unlinked P from to x tiles holds words addr free y is;
+  rule = λ P from to tiles holds free. unlinked P from to x y tiles holds words addr free
+      (relinked P from to x tiles holds words addr free y is);
 }
 
 -- what writing the links needs, after both were read

@@ -28,6 +28,19 @@ use Rattle.sdr_large.proofs.PlacesLemmas.{IsApart, InOrder, in_order, at_block, 
 use Rattle.sdr_large.proofs.PlacesLemmas.{entered_once, entered_free, next_next, next_back, back_back}
 use Rattle.sdr_large.proofs.RelinkLemmas.{links_without}
 
+-- the block's neighbours in its list are linked with each other, and all other links stay
+pub record IsRelinked (P : Pools) (from to words addr : ℕ) (x y : List ℕ) : Type 0 where
+  pub changes : ChangesOnly P from to x y
+  pub moved : number_at (link_place (order_of words) (number_at (addr + 8 * words) x)) y ≡ number_at (addr - 8) x
+  pub back : (w : ℕ) → number_at (addr - 8) x ≢ 0 → IsFree P w (number_at (addr - 8) x) →
+      number_at (number_at (addr - 8) x + 8 * w) y ≡ number_at (addr + 8 * words) x
+  pub next_same : (w b : ℕ) → IsFree P w b → number_at (b - 8) x ≢ addr → number_at (b - 8) y ≡ number_at (b - 8) x
+  pub back_same : (w b : ℕ) → IsFree P w b → number_at (b + 8 * w) x ≢ addr →
+      number_at (b + 8 * w) y ≡ number_at (b + 8 * w) x
+  pub front_same : (o : ℕ) → o ≤ 20 → number_at (large_place o) x ≢ addr →
+      number_at (large_place o) y ≡ number_at (large_place o) x
+  pub bits : (word : ℕ) → word < 8 * (P.start - 1024) → start_bit word y ≡ start_bit word x
+
 module _ (P : Pools) (from to : ℕ) (x : List ℕ) (tiles : TilesAround P from to) (holds : HoldsLarge x P)
     (words addr : ℕ) (free : IsFree P words addr) where
   abbrev pub next : ℕ
@@ -282,39 +295,6 @@ module _ (P : Pools) (from to : ℕ) (x : List ℕ) (tiles : TilesAround P from 
         number_at (large_place o) y ≡ number_at (large_place o) x
     front_same o le other = word_same (large_place o) (front_from_place o le other) (front_from_back o le)
 
-    new : List (ℕ × ℕ)
-    new = unlisted addr (P.large_lists (order_of words))
-
-    lists : (o : ℕ) → o ≤ 20 →
-        Links y (large_place o) 0 (with_list (order_of words) (unlisted addr (P.large_lists (order_of words))) P.large_lists o)
-    lists o le = elim (cases_eq o (order_of words)) [
-      | inl same ↦
-          subst (λ (k : ℕ). Links y (large_place k) 0
-          (with_list (order_of words) (unlisted addr (P.large_lists (order_of words))) P.large_lists k)) (sym same)
-          (subst (λ (l : List (ℕ × ℕ)). Links y (large_place (order_of words)) 0 l)
-          (sym (with_list-here (order_of words) (unlisted addr (P.large_lists (order_of words))) P.large_lists))
-          (links_without x y P.large (order_of words) words addr positive (nonzero P from to tiles)
-          (unique P from to tiles) free moved back next_same back_same (large_place (order_of words)) 0
-          (P.large_lists (order_of words)) (holds.lists (order_of words) (order_of-le words)) refl
-          (λ zero_is. positive (sym zero_is)) (front_same (order_of words) (order_of-le words))
-          (λ w b there. entered_free P from to tiles (order_of words) w b there)
-          (λ w b. entered_once P from to tiles (order_of words) w b)))
-      | inr differ ↦
-          subst (λ (l : List (ℕ × ℕ)). Links y (large_place o) 0 l)
-          (sym (with_list-other (order_of words) o (unlisted addr (P.large_lists (order_of words))) P.large_lists differ))
-          (Links-same x y addr positive (large_place o) 0 (P.large_lists o) (holds.lists o le) (front_same o le)
-          (λ w b there. next_same w b (entered_free P from to tiles o w b there))
-          (λ w b there. back_same w b (entered_free P from to tiles o w b there))
-          (λ zero_is. positive (sym zero_is))
-          (λ w b there is_addr. differ (elsewhere w b there is_addr)))
-    ]
-      where
-        elsewhere : (w b : ℕ) → 0 < count_by (is_entry w b) (P.large_lists o) → b ≡ addr → o ≡ order_of words
-        elsewhere w b there is_addr =
-            let f = entry_free P tiles.lists o w b there in
-            f.0 ∙ ap order_of (unique P from to tiles w words addr
-            (subst (λ (a : ℕ). IsFree P w a) is_addr f.1) free)
-
     bit_same : (word : ℕ) → word < 8 * (P.start - 1024) → start_bit word y ≡ start_bit word x
     bit_same word within = start_bit-same word x y
         (byte (1024 + word / 8) (beside (cases_eq before 0)) (λ some. inl (omega (
@@ -336,32 +316,13 @@ module _ (P : Pools) (from to : ℕ) (x : List ℕ) (tiles : TilesAround P from 
           order.order,
         ))
 
-    used_without : (at : ℕ) → count_by (is_used_at at) (without addr P.large) ≡ count_by (is_used_at at) P.large
-    used_without at = elim (cases_eq at addr) [
-      | inl same ↦
-          ap (λ (a : ℕ). count_by (is_used_at a) (without addr P.large)) same
-          ∙ without-here (is_used_at addr) addr P.large (used_at_is addr)
-          ∙ sym (ap (λ (a : ℕ). count_by (is_used_at a) P.large) same
-          ∙ omega (arith, free, block.once, free-used-le-at words addr P.large))
-      | inr differ ↦ without-other (is_used_at at) at addr P.large (used_at_is at) differ
-    ]
-
-    pub unlinked : Steps P (with_unlinked P addr words) 0 x y
-    unlinked = record {
-      holds = record {
-        size = size ∙ holds.size;
-        low = control_kept P from to x y tiles holds changes 16 (omega arith) ∙ holds.low;
-        high = control_kept P from to x y tiles holds changes 24 (omega arith) ∙ holds.high;
-        lists = lists;
-        leaders = λ w a there. leaders_kept P from to x y tiles holds changes w a
-            (omega (arith, there, without-le (is_of w a) addr P.large));
-        free = λ w a there. free_kept P from to x y tiles holds changes w a
-            (omega (arith, there, without-le (is_free_of w a) addr P.large));
-        used = λ w a there. used_kept P from to x y tiles holds changes w a
-            (omega (arith, there, without-le (is_used_of w a) addr P.large));
-        bits = λ word within ge. bit_same word within ∙ holds.bits word within ge
-            ∙ sym (used_without (8 * word + 16));
-      };
-      below = below_stays P from to x y tiles holds changes (λ word within lt. bit_same word within);
-      used = used_stays P from to x y tiles holds changes;
+    pub relinked : IsRelinked P from to words addr x y
+    relinked = record {
+      changes = changes;
+      moved = moved;
+      back = back;
+      next_same = next_same;
+      back_same = back_same;
+      front_same = front_same;
+      bits = bit_same;
     }

@@ -1,17 +1,20 @@
 -- What the calls of the large pool do to the pools that the bytes keep.
-use Rattle.std.specs.Prelude.{◌≡◌, ◌≤◌, ◌-◌, ◌*◌, ℕ, List, Option, Some, None, ⊤}
+use Rattle.std.specs.Prelude.{◌≡◌, ◌≢◌, ◌≤◌, ◌<◌, count_by, ◌-◌, ◌*◌, ℕ, List, Option, Some, None, ⊤}
 use Rattle.sdr_base.specs.Pools.{Pools, IsUsed}
 use Rattle.sdr_base.specs.SmallPool.{Taken}
 use Rattle.sdr_base.specs.LargeGiving.{give_large}
 use Rattle.sdr_base.specs.LargePool.{with_cut, take_found, take_large}
-use Rattle.sdr_base.specs.KeptLarge.{KeepsLarge, StaysSmall, StaysUsed}
+use Rattle.sdr_base.specs.KeptLarge.{KeepsLarge, StaysSmall, StaysUsed, is_used_of}
 use Rattle.sdr_base.specs.Stored.{leader_kind, leader_length}
 use Rattle.sdr_base.specs.declared.line.TheConstants.{WORD}
 use Rattle.sdr_large.specs.Gap.{IsFree}
 
--- the bytes keep other pools from now on, and what the small pool stands on and the blocks in use but one stay
+-- the bytes keep other pools from now on, and what the small pool stands on and the blocks in use but one stay,
+-- which go on being in use
 pub record Becomes (P Q : Pools) (addr : ℕ) (old new : List ℕ) : Type 0 where
   pub keeps : KeepsLarge new Q
+  pub still : (words other : ℕ) → 0 < count_by (is_used_of words other) P.large → other ≢ addr →
+      0 < count_by (is_used_of words other) Q.large
   pub small : StaysSmall P Q old new
   pub others : StaysUsed P addr old new
 
@@ -37,6 +40,10 @@ pub record KeepsUsedLarge (addr : ℕ) (bytes : List ℕ) : Type 0 where
   pub pools : Pools
   pub keeps : KeepsLarge bytes pools
   pub used : IsUsed pools.large addr
+
+-- a block in use goes on being in use, but for one at an address
+pub record KeepsOthers (addr : ℕ) (old new : List ℕ) : Type 0 where
+  pub still : (other : ℕ) → other ≢ addr → KeepsUsedLarge other old → KeepsUsedLarge other new
 
 -- a block that was answered can be given back
 abbrev pub IsGiveable : Option ℕ → List ℕ → Type 0

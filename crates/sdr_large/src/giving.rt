@@ -2,7 +2,7 @@
 ghost use Rattle.std.specs.Prelude.{◌≡◌, ◌+◌, ◌*◌, ◌-◌, ◌/◌, ◌≤◌, ◌<◌, length, false, IfOk, OnOk};
 ghost use Rattle.sdr_base.specs.Transaction.{HasReason, TouchesAtMost};
 ghost use Rattle.sdr_base.specs.KeptLarge.{KeepsSomeLarge};
-ghost use Rattle.sdr_large.specs.Calls.{KeepsUsedLarge, Gives};
+ghost use Rattle.sdr_large.specs.Calls.{KeepsUsedLarge, KeepsOthers, Gives};
 ghost use Rattle.sdr_large.specs.Giving.{HoldsLoose, Loosens, JoinsBelow, JoinsAbove, PutsBack};
 
 use crate::block::Block;
@@ -19,6 +19,7 @@ pub fn give<C: Cells>(c: &mut C, addr: Addr) -> Result<(), Stop>
     requires used { KeepsUsedLarge addr (C.bytes c.old) }
     ensures given { OnOk result (Gives addr (C.bytes c.old) (C.bytes c.new)) }
     ensures kept { OnOk result (KeepsSomeLarge (C.bytes c.new)) }
+    ensures others { OnOk result (KeepsOthers addr (C.bytes c.old) (C.bytes c.new)) }
     ensures size { length (C.bytes c.new) ≡ length (C.bytes c.old) }
     ensures room { TouchesAtMost 20 (C.transaction c.old) (C.transaction c.new) result }
     ensures cause { HasReason (C.transaction c.old) (C.transaction c.new) result }

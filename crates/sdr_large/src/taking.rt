@@ -2,7 +2,7 @@
 ghost use Rattle.std.specs.Prelude.{◌≡◌, ◌+◌, ◌*◌, ◌-◌, ◌≤◌, ◌<◌, length, Some, IfOk, OnOk};
 ghost use Rattle.sdr_base.specs.Transaction.{HasReason, TouchesAtMost};
 ghost use Rattle.sdr_base.specs.KeptLarge.{KeepsSomeLarge};
-ghost use Rattle.sdr_large.specs.Calls.{Takes, TakesNew, IsGiveable, CanCut, Cuts};
+ghost use Rattle.sdr_large.specs.Calls.{Takes, TakesNew, IsGiveable, KeepsOthers, CanCut, Cuts};
 
 use crate::block::Block;
 use crate::finding::find;
@@ -22,6 +22,7 @@ pub fn take<C: Cells>(c: &mut C, words: u64) -> Result<Option<Addr>, Stop>
     ensures taken { IfOk result (λ found. Takes words found (C.bytes c.old) (C.bytes c.new)) }
     ensures used { IfOk result (λ found. IsGiveable found (C.bytes c.new)) }
     ensures kept { OnOk result (KeepsSomeLarge (C.bytes c.new)) }
+    ensures others { OnOk result (KeepsOthers 0 (C.bytes c.old) (C.bytes c.new)) }
     ensures size { length (C.bytes c.new) ≡ length (C.bytes c.old) }
     ensures room { TouchesAtMost 20 (C.transaction c.old) (C.transaction c.new) result }
     ensures cause { HasReason (C.transaction c.old) (C.transaction c.new) result }

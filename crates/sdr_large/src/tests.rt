@@ -44,34 +44,31 @@ fn no_block_is_given_where_high_would_pass_low(rt: HostRuntime) -> Result<(), Fa
 }
 
 #[test]
-fn freed_blocks_merge_and_are_unassigned_at_last(rt: HostRuntime) -> Result<(), Fail> {
+fn freed_blocks_that_touch_are_unassigned_together(rt: HostRuntime) -> Result<(), Fail> {
     let mut cells = MemoryCells::fresh(rt.alloc(), 64)?;
-    let a = take(&mut cells, 65)?.ok_or("none")?;
-    let b = take(&mut cells, 65)?.ok_or("none")?;
-    let c = take(&mut cells, 65)?.ok_or("none")?;
-    assert_eq!(rt; c, 2456);
-    give(&mut cells, a)?;
-    give(&mut cells, b)?;
-    let merged = take(&mut cells, 134)?.ok_or("none")?;
-    assert_eq!(rt; merged, 3008);
-    give(&mut cells, merged)?;
-    give(&mut cells, c)?;
-    let first = take(&mut cells, 65)?;
-    assert_eq!(rt; first, Some(3560));
+    let upper = take(&mut cells, 65)?.ok_or("none")?;
+    assert_eq!(rt; upper, 3560);
+    let lower = take(&mut cells, 65)?.ok_or("none")?;
+    assert_eq!(rt; lower, 3008);
+    give(&mut cells, upper)?;
+    give(&mut cells, lower)?;
+    let all = take(&mut cells, 372)?;
+    assert_eq!(rt; all, Some(1104));
     Ok(())
 }
 
 #[test]
-fn a_block_of_a_higher_list_is_cut(rt: HostRuntime) -> Result<(), Fail> {
+fn a_block_of_a_higher_list_is_cut_and_merges_again(rt: HostRuntime) -> Result<(), Fail> {
     let mut cells = MemoryCells::fresh(rt.alloc(), 64)?;
     let upper = take(&mut cells, 200)?.ok_or("none")?;
     assert_eq!(rt; upper, 2480);
     let lower = take(&mut cells, 65)?;
     assert_eq!(rt; lower, Some(1928));
     give(&mut cells, upper)?;
-    let part = take(&mut cells, 65)?;
-    assert_eq!(rt; part, Some(2480));
-    let next = take(&mut cells, 100)?;
-    assert_eq!(rt; next, Some(3032));
+    let part = take(&mut cells, 65)?.ok_or("none")?;
+    assert_eq!(rt; part, 2480);
+    give(&mut cells, part)?;
+    let whole = take(&mut cells, 200)?;
+    assert_eq!(rt; whole, Some(2480));
     Ok(())
 }

@@ -1,6 +1,6 @@
 -- The steps one after another.
 use Rattle.std.proofs.lemmas.Result.{on_ok_weaker}
-use Rattle.sdr_large.proofs.GivenLemmas.{holds_first, holds_second, holds_third, gives, Gives-kept}
+use Rattle.sdr_large.proofs.GivenLemmas.{holds_first, holds_second, holds_third, gives, Gives-kept, Gives-others}
 use Rattle.sdr_large.proofs.giving.give.Goals as goal
 
 pub join_below-requires : goal.join_below-requires
@@ -34,6 +34,14 @@ pub returns-clause-kept : goal.returns-clause-kept
 returns-clause-kept g c =
     on_ok_weaker c.put_back.result
     (λ puts. Gives-kept _ _ c.args.addr c.requires.used
+    (gives c.args.addr c.in_ok-own.own c.in_ok-upper.upper c.in_ok-whole.whole _ _ _ _ _
+    c.in_ok-own.ensures.loose c.in_ok-upper.ensures.joined c.in_ok-whole.ensures.joined puts))
+    c.put_back.ensures.put
+
+pub returns-clause-others : goal.returns-clause-others
+returns-clause-others g c =
+    on_ok_weaker c.put_back.result
+    (λ puts. Gives-others _ _ c.args.addr c.requires.used
     (gives c.args.addr c.in_ok-own.own c.in_ok-upper.upper c.in_ok-whole.whole _ _ _ _ _
     c.in_ok-own.ensures.loose c.in_ok-upper.ensures.joined c.in_ok-whole.ensures.joined puts))
     c.put_back.ensures.put

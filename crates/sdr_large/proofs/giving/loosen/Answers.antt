@@ -11,7 +11,7 @@ read_leader_words-requires g c =
     let k = can_loosen _ _ _ c.requires.used refl in record { inside = omega (arith, k.least, k.inside) }
 
 pub overflow_sub-addr-2 : goal.overflow_sub-addr-2
-overflow_sub-addr-2 g c = (can_loosen _ _ _ c.requires.used refl).least
+overflow_sub-addr-2 g c = omega (arith, (can_loosen _ _ _ c.requires.used refl).least)
 
 pub clear_start_bit-requires : goal.clear_start_bit-requires
 clear_start_bit-requires g c = record { inside = (can_loosen _ _ _ c.requires.used c.in_ok-words.ensures.same).bit }

@@ -5,7 +5,7 @@ use Rattle.std.proofs.lemmas.Result.{IfOk-weaker}
 use Rattle.sdr_large.specs.declared.block.Block.{Block}
 use Rattle.sdr_large.specs.Calls.{Takes, TakesNew, IsGiveable}
 use Rattle.sdr_large.specs.Steps.{Finds}
-use Rattle.sdr_large.proofs.CallsLemmas.{found_cut, takes_cut, takes_new, Takes-kept, Takes-used, OnOk-from}
+use Rattle.sdr_large.proofs.CallsLemmas.{found_cut, takes_cut, takes_new, Takes-kept, Takes-used, Takes-others, OnOk-from}
 use Rattle.sdr_large.proofs.taking.take.Goals as goal
 
 pub take_cut-requires : goal.take_cut-requires
@@ -54,4 +54,14 @@ pub returns-in-None-clause-kept : goal.returns-in-None-clause-kept
 returns-in-None-clause-kept g c =
     OnOk-from (λ found. Takes c.args.words found (g.C.Cells.bytes c.args.c.now) (g.C.Cells.bytes c.take_new.new.c))
     c.take_new.result (λ found takes. Takes-kept _ _ c.args.words found c.requires.pools takes)
+    (returns-in-None-clause-taken g c)
+
+pub returns-in_ok-take_cut-in-Some-clause-others : goal.returns-in_ok-take_cut-in-Some-clause-others
+returns-in_ok-take_cut-in-Some-clause-others g c =
+    Takes-others _ _ c.args.words _ (returns-in_ok-take_cut-in-Some-clause-taken g c)
+
+pub returns-in-None-clause-others : goal.returns-in-None-clause-others
+returns-in-None-clause-others g c =
+    OnOk-from (λ found. Takes c.args.words found (g.C.Cells.bytes c.args.c.now) (g.C.Cells.bytes c.take_new.new.c))
+    c.take_new.result (λ found takes. Takes-others _ _ c.args.words found takes)
     (returns-in-None-clause-taken g c)
