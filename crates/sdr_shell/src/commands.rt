@@ -191,7 +191,8 @@ pub fn still<D: Disk, M: Media, S: Source, K: Sink>(
         × (D.faults disk ≤ D.faults result.disk) × (S.reads input.new ≤ S.reads input.old + 1048577) }
     ensures given { (result.media ≡ media) × (result.journal ≡ []) }
     ensures same { LeavesDisk result.status → result.disk ≡ disk }
-    ensures told { (is_some (D.bytes result.disk) ≡ is_some (D.bytes disk)) × (D.size result.disk ≡ D.size disk) }
+    ensures told { (is_some (D.bytes result.disk) ≡ is_some (D.bytes disk))
+        × (D.size result.disk ≡ D.size disk) }
 {
     match form_of(words) {
         Some(Form::Dry) => {

@@ -53,7 +53,8 @@ pub fn top<
         × (D.faults disk ≤ D.faults result.disk) × (S.reads input.new ≤ S.reads input.old + 1048577) }
     ensures given { (result.media ≡ media) × (result.journal ≡ []) }
     ensures same { LeavesDisk result.status → result.disk ≡ disk }
-    ensures told { (is_some (D.bytes result.disk) ≡ is_some (D.bytes disk)) × (D.size result.disk ≡ D.size disk) }
+    ensures told { (is_some (D.bytes result.disk) ≡ is_some (D.bytes disk))
+        × (D.size result.disk ≡ D.size disk) }
 {
     still(alloc, words, disk, media, input, output)
 }
