@@ -1,18 +1,17 @@
 -- Each pool's calls keep the other pool.
-use Rattle.std.proofs.Common.{◌≡◌, ◌≢◌, ◌≤◌, ◌<◌, ◌⊎◌, inl, inr, ℕ, ◌+◌, ◌-◌, ◌*◌, ◌/◌, ◌%◌, Bool, true, false, cond, ◌==◌}
-use Rattle.std.proofs.Common.{List, length, get_or, refl, sym, ap, ◌∙◌, arith, subst}
+use Rattle.std.proofs.Common.{◌≡◌, ◌≤◌, ◌<◌, inl, inr, ℕ, ◌+◌, ◌-◌, ◌*◌, Bool, true, false, cond, ◌==◌}
+use Rattle.std.proofs.Common.{List, get_or, refl, sym, ap, ◌∙◌, arith, subst}
 use Rattle.std.specs.Prelude.{Option, Some, None, nat_lt}
 use Rattle.std.specs.List.{count_by, find}
 use Rattle.std.proofs.lemmas.Bool.{cases_lt}
-use Rattle.sdr_base.specs.Pools.{PoolBlock, Pools, is_of, is_free_of, is_used_at}
-use Rattle.sdr_base.specs.SmallPool.{Taken}
-use Rattle.sdr_base.specs.LargePool.{found_large, take_found, take_large, with_unlinked, with_used_large, with_free_large}
+use Rattle.sdr_base.specs.Pools.{PoolBlock, Pools, is_of}
+use Rattle.sdr_base.specs.LargePool.{with_free_large}
 use Rattle.sdr_base.specs.LargePool.{with_cut, with_new_large}
 use Rattle.sdr_base.specs.LargeGiving.{Loose, loosened, with_below, with_above, joined_below, joined_above, put_back}
 use Rattle.sdr_base.specs.LargeGiving.{is_free_at, is_free_below, give_large}
-use Rattle.sdr_base.specs.KeptPools.{Chain, KeepsSmall, StaysLarge, list_place}
-use Rattle.sdr_base.specs.KeptLarge.{Links, HoldsLarge, KeepsLarge, StaysSmall, is_used_of, large_place}
-use Rattle.sdr_base.specs.Stored.{number_at, start_bit}
+use Rattle.sdr_base.specs.KeptPools.{KeepsSmall, StaysLarge, list_place}
+use Rattle.sdr_base.specs.KeptLarge.{HoldsLarge, KeepsLarge, StaysSmall, large_place}
+use Rattle.sdr_base.specs.Stored.{number_at}
 use Rattle.sdr_base.proofs.KeptPoolsLemmas.{Chain-moved, IsInOrder, in_order as small_order, IsBlock, is_block, free_is, listed_is}
 use Rattle.sdr_base.proofs.PoolsLemmas.{at-last, used-le-at}
 use Rattle.sdr_base.proofs.StoredLemmas.{number_at-same, leader_words-same, leader_kind-same, leader_length-same}

@@ -1,5 +1,5 @@
 -- What the calls do, from what their parts do.
-use Rattle.std.proofs.Common.{inl, inr, ◌≢◌, ◌<◌, ◌/◌, ◌+◌, ◌-◌, ◌*◌, arith, ap, sym, subst, ◌∙◌, ◌≡◌, ◌≤◌, ℕ, List}
+use Rattle.std.proofs.Common.{inl, inr, ◌≢◌, ◌<◌, ◌/◌, ◌+◌, ◌-◌, ◌*◌, arith, ap, sym, subst, ◌≡◌, ◌≤◌, ℕ, List}
 use Rattle.std.specs.Prelude.{Option, Some, None, Result, Ok, Err, IfOk, OnOk}
 use Rattle.std.specs.List.{count_by}
 use Rattle.std.proofs.lemmas.Bool.{cases_eq}

@@ -1,32 +1,25 @@
 -- A free block that comes to the gap, at the front of its list, in the bytes.
-use Rattle.std.proofs.Common.{◌≡◌, ◌≢◌, ◌≤◌, ◌<◌, ◌⊎◌, inl, inr, ℕ, ◌+◌, ◌-◌, ◌*◌, ◌/◌, ◌^◌, Bool, true, false, ◌&&◌, ◌==◌}
-use Rattle.std.proofs.Common.{List, ◌∷◌, length, get_or, refl, sym, ap, ◌∙◌, arith, subst}
-use Rattle.std.specs.List.{count_by}
-use Rattle.std.proofs.lemmas.Bool.{cases_eq, and_parts}
-use Rattle.sdr_base.specs.Pools.{PoolBlock, Pools, is_of, is_free_of, is_used_at}
-use Rattle.sdr_base.specs.SmallPool.{with_list}
-use Rattle.sdr_base.specs.LargePool.{order_of, with_free_large}
+use Rattle.std.proofs.Common.{◌≡◌, ◌≢◌, ◌≤◌, ◌<◌, ◌⊎◌, inl, inr, ℕ, ◌+◌, ◌-◌, ◌*◌, ◌/◌, ◌^◌, false}
+use Rattle.std.proofs.Common.{List, length, get_or, sym, ap, ◌∙◌, arith, subst}
+use Rattle.sdr_base.specs.Pools.{PoolBlock, Pools}
+use Rattle.sdr_base.specs.LargePool.{order_of}
 use Rattle.sdr_base.specs.KeptPools.{IsOutside}
-use Rattle.sdr_base.specs.KeptLarge.{Links, HoldsLarge, IsFreeBlock, is_used_of, is_entry, large_place}
+use Rattle.sdr_base.specs.KeptLarge.{HoldsLarge, large_place}
 use Rattle.sdr_base.specs.Stored.{number_at, with_number, leader_words, start_bit}
 use Rattle.sdr_base.proofs.PartsLemmas.{sides}
-use Rattle.sdr_base.proofs.PoolsLemmas.{is_of-true}
-use Rattle.sdr_base.proofs.SmallPoolLemmas.{with_list-here, with_list-other}
 use Rattle.sdr_base.proofs.StartBitsLemmas.{start_bit-same}
 use Rattle.sdr_base.proofs.StoredLemmas.{number_at-with_number, get_or-with_number, length-with_number, number_at-same}
 use Rattle.sdr_large.specs.Frame.{HasFrame}
-use Rattle.sdr_large.specs.Gap.{TilesAround, IsFree, Steps}
+use Rattle.sdr_large.specs.Gap.{TilesAround, IsFree}
 use Rattle.sdr_large.specs.Steps.{with_before, ReachesBack}
 use Rattle.sdr_large.proofs.BackLemmas.{outside_of, length-with_before, get_or-with_before, number_at-with_before}
-use Rattle.sdr_large.proofs.ChangeLemmas.{MayChange, ChangesOnly, leaders_kept, free_kept, used_kept, used_stays}
-use Rattle.sdr_large.proofs.ChangeLemmas.{control_kept, below_stays}
-use Rattle.sdr_large.proofs.GapLemmas.{put_or_was, not_put, positive, other_addr, next_out, back_out, front_free, front_order}
-use Rattle.sdr_large.proofs.LinksLemmas.{FreeAt, Links-same}
-use Rattle.sdr_large.proofs.ListsLemmas.{order_of-le, entry_free}
+use Rattle.sdr_large.proofs.ChangeLemmas.{MayChange, ChangesOnly}
+use Rattle.sdr_large.proofs.GapLemmas.{next_out, back_out, front_free}
+use Rattle.sdr_large.proofs.LinksLemmas.{FreeAt}
+use Rattle.sdr_large.proofs.ListsLemmas.{order_of-le}
 use Rattle.sdr_large.proofs.PartedLemmas.{IsBeside}
-use Rattle.sdr_large.proofs.PlacesLemmas.{IsApart, InOrder, in_order, at_block, free_of, unique, nonzero, entered_once}
-use Rattle.sdr_large.proofs.PlacesLemmas.{entered_free, next_back, back_back}
-use Rattle.sdr_large.proofs.RelinkLemmas.{links_pushed}
+use Rattle.sdr_large.proofs.PlacesLemmas.{IsApart, InOrder, in_order, at_block, free_of}
+use Rattle.sdr_large.proofs.PlacesLemmas.{next_back, back_back}
 
 -- the block is linked at the front of its list, and all other links stay
 pub record IsPushed (P : Pools) (from to words addr : ℕ) (x y : List ℕ) : Type 0 where

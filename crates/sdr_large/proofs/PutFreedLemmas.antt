@@ -1,31 +1,24 @@
 -- A pool to which a free block comes, where its list was linked.
-use Rattle.std.proofs.Common.{◌≡◌, ◌≢◌, ◌≤◌, ◌<◌, ◌⊎◌, inl, inr, ℕ, ◌+◌, ◌-◌, ◌*◌, ◌/◌, ◌^◌, Bool, true, false, ◌&&◌, ◌==◌}
-use Rattle.std.proofs.Common.{List, ◌∷◌, length, get_or, refl, sym, ap, ◌∙◌, arith, subst}
+use Rattle.std.proofs.Common.{◌≡◌, ◌≢◌, ◌≤◌, ◌<◌, inl, inr, ℕ, ◌+◌, ◌-◌, ◌*◌, Bool, true, false, ◌&&◌, ◌==◌}
+use Rattle.std.proofs.Common.{List, ◌∷◌, refl, sym, ap, ◌∙◌, arith, subst}
 use Rattle.std.specs.List.{count_by}
 use Rattle.std.proofs.lemmas.Bool.{cases_eq, and_parts}
 use Rattle.sdr_base.specs.Pools.{PoolBlock, Pools, is_of, is_free_of, is_used_at}
 use Rattle.sdr_base.specs.SmallPool.{with_list}
 use Rattle.sdr_base.specs.LargePool.{order_of, with_free_large}
-use Rattle.sdr_base.specs.KeptPools.{IsOutside}
 use Rattle.sdr_base.specs.KeptLarge.{Links, HoldsLarge, IsFreeBlock, is_used_of, is_entry, large_place}
-use Rattle.sdr_base.specs.Stored.{number_at, with_number, leader_words, start_bit}
-use Rattle.sdr_base.proofs.PartsLemmas.{sides}
+use Rattle.sdr_base.specs.Stored.{number_at, leader_words}
 use Rattle.sdr_base.proofs.PoolsLemmas.{is_of-true}
 use Rattle.sdr_base.proofs.SmallPoolLemmas.{with_list-here, with_list-other}
-use Rattle.sdr_base.proofs.StartBitsLemmas.{start_bit-same}
-use Rattle.sdr_base.proofs.StoredLemmas.{number_at-with_number, get_or-with_number, length-with_number, number_at-same}
 use Rattle.sdr_large.specs.Frame.{HasFrame}
 use Rattle.sdr_large.specs.Gap.{TilesAround, IsFree, Steps}
-use Rattle.sdr_large.specs.Steps.{with_before, ReachesBack}
-use Rattle.sdr_large.proofs.BackLemmas.{outside_of, length-with_before, get_or-with_before, number_at-with_before}
-use Rattle.sdr_large.proofs.ChangeLemmas.{MayChange, ChangesOnly, leaders_kept, free_kept, used_kept, used_stays}
+use Rattle.sdr_large.proofs.ChangeLemmas.{leaders_kept, free_kept, used_kept, used_stays}
 use Rattle.sdr_large.proofs.ChangeLemmas.{control_kept, below_stays}
-use Rattle.sdr_large.proofs.GapLemmas.{put_or_was, not_put, positive, other_addr, next_out, back_out, front_free, front_order}
+use Rattle.sdr_large.proofs.GapLemmas.{put_or_was, not_put, positive, other_addr, front_order}
 use Rattle.sdr_large.proofs.LinksLemmas.{FreeAt, Links-same}
 use Rattle.sdr_large.proofs.ListsLemmas.{order_of-le, entry_free}
-use Rattle.sdr_large.proofs.PartedLemmas.{IsBeside}
-use Rattle.sdr_large.proofs.PlacesLemmas.{IsApart, InOrder, in_order, at_block, free_of, unique, nonzero, entered_once}
-use Rattle.sdr_large.proofs.PlacesLemmas.{entered_free, next_back, back_back}
+use Rattle.sdr_large.proofs.PlacesLemmas.{unique, nonzero, entered_once}
+use Rattle.sdr_large.proofs.PlacesLemmas.{entered_free}
 use Rattle.sdr_large.proofs.RelinkLemmas.{links_pushed}
 use Rattle.sdr_large.proofs.PutFreeLemmas.{IsPushed, first}
 

@@ -1,31 +1,23 @@
 -- A pool from which a free block leaves, where its list was relinked.
-use Rattle.std.proofs.Common.{◌≡◌, ◌≢◌, ◌≤◌, ◌<◌, ◌⊎◌, inl, inr, ℕ, ◌+◌, ◌-◌, ◌*◌, ◌/◌, ◌^◌}
-use Rattle.std.proofs.Common.{List, length, get_or, refl, sym, ap, ◌∙◌, arith, subst}
+use Rattle.std.proofs.Common.{◌≡◌, ◌≢◌, ◌≤◌, ◌<◌, inl, inr, ℕ, ◌+◌, ◌*◌}
+use Rattle.std.proofs.Common.{List, refl, sym, ap, ◌∙◌, arith, subst}
 use Rattle.std.specs.List.{count_by}
 use Rattle.std.proofs.lemmas.Bool.{cases_eq}
 use Rattle.sdr_base.specs.Pools.{Pools, is_of, is_free_of, is_used_at}
 use Rattle.sdr_base.specs.SmallPool.{with_list}
 use Rattle.sdr_base.specs.LargePool.{order_of, without, unlisted, with_unlinked}
-use Rattle.sdr_base.specs.KeptPools.{IsOutside}
 use Rattle.sdr_base.specs.KeptLarge.{Links, HoldsLarge, is_used_of, is_entry, large_place}
-use Rattle.sdr_base.specs.Stored.{number_at, with_number, leader_words, start_bit}
-use Rattle.sdr_base.proofs.PartsLemmas.{sides}
 use Rattle.sdr_base.proofs.PoolsLemmas.{free-used-le-at}
 use Rattle.sdr_base.proofs.SmallPoolLemmas.{with_list-here, with_list-other}
-use Rattle.sdr_base.proofs.StartBitsLemmas.{start_bit-same}
-use Rattle.sdr_base.proofs.StoredLemmas.{number_at-with_number, get_or-with_number, length-with_number, number_at-same}
 use Rattle.sdr_large.specs.Gap.{TilesAround, IsFree, Steps}
-use Rattle.sdr_large.specs.Steps.{link_place, with_before, ReachesBack}
-use Rattle.sdr_large.proofs.BackLemmas.{outside_of, link_place-first, link_place-other, length-with_before}
-use Rattle.sdr_large.proofs.BackLemmas.{get_or-with_before, number_at-with_before}
 use Rattle.sdr_large.proofs.BlocksLemmas.{without-other, without-here, used_at_is, without-le}
-use Rattle.sdr_large.proofs.ChangeLemmas.{MayChange, ChangesOnly, leaders_kept, free_kept, used_kept, used_stays}
+use Rattle.sdr_large.proofs.ChangeLemmas.{leaders_kept, free_kept, used_kept, used_stays}
 use Rattle.sdr_large.proofs.ChangeLemmas.{control_kept, below_stays}
-use Rattle.sdr_large.proofs.LinksLemmas.{IsLinked, linked, Links-same}
-use Rattle.sdr_large.proofs.ListsLemmas.{order_of-le, entry_free, free_entry}
+use Rattle.sdr_large.proofs.LinksLemmas.{Links-same}
+use Rattle.sdr_large.proofs.ListsLemmas.{order_of-le, entry_free}
 use Rattle.sdr_large.proofs.PartedLemmas.{IsBeside}
-use Rattle.sdr_large.proofs.PlacesLemmas.{IsApart, InOrder, in_order, at_block, free_of, unique, nonzero}
-use Rattle.sdr_large.proofs.PlacesLemmas.{entered_once, entered_free, next_next, next_back, back_back}
+use Rattle.sdr_large.proofs.PlacesLemmas.{at_block, free_of, unique, nonzero}
+use Rattle.sdr_large.proofs.PlacesLemmas.{entered_once, entered_free}
 use Rattle.sdr_large.proofs.RelinkLemmas.{links_without}
 use Rattle.sdr_large.proofs.UnlinkLemmas.{IsRelinked}
 
