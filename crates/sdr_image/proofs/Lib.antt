@@ -1,4 +1,5 @@
 pub mod ChangedLemmas
+pub mod ChangingLemmas
 pub mod FormatLemmas
 pub mod FormattedLemmas
 pub mod ImageLemmas

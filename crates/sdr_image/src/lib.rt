@@ -13,6 +13,7 @@
 //!    answered `DiskFault`, each later call answers `Failed`, and the disk has to be opened again.
 #![tactic(auto)]
 
+mod changing;
 mod empty;
 mod error;
 mod fresh;
