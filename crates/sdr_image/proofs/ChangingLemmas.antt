@@ -9,7 +9,8 @@ use Rattle.sdr_log.specs.declared.frame.Frame.{Frame}
 use Rattle.sdr_log.specs.declared.record.Record.{Record}
 use Rattle.sdr_log.proofs.LoggedLemmas.{rest_gives}
 use Rattle.sdr_log.proofs.TransactionLemmas.{opens_may_put, rest_may_open, rest_reads}
-use Rattle.sdr_image.specs.Changed.{GivesEither, HoldsHeap}
+use Rattle.sdr_image.specs.Changed.{GivesEither}
+use Rattle.sdr_image.specs.Opened.{HoldsHeap}
 
 -- These old lines and new ones, on a disk at rest.
 module _ (f : Frame) (olds news : List Record) (x : List ℕ) (left : List ℕ → Type 0) (r : IsAtRest f x left)

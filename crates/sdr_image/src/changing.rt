@@ -7,7 +7,8 @@ ghost use Rattle.sdr_log.specs.Calls.{AreBelow, AreNamed, HasPlace, HoldLines, K
 ghost use Rattle.sdr_log.specs.Frame.{LieInside};
 ghost use Rattle.sdr_log.specs.Log.{are_good, heap_of, put_records};
 ghost use Rattle.sdr_log.specs.Logged.{IsAtRest};
-ghost use Rattle.sdr_image.specs.Changed.{GivesEither, HoldsHeap, changed};
+ghost use Rattle.sdr_image.specs.Changed.{GivesEither, changed};
+ghost use Rattle.sdr_image.specs.Opened.{HoldsHeap};
 
 use sdr_disk::{Disk, DiskFault};
 use sdr_log::{Frame, Record, close, put_lines, write_batch};
