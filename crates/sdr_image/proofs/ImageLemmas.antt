@@ -16,8 +16,8 @@ use Rattle.sdr_image.specs.Undo.{Olds}
 use Rattle.sdr_image.specs.Opened.{lines_named, HoldsHeap, IsImage}
 use Rattle.sdr_image.proofs.TouchedLemmas.{is_among-lines_named, is_among-lines_of}
 
-module _ (size : ℕ) (told : Option (List ℕ)) (f : Frame) (bytes : List ℕ) (undo : Olds) (rising : ℕ)
-    (is_open failed : Bool) (i : IsImage size told f bytes undo rising is_open failed) where
+module _ (size : ℕ) (told : Option (List ℕ)) (left : List ℕ → Type 0) (f : Frame) (bytes : List ℕ) (undo : Olds)
+    (memory : ℕ) (is_open failed : Bool) (i : IsImage size told left f bytes undo memory is_open failed) where
   -- where a line more is kept, the bytes at begin are the same
   pub begun-keep : (r : Record) → r.line < f.heap_lines → is_named undo.olds r.line ≡ false →
       r.bytes ≡ part (64 * r.line) 64 bytes → put_records (undo.olds ++ r ∷ []) bytes ≡ put_records undo.olds bytes
@@ -27,10 +27,10 @@ module _ (size : ℕ) (told : Option (List ℕ)) (f : Frame) (bytes : List ℕ) 
   -- and the image after it
   pub IsImage-keep : (r : Record) (undo' : Olds) → undo' ≡ record undo { olds = undo.olds ++ r ∷ [] } →
       r.line < f.heap_lines → is_named undo.olds r.line ≡ false → length undo.olds < room_of f →
-      r.bytes ≡ part (64 * r.line) 64 bytes → IsImage size told f bytes undo' rising true failed
+      r.bytes ≡ part (64 * r.line) 64 bytes → IsImage size told left f bytes undo' memory true failed
   IsImage-keep r undo' is below new few own =
       let inside : 64 * r.line + 64 ≤ length bytes = omega (arith, i.long, below) in
-      subst (λ (u : Olds). IsImage size told f bytes u rising true failed) (sym is) (record {
+      subst (λ (u : Olds). IsImage size told left f bytes u memory true failed) (sym is) (record {
         limits = i.limits;
         fits = i.fits;
         long = i.long;
@@ -42,7 +42,7 @@ module _ (size : ℕ) (told : Option (List ℕ)) (f : Frame) (bytes : List ℕ) 
         reserved = i.reserved;
         idle = λ closed. absurd cc;
         disk = λ sound x told_is.
-            subst (λ (heap : List ℕ). HoldsHeap f heap x) (sym (begun-keep r below new own)) (i.disk sound x told_is);
+            subst (λ (heap : List ℕ). HoldsHeap f heap x left) (sym (begun-keep r below new own)) (i.disk sound x told_is);
       })
 
   -- where bytes of touched lines are written, the bytes at begin are the same
@@ -70,9 +70,9 @@ module _ (size : ℕ) (told : Option (List ℕ)) (f : Frame) (bytes : List ℕ) 
       place + length from ≤ length bytes →
       ((line : ℕ) → is_among (lines_of place (length from)) line ≡ true →
       is_among (lines_named undo.olds) line ≡ true) →
-      IsImage size told f new undo rising is_open failed
+      IsImage size told left f new undo memory is_open failed
   IsImage-put place from new is inside touched =
-      subst (λ (l : List ℕ). IsImage size told f l undo rising is_open failed) (sym is) (record {
+      subst (λ (l : List ℕ). IsImage size told left f l undo memory is_open failed) (sym is) (record {
         limits = i.limits;
         fits = i.fits;
         long = length-overwrite place from bytes inside ∙ i.long;
@@ -84,16 +84,16 @@ module _ (size : ℕ) (told : Option (List ℕ)) (f : Frame) (bytes : List ℕ) 
         reserved = i.reserved;
         idle = i.idle;
         disk = λ sound x told_is.
-            subst (λ (heap : List ℕ). HoldsHeap f heap x) (sym (begun-put place from inside touched))
+            subst (λ (heap : List ℕ). HoldsHeap f heap x left) (sym (begun-put place from inside touched))
             (i.disk sound x told_is);
       })
 
   -- the old lines are put back
   pub IsImage-cancel : (new : List ℕ) (undo' : Olds) → new ≡ put_records undo.olds bytes →
-      undo' ≡ record undo { olds = [] } → IsImage size told f new undo' rising false failed
+      undo' ≡ record undo { olds = [] } → IsImage size told left f new undo' memory false failed
   IsImage-cancel new undo' is undo_is =
-      subst (λ (l : List ℕ). IsImage size told f l undo' rising false failed) (sym is)
-      (subst (λ (u : Olds). IsImage size told f (put_records undo.olds bytes) u rising false failed) (sym undo_is)
+      subst (λ (l : List ℕ). IsImage size told left f l undo' memory false failed) (sym is)
+      (subst (λ (u : Olds). IsImage size told left f (put_records undo.olds bytes) u memory false failed) (sym undo_is)
       (record {
         limits = i.limits;
         fits = i.fits;

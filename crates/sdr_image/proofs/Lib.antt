@@ -1,7 +1,9 @@
-pub mod ChangedLemmas
+pub mod ChangingLemmas
 pub mod FormatLemmas
 pub mod FormattedLemmas
 pub mod ImageLemmas
+pub mod LinesLemmas
+pub mod OpenedLemmas
 pub mod OpeningLemmas
 pub mod RegionLemmas
 pub mod SavedLemmas

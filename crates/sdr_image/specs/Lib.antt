@@ -1,3 +1,4 @@
+pub mod Changed
 pub mod Format
 pub mod Opened
 pub mod Opening

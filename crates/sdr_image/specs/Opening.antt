@@ -1,21 +1,29 @@
 -- When a disk is opened.
-use Rattle.std.specs.Prelude.{◌≡◌, ◌≤◌, ℕ, false, List, [], ⊤, Option, Some, Result, Ok, Err, IfErr}
+use Rattle.std.specs.Prelude.{◌≡◌, ◌≤◌, ◌*◌, ℕ, false, List, [], ⊤, Option, Some, Result, Ok, Err, IfErr}
 use Rattle.sdr_base.specs.Causes.{Rose}
 use Rattle.sdr_base.specs.Parts.{part}
 use Rattle.sdr_base.specs.declared.line.TheConstants.{LINE}
-use Rattle.sdr_disk.specs.Told.{Told}
-use Rattle.sdr_log.specs.Frame.{IsInLimits, disk_bytes, frame_of}
-use Rattle.sdr_log.specs.Log.{first_gate, put_back_of}
+use Rattle.sdr_disk.specs.Told.{Both, Told}
+use Rattle.sdr_log.specs.Calls.{KeepsDisk, PutsBack}
+use Rattle.sdr_log.specs.Frame.{IsInLimits, disk_bytes, frame_of, room_of}
+use Rattle.sdr_log.specs.Log.{put_back_of}
+use Rattle.sdr_log.specs.Logged.{GivesSame}
 use Rattle.sdr_log.specs.declared.frame.Frame.{Frame}
 use Rattle.sdr_image.specs.declared.error.ImageError.{ImageError}
 use Rattle.sdr_image.specs.declared.error.ImageError.TheVariants as errors
 use Rattle.sdr_image.specs.declared.error.ImageShut.{ImageShut}
-use Rattle.sdr_image.specs.Opened.{Opened}
+use Rattle.sdr_image.specs.Opened.{LeavesHeap, Opened}
+use Rattle.sdr_image.specs.Undo.{Olds}
 
 -- what holds where the disk isn't formatted
 abbrev pub OnNotFormatted : ImageError → Type 0 → Type 0
 OnNotFormatted errors.NotFormatted P = P
 OnNotFormatted error P = ⊤
+
+-- what holds where the disk didn't fail
+abbrev pub UnlessFault : ImageError → Type 0 → Type 0
+UnlessFault errors.DiskFault P = ⊤
+UnlessFault error P = P
 
 -- a disk fault comes only where the disk's count rose
 abbrev pub ExplainsFault : ℕ → ℕ → ImageError → Type 0
@@ -33,18 +41,25 @@ pub record IsFramed (size : ℕ) (told : Option (List ℕ)) (f : Frame) : Type 0
   pub fits : disk_bytes f ≤ size
   pub head : Told told (λ x. frame_of (part 0 LINE x) ≡ Some f)
 
--- and no open batch
-pub record IsFound (size : ℕ) (told : Option (List ℕ)) (f : Frame) : Type 0 where
-  pub framed : IsFramed size told f
-  pub gate : Told told (λ x. first_gate x ≡ 0)
+-- the memory of an image with these regions: a heap region, old lines, and a commit
+pub record IsReady (f : Frame) (bytes : ℕ) (undo : Olds) (memory : ℕ) : Type 0 where
+  pub long : bytes ≡ LINE * f.heap_lines
+  pub undo_is : undo ≡ record { lines = f.heap_lines; room = room_of f; olds = [] }
+  pub memory_is : memory ≡ room_of f
 
--- an image that was just opened: the bytes are those of the heap that the disk gives, no batch is open on it,
--- nothing is touched, and no transaction is open
-pub record IsOpened {D : Type 0} (told : D → Option (List ℕ)) (disk : D) (i : Opened D) : Type 0 where
+-- each of these images gives the same heap, or none as before
+abbrev pub AllGiveSame : List ℕ → (List ℕ → Type 0) → Type 0
+AllGiveSame x left = (image : List ℕ) → left image → GivesSame x image
+
+-- An image that was just opened. The bytes are those of the heap that the disk gives, and so they are after a crash;
+-- the open batches are put back; nothing is touched, and no transaction is open.
+pub record IsOpened {D : Type 0} (told : D → Option (List ℕ)) (moment : D → ℕ) (may_leave : D → ℕ → List ℕ → Type 0)
+    (disk : D) (i : Opened D) : Type 0 where
   pub limits : IsInLimits i.frame
   pub head : Told (told disk) (λ x. frame_of (part 0 LINE x) ≡ Some i.frame)
-  pub gate : Told (told disk) (λ x. first_gate x ≡ 0)
   pub heap : Told (told disk) (λ x. put_back_of x ≡ Some i.bytes)
+  pub back : Both (told disk) (told i.disk) (PutsBack i.frame i.restored)
+  pub durable : LeavesHeap told moment may_leave i.bytes i.disk
   pub begun : i.begun ≡ i.bytes
   pub touched : i.touched ≡ []
   pub closed : i.is_open ≡ false
@@ -55,10 +70,11 @@ abbrev pub disk_in : {D : Type 0} → Result (Opened D) (ImageShut D) → D
 disk_in (Ok i) = i.disk
 disk_in (Err shut) = shut.disk
 
--- a disk that was handed in comes back as it was, and a fault has its cause
+-- A disk that was handed in comes back as long as it was, and tells its bytes if it did. Where it isn't opened and
+-- hasn't failed it has the same ones. A fault has its cause.
 pub record Returns {D : Type 0} (size_of : D → ℕ) (told : D → Option (List ℕ)) (faults : D → ℕ) (disk : D)
     (result : Result (Opened D) (ImageShut D)) : Type 0 where
-  pub same : told (disk_in result) ≡ told disk
-  pub size : size_of (disk_in result) ≡ size_of disk
+  pub keeps : KeepsDisk size_of told disk (disk_in result)
+  pub same : IfErr result (λ shut. UnlessFault shut.why (told shut.disk ≡ told disk))
   pub later : faults disk ≤ faults (disk_in result)
   pub explained : IfErr result (λ shut. ExplainsFault (faults disk) (faults shut.disk) shut.why)

@@ -1,38 +1,47 @@
--- What a commit writes to the disk.
-use Rattle.std.specs.Prelude.{◌≡◌, ◌<◌, ℕ, zero, suc, ◌+◌, ◌*◌, ◌/◌, false, List, [], ◌∷◌, length, get_or}
+-- What a commit needs, and what it leaves on the disk.
+use Rattle.std.specs.Prelude.{◌≡◌, ◌≢◌, ◌≤◌, ◌<◌, ◌+◌, ◌*◌, ℕ, zero, suc, true, List, [], length}
 use Rattle.std.specs.Prelude.{Option, Some, is_some}
-use Rattle.sdr_base.specs.Cells.{is_among}
-use Rattle.sdr_base.specs.Parts.{overwrite, part}
 use Rattle.sdr_base.specs.declared.line.TheConstants.{LINE}
 use Rattle.sdr_disk.specs.Told.{Both, Told}
-use Rattle.sdr_log.specs.Frame.{heap_place}
-use Rattle.sdr_log.specs.Log.{put_back_of}
-use Rattle.sdr_image.specs.Opened.{Opened}
+use Rattle.sdr_log.specs.Batch.{batch_size}
+use Rattle.sdr_log.specs.Frame.{room_of}
+use Rattle.sdr_log.specs.Log.{AreLines, are_good, put_back_of}
+use Rattle.sdr_log.specs.declared.frame.Frame.{Frame}
+use Rattle.sdr_log.specs.declared.record.Record.{Record}
+use Rattle.sdr_image.specs.Changed.{HasChanged, lines_in}
+use Rattle.sdr_image.specs.Opened.{LeavesHeap, Opened}
 
--- the disk with these lines of a region in place of those of the region at the place
-abbrev pub saved_lines : ℕ → List ℕ → List ℕ → List ℕ → List ℕ
-saved_lines place [] region disk = disk
-saved_lines place (line ∷ lines) region disk =
-    saved_lines place lines region (overwrite (place + LINE * line) (part (LINE * line) LINE region) disk)
+-- so many old lines have room, so many new ones, and their batch in so many bytes
+pub record HasMemory (room olds news batch : ℕ) : Type 0 where
+  pub olds_fit : room ≤ olds
+  pub news_fit : room ≤ news
+  pub batch_fits : batch_size room ≤ batch
 
--- the disk's heap region is the bytes now and all else of it as before, and opening it gives these bytes
-pub record Saves {D : Type 0} (told : D → Option (List ℕ)) (old new : Opened D) : Type 0 where
-  pub written : Told (told old.disk) (λ x. told new.disk ≡ Some (overwrite (heap_place old.frame) old.bytes x))
+-- old lines of a region, for which there is memory
+pub record MaySave (f : Frame) (memory : ℕ) (olds : List Record) (region : List ℕ) : Type 0 where
+  pub some : 0 < length olds
+  pub few : length olds ≤ room_of f
+  pub reserved : room_of f ≤ memory
+  pub good : are_good f.heap_lines olds ≡ true
+  pub whole : AreLines olds
+  pub long : length region ≡ LINE * f.heap_lines
+
+-- The touched lines are changed on the disk, and opening it gives the bytes now. So it does after a crash from
+-- now on.
+pub record Saves {D : Type 0} (told : D → Option (List ℕ)) (moment : D → ℕ) (may_leave : D → ℕ → List ℕ → Type 0)
+    (old new : Opened D) : Type 0 where
+  pub written : old.touched ≢ [] → Both (told old.disk) (told new.disk)
+      (HasChanged old.frame (lines_in old.begun old.touched) old.bytes)
   pub back : Told (told new.disk) (λ x. put_back_of x ≡ Some old.bytes)
+  pub durable : LeavesHeap told moment may_leave old.bytes new.disk
 
--- all bytes stay but those of these lines of a region at the place
-pub record ChangesLines (place : ℕ) (lines old new : List ℕ) : Type 0 where
-  pub long : length new ≡ length old
-  pub before : (i : ℕ) → i < place → get_or new i 0 ≡ get_or old i 0
-  pub others : (i : ℕ) → is_among lines (i / LINE) ≡ false → get_or new (place + i) 0 ≡ get_or old (place + i) 0
-
--- the disk is as long as it was, tells its bytes if it did, and has all bytes but those of the touched lines as before
+-- the disk is as long as it was, tells its bytes if it did, and is as it was where no line was touched
 pub record KeepsDisk {D : Type 0} (size_of : D → ℕ) (told : D → Option (List ℕ)) (old new : Opened D) : Type 0 where
   pub size : size_of new.disk ≡ size_of old.disk
   pub tells : is_some (told new.disk) ≡ is_some (told old.disk)
-  pub others : Both (told old.disk) (told new.disk) (ChangesLines (heap_place old.frame) old.touched)
+  pub idle : old.touched ≡ [] → new.disk ≡ old.disk
 
--- how many moments a commit of so many lines takes: two for the write of each and two for the sync; none without a line
-abbrev pub moments_of : ℕ → ℕ
-moments_of zero = 0
-moments_of (suc lines) = 2 * (suc lines + 1)
+-- how many writes and syncs a commit of so many lines makes at most: one for each and seven more, none without a line
+abbrev pub calls_of : ℕ → ℕ
+calls_of zero = 0
+calls_of (suc lines) = suc lines + 7

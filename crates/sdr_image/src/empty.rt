@@ -4,6 +4,7 @@ ghost use Rattle.std.specs.Prelude.{Some, is_some, replicate};
 ghost use Rattle.sdr_base.specs.Causes.{HasCause};
 ghost use Rattle.sdr_base.specs.FreshHeap.{fresh_heap};
 ghost use Rattle.sdr_base.specs.Parts.{overwrite};
+ghost use Rattle.sdr_disk.specs.Moments.{Only};
 ghost use Rattle.sdr_disk.specs.Told.{Told};
 ghost use Rattle.sdr_log.specs.Frame.{IsInLimits, disk_bytes, heap_place, head_of};
 ghost use Rattle.sdr_image.specs.Format.{formatted, HasFormatCause, IfTooSmall};
@@ -72,17 +73,23 @@ fn write_head<D: Disk>(disk: &mut D, frame: &Frame) -> Result<(), DiskFault>
     ensures tells { is_some (D.bytes disk.new) ≡ is_some (D.bytes disk.old) }
     ensures size { D.size disk.new ≡ D.size disk.old }
     ensures cause { HasCause (D.faults disk.old) (D.faults disk.new) result }
+    ensures durable { OnOk result (Told (D.bytes disk.new)
+        (λ x. Only x (D.may_leave disk.new (D.moment disk.new)))) }
 {
     disk.write_at(0, &frame.head())?;
     disk.sync()
 }
 
 /// Makes an empty heap of a disk, whose content is lost but for what lies behind its regions. It
-/// takes no memory. After a `DiskFault` the disk has to be formatted again.
+/// takes no memory. At `Ok` nothing is pending. After a `DiskFault` the disk has to be formatted
+/// again.
 pub fn format<D: Disk>(disk: &mut D, frame: Frame) -> Result<(), FormatError>
     requires { IsInLimits frame }
     ensures formatted { OnOk result (Told (D.bytes disk.old)
         (λ x. D.bytes disk.new ≡ Some (formatted frame x))) }
+
+    ensures durable { OnOk result (Told (D.bytes disk.new)
+        (λ x. Only x (D.may_leave disk.new (D.moment disk.new)))) }
 
     ensures same { IfTooSmall result (disk.new ≡ disk.old) }
     ensures cause { HasFormatCause (disk_bytes frame) (D.size disk.old)

@@ -1,23 +1,24 @@
 // An opened disk.
-ghost use Rattle.std.specs.Prelude.{◌≡◌, ◌≤◌, ◌<◌, ◌+◌, ◌-◌, ◌∷◌, [], ℕ, true, false, length, OnOk};
-ghost use Rattle.std.specs.Prelude.{OnErr, IfOk, IfErr, Some, None, is_some, refl, ◌*◌, ◌≢◌, ◌⊎◌};
-ghost use Rattle.std.specs.Prelude.{vec_capacity};
+ghost use Rattle.std.specs.Prelude.{◌≡◌, ◌≤◌, ◌<◌, ◌+◌, ◌-◌, ◌*◌, ◌∷◌, [], ℕ, List, true, false};
+ghost use Rattle.std.specs.Prelude.{length, refl, IfOk, IfErr, OnOk, OnErr, Some, None, is_some};
 ghost use Rattle.std.specs.List.{range_with_len};
 ghost use Rattle.std.proofs.Common.{◌∙◌};
 ghost use Rattle.sdr_base.specs.Cells.{is_among, with_lines, lines_of};
 ghost use Rattle.sdr_base.specs.Parts.{overwrite};
 ghost use Rattle.sdr_base.specs.Transaction.{HasReason, IfRefused};
+ghost use Rattle.sdr_disk.specs.Moments.{AtEach};
 ghost use Rattle.sdr_disk.specs.Told.{Told};
-ghost use Rattle.sdr_log.specs.Frame.{room_of, heap_place};
-ghost use Rattle.sdr_log.specs.Log.{first_gate, heap_of, put_back_of};
-ghost use Rattle.sdr_base.specs.Parts.{part};
-ghost use Rattle.sdr_image.specs.Opening.{HasImageCause, OnNotFormatted, IsFound};
-ghost use Rattle.sdr_image.specs.Opened.{transaction_of, IsFailed};
-ghost use Rattle.sdr_image.specs.Saved.{Saves, KeepsDisk, moments_of};
+ghost use Rattle.sdr_log.specs.Frame.{room_of};
+ghost use Rattle.sdr_log.specs.Log.{put_back_of};
+ghost use Rattle.sdr_log.specs.Logged.{GivesSame};
+ghost use Rattle.sdr_image.specs.Changed.{GivesEither};
+ghost use Rattle.sdr_image.specs.Opened.{transaction_of, IsFailed, LeavesHeap};
+ghost use Rattle.sdr_image.specs.Opening.{AllGiveSame, OnNotFormatted};
+ghost use Rattle.sdr_image.specs.Saved.{Saves, KeepsDisk, calls_of};
 
-use crate::opening::{find_frame, read_heap};
+use crate::opening::load;
 use crate::region::{Region, span};
-use crate::saving::{gather_rising, save};
+use crate::saving::Saving;
 use crate::undo::Undo;
 use crate::{ImageError, ImageShut};
 use sdr_base::{Cells, LINE, Refusal, Stop};
@@ -27,7 +28,8 @@ use std::alloc::Global;
 use std::marker::Model;
 
 /// A disk with a heap on it, opened. The heap region stands in memory, and a transaction reaches
-/// the disk with its commit. No call after `open` takes memory.
+/// the disk with its commit, whole or not at all. Between two calls the disk is at rest, and a
+/// crash leaves the bytes at begin. No call after `open` takes memory.
 #[derive(Drop)]
 pub struct Image<D: Disk> {
     disk: D,
@@ -35,15 +37,15 @@ pub struct Image<D: Disk> {
     /// The heap region now.
     bytes: Region,
     undo: Undo,
-    /// The touched lines by rising number, while they are committed.
-    rising: Vec<u32>,
+    saving: Saving,
     is_open: bool,
     /// Whether a call has answered `DiskFault`.
     failed: bool,
+    /// How many lines opening has put back.
+    restored: u64,
 }
 
 impl<D: Disk> Model for Image<D> {
-    ghost use Rattle.std.specs.Prelude.{vec_capacity};
     ghost use Rattle.sdr_log.specs.Log.{put_records};
     ghost use Rattle.sdr_image.specs.Opened.{Opened, lines_named, IsImage};
 
@@ -57,58 +59,27 @@ impl<D: Disk> Model for Image<D> {
       touched = lines_named s.undo.olds;
       is_open = s.is_open;
       failed = s.failed;
+      restored = s.restored;
     } };
 
-    ghost invariant = { λ s. IsImage (D.size s.disk) (D.bytes s.disk) s.frame s.bytes s.undo
-        (vec_capacity s.rising) s.is_open s.failed };
-}
-
-// What opening takes from a disk, and all the memory of an image.
-#[derive(Drop)]
-struct Loaded {
-    frame: Frame,
-    bytes: Region,
-    undo: Undo,
-    rising: Vec<u32>,
-}
-
-// Reads a disk, and takes all the memory of an image.
-fn load<D: Disk>(alloc: Global, disk: &mut D) -> Result<Loaded, ImageError>
-    ensures found { IfOk result (λ l. IsFound (D.size disk.old) (D.bytes disk.old) l.frame) }
-    ensures given { IfOk result (λ l. Told (D.bytes disk.old) (λ x. l.bytes ≡ heap_of l.frame x)) }
-    ensures long { IfOk result (λ l. length l.bytes ≡ LINE * l.frame.heap_lines) }
-    ensures undo { IfOk result (λ l. l.undo
-        ≡ record { lines = l.frame.heap_lines; room = room_of l.frame; olds = [] }) }
-    ensures rising { IfOk result (λ l. room_of l.frame ≤ vec_capacity l.rising) }
-    ensures not_formatted { IfErr result (λ why. OnNotFormatted why
-        (Told (D.bytes disk.old) (λ x. (put_back_of x ≡ None) ⊎ (first_gate x ≢ 0)))) }
-    ensures cause { HasImageCause (D.faults disk.old) (D.faults disk.new) result }
-    ensures same { D.bytes disk.new ≡ D.bytes disk.old }
-    ensures size { D.size disk.new ≡ D.size disk.old }
-{
-    let frame = find_frame(disk)?;
-    let bytes = read_heap(alloc, disk, &frame)?;
-    let room = frame.room() as usize;
-    let undo = Undo::new(alloc, frame.heap_lines as usize, room)?;
-    let rising = Vec::with_capacity(alloc, room)?;
-    Ok(Loaded {
-        frame,
-        bytes,
-        undo,
-        rising,
-    })
+    ghost invariant = { λ s. IsImage (D.size s.disk) (D.bytes s.disk)
+        (D.may_leave s.disk (D.moment s.disk)) s.frame s.bytes s.undo s.saving s.is_open s.failed };
 }
 
 impl<D: Disk> Image<D> {
-    ghost use Rattle.sdr_image.specs.Opening.{IsOpened, Returns};
+    ghost use Rattle.sdr_image.specs.Opening.{IsOpened, Returns, disk_in};
 
-    /// Opens a disk that has a heap and no open batch. It is read once, and all memory is taken
-    /// here.
+    /// Opens a disk that has a heap. What is pending on it is synced; where batches are open, their
+    /// lines are put back. All memory is taken here, before the first write. A crash on the way
+    /// leaves the same heap as one before.
     pub fn open(alloc: Global, mut disk: D) -> Result<Image<D>, ImageShut<D>>
-        ensures opened { IfOk result (IsOpened D.bytes disk) }
+        ensures opened { IfOk result (IsOpened D.bytes D.moment D.may_leave disk) }
         ensures not_formatted { IfErr result (λ shut. OnNotFormatted shut.why
-            (Told (D.bytes disk) (λ x. (put_back_of x ≡ None) ⊎ (first_gate x ≢ 0)))) }
+            (Told (D.bytes disk) (λ x. put_back_of x ≡ None))) }
         ensures disk { Returns D.size D.bytes D.faults disk result }
+        ensures any_moment { Told (D.bytes disk)
+            (λ x. AllGiveSame x (D.may_leave disk (D.moment disk))
+            → AtEach D.moment D.may_leave disk (disk_in result) (GivesSame x)) }
     {
         match load(alloc, &mut disk) {
             Ok(loaded) => Ok(Image {
@@ -116,9 +87,10 @@ impl<D: Disk> Image<D> {
                 frame: loaded.frame,
                 bytes: loaded.bytes,
                 undo: loaded.undo,
-                rising: loaded.rising,
+                saving: loaded.saving,
                 is_open: false,
                 failed: false,
+                restored: loaded.restored,
             }),
             Err(why) => Err(ImageShut { why, disk }),
         }
@@ -150,14 +122,16 @@ impl<D: Disk> Image<D> {
 
     /// How many lines opening has put back.
     pub fn restored(&self) -> u64
-        ensures { result ≡ 0 }
+        ensures { result ≡ self.now.restored }
     {
-        0
+        self.restored
     }
 
-    /// The disk's moment.
+    /// The disk's moment. A crash at it leaves the bytes at begin, unless the disk has failed.
     pub fn now(&self) -> u64
-        ensures { result ≡ D.moment self.now.disk }
+        ensures moment { result ≡ D.moment self.now.disk }
+        ensures any_moment { self.now.failed ≡ false
+            → LeavesHeap D.bytes D.moment D.may_leave self.now.begun self.now.disk }
     {
         self.disk.now()
     }
@@ -242,9 +216,10 @@ impl<D: Disk> Image<D> {
         Ok(())
     }
 
-    /// Ends the transaction with its bytes on the disk: the touched lines are written by rising
-    /// number, and synced. Where it touched none, no call of the disk is made. Where none was
-    /// begun, it is as if one had been.
+    /// Ends the transaction with its bytes on the disk, all or none: a crash up to the return leaves
+    /// the bytes at begin or those now, and after `Ok` those now. Where it touched no line, no call
+    /// of the disk is made, else a write for each line, and seven writes and syncs more. Where none
+    /// was begun, it is as if one had been.
     pub fn commit(&mut self) -> Result<(), Stop>
         ensures ended { OnOk result (self.new ≡ record self.old {
           disk = self.new.disk;
@@ -252,10 +227,7 @@ impl<D: Disk> Image<D> {
           touched = [];
           is_open = false;
         }) }
-        ensures saved { OnOk result (Saves D.bytes self.old self.new) }
-        ensures calls { OnOk result (D.moment self.new.disk
-            ≡ D.moment self.old.disk + moments_of (length self.old.touched)) }
-        ensures idle { self.old.touched ≡ [] → self.new.disk ≡ self.old.disk }
+        ensures saved { OnOk result (Saves D.bytes D.moment D.may_leave self.old self.new) }
 
         ensures answered { IfRefused result (λ _. ⊥) }
         ensures cause { HasReason (transaction_of D.faults self.old)
@@ -263,6 +235,11 @@ impl<D: Disk> Image<D> {
         ensures failed { OnErr result (IsFailed self.old self.new) }
 
         ensures disk { KeepsDisk D.size D.bytes self.old self.new }
+        ensures calls { D.moment self.new.disk
+            ≤ D.moment self.old.disk + 2 * calls_of (length self.old.touched) }
+        ensures any_moment { self.old.failed ≡ false → Told (D.bytes self.old.disk)
+            (λ _. AtEach D.moment D.may_leave self.old.disk self.new.disk
+            (GivesEither self.old.begun self.old.bytes)) }
     {
         if self.failed {
             return Err(Stop::Failed);
@@ -274,27 +251,35 @@ impl<D: Disk> Image<D> {
         Ok(())
     }
 
-    // Writes the touched lines to the disk, and begins anew.
+    // Changes the touched lines on the disk, and begins anew.
     fn save(&mut self) -> Result<(), Stop>
-        requires { self.old.failed ≡ false }
+        requires sound { self.old.failed ≡ false }
+        requires some { 0 < length self.old.touched }
         ensures ended { OnOk result (self.new ≡ record self.old {
           disk = self.new.disk;
           begun = self.old.bytes;
           touched = [];
           is_open = false;
         }) }
-        ensures saved { OnOk result (Saves D.bytes self.old self.new) }
-        ensures calls { OnOk result (D.moment self.new.disk
-            ≡ D.moment self.old.disk + 2 * (length self.old.touched + 1)) }
+        ensures saved { OnOk result (Saves D.bytes D.moment D.may_leave self.old self.new) }
+
         ensures answered { IfRefused result (λ _. ⊥) }
         ensures cause { HasReason (transaction_of D.faults self.old)
             (transaction_of D.faults self.new) result }
         ensures failed { OnErr result (IsFailed self.old self.new) }
+
         ensures disk { KeepsDisk D.size D.bytes self.old self.new }
+        ensures calls { D.moment self.new.disk
+            ≤ D.moment self.old.disk + 2 * (length self.old.touched + 7) }
+        ensures any_moment { Told (D.bytes self.old.disk)
+            (λ _. AtEach D.moment D.may_leave self.old.disk self.new.disk
+            (GivesEither self.old.begun self.old.bytes)) }
     {
-        gather_rising(self.undo.olds(), &mut self.rising);
-        let place = self.frame.heap_place();
-        let Ok(()) = save(&mut self.disk, place, &self.bytes, &self.rising) else {
+        let olds = self.undo.olds();
+        let Ok(()) = self
+            .saving
+            .save(&mut self.disk, self.frame, olds, &self.bytes)
+        else {
             self.failed = true;
             return Err(Stop::DiskFault);
         };
@@ -305,16 +290,19 @@ impl<D: Disk> Image<D> {
 
     /// The disk. What was not committed is lost.
     pub fn into_disk(self) -> D
-        ensures { result ≡ self.disk }
+        ensures disk { result ≡ self.disk }
+        ensures any_moment { self.failed ≡ false
+            → LeavesHeap D.bytes D.moment D.may_leave self.begun result }
     {
         let Image {
             disk,
             frame: _,
             bytes: _,
             undo: _,
-            rising: _,
+            saving: _,
             is_open: _,
             failed: _,
+            restored: _,
         } = self;
         disk
     }

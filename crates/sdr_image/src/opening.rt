@@ -1,19 +1,43 @@
 // A disk, read for the first time.
-ghost use Rattle.std.specs.Prelude.{◌≡◌, ◌≢◌, ◌≤◌, ◌<◌, ◌==◌, ◌⊎◌, ◌*◌, IfOk, IfErr, Some, None};
-ghost use Rattle.std.specs.Prelude.{is_some, length};
+ghost use Rattle.std.specs.Prelude.{◌≡◌, ◌≤◌, ◌<◌, ◌*◌, IfOk, IfErr, OnOk, None, length};
 ghost use Rattle.sdr_base.specs.Causes.{HasCause};
-ghost use Rattle.sdr_base.specs.Parts.{part};
-ghost use Rattle.sdr_disk.specs.Told.{Told};
-ghost use Rattle.sdr_log.specs.Frame.{IsInLimits, disk_bytes, frame_of};
-ghost use Rattle.sdr_log.specs.Log.{first_gate, heap_of, put_back_of};
-ghost use Rattle.sdr_image.specs.Opening.{HasImageCause, OnNotFormatted, IsFramed, IsFound};
+ghost use Rattle.sdr_disk.specs.Moments.{AtEach, Only, Reads};
+ghost use Rattle.sdr_disk.specs.Told.{Both, Told};
+ghost use Rattle.sdr_log.specs.Calls.{KeepsDisk, PutsBack};
+ghost use Rattle.sdr_log.specs.Frame.{IsInLimits, disk_bytes};
+ghost use Rattle.sdr_log.specs.Log.{heap_of, put_back_of};
+ghost use Rattle.sdr_log.specs.Logged.{GivesSame, IsAtRest};
+ghost use Rattle.sdr_image.specs.Opened.{HoldsHeap};
+ghost use Rattle.sdr_image.specs.Opening.{AllGiveSame, HasImageCause, IsFramed, OnNotFormatted};
+ghost use Rattle.sdr_image.specs.Opening.{IsReady, UnlessFault};
 
 use crate::ImageError;
 use crate::region::Region;
-use sdr_base::LINE;
+use crate::saving::Saving;
+use crate::undo::Undo;
+use sdr_base::{LINE, NoMemory};
 use sdr_disk::{Disk, DiskFault};
-use sdr_log::Frame;
+use sdr_log::{BackError, Frame, put_back};
 use std::alloc::Global;
+
+// All the memory of an image.
+#[derive(Drop)]
+struct Memory {
+    bytes: Vec<u8>,
+    undo: Undo,
+    saving: Saving,
+}
+
+/// What opening takes from a disk, and the memory of an image.
+#[derive(Drop)]
+pub struct Loaded {
+    pub frame: Frame,
+    pub bytes: Region,
+    pub undo: Undo,
+    pub saving: Saving,
+    /// How many lines were put back.
+    pub restored: u64,
+}
 
 // The lengths of the regions, where the disk has a head and is as long as it tells.
 fn read_frame<D: Disk>(disk: &mut D) -> Result<Frame, ImageError>
@@ -21,8 +45,8 @@ fn read_frame<D: Disk>(disk: &mut D) -> Result<Frame, ImageError>
     ensures not_formatted { IfErr result (λ why. OnNotFormatted why
         (Told (D.bytes disk.old) (λ x. put_back_of x ≡ None))) }
     ensures cause { HasImageCause (D.faults disk.old) (D.faults disk.new) result }
-    ensures same { D.bytes disk.new ≡ D.bytes disk.old }
     ensures size { D.size disk.new ≡ D.size disk.old }
+    ensures reads { Reads D.bytes D.moment D.may_leave disk.old disk.new }
 {
     let have = disk.len();
     if have < LINE {
@@ -39,49 +63,109 @@ fn read_frame<D: Disk>(disk: &mut D) -> Result<Frame, ImageError>
     Ok(frame)
 }
 
-// Whether no batch is open.
-fn is_closed<D: Disk>(disk: &mut D) -> Result<bool, DiskFault>
-    requires { LINE < D.size disk.old }
-    ensures gate { IfOk result (λ closed. Told (D.bytes disk.old)
-        (λ x. closed ≡ (first_gate x == 0))) }
-    ensures cause { HasCause (D.faults disk.old) (D.faults disk.new) result }
-    ensures same { D.bytes disk.new ≡ D.bytes disk.old }
-    ensures size { D.size disk.new ≡ D.size disk.old }
-{
-    let mut gate = [0];
-    disk.read_at(LINE, &mut gate)?;
-    Ok(gate[0] == 0)
-}
-
-/// The lengths of the regions, where the disk gives a heap and no batch is open.
-pub fn find_frame<D: Disk>(disk: &mut D) -> Result<Frame, ImageError>
-    ensures found { IfOk result (IsFound (D.size disk.old) (D.bytes disk.old)) }
+// The same, with nothing pending on the disk.
+fn find_frame<D: Disk>(disk: &mut D) -> Result<Frame, ImageError>
+    ensures found { IfOk result (IsFramed (D.size disk.old) (D.bytes disk.old)) }
     ensures not_formatted { IfErr result (λ why. OnNotFormatted why
-        (Told (D.bytes disk.old) (λ x. (put_back_of x ≡ None) ⊎ (first_gate x ≢ 0)))) }
+        (Told (D.bytes disk.old) (λ x. put_back_of x ≡ None))) }
     ensures cause { HasImageCause (D.faults disk.old) (D.faults disk.new) result }
     ensures same { D.bytes disk.new ≡ D.bytes disk.old }
     ensures size { D.size disk.new ≡ D.size disk.old }
+    ensures durable { OnOk result (Told (D.bytes disk.old)
+        (λ x. Only x (D.may_leave disk.new (D.moment disk.new)))) }
+    ensures any_moment { Told (D.bytes disk.old)
+        (λ x. AllGiveSame x (D.may_leave disk.old (D.moment disk.old))
+        → AtEach D.moment D.may_leave disk.old disk.new (GivesSame x)) }
 {
-    let frame = read_frame(disk)?;
-    if !is_closed(disk)? {
-        return Err(ImageError::NotFormatted);
-    }
-    Ok(frame)
+    disk.sync()?;
+    read_frame(disk)
 }
 
-/// The heap region of a disk.
-pub fn read_heap<D: Disk>(alloc: Global, disk: &mut D, frame: &Frame) -> Result<Region, ImageError>
+// All the memory of an image with these regions.
+fn reserve(alloc: Global, frame: &Frame) -> Result<Memory, NoMemory>
+    requires limits { IsInLimits frame.now }
+    ensures ready { IfOk result
+        (λ m. IsReady frame.now (length m.bytes.items) m.undo m.saving) }
+{
+    let room = frame.room() as usize;
+    Ok(Memory {
+        bytes: vec![in alloc; 0; (LINE * frame.heap_lines) as usize]?,
+        undo: Undo::new(alloc, frame.heap_lines as usize, room)?,
+        saving: Saving::new(alloc, room)?,
+    })
+}
+
+// Puts back the open batches of a disk with the head of these regions, and gives how many lines
+// that were.
+fn restore<D: Disk>(alloc: Global, disk: &mut D, frame: Frame) -> Result<u64, ImageError>
+    requires framed { IsFramed (D.size disk.old) (D.bytes disk.old) frame }
+    ensures back { IfOk result (λ count. Both (D.bytes disk.old) (D.bytes disk.new)
+        (PutsBack frame count)) }
+    ensures not_formatted { IfErr result (λ why. OnNotFormatted why
+        (Told (D.bytes disk.old) (λ x. put_back_of x ≡ None))) }
+    ensures cause { HasImageCause (D.faults disk.old) (D.faults disk.new) result }
+    ensures disk { KeepsDisk D.size D.bytes disk.old disk.new }
+    ensures same { IfErr result (λ why. UnlessFault why (D.bytes disk.new ≡ D.bytes disk.old)) }
+    ensures rest { OnOk result (Both (D.bytes disk.old) (D.bytes disk.new)
+        (λ x y. Only x (D.may_leave disk.old (D.moment disk.old))
+        → IsAtRest frame y (D.may_leave disk.new (D.moment disk.new)))) }
+    ensures any_moment { Told (D.bytes disk.old)
+        (λ x. Only x (D.may_leave disk.old (D.moment disk.old))
+        → AtEach D.moment D.may_leave disk.old disk.new (GivesSame x)) }
+{
+    match put_back(alloc, disk, frame) {
+        Ok(count) => Ok(count),
+        Err(BackError::BadLog) => Err(ImageError::NotFormatted),
+        Err(BackError::DiskFault) => Err(ImageError::DiskFault),
+        Err(BackError::NoMemory) => Err(ImageError::NoMemory),
+    }
+}
+
+// The heap region of a disk, read into memory of its length.
+fn read_heap<D: Disk>(disk: &mut D, frame: &Frame, mut bytes: Vec<u8>) -> Result<Region, DiskFault>
     requires limits { IsInLimits frame.now }
     requires fits { disk_bytes frame.now ≤ D.size disk.old }
+    requires long { length bytes.items ≡ LINE * frame.now.heap_lines }
     ensures given { IfOk result (λ region. Told (D.bytes disk.old)
         (λ x. region ≡ heap_of frame.now x)) }
     ensures long { IfOk result (λ region. length region ≡ LINE * frame.now.heap_lines) }
-    ensures formatted { IfErr result (λ why. OnNotFormatted why ⊥) }
-    ensures cause { HasImageCause (D.faults disk.old) (D.faults disk.new) result }
-    ensures same { D.bytes disk.new ≡ D.bytes disk.old }
+    ensures cause { HasCause (D.faults disk.old) (D.faults disk.new) result }
     ensures size { D.size disk.new ≡ D.size disk.old }
+    ensures reads { Reads D.bytes D.moment D.may_leave disk.old disk.new }
 {
-    let mut bytes = vec![in alloc; 0; (LINE * frame.heap_lines) as usize]?;
     disk.read_at(frame.heap_place(), &mut bytes)?;
     Ok(Region::of(bytes))
+}
+
+/// Takes all the memory of an image, and what it holds from a disk. What is pending on the disk is
+/// synced, and open batches are put back.
+pub fn load<D: Disk>(alloc: Global, disk: &mut D) -> Result<Loaded, ImageError>
+    ensures found { IfOk result (λ l. IsFramed (D.size disk.old) (D.bytes disk.old) l.frame) }
+    ensures back { IfOk result (λ l. Both (D.bytes disk.old) (D.bytes disk.new)
+        (PutsBack l.frame l.restored)) }
+    ensures ready { IfOk result (λ l. IsReady l.frame (length l.bytes) l.undo l.saving) }
+    ensures holds { IfOk result (λ l. Told (D.bytes disk.new)
+        (λ y. HoldsHeap l.frame l.bytes y (D.may_leave disk.new (D.moment disk.new)))) }
+
+    ensures not_formatted { IfErr result (λ why. OnNotFormatted why
+        (Told (D.bytes disk.old) (λ x. put_back_of x ≡ None))) }
+    ensures cause { HasImageCause (D.faults disk.old) (D.faults disk.new) result }
+    ensures same { IfErr result (λ why. UnlessFault why (D.bytes disk.new ≡ D.bytes disk.old)) }
+
+    ensures disk { KeepsDisk D.size D.bytes disk.old disk.new }
+    ensures any_moment { Told (D.bytes disk.old)
+        (λ x. AllGiveSame x (D.may_leave disk.old (D.moment disk.old))
+        → AtEach D.moment D.may_leave disk.old disk.new (GivesSame x)) }
+{
+    let frame = find_frame(disk)?;
+    let memory = reserve(alloc, &frame)?;
+    let restored = restore(alloc, disk, frame)?;
+    let bytes = read_heap(disk, &frame, memory.bytes)?;
+    Ok(Loaded {
+        frame,
+        bytes,
+        undo: memory.undo,
+        saving: memory.saving,
+        restored,
+    })
 }

@@ -1,98 +1,130 @@
-// The touched lines, written to the disk.
-ghost use Rattle.std.specs.Prelude.{◌≡◌, ◌≤◌, ◌<◌, ◌+◌, ◌*◌, ◌^◌, ℕ, [], ◌∷◌, true, length};
-ghost use Rattle.std.specs.Prelude.{OnOk, Some, is_some, vec_capacity, IsPermutation, IsSorted};
-ghost use Rattle.std.specs.Ordering.{nat_cmp};
+// The touched lines, gathered and written to the disk.
+ghost use Rattle.std.specs.Prelude.{◌≡◌, ◌≤◌, ◌<◌, ◌+◌, ◌*◌, ℕ, true, length, map, IfOk};
+ghost use Rattle.std.specs.Prelude.{OnOk, vec_capacity, IsPermutation};
+ghost use Rattle.std.specs.List.Sorted.{IsNonDecreasingBy};
 ghost use Rattle.sdr_base.specs.Causes.{HasCause};
-ghost use Rattle.sdr_base.specs.Cells.{is_among};
-ghost use Rattle.sdr_base.specs.Parts.{overwrite, part};
+ghost use Rattle.sdr_disk.specs.Moments.{AtEach};
 ghost use Rattle.sdr_disk.specs.Told.{Both, Told};
-ghost use Rattle.sdr_image.specs.Opened.{lines_named};
-ghost use Rattle.sdr_image.specs.Saved.{ChangesLines, saved_lines};
+ghost use Rattle.sdr_log.specs.Calls.{AreBelow, KeepsDisk};
+ghost use Rattle.sdr_log.specs.Frame.{LieInside};
+ghost use Rattle.sdr_log.specs.Log.{put_records};
+ghost use Rattle.sdr_image.specs.Changed.{GivesEither, HasChanged, lines_in};
+ghost use Rattle.sdr_image.specs.Opened.{HoldsHeap, lines_named};
+ghost use Rattle.sdr_image.specs.Saved.{MaySave};
 
+use crate::changing::change_lines;
 use crate::region::Region;
-use sdr_base::LINE;
+use sdr_base::NoMemory;
 use sdr_disk::{Disk, DiskFault};
-use sdr_log::Record;
+use sdr_log::{Frame, Record};
+use std::alloc::Global;
+use std::marker::Model;
 
-/// Gathers the lines of these records by rising number. It takes no memory.
-pub fn gather_rising(olds: &[Record], into: &mut Vec<u32>)
+/// The memory of a commit. Contracts see for how many lines.
+#[derive(Drop)]
+pub struct Saving {
+    /// The touched lines by rising number, with their bytes at begin.
+    olds: Vec<Record>,
+    /// The same lines with their bytes now.
+    news: Vec<Record>,
+    /// The batch of the old ones.
+    batch: Vec<u8>,
+    room: usize,
+}
+
+impl Model for Saving {
+    ghost use Rattle.std.specs.Prelude.{ℕ, length, vec_capacity};
+    ghost use Rattle.sdr_image.specs.Saved.{HasMemory};
+
+    ghost Value = { ℕ };
+
+    ghost view = { λ s. s.room };
+
+    ghost invariant = { λ s.
+        HasMemory s.room (vec_capacity s.olds) (vec_capacity s.news) (length s.batch.items) };
+}
+
+// Gathers records by rising number of their lines. It takes no memory.
+fn gather_rising(olds: &[Record], into: &mut Vec<Record>)
     requires { length olds.now ≤ vec_capacity into.old }
-    ensures lines { IsPermutation (lines_named olds.now) into.new.items }
-    ensures rising { IsSorted nat_cmp into.new.items }
+    ensures lines { IsPermutation olds.now into.new.items }
+    ensures rising { IsNonDecreasingBy (λ r. r.line) into.new.items }
     ensures capacity { vec_capacity into.new ≡ vec_capacity into.old }
 {
     into.clear();
     for old in olds {
-        into.push_reserved(old.line);
+        into.push_reserved(*old);
     }
-    into.sort_unstable();
+    into.sort_unstable_by_key(|old| old.line);
 }
 
-// Writes a line of a region to its place on the disk, where the region begins at a place.
-fn save_line<D: Disk>(disk: &mut D, place: u64, region: &Region, line: u32) -> Result<(), DiskFault>
-    requires fits { place + length region.now ≤ D.size disk.old }
-    requires inside { LINE * line + LINE ≤ length region.now }
-    requires small { place < 2 ^ 60 }
-    ensures written { OnOk result (Told (D.bytes disk.old) (λ x. D.bytes disk.new
-        ≡ Some (overwrite (place + LINE * line) (part (LINE * line) LINE region.now) x))) }
-    ensures rises { OnOk result (D.moment disk.new ≡ D.moment disk.old + 2) }
-    ensures others { Both (D.bytes disk.old) (D.bytes disk.new) (ChangesLines place (line ∷ [])) }
-    ensures tells { is_some (D.bytes disk.new) ≡ is_some (D.bytes disk.old) }
-    ensures size { D.size disk.new ≡ D.size disk.old }
-    ensures cause { HasCause (D.faults disk.old) (D.faults disk.new) result }
+// Gathers the lines of these records with the bytes that they have in a region. It takes no memory.
+fn gather_now(olds: &[Record], lines: u64, region: &Region, into: &mut Vec<Record>)
+    requires room { length olds.now ≤ vec_capacity into.old }
+    requires below { AreBelow lines olds.now }
+    requires long { length region.now ≡ 64 * lines }
+    ensures lines { into.new.items ≡ lines_in region.now (lines_named olds.now) }
+    ensures capacity { vec_capacity into.new ≡ vec_capacity into.old }
 {
-    disk.write_at(place + LINE * line as u64, &region.line_at(line))?;
-    Ok(())
-}
-
-// Writes lines of a region to their places.
-fn save_lines<D: Disk>(
-    disk: &mut D,
-    place: u64,
-    region: &Region,
-    lines: &[u32],
-) -> Result<(), DiskFault>
-    requires fits { place + length region.now ≤ D.size disk.old }
-    requires inside { (line : ℕ) → is_among lines.now line ≡ true
-        → LINE * line + LINE ≤ length region.now }
-    requires small { place < 2 ^ 60 }
-    ensures written { OnOk result (Told (D.bytes disk.old)
-        (λ x. D.bytes disk.new ≡ Some (saved_lines place lines.now region.now x))) }
-    ensures rises { OnOk result (D.moment disk.new ≡ D.moment disk.old + 2 * length lines.now) }
-    ensures others { Both (D.bytes disk.old) (D.bytes disk.new) (ChangesLines place lines.now) }
-    ensures tells { is_some (D.bytes disk.new) ≡ is_some (D.bytes disk.old) }
-    ensures size { D.size disk.new ≡ D.size disk.old }
-    ensures cause { HasCause (D.faults disk.old) (D.faults disk.new) result }
-{
-    let mut rest = lines;
-    while let Some((line, after)) = rest.split_first() {
-        save_line(disk, place, region, *line)?;
+    into.clear();
+    let mut rest = olds;
+    while let Some((old, after)) = rest.split_first() {
+        into.push_reserved(Record {
+            line: old.line,
+            bytes: region.line_at(old.line),
+        });
         rest = after;
     }
-    Ok(())
 }
 
-/// Writes lines of a region to their places, and syncs.
-pub fn save<D: Disk>(
-    disk: &mut D,
-    place: u64,
-    region: &Region,
-    lines: &[u32],
-) -> Result<(), DiskFault>
-    requires fits { place + length region.now ≤ D.size disk.old }
-    requires inside { (line : ℕ) → is_among lines.now line ≡ true
-        → LINE * line + LINE ≤ length region.now }
-    requires small { place < 2 ^ 60 }
-    ensures written { OnOk result (Told (D.bytes disk.old)
-        (λ x. D.bytes disk.new ≡ Some (saved_lines place lines.now region.now x))) }
-    ensures rises { OnOk result
-        (D.moment disk.new ≡ D.moment disk.old + 2 * (length lines.now + 1)) }
-    ensures others { Both (D.bytes disk.old) (D.bytes disk.new) (ChangesLines place lines.now) }
-    ensures tells { is_some (D.bytes disk.new) ≡ is_some (D.bytes disk.old) }
-    ensures size { D.size disk.new ≡ D.size disk.old }
-    ensures cause { HasCause (D.faults disk.old) (D.faults disk.new) result }
-{
-    save_lines(disk, place, region, lines)?;
-    disk.sync()?;
-    Ok(())
+impl Saving {
+    /// The memory for so many lines.
+    pub fn new(alloc: Global, room: usize) -> Result<Saving, NoMemory>
+        requires { room ≤ 65_536 }
+        ensures { IfOk result (λ s. s ≡ room) }
+    {
+        Ok(Saving {
+            olds: Vec::with_capacity(alloc, room)?,
+            news: Vec::with_capacity(alloc, room)?,
+            batch: vec![in alloc; 0; 5 + 68 * room]?,
+            room,
+        })
+    }
+
+    /// Changes lines, whose old bytes are given, on the disk to what they are in a region, all or
+    /// none. They go by rising number. It makes a write for each line, and seven writes and syncs
+    /// more.
+    pub fn save<D: Disk>(
+        &mut self,
+        disk: &mut D,
+        frame: Frame,
+        olds: &[Record],
+        region: &Region,
+    ) -> Result<(), DiskFault>
+        requires regions { LieInside frame (D.size disk.old) }
+        requires lines { MaySave frame self.old olds.now region.now }
+
+        ensures memory { self.new ≡ self.old }
+        ensures written { OnOk result (Both (D.bytes disk.old) (D.bytes disk.new)
+            (HasChanged frame olds.now region.now)) }
+        ensures cause { HasCause (D.faults disk.old) (D.faults disk.new) result }
+
+        ensures disk { KeepsDisk D.size D.bytes disk.old disk.new }
+
+        ensures rest { OnOk result (Both (D.bytes disk.old) (D.bytes disk.new)
+            (λ x y. HoldsHeap frame (put_records olds.now region.now) x
+            (D.may_leave disk.old (D.moment disk.old))
+            → HoldsHeap frame region.now y (D.may_leave disk.new (D.moment disk.new)))) }
+        ensures calls { D.moment disk.new ≤ D.moment disk.old + 2 * (length olds.now + 7) }
+        ensures any_moment { Told (D.bytes disk.old)
+            (λ x. HoldsHeap frame (put_records olds.now region.now) x
+            (D.may_leave disk.old (D.moment disk.old))
+            → AtEach D.moment D.may_leave disk.old disk.new
+            (GivesEither (put_records olds.now region.now) region.now)) }
+    {
+        gather_rising(olds, &mut self.olds);
+        gather_now(&self.olds, frame.heap_lines, region, &mut self.news);
+        change_lines(disk, frame, &self.olds, &self.news, &mut self.batch)?;
+        Ok(())
+    }
 }

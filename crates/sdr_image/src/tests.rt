@@ -14,7 +14,7 @@ const SMALL: Frame = Frame {
 };
 
 // A formatted disk of the smallest regions, whose calls with the numbers in `failing` fail.
-// Formatting makes 8 calls, and opening 3.
+// Formatting makes 8 calls, and opening 5.
 fn small(rt: &HostRuntime, failing: Vec<u64>) -> Result<MemoryDisk, Fail> {
     let mut disk = MemoryDisk::new(vec![in rt.alloc(); 7; 2240]?, failing);
     format(&mut disk, SMALL)?;
@@ -70,44 +70,73 @@ fn a_cancel_gives_the_bytes_at_begin_and_a_commit_keeps_the_others(
 }
 
 #[test]
-fn a_commit_makes_a_write_for_each_line_and_one_sync(rt: HostRuntime) -> Result<(), Fail> {
+fn a_commit_makes_a_write_for_each_line_and_seven_calls_more(rt: HostRuntime) -> Result<(), Fail> {
     let frame = Frame {
-        log_lines: 4,
+        log_lines: 24,
         heap_lines: 32,
     };
-    let mut disk = MemoryDisk::new(vec![in rt.alloc(); 7; 2368]?, vec![in rt.alloc(); 0; 0]?);
+    let mut disk = MemoryDisk::new(vec![in rt.alloc(); 7; 3648]?, vec![in rt.alloc(); 0; 0]?);
     format(&mut disk, frame)?;
     let mut image = Image::open(rt.alloc(), disk).map_err(|shut| shut.why)?;
-    assert_eq!(rt; image.room(), 3);
+    assert_eq!(rt; image.room(), 21);
     assert_eq!(rt; image.restored(), 0);
     let begun = image.now();
     assert_eq!(rt; image.commit(), Ok(()));
     assert_eq!(rt; image.now(), begun);
     assert_eq!(rt; image.size(), 2048);
-    assert_eq!(rt; image.write(640, &[1; 65]), Ok(()));
+    assert_eq!(rt; image.write(640, &[1; 961]), Ok(()));
     assert_eq!(rt; image.write(0, &[1]), Ok(()));
-    assert_eq!(rt; image.touched(), 3);
+    assert_eq!(rt; image.touched(), 17);
     assert_eq!(rt; image.commit(), Ok(()));
-    assert_eq!(rt; image.now().checked_sub(begun), Some(8));
+    assert_eq!(rt; image.now().checked_sub(begun), Some(48));
     Ok(())
+}
+
+// What an image answers on whose disk the call with this number fails: to a commit and to the call
+// behind it. And the byte that was written, on the disk opened again.
+fn committed(rt: &HostRuntime, call: u64) -> Result<([Result<(), Stop>; 2], u8), Fail> {
+    let disk = small(rt, vec![in rt.alloc(); call; 1]?)?;
+    let mut image = Image::open(rt.alloc(), disk).map_err(|shut| shut.why)?;
+    let mut piece = [9];
+    if image.size() != 2048 {
+        return Ok(([Ok(()), Ok(())], 9));
+    }
+    image.write(100, &[1])?;
+    let answers = [image.commit(), image.read(100, &mut piece)];
+    let mut again = Image::open(rt.alloc(), image.into_disk()).map_err(|shut| shut.why)?;
+    if again.size() == 2048 {
+        again.read(100, &mut piece)?;
+    }
+    Ok((answers, piece[0]))
 }
 
 #[test]
 fn after_a_disk_fault_an_image_answers_failed(rt: HostRuntime) -> Result<(), Fail> {
-    let disk = small(&rt, vec![in rt.alloc(); 13; 1]?)?;
-    let mut image = Image::open(rt.alloc(), disk).map_err(|shut| shut.why)?;
-    assert_eq!(rt; image.size(), 2048);
-    assert_eq!(rt; image.write(100, &[1]), Ok(()));
-    assert_eq!(rt; image.commit(), Err(Stop::DiskFault));
-    assert_eq!(rt; image.read(100, &mut [0]), Err(Stop::Failed));
-    assert_eq!(rt; image.write(100, &[1]), Err(Stop::Failed));
-    assert_eq!(rt; image.commit(), Err(Stop::Failed));
-    assert_eq!(rt; image.cancel(), Err(Stop::Failed));
+    let failed = [Err(Stop::DiskFault), Err(Stop::Failed)];
+    // The batch, its gate, the line and the first gate, each with its sync; and no fault.
+    let rows = [
+        (14, failed, 0),
+        (15, failed, 0),
+        (16, failed, 0),
+        (17, failed, 0),
+        (18, failed, 0),
+        (19, failed, 0),
+        (20, failed, 0),
+        (21, failed, 1),
+        (99, [Ok(()), Ok(())], 1),
+    ];
+    for (call, answers, byte) in rows {
+        assert_eq!(rt;
+            committed(&rt, call)?,
+            (answers, byte),
+            "where call {call} fails"
+        );
+    }
     Ok(())
 }
 
 #[test]
-fn a_disk_without_a_head_or_with_an_open_batch_is_not_opened(rt: HostRuntime) -> Result<(), Fail> {
+fn a_disk_without_a_head_or_with_a_wrong_log_is_not_opened(rt: HostRuntime) -> Result<(), Fail> {
     let none = MemoryDisk::new(vec![in rt.alloc(); 7; 2240]?, vec![in rt.alloc(); 0; 0]?);
     let why = Image::open(rt.alloc(), none).map_err(|shut| shut.why).err();
     assert_eq!(rt; why, Some(ImageError::NotFormatted));

@@ -127,6 +127,20 @@ put_records-same_but n (r ∷ records) a b good lines le s =
         apart i (inl lt) other = let ne : i / 64 < r.line = omega arith in grind (arith, nat_tests)
         apart i (inr ge) other = let ne : r.line < i / 64 = omega (arith, ge, lines.0) in grind (arith, nat_tests)
 
+-- a line that isn't put is the same
+pub part-same_but : (records : List Record) (line : ℕ) (heap put : List ℕ) → SameBut records heap put →
+    is_named records line ≡ false → 64 * line + 64 ≤ length heap →
+    part (64 * line) 64 put ≡ part (64 * line) 64 heap
+part-same_but records line heap put s new inside =
+    let long = length-part (64 * line) 64 put (omega (arith, inside, s.long)) in
+    ext_get_or 0 (part (64 * line) 64 put) (part (64 * line) 64 heap)
+    (long ∙ sym (length-part (64 * line) 64 heap inside))
+    (λ i lt. let lt' : i < 64 = omega (arith, lt, long) in
+    get_or-part (64 * line) 64 put i lt'
+    ∙ s.same (64 * line + i) (subst (λ (k : ℕ). is_named records k ≡ false)
+    (sym (line_of (64 * line + i) line (omega arith) (omega arith))) new)
+    ∙ sym (get_or-part (64 * line) 64 heap i lt'))
+
 -- a line's own bytes put there change nothing
 pub put_records-own : (n : ℕ) (records : List Record) (r : Record) (heap : List ℕ) → are_good n records ≡ true →
     AreLines records → 64 * n ≤ length heap → r.line < n → is_named records r.line ≡ false →
@@ -135,19 +149,7 @@ put_records-own n records r heap good lines le below new own =
     let put = put_records records heap in
     let s = SameBut-put_records n records heap good lines le in
     let inside : 64 * r.line + 64 ≤ length heap = omega arith in
-    let same : part (64 * r.line) 64 put ≡ part (64 * r.line) 64 heap = part_same r.line put s new inside in
+    let same : part (64 * r.line) 64 put ≡ part (64 * r.line) 64 heap = part-same_but records r.line heap put s new inside in
     put_records-push records r heap
     ∙ ap (λ (l : List ℕ). overwrite (64 * r.line) l put) (own ∙ sym same)
     ∙ overwrite-part (64 * r.line) 64 put (omega (arith, inside, s.long))
-  where
-    part_same : (line : ℕ) (put : List ℕ) → SameBut records heap put → is_named records line ≡ false →
-        64 * line + 64 ≤ length heap → part (64 * line) 64 put ≡ part (64 * line) 64 heap
-    part_same line put s new inside =
-        let long = length-part (64 * line) 64 put (omega (arith, inside, s.long)) in
-        ext_get_or 0 (part (64 * line) 64 put) (part (64 * line) 64 heap)
-        (long ∙ sym (length-part (64 * line) 64 heap inside))
-        (λ i lt. let lt' : i < 64 = omega (arith, lt, long) in
-        get_or-part (64 * line) 64 put i lt'
-        ∙ s.same (64 * line + i) (subst (λ (k : ℕ). is_named records k ≡ false)
-        (sym (line_of (64 * line + i) line (omega arith) (omega arith))) new)
-        ∙ sym (get_or-part (64 * line) 64 heap i lt'))

@@ -1,27 +1,23 @@
-use Rattle.std.proofs.Common.{ap, ◌∙◌, sym, refl, arith}
-use Rattle.std.specs.Prelude.{Some}
+use Rattle.std.proofs.Common.{ap, refl}
 use Rattle.sdr_log.specs.Log.{put_records}
-use Rattle.sdr_log.proofs.LogLemmas.{put_back_of-closed}
 use Rattle.sdr_image.specs.Opened.{lines_named}
 use Rattle.sdr_image.specs.Undo.{Olds}
-use Rattle.sdr_image.proofs.FormatLemmas.{told_length}
+use Rattle.sdr_image.proofs.OpenedLemmas.{opened_heap}
+use Rattle.sdr_image.proofs.SavedLemmas.{holds_gives}
 use Rattle.sdr_image.proofs.image.Image.open.Goals as goal
 
 pub returns-in-Ok-clause-opened : goal.returns-in-Ok-clause-opened
 returns-in-Ok-clause-opened g c =
     let loaded = c.in-Ok.loaded in
-    let framed = c.in-Ok.ensures.found.framed in
+    let e = c.in-Ok.ensures in
     record {
-      limits = framed.limits;
-      head = framed.head;
-      gate = c.in-Ok.ensures.found.gate;
-      heap = λ x is.
-          put_back_of-closed loaded.frame x (framed.head x is) (omega (arith, framed.limits.least_log))
-          (omega (arith, framed.fits, told_length _ _ x (g.met.D.Disk.told c.args.disk) is))
-          (c.in-Ok.ensures.found.gate x is)
-          ∙ ap Some (sym (c.in-Ok.ensures.given x is));
-      begun = ap (λ (u : Olds). put_records u.olds loaded.bytes) c.in-Ok.ensures.undo;
-      touched = ap (λ (u : Olds). lines_named u.olds) c.in-Ok.ensures.undo;
+      limits = e.found.limits;
+      head = e.found.head;
+      heap = λ x is. opened_heap _ _ loaded.frame loaded.restored loaded.bytes x _ e.disk.tells e.back e.holds is;
+      back = e.back;
+      durable = λ y now image left. holds_gives loaded.frame loaded.bytes y _ (e.holds y now) image left;
+      begun = ap (λ (u : Olds). put_records u.olds loaded.bytes) e.ready.undo_is;
+      touched = ap (λ (u : Olds). lines_named u.olds) e.ready.undo_is;
       closed = refl;
       sound = refl;
     }

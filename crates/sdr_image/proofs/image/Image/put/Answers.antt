@@ -1,5 +1,4 @@
 use Rattle.std.proofs.Common.{◌∙◌, ap, List, ℕ, arith, length}
-use Rattle.std.specs.Prelude.{vec_capacity}
 use Rattle.sdr_base.specs.Cells.{is_among}
 use Rattle.sdr_base.specs.Parts.{overwrite}
 use Rattle.sdr_log.specs.Log.{put_records}
@@ -12,8 +11,9 @@ invariant_of-self g c =
     let old = c.self.inside in
     let same = ap (λ (v : Opened g.row.D.Denot). v.touched) c.self.view_is in
     let bytes = ap (λ (v : Opened g.row.D.Denot). v.bytes) c.self.view_is in
-    IsImage-put (g.D.Disk.size old.disk) (g.D.Disk.bytes old.disk) old.frame old.bytes old.undo
-    (vec_capacity old.rising) old.is_open old.failed c.self.invariant c.args.place c.args.from.now c.put.new.self
+    IsImage-put (g.D.Disk.size old.disk) (g.D.Disk.bytes old.disk)
+    (g.D.Disk.may_leave old.disk (g.D.Disk.moment old.disk)) old.frame old.bytes old.undo
+    old.saving old.is_open old.failed c.self.invariant c.args.place c.args.from.now c.put.new.self
     c.put.ensures (omega (arith, c.requires.inside, ap length bytes))
     (λ line own. ap (λ (t : List ℕ). is_among t line) same ∙ c.requires.touched line own)
 
@@ -24,8 +24,9 @@ returns g c =
     let bytes = ap (λ (v : Opened g.row.D.Denot). v.bytes) c.self.view_is in
     let written = c.put.ensures ∙ ap (overwrite c.args.place c.args.from.now) bytes in
     let begun = ap (put_records old.undo.olds) c.put.ensures
-    ∙ begun-put (g.D.Disk.size old.disk) (g.D.Disk.bytes old.disk) old.frame old.bytes old.undo
-    (vec_capacity old.rising) old.is_open old.failed c.self.invariant c.args.place c.args.from.now
+    ∙ begun-put (g.D.Disk.size old.disk) (g.D.Disk.bytes old.disk)
+    (g.D.Disk.may_leave old.disk (g.D.Disk.moment old.disk)) old.frame old.bytes old.undo
+    old.saving old.is_open old.failed c.self.invariant c.args.place c.args.from.now
     (omega (arith, c.requires.inside, ap length bytes))
     (λ line own. ap (λ (t : List ℕ). is_among t line) same ∙ c.requires.touched line own)
     ∙ ap (λ (v : Opened g.row.D.Denot). v.begun) c.self.view_is in

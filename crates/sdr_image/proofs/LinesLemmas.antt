@@ -1,0 +1,208 @@
+-- Records of lines in another order, and with the bytes of another heap.
+use Rattle.std.proofs.Common.{◌≡◌, ◌≤◌, ◌<◌, inl, inr, ℕ, zero, suc, ◌+◌, ◌*◌, ◌/◌, Bool, true, false, ◌||◌, ◌==◌, cond}
+use Rattle.std.proofs.Common.{List, [], ◌∷◌, length, refl, sym, ap, ◌∙◌, subst, arith}
+use Rattle.std.specs.Prelude.{IsPermutation}
+use Rattle.std.specs.List.{All, sum_by}
+use Rattle.std.proofs.lemmas.Bool.{cases_eq}
+use Rattle.std.proofs.lemmas.Bool.Decides.{nat_tests}
+use Rattle.std.proofs.lemmas.List.Sorted.{All-permutation, IsPermutation-map, list_any-IsPermutation}
+use Rattle.std.proofs.lemmas.List.Sorted.{sum_by-IsPermutation}
+use Rattle.std.proofs.lemmas.List.Sums.{sum_by-cons}
+use Rattle.sdr_base.proofs.PartsLemmas.{length-overwrite, length-part, part-overwrite}
+use Rattle.sdr_disk.specs.Ranges.{overwrite, part}
+use Rattle.sdr_log.specs.Calls.{AreBelow, AreNamed, HoldLines}
+use Rattle.sdr_log.specs.Log.{AreLines, are_good, is_named, put_records}
+use Rattle.sdr_log.specs.declared.record.Record.{Record}
+use Rattle.sdr_log.proofs.GoodLemmas.{AreBelow-good, AreNamed-own, put_records-all_own}
+use Rattle.sdr_log.proofs.RecordsLemmas.{SameBut, SameBut-put_records, are_good-cons, part-same_but}
+use Rattle.sdr_log.proofs.RecordsLemmas.{put_records-same_but}
+use Rattle.sdr_image.specs.Changed.{lines_in}
+use Rattle.sdr_image.specs.Opened.{lines_named}
+use Rattle.sdr_image.proofs.TouchedLemmas.{is_among-lines_named}
+
+-- Records in another order.
+
+-- the record has its line's bytes
+abbrev Holds : List ℕ → Record → Type 0
+Holds heap r = r.bytes ≡ part (64 * r.line) 64 heap
+
+pub HoldLines-permutation : (heap : List ℕ) (a b : List Record) → IsPermutation a b → HoldLines heap a → HoldLines heap b
+HoldLines-permutation heap a b p own = back b (All-permutation (Holds heap) a b p (forth a own))
+  where
+    forth : (rs : List Record) → HoldLines heap rs → All (Holds heap) rs
+    forth [] own k d lt = absurd (omega arith)
+    forth (r ∷ rs) own zero d lt = own.0
+    forth (r ∷ rs) own (suc k) d lt = forth rs own.1 k d (omega arith)
+
+    back : (rs : List Record) → All (Holds heap) rs → HoldLines heap rs
+    back [] all = tt
+    back (r ∷ rs) all = (all 0 r (omega arith), back rs (λ k d lt. all (suc k) d (omega arith)))
+
+pub is_named-permutation : (a b : List Record) (line : ℕ) → IsPermutation a b → is_named b line ≡ is_named a line
+is_named-permutation a b line p =
+    sym (is_among-lines_named b line)
+    ∙ sym (list_any-IsPermutation (λ other. other == line) (lines_named a) (lines_named b)
+    (IsPermutation-map (λ (r : Record). r.line) a b p))
+    ∙ is_among-lines_named a line
+
+-- how many times a record names the line: once or never
+abbrev once : Bool → ℕ
+once named = cond named 1 0
+
+abbrev times : ℕ → Record → ℕ
+times line r = once (r.line == line)
+
+times-none : (rs : List Record) (line : ℕ) → is_named rs line ≡ false → sum_by (times line) rs ≡ 0
+times-none [] line other = refl
+times-none (r ∷ rs) line other =
+    let first : (r.line == line) ≡ false = grind (arith, nat_tests) in
+    let rest = times-none rs line (grind (arith, nat_tests)) in
+    omega (arith, sum_by-cons (times line) r rs, ap once first, rest)
+
+times-some : (rs : List Record) (line : ℕ) → is_named rs line ≡ true → 1 ≤ sum_by (times line) rs
+times-some [] line is = absurd cc
+times-some (r ∷ rs) line is = by (r.line == line) refl is (times-some rs line)
+  where
+    by : (b : Bool) → (r.line == line) ≡ b → (b || is_named rs line) ≡ true →
+        (is_named rs line ≡ true → 1 ≤ sum_by (times line) rs) → 1 ≤ sum_by (times line) (r ∷ rs)
+    by true same is rest = omega (arith, sum_by-cons (times line) r rs, ap once same)
+    by false same is rest = omega (arith, sum_by-cons (times line) r rs, rest is)
+
+times-good : (n : ℕ) (rs : List Record) (line : ℕ) → are_good n rs ≡ true → sum_by (times line) rs ≤ 1
+times-good n [] line good = omega arith
+times-good n (r ∷ rs) line good =
+    let g = are_good-cons n r rs good in by (r.line == line) refl g.1 (times-good n rs line g.2)
+  where
+    by : (b : Bool) → (r.line == line) ≡ b → is_named rs r.line ≡ false → sum_by (times line) rs ≤ 1 →
+        sum_by (times line) (r ∷ rs) ≤ 1
+    by true same other le =
+        let at : r.line ≡ line = grind (arith, nat_tests) in
+        let none = times-none rs line (ap (is_named rs) (sym at) ∙ other) in
+        omega (arith, sum_by-cons (times line) r rs, ap once same, none)
+    by false same other le = omega (arith, sum_by-cons (times line) r rs, ap once same, le)
+
+below-good : (n : ℕ) (rs : List Record) (line : ℕ) → are_good n rs ≡ true → is_named rs line ≡ true → line < n
+below-good n [] line good is = absurd cc
+below-good n (r ∷ rs) line good is =
+    let g = are_good-cons n r rs good in
+    elim (cases_eq r.line line) [
+      | inl same ↦ omega (arith, g.0, same)
+      | inr other ↦ below-good n rs line g.2 (grind (arith, nat_tests))
+    ]
+
+good-times : (n : ℕ) (rs : List Record) → ((line : ℕ) → is_named rs line ≡ true → line < n) →
+    ((line : ℕ) → sum_by (times line) rs ≤ 1) → are_good n rs ≡ true
+good-times n [] below few = refl
+good-times n (r ∷ rs) below few =
+    let first : r.line < n = below r.line (grind (arith, nat_tests)) in
+    let rest = good-times n rs (λ line is. below line (or_true (r.line == line) is))
+    (λ line. omega (arith, few line, sum_by-cons (times line) r rs)) in
+    let new = apart (is_named rs r.line) refl in
+    grind (arith, nat_tests, first, rest, new)
+  where
+    or_true : (b : Bool) {c : Bool} → c ≡ true → (b || c) ≡ true
+    or_true b e = grind arith
+
+    own : (k : ℕ) → (k == k) ≡ true
+    own k = grind (arith, nat_tests)
+
+    apart : (b : Bool) → is_named rs r.line ≡ b → is_named rs r.line ≡ false
+    apart false is = is
+    apart true is = absurd (omega (
+      arith,
+      few r.line,
+      sum_by-cons (times r.line) r rs,
+      ap once (own r.line),
+      times-some rs r.line is,
+    ))
+
+pub are_good-permutation : (n : ℕ) (a b : List Record) → IsPermutation a b → are_good n a ≡ true → are_good n b ≡ true
+are_good-permutation n a b p good =
+    good-times n b (λ line is. below-good n a line good (sym (is_named-permutation a b line p) ∙ is))
+    (λ line. omega (arith, sum_by-IsPermutation (times line) a b p, times-good n a line good))
+
+-- Records put into a heap stand there.
+
+pub HoldLines-put_records : (n : ℕ) (records : List Record) (heap : List ℕ) → are_good n records ≡ true →
+    AreLines records → 64 * n ≤ length heap → HoldLines (put_records records heap) records
+HoldLines-put_records n [] heap good lines le = tt
+HoldLines-put_records n (r ∷ records) heap good lines le =
+    let g = are_good-cons n r records good in
+    let inside : 64 * r.line + length r.bytes ≤ length heap = omega (arith, g.0, lines.0) in
+    let one = overwrite (64 * r.line) r.bytes heap in
+    let long = length-overwrite (64 * r.line) r.bytes heap inside in
+    let rest = SameBut-put_records n records one g.2 lines.1 (omega (arith, long)) in (
+      sym (part-same_but records r.line one (put_records records one) rest g.1 (omega (arith, long, inside, lines.0))
+          ∙ ap (λ (k : ℕ). part (64 * r.line) k one) (sym lines.0)
+          ∙ part-overwrite (64 * r.line) r.bytes heap inside),
+      HoldLines-put_records n records one g.2 lines.1 (omega (arith, long)),
+    )
+
+-- Records of the lines of others, with the bytes of a heap.
+
+pub lines_named-lines_in : (heap : List ℕ) (lines : List ℕ) → lines_named (lines_in heap lines) ≡ lines
+lines_named-lines_in heap [] = refl
+lines_named-lines_in heap (line ∷ lines) = ap (λ (l : List ℕ). line ∷ l) (lines_named-lines_in heap lines)
+
+-- records that have the bytes of their lines
+pub HoldLines-lines_in : (heap : List ℕ) (records : List Record) → HoldLines heap records →
+    records ≡ lines_in heap (lines_named records)
+HoldLines-lines_in heap [] own = refl
+HoldLines-lines_in heap (r ∷ records) own =
+    let rest = HoldLines-lines_in heap records own.1 in
+    let first = own.0 in
+    (λ i. record { line = r.line; bytes = first i } ∷ rest i)
+
+module _ (heap : List ℕ) where
+  -- they have the bytes of their lines
+  own_lines_in : (lines : List ℕ) → HoldLines heap (lines_in heap lines)
+  own_lines_in [] = tt
+  own_lines_in (line ∷ lines) = (refl, own_lines_in lines)
+
+  -- they name the same lines
+  pub is_named-lines_in : (records : List Record) (line : ℕ) →
+      is_named (lines_in heap (lines_named records)) line ≡ is_named records line
+  is_named-lines_in [] line = refl
+  is_named-lines_in (r ∷ records) line = ap (λ (b : Bool). r.line == line || b) (is_named-lines_in records line)
+
+  pub AreNamed-lines_in : (all records : List Record) → AreNamed all records →
+      AreNamed all (lines_in heap (lines_named records))
+  AreNamed-lines_in all [] named = tt
+  AreNamed-lines_in all (r ∷ records) named = (named.0, AreNamed-lines_in all records named.1)
+
+  pub AreBelow-lines_in : (n : ℕ) (records : List Record) → AreBelow n records →
+      AreBelow n (lines_in heap (lines_named records))
+  AreBelow-lines_in n [] below = tt
+  AreBelow-lines_in n (r ∷ records) below = (below.0, AreBelow-lines_in n records below.1)
+
+  pub length-lines_in : (lines : List ℕ) → length (lines_in heap lines) ≡ length lines
+  length-lines_in [] = refl
+  length-lines_in (line ∷ lines) = ap suc (length-lines_in lines)
+
+  pub are_good-lines_in : (n : ℕ) (records : List Record) → are_good n records ≡ true →
+      are_good n (lines_in heap (lines_named records)) ≡ true
+  are_good-lines_in n [] good = refl
+  are_good-lines_in n (r ∷ records) good =
+      let g = are_good-cons n r records good in
+      let rest = are_good-lines_in n records g.2 in
+      let new = is_named-lines_in records r.line ∙ g.1 in
+      grind (arith, nat_tests, g.0, rest, new)
+
+  pub AreLines-lines_in : (n : ℕ) (records : List Record) → AreBelow n records → 64 * n ≤ length heap →
+      AreLines (lines_in heap (lines_named records))
+  AreLines-lines_in n [] below le = tt
+  AreLines-lines_in n (r ∷ records) below le =
+      (length-part (64 * r.line) 64 heap (omega (arith, below.0, le)), AreLines-lines_in n records below.1 le)
+
+-- where a heap differs from another in some lines alone, it becomes the other with the other's lines
+pub put_records-lines_in : (n : ℕ) (records : List Record) (heap other : List ℕ) → are_good n records ≡ true →
+    64 * n ≤ length heap → SameBut records heap other → put_records (lines_in heap (lines_named records)) other ≡ heap
+put_records-lines_in n records heap other good le s =
+    let news = lines_in heap (lines_named records) in
+    let good' = are_good-lines_in heap n records good in
+    let lines = AreLines-lines_in heap n records (AreBelow-good n records good) le in
+    put_records-same_but n news heap other good' lines le (record {
+      long = s.long;
+      same = λ i unnamed. s.same i (sym (is_named-lines_in heap records (i / 64)) ∙ unnamed);
+    })
+    ∙ put_records-all_own n [] news heap good' tt lines le (own_lines_in heap (lines_named records))
