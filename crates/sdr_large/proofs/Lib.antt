@@ -1,6 +1,7 @@
 pub mod AboveLemmas
 pub mod BackLemmas
 pub mod BlocksLemmas
+pub mod BothCallsLemmas
 pub mod BothPoolsLemmas
 pub mod CallsLemmas
 pub mod ChangeLemmas

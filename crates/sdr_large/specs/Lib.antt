@@ -1,3 +1,4 @@
+pub mod Both
 pub mod Calls
 pub mod Frame
 pub mod Gap

@@ -38,6 +38,8 @@
 mod block;
 mod finding;
 mod giving;
+#[cfg(test)]
+mod image_tests;
 mod links;
 mod taking;
 #[cfg(test)]
