@@ -43,7 +43,7 @@ formatted_both f x limits le bytes is =
     subst KeepsBoth fresh (fresh_both f.heap_lines limits.least_heap limits.most_heap)
 
 -- both pools are kept after a call of the small one, and the large one is the same
-pub record AfterSmall (P : Pools) (y : List ℕ) : Type 0 where
+record AfterSmall (P : Pools) (y : List ℕ) : Type 0 where
   pub pools : Pools
   pub small : KeepsSmall y pools
   pub large : KeepsLarge y pools
@@ -70,10 +70,10 @@ after_small Q x y words addr k same small first last stays = record {
   same = same;
 }
 
--- taking from the small pool keeps both
-pub small_taken : (x y : List ℕ) (words : ℕ) (found : Option ℕ) (k : KeepsBoth x) → SmallTakes words found x y →
+-- so it is where a block was taken from the small pool
+after_taking : (x y : List ℕ) (words : ℕ) (found : Option ℕ) (k : KeepsBoth x) → SmallTakes words found x y →
     AfterSmall k.pools y
-small_taken x y words found k takes = few (nat_lt 64 words) (takes.rule k.pools k.small)
+after_taking x y words found k takes = few (nat_lt 64 words) (takes.rule k.pools k.small)
   where
     cut : (full : Bool) → nat_lt k.pools.high (k.pools.low + 8 * (1 + words)) ≡ full →
         SmallTakesBy k.pools words
@@ -124,10 +124,10 @@ small_used_in x P Q addr p q used =
       );
     }
 
--- giving back to the small pool keeps both
-pub small_given : (x y : List ℕ) (addr : ℕ) (k : KeepsBoth x) → KeepsUsedSmall addr x → SmallGives addr x y →
+-- and where one was given back
+after_giving : (x y : List ℕ) (addr : ℕ) (k : KeepsBoth x) → KeepsUsedSmall addr x → SmallGives addr x y →
     AfterSmall k.pools y
-small_given x y addr k u gives =
+after_giving x y addr k u gives =
     let used = small_used_in x u.pools k.pools addr u.keeps k.small u.used in
     let b = is_block x k.pools (words_at addr k.pools.small) addr k.small
     (words_at-is addr k.pools.small used.used) in
@@ -137,12 +137,8 @@ small_given x y addr k u gives =
     (record { start = refl; end = refl; high = refl; large = refl; large_lists = refl }) given.keeps b.first
     (omega (arith, b.last, o.order)) given.others
 
--- both are kept
-pub AfterSmall-keeps : (P : Pools) (y : List ℕ) → AfterSmall P y → KeepsBoth y
-AfterSmall-keeps P y a = record { pools = a.pools; small = a.small; large = a.large }
-
--- and the large blocks in use go on being in use
-pub AfterSmall-others : (x y : List ℕ) (k : KeepsBoth x) → AfterSmall k.pools y → KeepsOthers 0 x y
+-- the large blocks in use go on being in use
+AfterSmall-others : (x y : List ℕ) (k : KeepsBoth x) → AfterSmall k.pools y → KeepsOthers 0 x y
 AfterSmall-others x y k a = record {
   still = λ other differ u. record {
     pools = a.pools;
@@ -151,6 +147,26 @@ AfterSmall-others x y k a = record {
         (used_in x u.pools k.pools other u.keeps k.large u.used);
   };
 }
+
+-- taking from the small pool keeps both
+pub small_taken : (x y : List ℕ) (words : ℕ) (found : Option ℕ) → KeepsBoth x → SmallTakes words found x y → KeepsBoth y
+small_taken x y words found k takes =
+    let a = after_taking x y words found k takes in record { pools = a.pools; small = a.small; large = a.large }
+
+-- and the large blocks in use
+pub small_taken-others : (x y : List ℕ) (words : ℕ) (found : Option ℕ) → KeepsBoth x → SmallTakes words found x y →
+    KeepsOthers 0 x y
+small_taken-others x y words found k takes = AfterSmall-others x y k (after_taking x y words found k takes)
+
+-- giving back to the small pool keeps both
+pub small_given : (x y : List ℕ) (addr : ℕ) → KeepsBoth x → KeepsUsedSmall addr x → SmallGives addr x y → KeepsBoth y
+small_given x y addr k u gives =
+    let a = after_giving x y addr k u gives in record { pools = a.pools; small = a.small; large = a.large }
+
+-- and the large blocks in use
+pub small_given-others : (x y : List ℕ) (addr : ℕ) → KeepsBoth x → KeepsUsedSmall addr x → SmallGives addr x y →
+    KeepsOthers 0 x y
+small_given-others x y addr k u gives = AfterSmall-others x y k (after_giving x y addr k u gives)
 
 -- what a call of the large pool makes of both
 after_large : (Q : Pools) (addr : ℕ) (x y : List ℕ) (k : KeepsBoth x) → SameSmall k.pools Q →
@@ -183,7 +199,3 @@ pub large_given : (x y : List ℕ) (addr : ℕ) → KeepsBoth x → KeepsUsedLar
 large_given x y addr k u gives =
     after_large (give_large k.pools addr) addr x y k (give_same k.pools addr)
     (gives.rule k.pools k.large (used_in x u.pools k.pools addr u.keeps k.large u.used))
-
--- blocks that go on being in use over two calls
-pub others_trans : (addr : ℕ) (x y z : List ℕ) → KeepsOthers addr x y → KeepsOthers addr y z → KeepsOthers addr x z
-others_trans addr x y z a b = record { still = λ other differ u. b.still other differ (a.still other differ u) }

@@ -2,6 +2,7 @@
 // addresses.
 ghost use Rattle.std.specs.Prelude.{◌≡◌, ◌≤◌, ◌<◌, IfOk, OnOk};
 ghost use Rattle.sdr_log.specs.Frame.{IsInLimits};
+ghost use Rattle.sdr_small.specs.Calls.{KeepsUsedSmall};
 ghost use Rattle.sdr_large.specs.Both.{KeepsBoth};
 ghost use Rattle.sdr_large.specs.Calls.{IsGiveable, KeepsOthers, KeepsUsedLarge};
 
@@ -44,6 +45,16 @@ fn take_block<C: Cells>(c: &mut C, words: u64) -> Result<Option<Addr>, Stop>
     crate::take(c, words)
 }
 
+// Gives a block of the small pool back.
+fn give_small<C: Cells>(c: &mut C, addr: Addr) -> Result<(), Stop>
+    requires pools { KeepsBoth (C.bytes c.old) }
+    requires used { KeepsUsedSmall addr (C.bytes c.old) }
+    ensures kept { OnOk result (KeepsBoth (C.bytes c.new)) }
+    ensures others { OnOk result (KeepsOthers 0 (C.bytes c.old) (C.bytes c.new)) }
+{
+    sdr_small::give(c, addr)
+}
+
 // Gives a block of the large pool back.
 fn give_large<C: Cells>(c: &mut C, addr: Addr) -> Result<(), Stop>
     requires pools { KeepsBoth (C.bytes c.old) }
@@ -63,6 +74,19 @@ fn take_at<C: Cells>(rt: &impl Abort, c: &mut C, words: u64, at: Addr) -> Result
     ensures others { OnOk result (KeepsOthers 0 (C.bytes c.old) (C.bytes c.new)) }
 {
     let found = take_block(c, words)?;
+    assert_eq!(rt; found, Some(at), "{words} words");
+    Ok(())
+}
+
+// Takes a block of the small pool, which begins at an address.
+fn take_small_at<C: Cells>(rt: &impl Abort, c: &mut C, words: u64, at: Addr) -> Result<(), Fail>
+    requires some { 1 ≤ words }
+    requires pools { KeepsBoth (C.bytes c.old) }
+    ensures kept { OnOk result (KeepsBoth (C.bytes c.new)) }
+    ensures used { OnOk result (KeepsUsedSmall at (C.bytes c.new)) }
+    ensures others { OnOk result (KeepsOthers 0 (C.bytes c.old) (C.bytes c.new)) }
+{
+    let found = sdr_small::take(c, words)?;
     assert_eq!(rt; found, Some(at), "{words} words");
     Ok(())
 }
@@ -120,4 +144,23 @@ fn freed_blocks_merge_and_go_back_to_the_unassigned_space(rt: HostRuntime) -> Re
     let mut image = formatted(&rt, FRAME)?;
     merge_two(&rt, &mut image)?;
     give_all(&rt, &mut image)
+}
+
+// A block of each pool, the large one taken before the small one and given back after it.
+fn take_each<C: Cells>(rt: &impl Abort, c: &mut C) -> Result<(), Fail>
+    requires { KeepsBoth (C.bytes c.old) }
+    ensures { OnOk result (KeepsBoth (C.bytes c.new)) }
+{
+    take_at(rt, c, 65, 3560)?;
+    take_small_at(rt, c, 64, 1096)?;
+    give_small(c, 1096)?;
+    give_large(c, 3560)?;
+    Ok(())
+}
+
+#[test]
+fn a_block_of_each_pool_is_given_back_and_taken_again(rt: HostRuntime) -> Result<(), Fail> {
+    let mut image = formatted(&rt, FRAME)?;
+    take_each(&rt, &mut image)?;
+    take_each(&rt, &mut image)
 }
