@@ -9,7 +9,7 @@ pub returns-in-Ok : goal.returns-in-Ok
 returns-in-Ok c =
     let x = bytes_of c.into_disk.result.history in
     let committed : put_back_of x ≡ Some c.args.image.bytes =
-    c.in_ok-commit.ensures.saved.back x (ap (λ (d : Memory). bytes_now d) (sym c.into_disk.ensures))
+    c.in_ok-commit.ensures.saved.back x (ap (λ (d : Memory). bytes_now d) (sym c.into_disk.ensures.disk))
     in
     let opened : put_back_of x ≡ Some c.in-Ok.image.bytes = c.in-Ok.ensures.opened.heap x refl in
     let same : c.args.image.bytes ≡ c.in-Ok.image.bytes = cc in
