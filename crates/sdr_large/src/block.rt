@@ -1,6 +1,7 @@
 // A block of the large pool, and the four words of its frame.
-ghost use Rattle.std.specs.Prelude.{◌≡◌, ◌+◌, ◌*◌, ◌-◌, ◌/◌, ◌%◌, ◌≤◌, ◌<◌, ◌^◌, length, OnOk};
+ghost use Rattle.std.specs.Prelude.{◌≡◌, ◌+◌, ◌*◌, ◌-◌, ◌/◌, ◌%◌, ◌≤◌, ◌<◌, ◌^◌, length, OnOk, IfErr};
 ghost use Rattle.sdr_base.specs.LargePool.{order_of};
+ghost use Rattle.sdr_base.specs.Objects.{OnlyFull};
 ghost use Rattle.sdr_base.specs.Transaction.{HasReason, TouchesAtMost};
 ghost use Rattle.sdr_large.specs.Frame.{HasFrame};
 
@@ -37,6 +38,7 @@ pub fn write_frame<C: Cells>(c: &mut C, block: Block, next: Addr, used: bool) ->
     requires inside { block.addr + WORD * block.words + 2 * WORD ≤ length (C.bytes c.old) }
     ensures frame { OnOk result
         (HasFrame used block.words block.addr next (C.bytes c.old) (C.bytes c.new)) }
+    ensures refused { IfErr result OnlyFull }
     ensures size { length (C.bytes c.new) ≡ length (C.bytes c.old) }
     ensures room { TouchesAtMost 4 (C.transaction c.old) (C.transaction c.new) result }
     ensures cause { HasReason (C.transaction c.old) (C.transaction c.new) result }

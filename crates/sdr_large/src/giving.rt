@@ -1,5 +1,6 @@
 // Giving a block back to the large pool.
-ghost use Rattle.std.specs.Prelude.{◌≡◌, ◌+◌, ◌*◌, ◌-◌, ◌/◌, ◌≤◌, ◌<◌, length, false, IfOk, OnOk};
+ghost use Rattle.std.specs.Prelude.{◌≡◌, ◌+◌, ◌*◌, ◌-◌, ◌/◌, ◌≤◌, ◌<◌, length, false, IfOk, OnOk, IfErr};
+ghost use Rattle.sdr_base.specs.Objects.{OnlyFull};
 ghost use Rattle.sdr_base.specs.Transaction.{HasReason, TouchesAtMost};
 ghost use Rattle.sdr_base.specs.KeptLarge.{KeepsSomeLarge};
 ghost use Rattle.sdr_large.specs.Calls.{KeepsUsedLarge, KeepsOthers, Gives};
@@ -20,6 +21,7 @@ pub fn give<C: Cells>(c: &mut C, addr: Addr) -> Result<(), Stop>
     ensures given { OnOk result (Gives addr (C.bytes c.old) (C.bytes c.new)) }
     ensures kept { OnOk result (KeepsSomeLarge (C.bytes c.new)) }
     ensures others { OnOk result (KeepsOthers addr (C.bytes c.old) (C.bytes c.new)) }
+    ensures refused { IfErr result OnlyFull }
     ensures size { length (C.bytes c.new) ≡ length (C.bytes c.old) }
     ensures room { TouchesAtMost 20 (C.transaction c.old) (C.transaction c.new) result }
     ensures cause { HasReason (C.transaction c.old) (C.transaction c.new) result }
@@ -35,6 +37,7 @@ pub fn give<C: Cells>(c: &mut C, addr: Addr) -> Result<(), Stop>
 fn loosen<C: Cells>(c: &mut C, addr: Addr) -> Result<Block, Stop>
     requires used { KeepsUsedLarge addr (C.bytes c.old) }
     ensures loose { IfOk result (λ block. Loosens addr block (C.bytes c.old) (C.bytes c.new)) }
+    ensures refused { IfErr result OnlyFull }
     ensures size { length (C.bytes c.new) ≡ length (C.bytes c.old) }
     ensures room { TouchesAtMost 1 (C.transaction c.old) (C.transaction c.new) result }
     ensures cause { HasReason (C.transaction c.old) (C.transaction c.new) result }
@@ -50,6 +53,7 @@ fn join_below<C: Cells>(c: &mut C, block: Block) -> Result<Block, Stop>
     requires loose { HoldsLoose block (C.bytes c.old) }
     ensures joined { IfOk result (λ joined.
         JoinsBelow block joined (C.bytes c.old) (C.bytes c.new)) }
+    ensures refused { IfErr result OnlyFull }
     ensures size { length (C.bytes c.new) ≡ length (C.bytes c.old) }
     ensures room { TouchesAtMost 2 (C.transaction c.old) (C.transaction c.new) result }
     ensures cause { HasReason (C.transaction c.old) (C.transaction c.new) result }
@@ -81,6 +85,7 @@ fn join_above<C: Cells>(c: &mut C, block: Block) -> Result<Block, Stop>
     requires works { (C.transaction c.old).failed ≡ false }
     ensures joined { IfOk result (λ joined.
         JoinsAbove block joined (C.bytes c.old) (C.bytes c.new)) }
+    ensures refused { IfErr result OnlyFull }
     ensures size { length (C.bytes c.new) ≡ length (C.bytes c.old) }
     ensures room { TouchesAtMost 2 (C.transaction c.old) (C.transaction c.new) result }
     ensures cause { HasReason (C.transaction c.old) (C.transaction c.new) result }
@@ -110,6 +115,7 @@ fn join_above<C: Cells>(c: &mut C, block: Block) -> Result<Block, Stop>
 fn put_back<C: Cells>(c: &mut C, block: Block) -> Result<(), Stop>
     requires loose { HoldsLoose block (C.bytes c.old) }
     ensures put { OnOk result (PutsBack block (C.bytes c.old) (C.bytes c.new)) }
+    ensures refused { IfErr result OnlyFull }
     ensures size { length (C.bytes c.new) ≡ length (C.bytes c.old) }
     ensures room { TouchesAtMost 6 (C.transaction c.old) (C.transaction c.new) result }
     ensures cause { HasReason (C.transaction c.old) (C.transaction c.new) result }

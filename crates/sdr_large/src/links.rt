@@ -1,5 +1,6 @@
 // A free block leaves its list, or becomes its front.
-ghost use Rattle.std.specs.Prelude.{◌≡◌, ◌≢◌, ◌+◌, ◌*◌, ◌-◌, ◌/◌, ◌%◌, ◌≤◌, ◌<◌, ◌^◌, length, false, OnOk};
+ghost use Rattle.std.specs.Prelude.{◌≡◌, ◌≢◌, ◌+◌, ◌*◌, ◌-◌, ◌/◌, ◌%◌, ◌≤◌, ◌<◌, ◌^◌, length, false, OnOk, IfErr};
+ghost use Rattle.sdr_base.specs.Objects.{OnlyFull};
 ghost use Rattle.sdr_base.specs.Stored.{with_number};
 ghost use Rattle.sdr_base.specs.Transaction.{HasReason, TouchesAtMost};
 ghost use Rattle.sdr_large.specs.Steps.{link_place, with_before, ReachesBack, HoldsFree, HoldsGap};
@@ -16,6 +17,7 @@ pub fn unlink<C: Cells>(c: &mut C, block: Block) -> Result<(), Stop>
     requires free { HoldsFree block.words block.addr (C.bytes c.old) }
     ensures unlinked { OnOk result
         (Unlinks block.words block.addr (C.bytes c.old) (C.bytes c.new)) }
+    ensures refused { IfErr result OnlyFull }
     ensures size { length (C.bytes c.new) ≡ length (C.bytes c.old) }
     ensures room { TouchesAtMost 2 (C.transaction c.old) (C.transaction c.new) result }
     ensures cause { HasReason (C.transaction c.old) (C.transaction c.new) result }
@@ -32,6 +34,7 @@ pub fn put_used<C: Cells>(c: &mut C, block: Block) -> Result<(), Stop>
     requires gap { HoldsGap block.words block.addr (C.bytes c.old) }
     ensures put { OnOk result
         (PutsUsed block.words block.addr (C.bytes c.old) (C.bytes c.new)) }
+    ensures refused { IfErr result OnlyFull }
     ensures size { length (C.bytes c.new) ≡ length (C.bytes c.old) }
     ensures room { TouchesAtMost 5 (C.transaction c.old) (C.transaction c.new) result }
     ensures cause { HasReason (C.transaction c.old) (C.transaction c.new) result }
@@ -46,6 +49,7 @@ pub fn put_free<C: Cells>(c: &mut C, block: Block) -> Result<(), Stop>
     requires gap { HoldsGap block.words block.addr (C.bytes c.old) }
     ensures put { OnOk result
         (PutsFree block.words block.addr (C.bytes c.old) (C.bytes c.new)) }
+    ensures refused { IfErr result OnlyFull }
     ensures size { length (C.bytes c.new) ≡ length (C.bytes c.old) }
     ensures room { TouchesAtMost 6 (C.transaction c.old) (C.transaction c.new) result }
     ensures cause { HasReason (C.transaction c.old) (C.transaction c.new) result }
@@ -67,6 +71,7 @@ fn link_next<C: Cells>(c: &mut C, order: u64, before: Addr, next: Addr) -> Resul
     requires within { before ≤ length (C.bytes c.old) }
     ensures written { OnOk result
         (C.bytes c.new ≡ with_number (link_place order before) next (C.bytes c.old)) }
+    ensures refused { IfErr result OnlyFull }
     ensures size { length (C.bytes c.new) ≡ length (C.bytes c.old) }
     ensures room { TouchesAtMost 1 (C.transaction c.old) (C.transaction c.new) result }
     ensures cause { HasReason (C.transaction c.old) (C.transaction c.new) result }
@@ -87,6 +92,7 @@ fn link_before<C: Cells>(c: &mut C, next: Addr, before: Addr) -> Result<(), Stop
     requires small { next < 2 ^ 32 }
     ensures written { OnOk result
         (C.bytes c.new ≡ with_before next before (C.bytes c.old)) }
+    ensures refused { IfErr result OnlyFull }
     ensures size { length (C.bytes c.new) ≡ length (C.bytes c.old) }
     ensures room { TouchesAtMost 1 (C.transaction c.old) (C.transaction c.new) result }
     ensures cause { HasReason (C.transaction c.old) (C.transaction c.new) result }

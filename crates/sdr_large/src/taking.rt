@@ -1,5 +1,6 @@
 // Taking a block from the large pool.
-ghost use Rattle.std.specs.Prelude.{◌≡◌, ◌+◌, ◌*◌, ◌-◌, ◌≤◌, ◌<◌, length, Some, IfOk, OnOk};
+ghost use Rattle.std.specs.Prelude.{◌≡◌, ◌+◌, ◌*◌, ◌-◌, ◌≤◌, ◌<◌, length, Some, IfOk, OnOk, IfErr};
+ghost use Rattle.sdr_base.specs.Objects.{OnlyFull};
 ghost use Rattle.sdr_base.specs.Transaction.{HasReason, TouchesAtMost};
 ghost use Rattle.sdr_base.specs.KeptLarge.{KeepsSomeLarge};
 ghost use Rattle.sdr_large.specs.Calls.{Takes, TakesNew, IsGiveable, KeepsOthers, CanCut, Cuts};
@@ -23,8 +24,9 @@ pub fn take<C: Cells>(c: &mut C, words: u64) -> Result<Option<Addr>, Stop>
     ensures used { IfOk result (λ found. IsGiveable found (C.bytes c.new)) }
     ensures kept { OnOk result (KeepsSomeLarge (C.bytes c.new)) }
     ensures others { OnOk result (KeepsOthers 0 (C.bytes c.old) (C.bytes c.new)) }
+    ensures refused { IfErr result OnlyFull }
     ensures size { length (C.bytes c.new) ≡ length (C.bytes c.old) }
-    ensures room { TouchesAtMost 20 (C.transaction c.old) (C.transaction c.new) result }
+    ensures room { TouchesAtMost 13 (C.transaction c.old) (C.transaction c.new) result }
     ensures cause { HasReason (C.transaction c.old) (C.transaction c.new) result }
     ensures quiet { C.quiet c.old c.new }
 {
@@ -43,6 +45,7 @@ fn take_cut<C: Cells>(c: &mut C, words: u64, block: Block) -> Result<(), Stop>
     requires cut { CanCut words block.words block.addr (C.bytes c.old) }
     ensures cut { OnOk result
         (Cuts words block.words block.addr (C.bytes c.old) (C.bytes c.new)) }
+    ensures refused { IfErr result OnlyFull }
     ensures size { length (C.bytes c.new) ≡ length (C.bytes c.old) }
     ensures room { TouchesAtMost 13 (C.transaction c.old) (C.transaction c.new) result }
     ensures cause { HasReason (C.transaction c.old) (C.transaction c.new) result }
@@ -69,6 +72,7 @@ fn take_new<C: Cells>(c: &mut C, words: u64) -> Result<Option<Addr>, Stop>
     requires some { 1 ≤ words }
     requires pools { KeepsSomeLarge (C.bytes c.old) }
     ensures taken { IfOk result (λ found. TakesNew words found (C.bytes c.old) (C.bytes c.new)) }
+    ensures refused { IfErr result OnlyFull }
     ensures size { length (C.bytes c.new) ≡ length (C.bytes c.old) }
     ensures room { TouchesAtMost 6 (C.transaction c.old) (C.transaction c.new) result }
     ensures cause { HasReason (C.transaction c.old) (C.transaction c.new) result }

@@ -1,5 +1,6 @@
 // Giving a block back to the small pool.
-ghost use Rattle.std.specs.Prelude.{◌≡◌, ◌+◌, ◌*◌, ◌/◌, ◌-◌, ◌≤◌, ◌<◌, length, OnOk};
+ghost use Rattle.std.specs.Prelude.{◌≡◌, ◌+◌, ◌*◌, ◌/◌, ◌-◌, ◌≤◌, ◌<◌, length, OnOk, IfErr};
+ghost use Rattle.sdr_base.specs.Objects.{OnlyFull};
 ghost use Rattle.sdr_base.specs.declared.line.TheConstants.{START_BITS};
 ghost use Rattle.sdr_base.specs.Transaction.{HasReason, TouchesAtMost};
 ghost use Rattle.sdr_base.specs.KeptPools.{KeepsSomeSmall};
@@ -17,6 +18,7 @@ pub fn give<C: Cells>(c: &mut C, addr: Addr) -> Result<(), Stop>
     requires used { KeepsUsedSmall addr (C.bytes c.old) }
     ensures given { OnOk result (Gives addr (C.bytes c.old) (C.bytes c.new)) }
     ensures kept { OnOk result (KeepsSomeSmall (C.bytes c.new)) }
+    ensures refused { IfErr result OnlyFull }
     ensures size { length (C.bytes c.new) ≡ length (C.bytes c.old) }
     ensures room { TouchesAtMost 20 (C.transaction c.old) (C.transaction c.new) result }
     ensures cause { HasReason (C.transaction c.old) (C.transaction c.new) result }
@@ -34,6 +36,7 @@ fn put_front<C: Cells>(c: &mut C, words: u64, addr: Addr) -> Result<(), Stop>
     requires inside { addr + WORD ≤ length (C.bytes c.old) }
     requires bit { START_BITS + (addr - WORD) / WORD / 8 < length (C.bytes c.old) }
     ensures front { OnOk result (PutsFront words addr (C.bytes c.old) (C.bytes c.new)) }
+    ensures refused { IfErr result OnlyFull }
     ensures size { length (C.bytes c.new) ≡ length (C.bytes c.old) }
     ensures room { TouchesAtMost 8 (C.transaction c.old) (C.transaction c.new) result }
     ensures cause { HasReason (C.transaction c.old) (C.transaction c.new) result }

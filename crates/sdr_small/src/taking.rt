@@ -1,5 +1,6 @@
 // Taking a block from the small pool.
-ghost use Rattle.std.specs.Prelude.{◌≡◌, ◌+◌, ◌*◌, ◌/◌, ◌-◌, ◌≤◌, ◌<◌, ◌^◌, length, IfOk, OnOk};
+ghost use Rattle.std.specs.Prelude.{◌≡◌, ◌+◌, ◌*◌, ◌/◌, ◌-◌, ◌≤◌, ◌<◌, ◌^◌, length, IfOk, OnOk, IfErr};
+ghost use Rattle.sdr_base.specs.Objects.{OnlyFull};
 ghost use Rattle.sdr_base.specs.Stored.{number_at};
 ghost use Rattle.sdr_base.specs.declared.line.TheConstants.{START_BITS};
 ghost use Rattle.sdr_base.specs.Transaction.{HasReason, TouchesAtMost};
@@ -20,8 +21,9 @@ pub fn take<C: Cells>(c: &mut C, words: u64) -> Result<Option<Addr>, Stop>
     ensures taken { IfOk result (λ found. Takes words found (C.bytes c.old) (C.bytes c.new)) }
     ensures used { IfOk result (λ found. IsGiveable found (C.bytes c.new)) }
     ensures kept { OnOk result (KeepsSomeSmall (C.bytes c.new)) }
+    ensures refused { IfErr result OnlyFull }
     ensures size { length (C.bytes c.new) ≡ length (C.bytes c.old) }
-    ensures room { TouchesAtMost 20 (C.transaction c.old) (C.transaction c.new) result }
+    ensures room { TouchesAtMost 6 (C.transaction c.old) (C.transaction c.new) result }
     ensures cause { HasReason (C.transaction c.old) (C.transaction c.new) result }
     ensures quiet { C.quiet c.old c.new }
 {
@@ -45,6 +47,7 @@ fn take_listed<C: Cells>(c: &mut C, words: u64, front: Addr) -> Result<(), Stop>
     requires inside { front + WORD ≤ length (C.bytes c.old) }
     requires bit { START_BITS + (front - WORD) / WORD / 8 < length (C.bytes c.old) }
     ensures taken { OnOk result (TakesListed words front (C.bytes c.old) (C.bytes c.new)) }
+    ensures refused { IfErr result OnlyFull }
     ensures size { length (C.bytes c.new) ≡ length (C.bytes c.old) }
     ensures room { TouchesAtMost 4 (C.transaction c.old) (C.transaction c.new) result }
     ensures cause { HasReason (C.transaction c.old) (C.transaction c.new) result }
@@ -65,6 +68,7 @@ fn take_new<C: Cells>(c: &mut C, words: u64, low: u64) -> Result<Option<Addr>, S
     requires bit { START_BITS + low / WORD / 8 < length (C.bytes c.old) }
     ensures taken { IfOk result (λ found.
         TakesNew words low found (C.bytes c.old) (C.bytes c.new)) }
+    ensures refused { IfErr result OnlyFull }
     ensures size { length (C.bytes c.new) ≡ length (C.bytes c.old) }
     ensures room { TouchesAtMost 6 (C.transaction c.old) (C.transaction c.new) result }
     ensures cause { HasReason (C.transaction c.old) (C.transaction c.new) result }
