@@ -1,0 +1,5 @@
+pub mod Calls
+pub mod Kept
+pub mod Lending
+pub mod Noted
+pub mod Raw
