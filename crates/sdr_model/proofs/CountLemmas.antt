@@ -1,7 +1,8 @@
 -- One event draws one number at most, and takes one block at most.
 use Rattle.std.proofs.Common.{◌≡◌, ◌≤◌, ◌+◌, ◌==◌, ◌++◌, ◌∷◌, [], ℕ, List, find, nat_le, ap, refl, arith}
 use Rattle.std.specs.List.{list_any}
-use Rattle.sdr_model.specs.Dry.{dry_moves, answered_moves, block_of, blocks_taken, elements_in, entries_in, keyed_in}
+use Rattle.sdr_model.specs.Dry.{dry_moves, answered_moves, blocks_taken}
+use Rattle.sdr_model.specs.RowMoves.{block_of, elements_in, entries_in, keyed_in}
 use Rattle.sdr_model.specs.HashSteps.{as_hash}
 use Rattle.sdr_model.specs.ListSteps.{as_list}
 use Rattle.sdr_model.specs.Names.{name_of}

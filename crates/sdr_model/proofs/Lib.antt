@@ -1,11 +1,13 @@
 pub mod Cases
 pub mod CountLemmas
 pub mod DryLemmas
+mod HashExample
+pub mod HashLemmas
 pub mod MachineLemmas
 pub mod MapLemmas
 pub mod NamesLemmas
 pub mod OrderLemmas
-pub mod PresentLemmas
+pub mod OwnersLemmas
 pub mod SpotLemmas
 pub mod StoreLemmas
 pub mod TableLemmas

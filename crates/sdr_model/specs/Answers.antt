@@ -1,5 +1,5 @@
 -- What a call comes to on a world in the making.
-use Rattle.std.specs.Prelude.{◌≡◌, ◌≤◌, ◌<◌, ◌*◌, ℕ, List, [], length, insert, Option, None, Some, Result, IfOk, OnErr}
+use Rattle.std.specs.Prelude.{◌≡◌, ◌≤◌, ◌<◌, ◌+◌, ◌*◌, ℕ, List, [], length, insert, Option, None, Some, Result, IfOk, OnErr}
 use Rattle.std.specs.declared.alloc.AllocError.{AllocError}
 use Rattle.sdr_model.specs.Draft.{Draft, with_taken}
 use Rattle.sdr_model.specs.Dry.{StepsDry, dry_moves, next_addr}
@@ -47,11 +47,11 @@ abbrev pub HasPlace : Option SdrList → ℕ → Type 0
 HasPlace None place = ⊥
 HasPlace (Some row) place = place ≤ length row.elements
 
--- a new element stands at a place of the list
+-- a new element stands at a place of the list, its block is counted, and no bytes are shown
 abbrev pub PutsElement : Option SdrList → ℕ → ℕ → Element → World → World → Type 0
 PutsElement None list place element w w' = ⊥
 PutsElement (Some row) list place element w w' =
-    w' ≡ with_thing w list (things.List (record row { elements = insert row.elements place element }))
+    w' ≡ record (with_thing w list (things.List (record row { elements = insert row.elements place element }))) { shown = []; taken = w.taken + 1 }
 
 -- a new element of this data was made at a place of the list, and its address answered
 abbrev pub InsertsAt : Option SdrList → ℕ → ℕ → ℕ → World → World → Reply → Type 0

@@ -7,13 +7,6 @@ use Rattle.sdr_model.specs.declared.event.Event.TheVariants as events
 
 -- whether it serves the call
 abbrev pub is_built : Call → Bool
-is_built (calls.HashInsert addr key value) = false
-is_built (calls.Hash key_length buckets) = false
-is_built (calls.HashRetrieve addr key) = false
-is_built (calls.HashRevise addr key value) = false
-is_built (calls.HashRemove addr key) = false
-is_built (calls.HashCount addr) = false
-is_built (calls.HashDestroy addr) = false
 is_built (calls.FileRef path length) = false
 is_built (calls.BulkRef item length) = false
 is_built (calls.ObjRef addr) = false

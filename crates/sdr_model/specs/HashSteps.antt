@@ -1,20 +1,20 @@
 -- The steps of hashes.
-use Rattle.std.specs.Prelude.{ℕ, ◌+◌, ◌%◌, ◌==◌, Bool, not, ◌||◌, List, [], ◌∷◌, ◌++◌, length, map, slice_get, sum, insert, remove, set, nat_eq, nat_lt, MatchBool, MatchOption, Option, None, Some, position, if◌then◌else◌}
+use Rattle.std.specs.Prelude.{ℕ, ◌%◌, ◌==◌, Bool, ◌||◌, List, [], ◌∷◌, ◌++◌, length, map, slice_get, sum, insert, remove, set, nat_eq, nat_lt, MatchBool, MatchOption, Option, None, Some, position}
 use Rattle.std.specs.Cmp.Lexicographic.{pointwise}
 use Rattle.std.specs.List.{prefix_len}
 use Rattle.sdr_base.specs.declared.refusal.Refusal.TheVariants as refusals
+use Rattle.sdr_model.specs.Hashes.{Hash}
 use Rattle.sdr_model.specs.Limits.{longest_key, most_buckets}
 use Rattle.sdr_model.specs.Steps.{Outcome, Refuses, Reads, Does, Makes, Takes, On, gave, with_thing, without_thing}
 use Rattle.sdr_model.specs.Things.{hash_need, entry_need}
 use Rattle.sdr_model.specs.World.{World, thing_at}
 use Rattle.sdr_model.specs.declared.answer.Reply.TheVariants as replies
 use Rattle.sdr_model.specs.declared.things.HashEntry.{HashEntry}
-use Rattle.sdr_model.specs.declared.things.SdrHash.{SdrHash}
 use Rattle.sdr_model.specs.declared.things.Thing.{Thing}
 use Rattle.sdr_model.specs.declared.things.Thing.TheVariants as things
 
 -- the hash, where the thing is one
-abbrev pub as_hash : Option Thing → Option SdrHash
+abbrev pub as_hash : Option Thing → Option Hash
 as_hash (Some (things.Hash hash)) = Some hash
 as_hash thing = None
 
@@ -27,7 +27,7 @@ abbrev pub has_key : List ℕ → HashEntry → Bool
 has_key key e = pointwise nat_eq key e.key
 
 -- where a new entry goes: behind those of lower buckets, before all others
-abbrev pub bucket_place : SdrHash → List ℕ → ℕ
+abbrev pub bucket_place : Hash → List ℕ → ℕ
 bucket_place hash key = prefix_len (λ e. nat_lt (bucket_of hash.buckets e.key) (bucket_of hash.buckets key)) hash.entries
 
 -- no hash has keys of so many bytes
@@ -48,13 +48,13 @@ MakeHash w o key_length buckets =
     (Makes w o (hash_need buckets) (things.Hash (record { key_length = key_length; buckets = buckets; entries = [] }))))
 
 -- The call is refused where the key hasn't the length of the hash's keys, and else goes on.
-abbrev pub OnHash : World → Outcome → ℕ → List ℕ → (SdrHash → Type 0) → Type 0
+abbrev pub OnHash : World → Outcome → ℕ → List ℕ → (Hash → Type 0) → Type 0
 OnHash w o addr key goes =
     On w o addr (as_hash (thing_at w addr)) (λ hash.
     MatchBool (length key == hash.key_length) (goes hash) (Refuses w o (refusals.BadKeyLength (length key) hash.key_length)))
 
 -- The call is refused where the hash has no such key, and else goes on with the place of its entry.
-abbrev pub OnKey : World → Outcome → ℕ → List ℕ → (SdrHash → ℕ → Type 0) → Type 0
+abbrev pub OnKey : World → Outcome → ℕ → List ℕ → (Hash → ℕ → Type 0) → Type 0
 OnKey w o addr key goes =
     OnHash w o addr key (λ hash. MatchOption (position (has_key key) hash.entries) (Refuses w o refusals.NotFound) (goes hash))
 

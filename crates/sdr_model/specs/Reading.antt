@@ -1,4 +1,4 @@
--- Which calls read alone.
+-- Which calls read alone, and which read media.
 use Rattle.std.specs.Prelude.{Bool, true, false}
 use Rattle.sdr_model.specs.declared.call.Call.{Call}
 use Rattle.sdr_model.specs.declared.call.Call.TheVariants as calls
@@ -36,3 +36,11 @@ is_reading (calls.ReceiveSource addr place count) = true
 is_reading (calls.ReceiveTrailers addr place count) = true
 is_reading (calls.Awarded ticket) = true
 is_reading call = false
+
+-- whether the call may read media: the bytes of an object may lie in files and items
+abbrev pub reads_media : Call → Bool
+reads_media (calls.Transmit addr place count) = true
+reads_media (calls.ReceiveHeaders addr place count) = true
+reads_media (calls.ReceiveSource addr place count) = true
+reads_media (calls.ReceiveTrailers addr place count) = true
+reads_media call = false

@@ -1,5 +1,5 @@
 -- The things of a world in the making.
-use Rattle.std.specs.Prelude.{◌≡◌, ℕ, Bool, true, false, cond, List, [], ◌∷◌, Option, None, Some, Contains, is_some, if◌then◌else◌, refl}
+use Rattle.std.specs.Prelude.{◌≡◌, ℕ, true, false, cond, List, [], ◌∷◌, Option, None, Some, Contains, is_some, if◌then◌else◌, refl}
 use Rattle.std.specs.Coded.{Coded, code_by, coded×, coded_ℕ, coded_list}
 use Rattle.std.specs.FinMap as finite
 use Rattle.std.specs.Ordering.{nat_cmp}
@@ -55,15 +55,6 @@ empty_place = record { touched = false; begun = None; thing = None }
 -- the places with an empty one at an address where there is none
 unfoldable pub with_place : Places → ℕ → Places
 with_place places addr = cond (is_some (finite.get places addr)) places (finite.insert places addr empty_place)
-
--- the things that are at these places now, with their addresses, one after another
-abbrev pub present_at : ℕ → Option Thing → List (ℕ × Thing) → List (ℕ × Thing)
-present_at addr None es = es
-present_at addr (Some thing) es = (addr, thing) ∷ es
-
-abbrev pub present : List (ℕ × Place) → List (ℕ × Thing)
-present [] = []
-present (e ∷ es) = present_at e.0 e.1.thing (present es)
 
 -- the places that were touched have these addresses, each of which has a place
 pub record AreTouched (places : Places) (touched : List ℕ) : Type 0 where

@@ -3,13 +3,11 @@ use Rattle.std.specs.Prelude.{◌≡◌, ◌<◌, ◌^◌, ℕ, ◌+◌, ◌*◌
 use Rattle.std.specs.Option.{option_map, option_or}
 use Rattle.std.specs.Ordering.{nat_cmp}
 use Rattle.std.specs.FinMap as finite
-use Rattle.sdr_base.specs.declared.kind.Kind.{Kind}
 use Rattle.sdr_base.specs.declared.kind.Kind.TheVariants as kinds
 use Rattle.sdr_model.specs.declared.names.Name.{Name}
 use Rattle.sdr_model.specs.declared.things.Block.{Block}
 use Rattle.sdr_model.specs.declared.things.Element.{Element}
 use Rattle.sdr_model.specs.declared.things.HashEntry.{HashEntry}
-use Rattle.sdr_model.specs.declared.things.SdrHash.{SdrHash}
 use Rattle.sdr_model.specs.declared.things.SdrList.{SdrList}
 use Rattle.sdr_model.specs.declared.things.Spot.{Spot as Found}
 use Rattle.sdr_model.specs.declared.things.Thing.{Thing}
@@ -18,6 +16,10 @@ use Rattle.sdr_model.specs.declared.things.Thing.TheVariants as things
 -- the things by their addresses
 abbrev pub Things : Type 0
 Things = finite.FinMap nat_cmp Thing
+
+-- the owners of blocks inside things, by these blocks' addresses: the address of the thing that has or had each
+abbrev pub Owners : Type 0
+Owners = finite.FinMap nat_cmp ℕ
 
 -- what a raw object of so many bytes fills: a word for the source that may name it stands before them
 abbrev pub raw_need : ℕ → ℕ

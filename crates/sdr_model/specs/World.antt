@@ -8,7 +8,7 @@ use Rattle.std.specs.Ordering.{nat_cmp}
 use Rattle.sdr_base.specs.declared.kind.Kind.{Kind}
 use Rattle.sdr_base.specs.declared.refusal.Refusal.{Refusal}
 use Rattle.sdr_base.specs.declared.refusal.Refusal.TheVariants as refusals
-use Rattle.sdr_model.specs.Kinds.{kind_number}
+use Rattle.sdr_base.specs.Kinds.{kind_number}
 use Rattle.sdr_model.specs.Names.{coded_name}
 use Rattle.sdr_model.specs.Things.{Spot, Things, own_block, name_block, block_among, inner_among, spot_among}
 use Rattle.sdr_model.specs.declared.names.Name.{Name}

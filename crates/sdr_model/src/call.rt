@@ -183,14 +183,7 @@ impl Call {
     {
         !matches!(
             self,
-            Call::Hash(_, _)
-                | Call::HashInsert(_, _, _)
-                | Call::HashRetrieve(_, _)
-                | Call::HashRevise(_, _, _)
-                | Call::HashRemove(_, _)
-                | Call::HashCount(_)
-                | Call::HashDestroy(_)
-                | Call::FileRef(_, _)
+            Call::FileRef(_, _)
                 | Call::BulkRef(_, _)
                 | Call::ObjRef(_)
                 | Call::DestroyRef(_)

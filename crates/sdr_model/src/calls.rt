@@ -4,6 +4,9 @@ ghost use Rattle.sdr_model.specs.Answers.{Answers};
 ghost use Rattle.sdr_model.specs.Built.{is_built};
 
 use crate::element_calls::{datum, delete, next, prev, set_datum};
+use crate::hash_calls::{
+    hash_count, hash_destroy, hash_insert, hash_remove, hash_retrieve, hash_revise, make_hash,
+};
 use crate::insert_calls::{insert_after, insert_before, insert_first, insert_last};
 use crate::list_calls::{
     first, last, list_destroy, list_length, list_user, make_list, set_list_user,
@@ -20,9 +23,11 @@ use std::alloc::Global;
 /// Makes a call on a plain world, where the k-th block that is taken has address 8 k. A refused call
 /// changes nothing, and want of memory leaves the world as before.
 ///
-/// A call on an element, and one that is refused for its address, looks at each thing in turn. Calls on
-/// lists are linear in the list, `uncatlg` in the catalogue, and the first change of a thing in a
-/// transaction in that thing. All others take about the logarithm of the world.
+/// Calls on lists and on their elements are at most linear in the list, `uncatlg` in the catalogue, and the
+/// first change of a thing in a transaction in that thing. A key is looked for in its bucket alone; a new or
+/// removed one moves the entries of its hash behind it. A call that is refused for an address at which no
+/// thing begins is linear in the list or hash that has or had a block there, and in the catalogue. All
+/// others take about the logarithm of the world.
 pub fn apply(alloc: Global, world: &mut World, call: &Call) -> Result<Reply, NoMemory>
     requires taken { world.old.now.taken < 2 ^ 60 }
     requires built { is_built call.now ≡ true }
@@ -63,17 +68,17 @@ pub fn apply(alloc: Global, world: &mut World, call: &Call) -> Result<Reply, NoM
         Call::Dimensions(addr) => dimensions(world, *addr),
         Call::TableUser(addr) => table_user(world, *addr),
         Call::TableDestroy(addr) => table_destroy(world, *addr),
+        Call::Hash(key_length, buckets) => make_hash(alloc, world, *key_length, *buckets),
+        Call::HashInsert(addr, key, value) => hash_insert(alloc, world, *addr, key, *value),
+        Call::HashRetrieve(addr, key) => hash_retrieve(world, *addr, key),
+        Call::HashRevise(addr, key, value) => hash_revise(alloc, world, *addr, key, *value),
+        Call::HashRemove(addr, key) => hash_remove(world, *addr, key),
+        Call::HashCount(addr) => hash_count(world, *addr),
+        Call::HashDestroy(addr) => hash_destroy(world, *addr),
         Call::Catlg(name, kind, object) => catlg(world, name, *kind, *object),
         Call::Find(name) => find(world, name),
         Call::Uncatlg(name) => uncatlg(world, name),
         Call::Entry(place) => entry(alloc, world, *place),
-        Call::Hash(_, _)
-        | Call::HashInsert(_, _, _)
-        | Call::HashRetrieve(_, _)
-        | Call::HashRevise(_, _, _)
-        | Call::HashRemove(_, _)
-        | Call::HashCount(_)
-        | Call::HashDestroy(_) => unreachable!(),
         Call::FileRef(_, _)
         | Call::BulkRef(_, _)
         | Call::ObjRef(_)

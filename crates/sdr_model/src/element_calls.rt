@@ -2,6 +2,7 @@
 ghost use Rattle.std.specs.Prelude.{◌≡◌, OnErr, OnOk, remove, set};
 ghost use Rattle.sdr_model.specs.Answers.{Answers, HasElement, SetsList};
 ghost use Rattle.sdr_model.specs.ListSteps.{as_list, datum_at};
+ghost use Rattle.sdr_model.specs.Owners.{MayHave};
 ghost use Rattle.sdr_model.specs.World.{thing_at};
 
 use crate::list_calls::element_addr;
@@ -63,6 +64,7 @@ fn set_element(
     element: Element,
 ) -> Result<(), NoMemory>
     requires inside { HasElement (as_list (thing_at world.old.now list)) place }
+    requires may_have { MayHave world.old list element.block }
     ensures set { OnOk result (SetsList (as_list (thing_at world.old.now list)) list
         (λ row. record row { elements = set row.elements place element }) world.old.now world.new.now) }
     ensures begun { world.new.begun ≡ world.old.begun }

@@ -19,12 +19,9 @@ pub fn insert_at(world: &mut World, list: Addr, place: usize, datum: u64) -> Res
     ensures same { OnErr result (world.new.now ≡ world.old.now) }
 {
     let marks = world.marks();
-    let block = world.mark_next()?;
+    let block = world.mark_inside(list)?;
     match put_element(world, list, place, Element { block, datum }) {
-        Ok(()) => {
-            world.count();
-            Ok(Reply::At { addr: block })
-        }
+        Ok(()) => Ok(Reply::At { addr: block }),
         Err(error) => {
             world.unmark(marks);
             Err(error)

@@ -1,7 +1,9 @@
 // What calls on lists do to a world.
-ghost use Rattle.std.specs.Prelude.{◌≡◌, ◌<◌, ◌≤◌, ◌-◌, ◌^◌, IfOk, OnErr, OnOk, length, remove, set};
+ghost use Rattle.std.specs.Prelude.{◌≡◌, ◌<◌, ◌≤◌, ◌-◌, ◌^◌, IfOk, OnErr, OnOk, Some, length, remove, set};
+ghost use Rattle.std.specs.FinMap as map;
 ghost use Rattle.std.specs.Option.{option_copied};
 ghost use Rattle.sdr_model.specs.Answers.{Answers, HasElement, HasPlace, InsertsAt, PutsElement, SetsList};
+ghost use Rattle.sdr_model.specs.Dry.{next_addr};
 ghost use Rattle.sdr_model.specs.ListSteps.{as_list, datum_at, element_addr};
 ghost use Rattle.sdr_model.specs.World.{thing_at};
 
@@ -123,25 +125,34 @@ pub fn set_list_user(world: &mut World, addr: Addr, user: u64) -> Result<Reply, 
     Ok(Reply::Done)
 }
 
-/// Puts an element at a place of the list at an address.
+/// Puts an element, whose block is the next, at a place of the list at an address, and counts the block.
 pub fn put_element(
     world: &mut World,
     list: Addr,
     place: usize,
     element: Element,
 ) -> Result<(), NoMemory>
+    requires taken { world.old.now.taken < 2 ^ 60 }
     requires inside { HasPlace (as_list (thing_at world.old.now list)) place }
+    requires next { element.block ≡ next_addr world.old.now.taken }
+    requires noted { map.get world.old.owners element.block ≡ Some list }
     ensures put { OnOk result
         (PutsElement (as_list (thing_at world.old.now list)) list place element world.old.now world.new.now) }
     ensures begun { world.new.begun ≡ world.old.begun }
     ensures same { OnErr result (world.new.now ≡ world.old.now) }
 {
     match world.take(list)? {
-        Thing::List(mut row) => {
-            let inserted = row.elements.insert(place, element);
-            world.put(list, Thing::List(row));
-            inserted
-        }
+        Thing::List(mut row) => match row.elements.insert(place, element) {
+            Ok(()) => {
+                world.count();
+                world.put(list, Thing::List(row));
+                Ok(())
+            }
+            Err(error) => {
+                world.put(list, Thing::List(row));
+                Err(error)
+            }
+        },
         _ => unreachable!(),
     }
 }

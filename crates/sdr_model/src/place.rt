@@ -1,10 +1,9 @@
 // What is at an address, now and at the begin of a transaction.
 ghost use Rattle.std.specs.Prelude.{◌≡◌, true, false, IfOk, OnErr, OnOk, IsSome, Some, None};
-ghost use Rattle.std.specs.Option.{option_and_then, option_copied};
+ghost use Rattle.std.specs.Option.{option_copied};
 ghost use Rattle.sdr_model.specs.Store.{begun_at};
-ghost use Rattle.sdr_model.specs.Things.{block_among, inner_blocks};
 
-use crate::{Block, Thing};
+use crate::Thing;
 use sdr_base::{Addr, NoMemory};
 use std::alloc::Global;
 use std::mem;
@@ -58,16 +57,6 @@ impl Place {
         ensures { option_copied result ≡ self.now.thing }
     {
         self.thing.as_ref()
-    }
-
-    /// The block at an address inside what is there now.
-    pub fn inner_block(&self, addr: Addr) -> Option<Block>
-        ensures { result ≡ option_and_then (λ thing. block_among addr (inner_blocks thing)) self.now.thing }
-    {
-        match &self.thing {
-            Some(thing) => thing.inner_block(addr),
-            None => None,
-        }
     }
 
     // Keeps a copy of what was there at the begin.

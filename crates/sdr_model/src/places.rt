@@ -2,13 +2,8 @@
 ghost use Rattle.std.specs.Prelude.{◌≡◌, IfOk, OnOk, OnErr, IsSome, Some, None, false};
 ghost use Rattle.std.specs.FinMap as map;
 ghost use Rattle.std.specs.Option.{option_copied};
-ghost use Rattle.sdr_model.specs.Store.{now_at, present, things_at};
-ghost use Rattle.std.specs.BTreeMap.{IsOrdered};
-ghost use Rattle.std.specs.Ordering.{nat_cmp};
-ghost use Rattle.sdr_model.specs.Things.{IsWithin, SpotIs, inner_among, spot_among, spot_in_thing};
 
 use crate::place::Place;
-use crate::{Block, Spot, Thing};
 use sdr_base::{Addr, NoMemory};
 use std::alloc::Global;
 use std::collections::BTreeMap;
@@ -33,47 +28,6 @@ impl Model for Places {
     ghost coded = { map.code coded_ℕ place.the_row.coded };
 
     ghost view = { λ s. map.from_entries s.inner.entries };
-}
-
-// The block at an address inside one of the things at these places.
-fn inner_block(inner: &BTreeMap<u64, Place>, addr: Addr) -> Option<Block>
-    ensures value { result ≡ inner_among addr (present inner.now.entries) }
-    ensures ordered { IsOrdered nat_cmp inner.now }
-{
-    for (_, place) in inner.iter() {
-        if let Some(block) = place.inner_block(addr) {
-            return Some(block);
-        }
-    }
-    None
-}
-
-// Where an element stands in the list at a place, if a list is there that has it.
-fn spot_in(list: Addr, place: &Place, element: Addr) -> Option<Spot<'_>>
-    ensures value { SpotIs result (spot_in_thing element list place.now.thing) }
-    ensures within { IsWithin result }
-{
-    match place.current() {
-        Some(Thing::List(row)) => {
-            let place = row.place_of(element)?;
-            Some(Spot { list, row, place })
-        }
-        _ => None,
-    }
-}
-
-// Where an element stands, in the first of the lists at these places that has it.
-fn spot(inner: &BTreeMap<u64, Place>, element: Addr) -> Option<Spot<'_>>
-    ensures value { SpotIs result (spot_among element (present inner.now.entries)) }
-    ensures within { IsWithin result }
-    ensures ordered { IsOrdered nat_cmp inner.now }
-{
-    for (list, place) in inner.iter() {
-        if let Some(spot) = spot_in(*list, place, element) {
-            return Some(spot);
-        }
-    }
-    None
 }
 
 impl Places {
@@ -123,22 +77,5 @@ impl Places {
             Some(slot) => *slot = place,
             None => unreachable!(),
         }
-    }
-
-    /// The block at an address inside one of the things now, of which the one with the lowest address that
-    /// has it counts. It looks at each thing in turn.
-    pub fn inner_block(&self, addr: Addr) -> Option<Block>
-        ensures { result ≡ inner_among addr (map.entries (things_at now_at self.now)) }
-    {
-        inner_block(&self.inner, addr)
-    }
-
-    /// Where an element stands, in the list with the lowest address that has it. It looks at each list in
-    /// turn.
-    pub fn spot(&self, element: Addr) -> Option<Spot<'_>>
-        ensures value { SpotIs result (spot_among element (map.entries (things_at now_at self.now))) }
-        ensures within { IsWithin result }
-    {
-        spot(&self.inner, element)
     }
 }

@@ -1,14 +1,12 @@
 // The things of a world in the making, which can be put back to what they were at the begin.
-ghost use Rattle.std.specs.Prelude.{◌≡◌, IfOk, IfSome, OnOk, OnErr, IsSome, Some, None, Contains, [], ◌∷◌};
+ghost use Rattle.std.specs.Prelude.{◌≡◌, IfOk, OnOk, OnErr, IsSome, Some, None, Contains, [], ◌∷◌};
 ghost use Rattle.std.specs.FinMap as map;
 ghost use Rattle.std.specs.Option.{option_copied};
 ghost use Rattle.sdr_model.specs.Store.{with_at, with_place};
-ghost use Rattle.sdr_model.specs.Things.{IsWithin, SpotIs, inner_among, spot_among};
-ghost use Rattle.sdr_model.specs.declared.things.Thing.{Thing};
 
+use crate::Thing;
 use crate::place::Place;
 use crate::places::Places;
-use crate::{Block, Spot, Thing};
 use sdr_base::{Addr, NoMemory};
 use std::alloc::Global;
 use std::marker::Model;
@@ -70,22 +68,6 @@ impl Store {
             Some(place) => place.current(),
             None => None,
         }
-    }
-
-    /// The block at an address inside one of the things. It looks at each thing in turn.
-    pub fn inner_block(&self, addr: Addr) -> Option<Block>
-        ensures { result ≡ inner_among addr (map.entries self.now.now) }
-    {
-        self.places.inner_block(addr)
-    }
-
-    /// Where the element at an address stands. It looks at each list in turn.
-    pub fn spot(&self, element: Addr) -> Option<Spot<'_>>
-        ensures is { SpotIs result (spot_among element (map.entries self.now.now)) }
-        ensures within { IsWithin result }
-        ensures there { IfSome result (λ s. map.get self.now.now s.list ≡ Some (Thing.List s.row.now)) }
-    {
-        self.places.spot(element)
     }
 
     // Takes note that an address is touched, and makes a place for it where there is none.

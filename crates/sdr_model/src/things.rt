@@ -1,8 +1,8 @@
 // The things of a world.
-ghost use Rattle.std.specs.Prelude.{◌≡◌, ◌<◌, ◌^◌, ◌==◌, IfOk, IfSome, length, map, position};
-ghost use Rattle.sdr_model.specs.Things.{own_block, inner_blocks, block_among, element_block, entry_block};
+ghost use Rattle.std.specs.Prelude.{◌≡◌, ◌<◌, ◌^◌, ◌==◌, IfOk, IfSome, Some, length, map, position};
+ghost use Rattle.sdr_model.specs.Things.{IsWithin, SpotIs, own_block, inner_blocks, block_among, element_block, entry_block, spot_in_thing};
 
-use crate::SdrTable;
+use crate::{SdrHash, SdrTable};
 use sdr_base::{Addr, Bytes, Items, Kind, NoMemory};
 use std::alloc::Global;
 
@@ -47,15 +47,6 @@ pub struct HashEntry {
     pub block: Addr,
     pub key: Bytes,
     pub value: u64,
-}
-
-/// A hash of keys of one length.
-#[derive(Drop, Debug)]
-pub struct SdrHash {
-    pub key_length: u64,
-    pub buckets: u16,
-    /// By bucket, and the newest first in its bucket.
-    pub entries: Items<HashEntry>,
 }
 
 /// A thing, which has an address of its own.
@@ -118,7 +109,7 @@ impl SdrList {
 }
 
 impl HashEntry {
-    fn copied(&self, alloc: Global) -> Result<HashEntry, NoMemory>
+    pub fn copied(&self, alloc: Global) -> Result<HashEntry, NoMemory>
         ensures { IfOk result (λ copy. copy ≡ self.now) }
     {
         Ok(HashEntry {
@@ -127,38 +118,16 @@ impl HashEntry {
             value: self.value,
         })
     }
-}
 
-impl SdrHash {
-    fn copied(&self, alloc: Global) -> Result<SdrHash, NoMemory>
-        ensures { IfOk result (λ copy. copy ≡ self.now) }
+    /// The entry's own block.
+    pub fn block(&self) -> Block
+        ensures { result ≡ entry_block self.now }
     {
-        let mut entries = Items::new(alloc);
-        for entry in self.entries.as_slice() {
-            entries.push(entry.copied(alloc)?)?;
+        Block {
+            addr: self.block,
+            kind: Kind::HashEntry,
+            bytes: 16 + count(self.key.as_slice()),
         }
-        Ok(SdrHash {
-            key_length: self.key_length,
-            buckets: self.buckets,
-            entries,
-        })
-    }
-
-    // The block of the entry at an address.
-    fn block(&self, addr: Addr) -> Option<Block>
-        ensures { result ≡ block_among addr (map entry_block self.now.entries) }
-    {
-        for entry in self.entries.as_slice() {
-            if entry.block == addr {
-                let bytes = 16 + count(entry.key.as_slice());
-                return Some(Block {
-                    addr,
-                    kind: Kind::HashEntry,
-                    bytes,
-                });
-            }
-        }
-        None
     }
 }
 
@@ -185,7 +154,7 @@ impl Thing {
             Thing::Text(text) => (Kind::Text, 1 + count(text.as_slice())),
             Thing::List(_) => (Kind::List, 32),
             Thing::Table(table) => (Kind::Table, 24 + count(table.bytes().as_slice())),
-            Thing::Hash(hash) => (Kind::Hash, 24 + 8 * u64::from(hash.buckets)),
+            Thing::Hash(hash) => (Kind::Hash, 24 + 8 * hash.buckets()),
         };
         Block { addr, kind, bytes }
     }
@@ -197,6 +166,21 @@ impl Thing {
         match self {
             Thing::List(list) => list.block(addr),
             Thing::Hash(hash) => hash.block(addr),
+            _ => None,
+        }
+    }
+
+    /// Where the element at an address stands, if the thing, at another address, is a list that has it.
+    pub fn spot(&self, list: Addr, element: Addr) -> Option<Spot<'_>>
+        ensures is { SpotIs result (spot_in_thing element list (Some self.now)) }
+        ensures within { IsWithin result }
+        ensures there { IfSome result (λ s. (s.list ≡ list) × (self.now ≡ Thing.List s.row.now)) }
+    {
+        match self {
+            Thing::List(row) => {
+                let place = row.place_of(element)?;
+                Some(Spot { list, row, place })
+            }
             _ => None,
         }
     }

@@ -6,23 +6,28 @@ ghost use Rattle.std.specs.Option.{option_copied};
 ghost use Rattle.sdr_model.specs.Draft.{with_taken, at_rest};
 ghost use Rattle.sdr_model.specs.Dry.{next_addr};
 ghost use Rattle.sdr_model.specs.Names.{name_of, without_name};
+ghost use Rattle.sdr_model.specs.Owners.{MayHave, MayPut};
 ghost use Rattle.sdr_model.specs.Steps.{with_thing, without_thing};
-ghost use Rattle.sdr_model.specs.Things.{IsWithin, SpotIs};
+ghost use Rattle.sdr_model.specs.Things.{IsWithin, SpotIs, inner_among, inner_blocks};
 ghost use Rattle.sdr_model.specs.World.{block_at, empty_world, is_marked, spot_of, thing_at};
 ghost use Rattle.sdr_model.specs.declared.things.Thing.{Thing};
 
 use crate::catalogue::Catalogue;
+use crate::owners::Owners;
 use crate::{Block, Named, Names, Spot, Store, Thing};
 use sdr_base::{Addr, Bytes, Items, NoMemory};
 use std::alloc::Global;
 use std::marker::Model;
 
 /// A world, which can be put back to what it was at the begin of the open transaction. Contracts see the
-/// world at the begin, the world now, and the addresses of the things that were changed since.
+/// world at the begin, the world now, the addresses of the things that were changed since, and whose the
+/// blocks inside things are.
 #[derive(Drop)]
 pub struct World {
     alloc: Global,
     things: Store,
+    /// A block that is given back keeps its owner, which no longer has it.
+    owners: Owners,
     catalogue: Catalogue,
     /// The addresses marked in the open transaction.
     marks: Items<Addr>,
@@ -37,6 +42,8 @@ pub struct World {
 impl Model for World {
     ghost use Rattle.std.specs.Prelude.{[]};
     ghost use Rattle.sdr_model.specs.Draft as draft;
+    ghost use Rattle.sdr_model.specs.Dry.{next_addr};
+    ghost use Rattle.sdr_model.specs.Owners.{AllOwnInside};
 
     ghost Value = { draft.Draft };
 
@@ -46,17 +53,21 @@ impl Model for World {
       begun = record { things = s.things.begun; names = s.catalogue.begun; marks = []; shown = []; taken = s.taken_before };
       now = record { things = s.things.now; names = s.catalogue.now; marks = s.marks; shown = s.shown; taken = s.taken };
       touched = s.things.touched;
+      owners = s.owners;
     } };
+
+    ghost invariant = { λ s. AllOwnInside s.owners (next_addr s.taken) s.things.begun s.things.now };
 }
 
 impl World {
     /// A world without things, where no transaction is open. It takes no memory.
     pub fn new(alloc: Global) -> World
-        ensures { result ≡ record { begun = empty_world; now = empty_world; touched = [] } }
+        ensures { result ≡ record { begun = empty_world; now = empty_world; touched = []; owners = map.empty } }
     {
         World {
             alloc,
             things: Store::new(alloc),
+            owners: Owners::new(alloc),
             catalogue: Catalogue::new(alloc),
             marks: Items::new(alloc),
             shown: Bytes::new(alloc),
@@ -93,26 +104,38 @@ impl World {
         self.marks.as_slice().contains(&addr)
     }
 
-    /// The block that begins at an address. Where no thing's own block does, it looks at each thing in turn.
+    // The block at an address inside one of the things, which its owner alone can have.
+    fn inner_block(&self, addr: Addr) -> Option<Block>
+        ensures { result ≡ inner_among addr (map.entries self.now.now.things) }
+    {
+        let owner = self.owners.get(addr)?;
+        let thing = self.things.get(owner)?;
+        thing.inner_block(addr)
+    }
+
+    /// The block that begins at an address. It looks into one thing at most.
     pub fn block(&self, addr: Addr) -> Option<Block>
         ensures { result ≡ block_at self.now.now addr }
     {
         if let Some(thing) = self.things.get(addr) {
             return Some(thing.own_block(addr));
         }
-        match self.things.inner_block(addr) {
+        match self.inner_block(addr) {
             Some(block) => Some(block),
             None => self.catalogue.names().block(addr),
         }
     }
 
-    /// Where the element at an address stands. It looks at each list in turn.
+    /// Where the element at an address stands. It looks into one list at most.
     pub fn spot(&self, element: Addr) -> Option<Spot<'_>>
         ensures is { SpotIs result (spot_of self.now.now element) }
         ensures within { IsWithin result }
         ensures there { IfSome result (λ s. thing_at self.now.now s.list ≡ Some (Thing.List s.row.now)) }
+        ensures may_have { IfSome result (λ s. MayHave self.now s.list element) }
     {
-        self.things.spot(element)
+        let owner = self.owners.get(element)?;
+        let thing = self.things.get(owner)?;
+        thing.spot(owner, element)
     }
 
     /// How many marks there are.
@@ -135,6 +158,8 @@ impl World {
         requires taken { self.old.now.taken < 2 ^ 60 }
         ensures counted { self.new.now ≡ record self.old.now { shown = []; taken = self.old.now.taken + 1 } }
         ensures begun { self.new.begun ≡ self.old.begun }
+        ensures touched { self.new.touched ≡ self.old.touched }
+        ensures owners { self.new.owners ≡ self.old.owners }
     {
         self.shown = Bytes::new(self.alloc);
         self.taken += 1;
@@ -155,9 +180,27 @@ impl World {
         Ok(addr)
     }
 
-    /// Makes a thing at the next address. Want of memory leaves the world as before.
+    /// Takes the next address for a block inside the thing at another, and marks it. Want of memory leaves
+    /// the world as before.
+    pub fn mark_inside(&mut self, owner: Addr) -> Result<Addr, NoMemory>
+        requires taken { self.old.now.taken < 2 ^ 60 }
+        ensures addr { IfOk result (λ addr. addr ≡ next_addr self.old.now.taken) }
+        ensures marked { IfOk result (λ addr.
+            self.new.now ≡ record self.old.now { marks = self.old.now.marks ++ addr ∷ [] }) }
+        ensures noted { IfOk result (λ addr. map.get self.new.owners addr ≡ Some owner) }
+        ensures begun { self.new.begun ≡ self.old.begun }
+        ensures same { OnErr result (self.new.now ≡ self.old.now) }
+    {
+        let addr = 8 * (self.taken + 1);
+        self.owners.insert(addr, owner)?;
+        self.marks.push(addr)?;
+        Ok(addr)
+    }
+
+    /// Makes a thing with nothing inside at the next address. Want of memory leaves the world as before.
     pub fn make(&mut self, thing: Thing) -> Result<Addr, NoMemory>
         requires taken { self.old.now.taken < 2 ^ 60 }
+        requires bare { inner_blocks thing ≡ [] }
         ensures addr { IfOk result (λ addr. addr ≡ next_addr self.old.now.taken) }
         ensures made { IfOk result (λ addr.
             self.new.now ≡ with_taken (with_thing self.old.now addr thing) addr) }
@@ -198,16 +241,19 @@ impl World {
         ensures again { OnOk result ((thing : Thing) →
             with_thing self.new.now addr thing ≡ with_thing self.old.now addr thing) }
         ensures back { IfOk result (λ thing. with_thing self.new.now addr thing ≡ self.old.now) }
+        ensures may_put { IfOk result (λ thing. MayPut self.new addr thing) }
         ensures touched { OnOk result (Contains self.new.touched addr) }
+        ensures owners { self.new.owners ≡ self.old.owners }
         ensures begun { self.new.begun ≡ self.old.begun }
         ensures same { OnErr result (self.new.now ≡ self.old.now) }
     {
         self.things.take(addr)
     }
 
-    /// Puts a thing at an address that was touched.
+    /// Puts a thing at an address that was touched. It is the owner of all blocks inside it.
     pub fn put(&mut self, addr: Addr, thing: Thing)
         requires touched { Contains self.old.touched addr }
+        requires may_put { MayPut self.old addr thing }
         ensures put { self.new.now ≡ with_thing self.old.now addr thing }
         ensures begun { self.new.begun ≡ self.old.begun }
     {
@@ -288,7 +334,7 @@ impl World {
 
     /// Takes the world now as the one to begin from.
     pub fn keep(&mut self)
-        ensures { let kept = at_rest self.old.now in self.new ≡ record { begun = kept; now = kept; touched = [] } }
+        ensures { let kept = at_rest self.old.now in self.new ≡ record self.old { begun = kept; now = kept; touched = [] } }
     {
         self.things.keep();
         self.catalogue.keep();
@@ -300,7 +346,7 @@ impl World {
     /// Puts the world back to the begin. Blocks once taken stay counted.
     pub fn put_back(&mut self)
         ensures { let left = record self.old.begun { taken = self.old.now.taken } in
-            self.new ≡ record { begun = left; now = left; touched = [] } }
+            self.new ≡ record self.old { begun = left; now = left; touched = [] } }
     {
         self.things.put_back();
         self.catalogue.put_back();

@@ -1,11 +1,12 @@
-use Rattle.std.proofs.Common.{◌≡◌, Some, ap, sym, ◌∙◌}
+use Rattle.std.proofs.Common.{Some, ap, ◌∙◌}
 use Rattle.std.proofs.lemmas.Result.{on_ok_weaker}
-use Rattle.std.specs.FinMap.{get, insert}
+use Rattle.std.specs.FinMap.{insert}
 use Rattle.sdr_model.specs.Steps.{with_thing}
 use Rattle.sdr_model.specs.Things.{Things}
 use Rattle.sdr_model.specs.World.{World}
 use Rattle.sdr_model.specs.contracts.world.World.{the_view}
 use Rattle.sdr_model.proofs.Cases.{in_ok}
+use Rattle.sdr_model.proofs.OwnersLemmas.{AllOwnInside-taken}
 use Rattle.sdr_model.proofs.StoreLemmas.{insert-removed, with_at-again}
 use Rattle.sdr_model.proofs.world.World.take.Goals as goal
 
@@ -27,5 +28,11 @@ returns-clause-back c =
     (λ thing is without.
     ap (λ m. with_things (the_view c.self.inside).now (insert m c.args.addr thing)) without
     ∙ ap (with_things (the_view c.self.inside).now)
-    (insert-removed c.self.inside.things.now c.args.addr thing ∙ with_at-again c.self.inside.things.now c.args.addr (Some thing) is)
+    (insert-removed c.self.inside.things.now c.args.addr thing
+    ∙ with_at-again c.self.inside.things.now c.args.addr (Some thing) is)
     ∙ ap (λ d. d.now) c.self.view_is)
+
+pub invariant_of-self : goal.invariant_of-self
+invariant_of-self c =
+    AllOwnInside-taken _ _ c.args.addr _ _ _ _ c.take.result
+    c.take.ensures.begun c.take.ensures.without c.take.ensures.same c.self.invariant

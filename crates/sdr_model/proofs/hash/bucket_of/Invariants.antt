@@ -1,0 +1,6 @@
+use Rattle.std.proofs.Common.{◌≡◌, take}
+use Rattle.sdr_model.specs.HashSteps.{bucket_of}
+use Rattle.sdr_model.proofs.hash.bucket_of.Given as goal
+
+abbrev pub invariant-loop-byte : goal.invariant-loop-byte
+invariant-loop-byte l = l.bucket ≡ bucket_of l.buckets (take l.byte-index l.key)
