@@ -1,0 +1,174 @@
+-- Why every world that a machine without a heap reaches is valid.
+use Rattle.std.proofs.Common.{◌≡◌, ℕ, ◌*◌, ◌==◌, ◌≤◌, List, [], ◌∷◌, find, nat_le, refl, sym, ap, ap₂, ◌∙◌, subst, arith, map, ◌++◌}
+use Rattle.std.specs.List.{list_any}
+use Rattle.std.specs.Prelude.{All}
+use Rattle.sdr_base.specs.declared.moves.Move.{Move}
+use Rattle.sdr_laws.proofs.DryLaws.{valid_from, valid_kept_dry}
+use Rattle.sdr_laws.proofs.Examples.{empty_is_valid, empty_addresses}
+use Rattle.sdr_laws.specs.ValidDry.{IsValidDry}
+use Rattle.sdr_model.proofs.Cases.{in_bool, in_option}
+use Rattle.sdr_model.specs.Blocks.{addresses_of, blocks_of, things_blocks}
+use Rattle.sdr_model.specs.Core.{Core, Made, RunsCore, first_core}
+use Rattle.sdr_model.specs.Machine.{Machine, MachineStep, Comes, Holds, Waits, Serves, event_moves, is_outside, served_number, with_next}
+use Rattle.sdr_model.specs.Things.{name_block}
+use Rattle.sdr_model.specs.Transaction.{Transaction, Transacts, Replies, transaction_of, left_by, closing, is_opening, is_closing, deepest}
+use Rattle.sdr_model.specs.World.{World, empty_world}
+use Rattle.sdr_model.specs.declared.answer.Answer.{Answer}
+use Rattle.sdr_model.specs.declared.answer.Answer.TheVariants as answers
+use Rattle.sdr_model.specs.declared.answer.Close.{Close}
+use Rattle.sdr_model.specs.declared.answer.Close.TheVariants as closes
+use Rattle.sdr_model.specs.declared.call.Call.{Call}
+use Rattle.sdr_model.specs.declared.event.Event.{Event}
+use Rattle.sdr_model.specs.declared.event.Event.TheVariants as events
+use Rattle.sdr_model.specs.declared.holder.Holder.{Holder}
+
+-- the second world is a valid one, and no less blocks were taken for it than for the first
+record Follows (w w' : World) : Type 0 where
+  valid : IsValidDry w'
+  order : w.taken ≤ w'.taken
+
+-- a world with the things and names of one that follows does too, where no less blocks were taken for it
+again : (w v v' : World) → v'.things ≡ v.things → v'.names ≡ v.names → v.taken ≤ v'.taken → Follows w v → Follows w v'
+again w v v' things names more f = record {
+  valid = record {
+    valid = valid_from v v' things names f.valid.valid;
+    given =
+        λ k d within. omega (arith, given k d within, more);
+  };
+  order = omega (arith, f.order, more);
+}
+  where
+    blocks : blocks_of v' ≡ blocks_of v
+    blocks = ap₂ (λ ts ns. things_blocks ts ++ map name_block ns) things names
+
+    given : All (λ addr. addr ≤ 8 * v.taken) (addresses_of (blocks_of v'))
+    given = subst (λ bs. All (λ addr. addr ≤ 8 * v.taken) (addresses_of bs)) (sym blocks) f.valid.given
+
+-- one call of a transaction
+call_follows : (t t' : Transaction) (call : Call) (answer : Answer) (moves : List Move) → IsValidDry t.world
+    → Replies t call answer moves t'
+    → Follows t.world t'.world
+call_follows t t' call (answers.Reply reply) moves valid r = record {
+  valid = valid_kept_dry t.world t'.world call moves reply valid r.0;
+  order = omega (arith, r.0.counted);
+}
+call_follows t t' call (answers.Lock number) moves valid r = absurd r
+call_follows t t' call (answers.Depth depth) moves valid r = absurd r
+call_follows t t' call answer moves valid r = absurd r
+
+-- an event that leaves the transaction's world
+stands : (t t' next : Transaction) → t' ≡ next → next.world ≡ t.world → IsValidDry t.world → Follows t.world t'.world
+stands t t' next is same valid =
+    subst (λ w. Follows t.world w) (sym (ap (λ (t : Transaction). t.world) is ∙ same))
+    (record { valid = valid; order = omega arith })
+
+-- one event of an open transaction
+event_follows : (t t' : Transaction) (event : Event) (answer : Answer) (moves : List Move) → IsValidDry t.world
+    → Transacts t event answer moves t'
+    → Follows t.world t'.world
+event_follows t t' events.Request answer moves valid s = absurd s
+event_follows t t' events.Begin answer moves valid s =
+    in_bool (nat_le deepest t.depth) s (λ d. stands t t' _ d.2 refl valid) (λ d. stands t t' _ d.2 refl valid)
+event_follows t t' (events.Say call) answer moves valid s =
+    in_option t.doom s (λ r. call_follows t t' call answer moves valid r) (λ reason d. stands t t' _ d.2 refl valid)
+event_follows t t' events.End answer moves valid s = stands t t' _ s.2 refl valid
+event_follows t t' events.Exit answer moves valid s = stands t t' _ s.2 refl valid
+event_follows t t' events.Cancel answer moves valid s = stands t t' _ s.2 refl valid
+event_follows t t' event answer moves valid s = absurd s
+
+-- the world between transactions and the one that the served transaction has made are valid
+record IsSound (m : Machine) : Type 0 where
+  world : IsValidDry m.world
+  current : Follows m.world m.current
+
+-- a machine with the same worlds
+sound_same : (m m' next : Machine) → m' ≡ next → next.world ≡ m.world → next.current ≡ m.current → IsSound m
+    → IsSound m'
+sound_same m m' next is world current sound = subst IsSound (sym is) (record {
+  world = subst IsValidDry (sym world) sound.world;
+  current = subst (λ w. Follows w next.current) (sym world)
+      (subst (λ w. Follows m.world w) (sym current) sound.current);
+})
+
+-- a machine whose transaction was closed
+sound_closed : (m : Machine) (close : Close) → IsSound m → Follows m.world (left_by close m.world m.current)
+sound_closed m closes.Ended sound = again m.world m.current _ refl refl (omega arith) sound.current
+sound_closed m close sound =
+    again m.world m.world _ refl refl sound.current.order (record { valid = sound.world; order = omega arith })
+
+sound_next : (m m' : Machine) (close : Close) → m' ≡ with_next m (left_by close m.world m.current) → IsSound m
+    → IsSound m'
+sound_next m m' close is sound =
+    let left = sound_closed m close sound in
+    subst IsSound (sym is) (record { world = left.valid; current = record { valid = left.valid; order = omega arith } })
+
+serves_sound : (m m' : Machine) (h : Holder) (event : Event) (answer : Answer) (moves : List Move) → IsSound m
+    → Serves m h event answer moves m' → IsSound m'
+serves_sound m m' h event answer moves sound s =
+    in_bool (is_opening (transaction_of h m.current) event) s
+    (λ o. sound_same m m' _ o.2 refl refl sound)
+    (λ s'. in_bool (is_closing (transaction_of h m.current) event) s'
+    (λ c. sound_next m m' (closing (transaction_of h m.current) event) c.2 sound)
+    (λ w.
+    let f = event_follows (transaction_of h m.current) w.after event answer moves sound.current.valid w.transacts in
+    subst IsSound (sym w.others) (record {
+      world = sound.world;
+      current = record { valid = f.valid; order = omega (arith, f.order, sound.current.order) };
+    })))
+
+waits_sound : (m m' : Machine) (h : Holder) (event : Event) (answer : Answer) (moves : List Move) → IsSound m
+    → Waits m h event answer moves m' → IsSound m'
+waits_sound m m' h event answer moves sound s =
+    in_bool (is_outside h event) s (λ g. sound_same m m' _ g.2 refl refl sound)
+    (λ s'. in_bool (served_number m.holders == h.number) s' (serves_sound m m' h event answer moves sound)
+    (λ g. sound_same m m' _ g.2 refl refl sound))
+
+holds_sound : (m m' : Machine) (h : Holder) (event : Event) (answer : Answer) (moves : List Move) → IsSound m
+    → Holds m h event answer moves m' → IsSound m'
+holds_sound m m' h events.Request answer moves sound s = sound_same m m' _ s.2 refl refl sound
+holds_sound m m' h (events.Look ticket) answer moves sound s =
+    in_bool (h.depth == 0) s
+    (λ s'. in_bool (served_number m.holders == h.number) s' (λ g. sound_same m m' _ g.2 refl refl sound)
+    (λ g. sound_same m m' _ g.2 refl refl sound))
+    (λ g. sound_same m m' _ g.2 refl refl sound)
+holds_sound m m' h event answer moves sound s = waits_sound m m' h event answer moves sound s
+
+comes_sound : (m m' : Machine) (daemon : ℕ) (event : Event) (answer : Answer) (moves : List Move) → IsSound m
+    → Comes m daemon event answer moves m' → IsSound m'
+comes_sound m m' daemon events.Request answer moves sound s = sound_same m m' _ s.2 refl refl sound
+comes_sound m m' daemon events.Begin answer moves sound s = sound_same m m' _ s.2 refl refl sound
+comes_sound m m' daemon (events.Look ticket) answer moves sound s =
+    in_bool (served_number m.holders == 0) s (λ g. sound_same m m' _ g.2 refl refl sound)
+    (λ g. sound_same m m' _ g.2 refl refl sound)
+comes_sound m m' daemon event answer moves sound s = sound_same m m' _ s.2 refl refl sound
+
+step_sound : (m m' : Machine) (daemon : ℕ) (event : Event) (answer : Answer) (moves : List Move) → IsSound m
+    → MachineStep m daemon event answer moves m' → IsSound m'
+step_sound m m' daemon event answer moves sound s =
+    in_bool (list_any (λ d. d == daemon) m.daemons) s
+    (λ s'. in_option (find (λ h. h.daemon == daemon) m.holders) s'
+    (comes_sound m m' daemon event answer moves sound) (λ h. holds_sound m m' h event answer moves sound))
+    (λ g. sound_same m m' _ g.2 refl refl sound)
+
+run_sound : (c c' : Core) (made : List Made) → IsSound c.machine → RunsCore c made c' → IsSound c'.machine
+run_sound c c' [] sound is = subst (λ (c : Core). IsSound c.machine) (sym is) sound
+run_sound c c' (e ∷ made) sound (mid, step, rest) =
+    run_sound mid c' made
+    (step_sound c.machine mid.machine e.daemon e.event e.answer
+    (event_moves c.machine e.event e.answer) sound step.machine) rest
+
+-- the machine begins with the empty world
+empty_dry : IsValidDry empty_world
+empty_dry = record {
+  valid = empty_is_valid;
+  given =
+      subst (All (λ addr. addr ≤ 0)) (sym empty_addresses) (λ k d within. absurd (omega (arith, within)));
+}
+
+-- Every world that a machine without a heap reaches is valid.
+pub dry_worlds_are_valid : (daemons : List ℕ) (made : List Made) (c : Core) → RunsCore (first_core daemons) made c
+    → IsValidDry c.machine.world × IsValidDry c.machine.current
+dry_worlds_are_valid daemons made c run =
+    let sound = run_sound (first_core daemons) c made
+    (record { world = empty_dry; current = record { valid = empty_dry; order = omega arith } }) run in
+    (sound.world, sound.current.valid)

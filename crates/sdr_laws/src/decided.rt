@@ -1,0 +1,24 @@
+// What the machine may choose.
+ghost use Rattle.std.specs.Prelude.{◌≡◌, ℕ, List};
+ghost use Rattle.sdr_base.specs.declared.moves.Move.{Move};
+ghost use Rattle.sdr_laws.specs.TakesAt.{TakesAt};
+ghost use Rattle.sdr_model.specs.Dry.{StepsDry};
+ghost use Rattle.sdr_model.specs.Rows.{ByRow};
+ghost use Rattle.sdr_model.specs.Steps.{Outcome};
+ghost use Rattle.sdr_model.specs.World.{World};
+ghost use Rattle.sdr_model.specs.declared.answer.Reply.{Reply};
+ghost use Rattle.sdr_model.specs.declared.call.Call.{Call};
+
+/// A law: two outcomes that the row of a call allows are the same, where the blocks that they took begin at
+/// the same addresses. It does nothing.
+pub fn rows_decide()
+    ensures { (w : World) (call : Call) (at : ℕ → ℕ) (o o' : Outcome) →
+        ByRow w o call → ByRow w o' call → TakesAt at o.moves → TakesAt at o'.moves → o ≡ o' }
+{}
+
+/// A law: without a heap a call comes to one outcome. It does nothing.
+pub fn dry_decides()
+    ensures { (w w' v : World) (call : Call) (moves others : List Move) (reply other : Reply) →
+        StepsDry w call moves w' reply → StepsDry w call others v other →
+        (moves ≡ others) × (w' ≡ v) × (reply ≡ other) }
+{}

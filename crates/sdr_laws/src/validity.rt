@@ -1,0 +1,33 @@
+// Valid worlds.
+ghost use Rattle.std.specs.Prelude.{ℕ, List};
+ghost use Rattle.sdr_base.specs.declared.moves.Move.{Move};
+ghost use Rattle.sdr_laws.specs.Fresh.{AreFresh};
+ghost use Rattle.sdr_laws.specs.ValidDry.{IsValidDry};
+ghost use Rattle.sdr_model.specs.Blocks.{addresses_of, blocks_of};
+ghost use Rattle.sdr_model.specs.Core.{Core, Made, RunsCore, first_core};
+ghost use Rattle.sdr_model.specs.Dry.{StepsDry};
+ghost use Rattle.sdr_model.specs.Step.{Step};
+ghost use Rattle.sdr_model.specs.Valid.{IsValid};
+ghost use Rattle.sdr_model.specs.World.{World};
+ghost use Rattle.sdr_model.specs.declared.answer.Reply.{Reply};
+ghost use Rattle.sdr_model.specs.declared.call.Call.{Call};
+
+/// A law: a step leaves a valid world valid, where the blocks that it takes are fresh. It does nothing.
+pub fn valid_kept()
+    ensures { (w w' : World) (call : Call) (moves : List Move) (reply : Reply) →
+        IsValid w → AreFresh (addresses_of (blocks_of w)) moves → Step w call moves w' reply → IsValid w' }
+{}
+
+/// A law: without a heap a valid world, whose blocks begin at addresses that were given so far, stays one.
+/// It does nothing.
+pub fn valid_kept_dry()
+    ensures { (w w' : World) (call : Call) (moves : List Move) (reply : Reply) →
+        IsValidDry w → StepsDry w call moves w' reply → IsValidDry w' }
+{}
+
+/// A law: without a heap every world that a run of the machine comes to is valid, the one between
+/// transactions and the one that the served transaction has made. It does nothing.
+pub fn dry_worlds_are_valid()
+    ensures { (daemons : List ℕ) (made : List Made) (c : Core) →
+        RunsCore (first_core daemons) made c → IsValidDry c.machine.world × IsValidDry c.machine.current }
+{}
