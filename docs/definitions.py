@@ -13,11 +13,13 @@ for crate in crates:
     files = []
     for file in sorted((root / "crates" / crate / "specs").glob("*.antt")):
         lines = file.read_text().splitlines()
-        rows, said = [], []
+        rows, said, last = [], [], []
         for line in lines[1:]:
             match = head.match(line)
-            if match and said and not line.startswith("pub mod"):
-                rows.append(f"| `{match[1].replace('◌', '')}` | {' '.join(said)} |")
+            # a definition without a sentence of its own shares that of the one above
+            last = said or last
+            if match and last and not line.startswith("pub mod"):
+                rows.append(f"| `{match[1].replace('◌', '')}` | {' '.join(last)} |")
             said = said + [line[3:]] if line.startswith("-- ") else []
         if rows:
             files += [f"### `{crate}/specs/{file.name}`: {lines[0][3:]}", "", "| Definition | What it is |", "|---|---|", *rows, ""]
