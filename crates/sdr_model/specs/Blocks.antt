@@ -2,6 +2,7 @@
 use Rattle.std.specs.Prelude.{ℕ, List, ◌∷◌, ◌++◌, map}
 use Rattle.std.specs.FinMap as finite
 use Rattle.std.specs.List.{flat_map}
+use Rattle.sdr_model.specs.Accounts.{ticket_blocks}
 use Rattle.sdr_model.specs.Things.{Things, own_block, inner_blocks, name_block}
 use Rattle.sdr_model.specs.World.{World}
 use Rattle.sdr_model.specs.declared.things.Block.{Block}
@@ -15,9 +16,9 @@ thing_blocks addr thing = own_block addr thing ∷ inner_blocks thing
 abbrev pub things_blocks : Things → List Block
 things_blocks things = flat_map (λ e. thing_blocks e.0 e.1) (finite.entries things)
 
--- the blocks of a world: those of its things, and then those of its catalogue's entries
+-- the blocks of a world: those of its things, then those of its catalogue's entries and of its tickets
 abbrev pub blocks_of : World → List Block
-blocks_of w = things_blocks w.things ++ map name_block w.names
+blocks_of w = things_blocks w.things ++ map name_block w.names ++ ticket_blocks w.accounts
 
 -- where these blocks begin
 abbrev pub addresses_of : List Block → List ℕ

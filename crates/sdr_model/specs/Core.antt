@@ -1,14 +1,17 @@
 -- A core run: the machine, and the journal that is kept of it.
-use Rattle.std.specs.Prelude.{◌≡◌, ℕ, List, [], ◌∷◌, ◌++◌, Bool, true, false, not, ◌==◌, filter, flat_map, if◌then◌else◌}
+use Rattle.std.specs.Prelude.{◌≡◌, ℕ, ◌+◌, List, [], ◌∷◌, ◌++◌, Bool, true, false, not, ◌==◌, filter, flat_map, find, Option, None, Some, if◌then◌else◌}
+use Rattle.std.specs.Option.{option_map, option_map_or, option_to_list}
 use Rattle.sdr_base.specs.declared.refusal.Refusal.TheVariants as refusals
-use Rattle.sdr_model.specs.Machine.{Machine, MachineStep, event_moves, first_machine, served_number}
+use Rattle.sdr_model.specs.Machine.{Machine, MachineStep, event_moves, first_machine, waits_for}
 use Rattle.sdr_model.specs.declared.answer.Answer.{Answer}
 use Rattle.sdr_model.specs.declared.answer.Answer.TheVariants as answers
 use Rattle.sdr_model.specs.declared.answer.Reply.TheVariants as replies
 use Rattle.sdr_model.specs.declared.event.Event.{Event}
 use Rattle.sdr_model.specs.declared.event.Event.TheVariants as events
+use Rattle.sdr_model.specs.declared.holder.Holder.{Holder}
 use Rattle.sdr_model.specs.declared.journal.Entry.{Entry}
 use Rattle.sdr_model.specs.declared.journal.Said.{Said}
+use Rattle.sdr_model.specs.declared.journal.What.{What}
 use Rattle.sdr_model.specs.declared.journal.What.TheVariants as whats
 use Rattle.sdr_model.specs.World.{World}
 
@@ -41,10 +44,14 @@ said_by works daemon = flat_map (λ w. w.said) (filter (λ w. w.daemon == daemon
 abbrev pub without_work : List Work → ℕ → List Work
 without_work works daemon = filter (λ w. not (w.daemon == daemon)) works
 
--- an event stands in no entry where it is a request, is refused to a daemon outside a transaction or not served, or is a
--- look at a ticket that isn't there
+-- an event stands in no transaction where it is a request, is refused to a daemon outside a transaction or not served, is a
+-- look that isn't refused within one, or a leave that closes none
 abbrev pub is_passed_over : Event → Answer → Bool
 is_passed_over events.Request answer = true
+is_passed_over event answers.Awarded = true
+is_passed_over event answers.Waits = true
+is_passed_over event answers.Stalled = true
+is_passed_over (events.Leaves leave) (answers.Reply replies.Done) = true
 is_passed_over event (answers.Reply (replies.Refused refusals.NotBegun)) = true
 is_passed_over event (answers.Reply (replies.Refused (refusals.Suspended serving mine))) = true
 is_passed_over (events.Look ticket) (answers.Reply (replies.Refused (refusals.BadTicket missing))) = true
@@ -54,13 +61,6 @@ is_passed_over event answer = false
 abbrev pub works_after : Answer → List Work → ℕ → Said → List Work
 works_after (answers.Closed close) works daemon said = without_work works daemon
 works_after answer works daemon said = with_said works daemon said
-
--- the journal after it: a transaction that closes is an entry under its number (with no disk there is but one moment)
-abbrev pub journal_after : Answer → Core → ℕ → Said → List Entry
-journal_after (answers.Closed close) c daemon said =
-    let all = said_by (with_said c.works daemon said) daemon in
-    c.journal ++ record { number = served_number c.machine.holders; daemon = daemon; begun = 0; done = 0; what = whats.Work all close } ∷ []
-journal_after answer c daemon said = c.journal
 
 -- the bytes that an answered call gave, none where the event is no answered call
 abbrev pub given_bytes : Answer → World → List ℕ
@@ -80,6 +80,34 @@ pub record Made : Type 0 where
 abbrev pub said_of : Core → Made → Said
 said_of c e = record { line = e.line; event = e.event; answer = e.answer; bytes = e.bytes; moves = event_moves c.machine e.event e.answer }
 
+-- the number that an event of a daemon is made under: the one that it holds, else the next
+abbrev pub number_of : Machine → ℕ → ℕ
+number_of m daemon = option_map_or (λ (h : Holder). h.number) (find (λ h. h.daemon == daemon) m.holders) (m.drawn + 1)
+
+-- what the entry is of that an event with this answer adds
+abbrev pub what_for : Core → Made → Event → Answer → Option What
+what_for c e event (answers.Closed close) =
+    Some (whats.Work (said_by (with_said c.works e.daemon (said_of c e)) e.daemon) close)
+what_for c e (events.Look ticket) answers.Awarded = Some (whats.Awarded ticket)
+what_for c e (events.Look ticket) answers.Stalled = Some (whats.Stalled ticket)
+what_for c e (events.Look ticket) answers.Waits =
+    if waits_for c.machine e.daemon ticket then None else Some (whats.Waits ticket)
+what_for c e (events.Leaves leave) (answers.Reply replies.Done) = Some (whats.Leaves leave)
+what_for c e event answer = None
+
+-- What the entry is of that an event adds: a look and a leave add one where they are answered, but for a second wait for
+-- one ticket, and a transaction where it closes.
+abbrev pub what_of : Core → Made → Option What
+what_of c e = what_for c e e.event e.answer
+
+-- the entry of it, under the daemon's number; with no disk there is but one moment
+abbrev pub entry_of : Core → Made → What → Entry
+entry_of c e what = record { number = number_of c.machine e.daemon; daemon = e.daemon; begun = 0; done = 0; what = what }
+
+-- the journal after an event
+abbrev pub journal_after : Core → Made → List Entry
+journal_after c e = c.journal ++ option_to_list (option_map (entry_of c e) (what_of c e))
+
 -- the core after an event, from which the machine went on to m
 abbrev pub core_after : Core → Made → Machine → Core
 core_after c e m =
@@ -87,7 +115,7 @@ core_after c e m =
     record {
       machine = m;
       works = if passed_over then c.works else works_after e.answer c.works e.daemon (said_of c e);
-      journal = if passed_over then c.journal else journal_after e.answer c e.daemon (said_of c e);
+      journal = journal_after c e;
     }
 
 -- From c, the event may be made so, and the core goes on to c'.

@@ -1,9 +1,11 @@
 -- The rule for addresses where there is no heap: the k-th block that is taken has address 8 k, and never another.
-use Rattle.std.specs.Prelude.{◌≡◌, ℕ, zero, suc, ◌+◌, ◌*◌, List, [], ◌∷◌}
+use Rattle.std.specs.Prelude.{◌≡◌, ℕ, true, zero, suc, ◌+◌, ◌*◌, List, [], ◌∷◌}
 use Rattle.sdr_base.specs.declared.moves.Move.{Move}
 use Rattle.sdr_base.specs.declared.moves.Move.TheVariants.{Took, Gave, Short}
+use Rattle.sdr_model.specs.Reading.{reads_media}
 use Rattle.sdr_model.specs.RowMoves.{row_moves}
 use Rattle.sdr_model.specs.Rows.{ByRow}
+use Rattle.sdr_model.specs.Step.{Stops}
 use Rattle.sdr_model.specs.World.{World}
 use Rattle.sdr_model.specs.declared.answer.Reply.{Reply}
 use Rattle.sdr_model.specs.declared.answer.Reply.TheVariants as replies
@@ -46,3 +48,8 @@ answered_moves w call = row_moves w call (addr_after w.taken)
 abbrev pub dry_moves : World → Call → Reply → List Move
 dry_moves w call (replies.Refused refusal) = []
 dry_moves w call reply = answered_moves w call
+
+-- a call that reads media stops there, and leaves the world
+pub record StopsReading (old : World) (call : Call) (moves : List Move) (new : World) (reply : Reply) : Type 0 where
+  pub reads : reads_media call ≡ true
+  pub stopped : Stops old (record { moves = moves; after = new; reply = reply }) call

@@ -1,8 +1,9 @@
 -- The steps of raw objects and strings.
-use Rattle.std.specs.Prelude.{ℕ, ◌+◌, ◌-◌, List, [], ◌∷◌, ◌++◌, length, take, replicate, nat_lt, MatchBool, Option, None}
+use Rattle.std.specs.Prelude.{ℕ, ◌+◌, ◌-◌, List, [], ◌∷◌, ◌++◌, length, take, replicate, nat_lt, MatchBool, Option, None, Some}
 use Rattle.sdr_base.specs.Parts.{overwrite, part}
 use Rattle.sdr_base.specs.declared.refusal.Refusal.TheVariants as refusals
 use Rattle.sdr_model.specs.Limits.{longest_raw, longest_string, longest_read}
+use Rattle.sdr_model.specs.SourceSteps.{OnUnnamed}
 use Rattle.sdr_model.specs.Steps.{Outcome, Refuses, Reads, Does, Makes, On, gave, with_thing, without_thing}
 use Rattle.sdr_model.specs.Things.{raw_need, text_need}
 use Rattle.sdr_model.specs.World.{World, thing_at, block_at, misnamed, as_raw, as_text, is_marked}
@@ -18,11 +19,17 @@ Malloc w o bytes =
     (Refuses w o (refusals.BadLength bytes longest_raw))
     (Makes w o (raw_need bytes) (things.Raw (replicate bytes 0)))
 
--- the raw object or the string goes
+-- the thing at an address goes
+abbrev pub Frees : World → Outcome → ℕ → Type 0
+Frees w o addr = Does o (gave (addr ∷ [])) (without_thing w addr) replies.Done
+
+-- a raw object goes where no source names it, and a string goes
 abbrev pub FreesThing : World → Outcome → ℕ → Option (List ℕ) → Option (List ℕ) → Type 0
 FreesThing w o addr None None = Refuses w o (misnamed w addr)
-FreesThing w o addr raw text = Does o (gave (addr ∷ [])) (without_thing w addr) replies.Done
+FreesThing w o addr (Some bytes) text = OnUnnamed w o addr (Frees w o addr)
+FreesThing w o addr None (Some text) = Frees w o addr
 
+-- the raw object or the string at an address goes
 abbrev pub Free : World → Outcome → ℕ → Type 0
 Free w o addr = FreesThing w o addr (as_raw (thing_at w addr)) (as_text (thing_at w addr))
 

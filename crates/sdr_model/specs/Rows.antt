@@ -1,6 +1,13 @@
 -- The rows: what each call may come to where nothing stops it on its way.
 use Rattle.std.specs.Prelude.{◌+◌, length}
+use Rattle.sdr_base.specs.declared.account.Amounts.{Amounts}
+use Rattle.sdr_model.specs.AccountSteps as account
+use Rattle.sdr_model.specs.BondSteps as bond
+use Rattle.sdr_model.specs.ObjectSteps as object
+use Rattle.sdr_model.specs.PartSteps as part
 use Rattle.sdr_model.specs.RawSteps as raw
+use Rattle.sdr_model.specs.SourceSteps as source
+use Rattle.sdr_model.specs.Wire as wire
 use Rattle.sdr_model.specs.ListSteps as list
 use Rattle.sdr_model.specs.TableSteps as table
 use Rattle.sdr_model.specs.HashSteps as hash
@@ -57,4 +64,32 @@ ByRow w o (calls.Catlg name kind object) = catalogue.Catlg w o name kind object
 ByRow w o (calls.Find name) = catalogue.Find w o name
 ByRow w o (calls.Uncatlg name) = catalogue.Uncatlg w o name
 ByRow w o (calls.Entry place) = catalogue.Entry w o place
-ByRow w o call = ⊥
+ByRow w o (calls.FileRef path bytes) = source.FileRef w o path bytes
+ByRow w o (calls.BulkRef item bytes) = source.BulkRef w o item bytes
+ByRow w o (calls.ObjRef raw) = source.ObjRef w o raw
+ByRow w o (calls.DestroyRef addr) = source.DestroyRef w o addr
+ByRow w o (calls.Count addr) = source.Count w o addr
+ByRow w o (calls.Occupancy acct space) = account.Occupancy w o acct space
+ByRow w o (calls.Maximum acct space) = account.Maximum w o acct space
+ByRow w o (calls.SetMaximum acct space value) = account.SetMaximum w o acct space value
+ByRow w o (calls.Create acct ticket) = object.Create w o acct ticket
+ByRow w o (calls.AppendExtent addr ticket named offset bytes) = object.AppendExtent w o addr ticket named offset bytes
+ByRow w o (calls.PrependHeader addr ticket text) = object.PrependHeader w o addr ticket text
+ByRow w o (calls.AppendTrailer addr ticket text) = object.AppendTrailer w o addr ticket text
+ByRow w o (calls.DiscardFirstHeader addr) = object.DiscardFirstHeader w o addr
+ByRow w o (calls.DiscardLastTrailer addr) = object.DiscardLastTrailer w o addr
+ByRow w o (calls.Bond addr ticket) = bond.Bond w o addr ticket
+ByRow w o (calls.ClonePart addr ticket offset bytes) = part.ClonePart w o addr ticket offset bytes
+ByRow w o (calls.Delimit addr offset bytes) = part.Delimit w o addr offset bytes
+ByRow w o (calls.Strip addr) = part.Strip w o addr
+ByRow w o (calls.ZcoLength addr) = object.ZcoLength w o addr
+ByRow w o (calls.SourceLength addr) = object.SourceLength w o addr
+ByRow w o (calls.Destroy addr) = object.Destroy w o addr
+ByRow w o (calls.Transmit addr place count) = wire.Transmit w o addr place count
+ByRow w o (calls.ReceiveHeaders addr place count) = wire.ReceiveHeaders w o addr place count
+ByRow w o (calls.ReceiveSource addr place count) = wire.ReceiveSource w o addr place count
+ByRow w o (calls.ReceiveTrailers addr place count) = wire.ReceiveTrailers w o addr place count
+ByRow w o (calls.Request acct file bulk heap coarse fine) =
+    account.Request w o acct (record { file = file; bulk = bulk; heap = heap }) coarse fine
+ByRow w o (calls.Awarded ticket) = account.Awarded w o ticket
+ByRow w o (calls.Shred ticket) = account.Shred w o ticket

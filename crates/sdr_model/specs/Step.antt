@@ -1,5 +1,5 @@
 -- One step of the machine: a call comes to what its row allows, or stops on its way there.
-use Rattle.std.specs.Prelude.{◌≡◌, ◌⊎◌, ℕ, Bool, true, false, List, [], ◌∷◌, ◌++◌}
+use Rattle.std.specs.Prelude.{◌≡◌, ◌<◌, ◌⊎◌, ℕ, Bool, true, false, List, [], ◌∷◌, ◌++◌}
 use Rattle.sdr_base.specs.declared.moves.Move.{Move}
 use Rattle.sdr_base.specs.declared.moves.Move.TheVariants.{Took, Short}
 use Rattle.sdr_base.specs.declared.refusal.Refusal.TheVariants as refusals
@@ -33,11 +33,13 @@ pub record LackBlock (all moves : List Move) (need : ℕ) : Type 0 where
   pub short : moves ≡ done ++ Short need ∷ []
 
 -- A call that would have made all these moves stops with this reply, after these of them: a block is wanting, or a
--- changing call finds no room in the undo log, or a read of media fails.
+-- changing call finds no room in the undo log, or a read of media fails or gives fewer bytes than were asked for.
 abbrev pub StopsWith : Reply → Call → List Move → List Move → Type 0
 StopsWith (replies.Refused (refusals.NoBlock need)) call all moves = LackBlock all moves need
 StopsWith (replies.Refused (refusals.LogFull lines room)) call all moves =
     AreFirstOf all moves × (is_reading call ≡ false)
+StopsWith (replies.Refused (refusals.SourceShort have want)) call all moves =
+    (moves ≡ []) × (reads_media call ≡ true) × (have < want)
 StopsWith replies.MediaFault call all moves = (moves ≡ []) × (reads_media call ≡ true)
 StopsWith reply call all moves = ⊥
 

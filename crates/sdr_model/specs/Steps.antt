@@ -1,5 +1,5 @@
 -- What a step of the machine may do, in the words of which each call's step is made.
-use Rattle.std.specs.Prelude.{◌≡◌, ℕ, List, [], ◌∷◌, ◌++◌, map, Option, MatchOption}
+use Rattle.std.specs.Prelude.{◌≡◌, ℕ, suc, List, [], ◌∷◌, ◌++◌, map, slice_index, Option, MatchOption}
 use Rattle.std.specs.FinMap as finite
 use Rattle.sdr_base.specs.declared.moves.Move.{Move}
 use Rattle.sdr_base.specs.declared.moves.Move.TheVariants.{Took, Gave}
@@ -36,6 +36,30 @@ TakesOne moves need P = ⊥
 abbrev pub Takes : World → Outcome → ℕ → (ℕ → World) → (ℕ → Reply) → Type 0
 Takes w o need next reply =
     TakesOne o.moves need (λ addr. (o.after ≡ record (next addr) { marks = w.marks ++ addr ∷ []; shown = [] }) × (o.reply ≡ reply addr))
+
+-- the addresses of the blocks that the moves take, in order
+abbrev pub taken_addresses : List Move → List ℕ
+taken_addresses [] = []
+taken_addresses (Took need addr ∷ moves) = addr ∷ taken_addresses moves
+taken_addresses (move ∷ moves) = taken_addresses moves
+
+-- the address of the k-th block that the moves take, counted from 0
+abbrev pub taken_at : List Move → ℕ → ℕ
+taken_at moves = slice_index (taken_addresses moves)
+
+-- The call has these moves, and leaves this world, each by the addresses of the blocks that are taken. They are marked,
+-- and no bytes are shown.
+abbrev pub DoesWith : World → Outcome → ((ℕ → ℕ) → List Move) → ((ℕ → ℕ) → World) → ((ℕ → ℕ) → Reply) → Type 0
+DoesWith w o moves next reply =
+    let at = taken_at o.moves in
+    (o.moves ≡ moves at)
+    × (o.after ≡ record (next at) { marks = w.marks ++ taken_addresses o.moves; shown = [] })
+    × (o.reply ≡ reply at)
+
+-- blocks of these needs are taken, the first at the address `at k`, and the others at the next ones
+abbrev pub takes_from : (ℕ → ℕ) → ℕ → List ℕ → List Move
+takes_from at k [] = []
+takes_from at k (need ∷ needs) = Took need (at k) ∷ takes_from at (suc k) needs
 
 -- the world with this thing at an address
 abbrev pub with_thing : World → ℕ → Thing → World

@@ -1,5 +1,5 @@
 -- The things of a world, and the blocks that they fill.
-use Rattle.std.specs.Prelude.{◌≡◌, ◌<◌, ◌^◌, ℕ, ◌+◌, ◌*◌, ◌==◌, List, [], ◌∷◌, length, map, Option, None, Some, find, position}
+use Rattle.std.specs.Prelude.{◌≡◌, ◌<◌, ◌^◌, ℕ, ◌+◌, ◌*◌, ◌==◌, List, [], ◌∷◌, ◌++◌, length, map, Option, None, Some, find, position}
 use Rattle.std.specs.Option.{option_map, option_or}
 use Rattle.std.specs.Ordering.{nat_cmp}
 use Rattle.std.specs.FinMap as finite
@@ -12,6 +12,11 @@ use Rattle.sdr_model.specs.declared.things.SdrList.{SdrList}
 use Rattle.sdr_model.specs.declared.things.Spot.{Spot as Found}
 use Rattle.sdr_model.specs.declared.things.Thing.{Thing}
 use Rattle.sdr_model.specs.declared.things.Thing.TheVariants as things
+use Rattle.sdr_model.specs.declared.zco.Capsule.{Capsule}
+use Rattle.sdr_model.specs.declared.zco.Extent.{Extent}
+use Rattle.sdr_model.specs.declared.zco.Subject.{Subject}
+use Rattle.sdr_model.specs.declared.zco.Subject.TheVariants as subjects
+use Rattle.sdr_model.specs.declared.zco.ZcoObject.{ZcoObject}
 
 -- the things by their addresses
 abbrev pub Things : Type 0
@@ -52,6 +57,27 @@ entry_need key_length = 16 + key_length
 abbrev pub name_need : ℕ
 name_need = 56
 
+-- what a source fills, whose path has so many bytes
+abbrev pub source_need : ℕ → ℕ
+source_need path = 48 + path
+
+-- the bytes of a subject's path
+abbrev pub path_length : Subject → ℕ
+path_length (subjects.File path) = length path
+path_length subject = 0
+
+-- what an object fills
+abbrev pub object_need : ℕ
+object_need = 72
+
+-- what an extent fills
+abbrev pub extent_need : ℕ
+extent_need = 32
+
+-- what a header or trailer of so many bytes fills
+abbrev pub capsule_need : ℕ → ℕ
+capsule_need bytes = 8 + bytes
+
 -- the block of a thing
 abbrev pub own_block : ℕ → Thing → Block
 own_block addr (things.Raw bytes) = record { addr = addr; kind = kinds.Raw; bytes = raw_need (length bytes) }
@@ -59,6 +85,8 @@ own_block addr (things.Text text) = record { addr = addr; kind = kinds.Text; byt
 own_block addr (things.List l) = record { addr = addr; kind = kinds.List; bytes = list_need }
 own_block addr (things.Table t) = record { addr = addr; kind = kinds.Table; bytes = 24 + length t.bytes }
 own_block addr (things.Hash h) = record { addr = addr; kind = kinds.Hash; bytes = hash_need h.buckets }
+own_block addr (things.Source s) = record { addr = addr; kind = kinds.Source; bytes = source_need (path_length s.subject) }
+own_block addr (things.Object z) = record { addr = addr; kind = kinds.Object; bytes = object_need }
 
 -- the block of an element
 abbrev pub element_block : Element → Block
@@ -72,10 +100,23 @@ entry_block e = record { addr = e.block; kind = kinds.HashEntry; bytes = entry_n
 abbrev pub name_block : Name → Block
 name_block n = record { addr = n.block; kind = kinds.Name; bytes = name_need }
 
+-- the block of an extent
+abbrev pub extent_block : Extent → Block
+extent_block e = record { addr = e.block; kind = kinds.Extent; bytes = extent_need }
+
+-- the block of a header or trailer
+abbrev pub capsule_block : Capsule → Block
+capsule_block c = record { addr = c.block; kind = kinds.Capsule; bytes = capsule_need (length c.text) }
+
+-- the blocks of an object's headers, extents and trailers
+abbrev pub object_blocks : ZcoObject → List Block
+object_blocks z = map capsule_block z.headers ++ map extent_block z.extents ++ map capsule_block z.trailers
+
 -- the blocks of what is in a thing
 abbrev pub inner_blocks : Thing → List Block
 inner_blocks (things.List l) = map element_block l.elements
 inner_blocks (things.Hash h) = map entry_block h.entries
+inner_blocks (things.Object z) = object_blocks z
 inner_blocks thing = []
 
 -- the block at an address among these

@@ -1,5 +1,5 @@
 -- A transaction of the machine: what its events do to its depth, its doom and the world.
-use Rattle.std.specs.Prelude.{◌≡◌, ℕ, ◌+◌, ◌-◌, List, [], Bool, true, false, Option, Some, unwrap_or, nat_le, ◌==◌, if◌then◌else◌, MatchBool, MatchOption}
+use Rattle.std.specs.Prelude.{◌≡◌, ◌⊎◌, ℕ, ◌+◌, ◌-◌, List, [], Bool, true, false, Option, Some, unwrap_or, nat_le, ◌==◌, if◌then◌else◌, MatchBool, MatchOption}
 use Rattle.std.specs.Option.{option_map_or}
 use Rattle.sdr_base.specs.Refusal.{refusal_number}
 use Rattle.sdr_base.specs.declared.moves.Move.{Move}
@@ -8,7 +8,7 @@ use Rattle.sdr_base.specs.declared.refusal.Reason.TheVariants as reasons
 use Rattle.sdr_base.specs.declared.refusal.Refusal.{Refusal}
 use Rattle.sdr_base.specs.declared.refusal.Refusal.TheVariants as refusals
 use Rattle.sdr_model.specs.Draft.{at_rest}
-use Rattle.sdr_model.specs.Dry.{StepsDry}
+use Rattle.sdr_model.specs.Dry.{StepsDry, StopsReading}
 use Rattle.sdr_model.specs.Reading.{is_reading}
 use Rattle.sdr_model.specs.declared.answer.Answer.{Answer}
 use Rattle.sdr_model.specs.declared.answer.Answer.TheVariants as answers
@@ -75,10 +75,11 @@ Rises t answer moves t' = Becomes answer moves t' (answers.Depth (t.depth - 1)) 
 abbrev pub Retreats : Transaction → Answer → List Move → Transaction → Type 0
 Retreats t answer moves t' = Becomes answer moves t' (answers.Depth (t.depth - 1)) (record (doomed_for reasons.Inner t) { depth = t.depth - 1 })
 
--- the answer is the reply, by one step of the machine
+-- the answer is the reply, by one step of the machine, or by a stop where media fail or give too few bytes
 abbrev pub Replies : Transaction → Call → Answer → List Move → Transaction → Type 0
 Replies t call (answers.Reply reply) moves t' =
-    StepsDry t.world call moves t'.world reply × (t' ≡ record (after_reply call reply t) { world = t'.world })
+    (StepsDry t.world call moves t'.world reply ⊎ StopsReading t.world call moves t'.world reply)
+    × (t' ≡ record (after_reply call reply t) { world = t'.world })
 Replies t call answer moves t' = ⊥
 
 -- A call of a doomed transaction is refused. Any other is one step of the machine.
@@ -103,17 +104,19 @@ abbrev pub is_opening : Transaction → Event → Bool
 is_opening t events.Begin = t.depth == 0
 is_opening t event = false
 
--- the event closes the transaction: it is the outermost end, cancel or exit
+-- the event closes the transaction: it is the outermost end, cancel or exit, or a leave
 abbrev pub is_closing : Transaction → Event → Bool
 is_closing t events.End = nat_le t.depth 1
 is_closing t events.Cancel = nat_le t.depth 1
 is_closing t events.Exit = nat_le t.depth 1
+is_closing t (events.Leaves leave) = true
 is_closing t event = false
 
--- how the event closes a transaction that isn't doomed: an exit cancels where something was changed
+-- how the event closes a transaction that isn't doomed: an exit cancels where something was changed, and a leave always
 abbrev pub close_of : Event → Bool → Close
 close_of events.Cancel modified = closes.Cancelled reasons.Asked
 close_of events.Exit modified = if modified then closes.Cancelled reasons.Modified else closes.Exited
+close_of (events.Leaves leave) modified = closes.Cancelled reasons.Left
 close_of event modified = closes.Ended
 
 -- how the event closes the transaction: a doomed one is cancelled for the first reason that there was

@@ -9,44 +9,53 @@ use Rattle.sdr_base.specs.declared.kind.Kind.{Kind}
 use Rattle.sdr_base.specs.declared.refusal.Refusal.{Refusal}
 use Rattle.sdr_base.specs.declared.refusal.Refusal.TheVariants as refusals
 use Rattle.sdr_base.specs.Kinds.{kind_number}
+use Rattle.sdr_model.specs.Accounts.{fresh_accounts, ticket_blocks}
 use Rattle.sdr_model.specs.Names.{coded_name}
 use Rattle.sdr_model.specs.Things.{Spot, Things, own_block, name_block, block_among, inner_among, spot_among}
+use Rattle.sdr_model.specs.declared.accounts.Accounts.{Accounts}
 use Rattle.sdr_model.specs.declared.names.Name.{Name}
 use Rattle.sdr_model.specs.declared.things.Block.{Block}
 use Rattle.sdr_model.specs.declared.things.Thing.{Thing}
 use Rattle.sdr_model.specs.declared.things.Thing.TheVariants as things
+use Rattle.sdr_model.specs.contracts.accounts.Accounts as accounts
 use Rattle.sdr_model.specs.contracts.things.Thing as thing
 
--- the things by their addresses, the catalogue, oldest entry first, the addresses marked in the open
--- transaction, the bytes that the last answered call gave, and how many blocks were taken without a heap
+-- the things by their addresses, the catalogue, oldest entry first, both accounts of space, the addresses marked in the
+-- open transaction, the bytes that the last answered call gave, and how many blocks were taken without a heap
 pub record World : Type 0 where
   pub things : Things
   pub names : List Name
+  pub accounts : Accounts
   pub marks : List ℕ
   pub shown : List ℕ
   pub taken : ℕ
 
--- the world without things
+-- the world without things, where each account has this maximum of heap space
+abbrev pub fresh_world : ℕ → World
+fresh_world heap = record { things = finite.empty; names = []; accounts = fresh_accounts heap; marks = []; shown = []; taken = 0 }
+
+-- the world without things where there is no heap
 abbrev pub empty_world : World
-empty_world = record { things = finite.empty; names = []; marks = []; shown = []; taken = 0 }
+empty_world = fresh_world 32768
 
 -- a world as its parts
 abbrev pub coded_world : Coded World
-coded_world = code_by (Things × (List Name × (List ℕ × (List ℕ × ℕ))))
-    (coded× (finite.code coded_ℕ thing.the_row.coded) (coded× (coded_list coded_name) (coded× (coded_list coded_ℕ) (coded× (coded_list coded_ℕ) coded_ℕ))))
-    (λ w. (w.things, (w.names, (w.marks, (w.shown, w.taken)))))
-    (λ p. record { things = p.0; names = p.1.0; marks = p.1.1.0; shown = p.1.1.1.0; taken = p.1.1.1.1 })
+coded_world = code_by (Things × (List Name × (Accounts × (List ℕ × (List ℕ × ℕ)))))
+    (coded× (finite.code coded_ℕ thing.the_row.coded) (coded× (coded_list coded_name) (coded× accounts.the_row.coded (coded× (coded_list coded_ℕ) (coded× (coded_list coded_ℕ) coded_ℕ)))))
+    (λ w. (w.things, (w.names, (w.accounts, (w.marks, (w.shown, w.taken))))))
+    (λ p. record { things = p.0; names = p.1.0; accounts = p.1.1.0; marks = p.1.1.1.0; shown = p.1.1.1.1.0; taken = p.1.1.1.1.1 })
     (λ _. refl)
 
 -- the thing at an address
 abbrev pub thing_at : World → ℕ → Option Thing
 thing_at w addr = finite.get w.things addr
 
--- the block that begins at an address: a thing's own, one inside a thing, or a name's
+-- the block that begins at an address: a thing's own, one inside a thing, a name's or a ticket's
 abbrev pub block_at : World → ℕ → Option Block
 block_at w addr =
     option_or (option_map (own_block addr) (thing_at w addr))
-    (option_or (inner_among addr (finite.entries w.things)) (block_among addr (map name_block w.names)))
+    (option_or (inner_among addr (finite.entries w.things))
+    (option_or (block_among addr (map name_block w.names)) (block_among addr (ticket_blocks w.accounts))))
 
 -- why an address is refused where this block, or none, begins there: a kind that the call doesn't take
 abbrev pub refusal_for : ℕ → Option Block → Refusal

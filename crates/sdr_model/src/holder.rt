@@ -14,3 +14,10 @@ pub struct Holder {
     /// Whether a changing call was answered in its transaction.
     pub modified: bool,
 }
+
+/// A daemon whose last entry is a look at a ticket that waited.
+#[derive(Clone, Copy, Debug)]
+pub struct Waiting {
+    pub daemon: u8,
+    pub ticket: u64,
+}

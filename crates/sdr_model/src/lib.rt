@@ -7,6 +7,7 @@
 //! 4. A refused changing call dooms its transaction: it can only be cancelled, with the first reason.
 #![tactic(auto)]
 
+mod accounts;
 mod answer;
 mod call;
 mod calls;
@@ -19,6 +20,7 @@ mod holder;
 mod insert_calls;
 mod journal;
 mod keys;
+mod ledger;
 mod limits;
 mod list_calls;
 mod lock;
@@ -40,15 +42,18 @@ mod text_calls;
 mod things;
 mod transaction;
 mod world;
+mod zco;
 
+pub use accounts::{Account, Accounts, MOST_AMOUNT, Ticket};
 pub use answer::{Answer, Close, Reply};
 pub use call::Call;
 pub use calls::apply;
 pub use event::{Event, Leave};
 pub use hash::SdrHash;
-pub use holder::Holder;
+pub use holder::{Holder, Waiting};
 pub use journal::{Entry, Journal, Moves, Said, Saids, What};
 pub use keys::Keys;
+use ledger::Ledger;
 use lock::Lock;
 pub use names::{Name, Named, Names};
 pub use plain::Plain;
@@ -57,3 +62,4 @@ use store::Store;
 pub use table::SdrTable;
 pub use things::{Block, Element, HashEntry, SdrList, Spot, Thing};
 pub use world::World;
+pub use zco::{Capsule, Extent, Part, Subject, ZcoObject, ZcoSource};

@@ -5,7 +5,7 @@ ghost use Rattle.sdr_model.specs.Built.{is_built, is_built_event};
 ghost use Rattle.sdr_model.specs.Machine.{MachineStep, Draws, Comes, ComesLooking, Looks, Opens, Serves, Closes, Waits, Holds, event_moves, says_moves, first_machine, served_number, is_outside};
 
 use crate::transaction::{close, deepen, refused, retreat, rise, say};
-use crate::{Answer, Call, Event, Holder, World};
+use crate::{Answer, Call, Event, Holder, Waiting, World};
 use sdr_base::{NoMemory, Refusal};
 use std::alloc::Global;
 use std::marker::Model;
@@ -14,10 +14,14 @@ use std::marker::Model;
 #[derive(Drop)]
 pub struct Lock {
     daemons: Vec<u8>,
+    /// Those that have left.
+    left: Vec<u8>,
     /// How many numbers were drawn.
     drawn: u64,
     /// By rising number, so the first is served.
     holders: Vec<Holder>,
+    /// Those whose last entry is a look at a ticket that waited.
+    waiting: Vec<Waiting>,
     alloc: Global,
     world: World,
 }
@@ -32,8 +36,10 @@ impl Model for Lock {
 
     ghost view = { λ s. record {
       daemons = s.daemons.items;
+      left = s.left.items;
       drawn = s.drawn;
       holders = s.holders.items;
+      waiting = s.waiting.items;
       world = s.world.begun;
       current = s.world.now;
     } };
@@ -81,8 +87,10 @@ impl Lock {
     {
         Ok(Lock {
             daemons: Vec::from_slice(alloc, daemons)?,
+            left: Vec::new(alloc),
             drawn: 0,
             holders: Vec::new(alloc),
+            waiting: Vec::new(alloc),
             alloc,
             world: World::new(alloc),
         })

@@ -2,7 +2,7 @@
 ghost use Rattle.std.specs.Prelude.{◌≡◌, ◌<◌, ◌^◌, ◌==◌, IfOk, IfSome, Some, length, map, position};
 ghost use Rattle.sdr_model.specs.Things.{IsWithin, SpotIs, own_block, inner_blocks, block_among, element_block, entry_block, spot_in_thing};
 
-use crate::{SdrHash, SdrTable};
+use crate::{SdrHash, SdrTable, ZcoObject, ZcoSource};
 use sdr_base::{Addr, Bytes, Items, Kind, NoMemory};
 use std::alloc::Global;
 
@@ -59,6 +59,8 @@ pub enum Thing {
     List(SdrList),
     Table(SdrTable),
     Hash(SdrHash),
+    Source(ZcoSource),
+    Object(ZcoObject),
 }
 
 // How many bytes these are, which no memory could hold 2^63 of.
@@ -142,6 +144,8 @@ impl Thing {
             Thing::List(list) => Thing::List(list.copied(alloc)?),
             Thing::Table(table) => Thing::Table(table.copied(alloc)?),
             Thing::Hash(hash) => Thing::Hash(hash.copied(alloc)?),
+            Thing::Source(source) => Thing::Source(source.copied(alloc)?),
+            Thing::Object(object) => Thing::Object(object.copied(alloc)?),
         })
     }
 
@@ -155,6 +159,8 @@ impl Thing {
             Thing::List(_) => (Kind::List, 32),
             Thing::Table(table) => (Kind::Table, 24 + count(table.bytes().as_slice())),
             Thing::Hash(hash) => (Kind::Hash, 24 + 8 * hash.buckets()),
+            Thing::Source(source) => return source.block(addr),
+            Thing::Object(_) => (Kind::Object, 72),
         };
         Block { addr, kind, bytes }
     }
@@ -166,6 +172,7 @@ impl Thing {
         match self {
             Thing::List(list) => list.block(addr),
             Thing::Hash(hash) => hash.block(addr),
+            Thing::Object(object) => object.block(addr),
             _ => None,
         }
     }

@@ -14,7 +14,7 @@ ghost use Rattle.sdr_model.specs.declared.things.Thing.{Thing};
 
 use crate::catalogue::Catalogue;
 use crate::owners::Owners;
-use crate::{Block, Named, Names, Spot, Store, Thing};
+use crate::{Block, Ledger, Named, Names, Spot, Store, Thing};
 use sdr_base::{Addr, Bytes, Items, NoMemory};
 use std::alloc::Global;
 use std::marker::Model;
@@ -29,6 +29,7 @@ pub struct World {
     /// A block that is given back keeps its owner, which no longer has it.
     owners: Owners,
     catalogue: Catalogue,
+    accounts: Ledger,
     /// The addresses marked in the open transaction.
     marks: Items<Addr>,
     /// The bytes that the last answered call gave.
@@ -50,8 +51,8 @@ impl Model for World {
     ghost coded = { draft.coded_draft };
 
     ghost view = { λ s. record {
-      begun = record { things = s.things.begun; names = s.catalogue.begun; marks = []; shown = []; taken = s.taken_before };
-      now = record { things = s.things.now; names = s.catalogue.now; marks = s.marks; shown = s.shown; taken = s.taken };
+      begun = record { things = s.things.begun; names = s.catalogue.begun; accounts = s.accounts.begun; marks = []; shown = []; taken = s.taken_before };
+      now = record { things = s.things.now; names = s.catalogue.now; accounts = s.accounts.now; marks = s.marks; shown = s.shown; taken = s.taken };
       touched = s.things.touched;
       owners = s.owners;
     } };
@@ -69,6 +70,7 @@ impl World {
             things: Store::new(alloc),
             owners: Owners::new(alloc),
             catalogue: Catalogue::new(alloc),
+            accounts: Ledger::new(alloc, 32_768),
             marks: Items::new(alloc),
             shown: Bytes::new(alloc),
             taken: 0,
@@ -120,9 +122,12 @@ impl World {
         if let Some(thing) = self.things.get(addr) {
             return Some(thing.own_block(addr));
         }
-        match self.inner_block(addr) {
+        if let Some(block) = self.inner_block(addr) {
+            return Some(block);
+        }
+        match self.catalogue.names().block(addr) {
             Some(block) => Some(block),
-            None => self.catalogue.names().block(addr),
+            None => self.accounts.now().block(addr),
         }
     }
 
@@ -338,6 +343,7 @@ impl World {
     {
         self.things.keep();
         self.catalogue.keep();
+        self.accounts.keep();
         self.marks = Items::new(self.alloc);
         self.shown = Bytes::new(self.alloc);
         self.taken_before = self.taken;
@@ -350,6 +356,7 @@ impl World {
     {
         self.things.put_back();
         self.catalogue.put_back();
+        self.accounts.put_back();
         self.marks = Items::new(self.alloc);
         self.shown = Bytes::new(self.alloc);
         self.taken_before = self.taken;
