@@ -1,7 +1,9 @@
 -- A core run: the machine, and the journal that is kept of it.
 use Rattle.std.specs.Prelude.{◌≡◌, ℕ, ◌+◌, List, [], ◌∷◌, ◌++◌, Bool, true, false, not, ◌==◌, filter, flat_map, find, Option, None, Some, if◌then◌else◌}
 use Rattle.std.specs.Option.{option_map, option_map_or, option_to_list}
+use Rattle.sdr_base.specs.Media.{Told}
 use Rattle.sdr_base.specs.declared.refusal.Refusal.TheVariants as refusals
+use Rattle.sdr_model.specs.Asking.{AgreesWith}
 use Rattle.sdr_model.specs.Machine.{Machine, MachineStep, event_moves, first_machine, waits_for}
 use Rattle.sdr_model.specs.declared.answer.Answer.{Answer}
 use Rattle.sdr_model.specs.declared.answer.Answer.TheVariants as answers
@@ -118,13 +120,14 @@ core_after c e m =
       journal = journal_after c e;
     }
 
--- From c, the event may be made so, and the core goes on to c'.
-pub record CoreStep (c : Core) (e : Made) (c' : Core) : Type 0 where
+-- From c, the event may be made so where media tell this, and the core goes on to c'.
+pub record CoreStep (told : Option Told) (c : Core) (e : Made) (c' : Core) : Type 0 where
   pub machine : MachineStep c.machine e.daemon e.event e.answer (event_moves c.machine e.event e.answer) c'.machine
+  pub media : AgreesWith told c.machine.current e.event e.answer e.bytes
   pub bytes : e.bytes ≡ given_bytes e.answer c'.machine.current
   pub history : c' ≡ core_after c e c'.machine
 
 -- From c, these events may be made so, one after another, and the core goes on to c'.
-abbrev pub RunsCore : Core → List Made → Core → Type 0
-RunsCore c [] c' = c' ≡ c
-RunsCore c (e ∷ made) c' = (mid : Core) × CoreStep c e mid × RunsCore mid made c'
+abbrev pub RunsCore : Option Told → Core → List Made → Core → Type 0
+RunsCore told c [] c' = c' ≡ c
+RunsCore told c (e ∷ made) c' = (mid : Core) × CoreStep told c e mid × RunsCore told mid made c'

@@ -2,6 +2,7 @@ pub mod AccountSteps
 pub mod Accounts
 pub mod Amounts
 pub mod Answers
+pub mod Asking
 pub mod Blocks
 pub mod BondSteps
 pub mod Built

@@ -1,4 +1,5 @@
 -- A string is made in a transaction: what the definitions say of a run of three lines.
+use Rattle.std.proofs.Common.{inl}
 use Rattle.std.specs.Prelude.{◌≡◌, List, [], ◌∷◌, None, true, false, codes, length, refl}
 use Rattle.std.specs.FinMap as map
 use Rattle.std.specs.Fmt.{digits}
@@ -66,30 +67,30 @@ three_printed : made_text (opening ∷ making ∷ closing ∷ []) ≡ codes "1 1
 unfolding digits
 three_printed = refl
 
-opens : CoreStep core_0 opening core_1
-opens = record { machine = (refl, refl, refl); bytes = refl; history = refl }
+opens : CoreStep None core_0 opening core_1
+opens = record { machine = (refl, refl, refl); media = tt; bytes = refl; history = refl }
 
-makes : CoreStep core_1 making core_2
+makes : CoreStep None core_1 making core_2
 makes = record {
   machine = record {
     after = record { depth = 1; doom = None; modified = true; world = with_hi };
-    transacts = (record { step = (refl, (refl, refl)); in_order = (refl, tt); counted = refl }, refl);
+    transacts = (inl (record { step = (refl, (refl, refl)); in_order = (refl, tt); counted = refl }), refl);
     others = refl;
   };
+  media = tt;
   bytes = refl;
   history = refl;
 }
 
-closes_it : CoreStep core_2 closing core_3
-closes_it = record { machine = (refl, refl, refl); bytes = refl; history = refl }
+closes_it : CoreStep None core_2 closing core_3
+closes_it = record { machine = (refl, refl, refl); media = tt; bytes = refl; history = refl }
 
-three_lines_run : RunsDry three_lines [] (opening ∷ making ∷ closing ∷ [])
+three_lines_run : RunsDry None three_lines [] (opening ∷ making ∷ closing ∷ []) core_3
 unfolding verbs
 three_lines_run = record {
   front = three_lines;
   steps = refl;
   follows = (record { line = refl; daemon = refl; event = refl }, (record { line = refl; daemon = refl; event = refl }, (record { line = refl; daemon = refl; event = refl }, tt)));
-  core = core_3;
   runs = (core_1, opens, (core_2, makes, (core_3, closes_it, refl)));
 }
 

@@ -1,4 +1,6 @@
 mod GreetingExample
+pub mod GatheringLemmas
+pub mod MediaLemmas
 pub mod ScheduleLemmas
 pub mod ScriptRead
 pub mod ServedLemmas

@@ -1,6 +1,7 @@
 pub mod Answers
 pub mod Form
 pub mod Formatting
+pub mod Gathering
 pub mod Schedule
 pub mod Served
 pub mod Still

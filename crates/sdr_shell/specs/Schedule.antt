@@ -1,9 +1,14 @@
 -- A dry run of a script: which events its steps make, and what is printed of them.
-use Rattle.std.specs.Prelude.{◌≡◌, ℕ, List, [], ◌∷◌, ◌++◌, ◌==◌, filter}
+use Rattle.std.specs.Prelude.{◌≡◌, ◌≤◌, ℕ, ◌+◌, ◌-◌, ◌^◌, min, List, [], ◌∷◌, ◌++◌, ◌==◌, Bool, true, false, filter, sum_by, Option, if◌then◌else◌}
 use Rattle.std.specs.List.{list_any, range_with_len}
+use Rattle.sdr_base.specs.Media.{Told}
+use Rattle.sdr_base.specs.declared.refusal.Refusal.TheVariants as refusals
+use Rattle.sdr_model.specs.Asking.{AgreesWith}
 use Rattle.sdr_model.specs.Core.{Core, Made, RunsCore, first_core, given_bytes}
 use Rattle.sdr_model.specs.Machine.{Machine, MachineStep, event_moves}
 use Rattle.sdr_model.specs.declared.answer.Answer.{Answer}
+use Rattle.sdr_model.specs.declared.answer.Answer.TheVariants as answers
+use Rattle.sdr_model.specs.declared.answer.Reply.TheVariants as replies
 use Rattle.sdr_model.specs.declared.event.Event.{Event}
 use Rattle.sdr_words.specs.Bindings.{Binding, event_of, bound}
 use Rattle.sdr_text.specs.Text.{line_text, made_text}
@@ -16,6 +21,52 @@ all_daemons = range_with_len 1 16
 -- the daemons that a script names
 abbrev pub daemons_of : List Step → List ℕ
 daemons_of script = filter (λ daemon. list_any (λ step. step.daemon == daemon) script) all_daemons
+
+-- what media show: what they hold, where they tell it, and how often they have failed and have given too few bytes
+pub record SeenMedia : Type 0 where
+  pub told : Option Told
+  pub faults : ℕ
+  pub short : ℕ
+
+-- what is seen of media
+abbrev pub seen_media : {X : Type 0} → (X → Option Told) → (X → ℕ) → (X → ℕ) → X → SeenMedia
+seen_media told faults short x = record { told = told x; faults = faults x; short = short x }
+
+-- a count went up so often, or stands at the end of its type
+abbrev pub RoseBy : ℕ → ℕ → ℕ → Type 0
+RoseBy often before now = min (before + often) (2 ^ 64 - 1) ≤ now
+
+-- one where a test is passed, else none
+abbrev pub once : Bool → ℕ
+once passed = if passed then 1 else 0
+
+-- whether the answer is a fault of media
+abbrev pub is_media_fault : Answer → Bool
+is_media_fault (answers.Reply replies.MediaFault) = true
+is_media_fault answer = false
+
+-- whether the answer is that media gave too few bytes
+abbrev pub is_short : Answer → Bool
+is_short (answers.Reply (replies.Refused (refusals.SourceShort have want))) = true
+is_short answer = false
+
+-- Media still tell the same, and have failed and given too few bytes at least so often since.
+pub record HaveFailed (faults short : ℕ) (media media' : SeenMedia) : Type 0 where
+  pub told : media'.told ≡ media.told
+  pub faults : RoseBy faults media.faults media'.faults
+  pub short : RoseBy short media.short media'.short
+
+-- how many answers of these are faults of media
+abbrev pub media_faults : List Made → ℕ
+media_faults = sum_by (λ e. once (is_media_fault e.answer))
+
+-- how many are that media gave too few bytes
+abbrev pub short_answers : List Made → ℕ
+short_answers = sum_by (λ e. once (is_short e.answer))
+
+-- The answers that tell of faults of media, and of too few bytes, are at most as many as these since.
+abbrev pub AreCaused : List Made → SeenMedia → SeenMedia → Type 0
+AreCaused made = HaveFailed (media_faults made) (short_answers made)
 
 -- the step makes this event, under what the names hold
 pub record MakesEvent (bindings : List Binding) (step : Step) (e : Made) : Type 0 where
@@ -30,40 +81,52 @@ Follows bindings (step ∷ steps) (e ∷ made) = MakesEvent bindings step e × F
 Follows bindings [] (e ∷ made) = ⊥
 Follows bindings (step ∷ steps) [] = ⊥
 
--- the machine may answer the step's event so, and goes on to m'
-abbrev pub Answers : Machine → Step → Event → Answer → Machine → Type 0
-Answers m step event answer m' = MachineStep m step.daemon event answer (event_moves m event answer) m'
+-- the machine may answer a daemon's event so, where media tell this, and goes on to m'
+pub record Responds (told : Option Told) (m : Machine) (daemon : ℕ) (event : Event) (answer : Answer) (m' : Machine) : Type 0 where
+  pub step : MachineStep m daemon event answer (event_moves m event answer) m'
+  pub media : AgreesWith told m.current event answer (given_bytes answer m'.current)
+
+-- the machine may answer the step's event so, where media tell this, and goes on to m'
+abbrev pub Answers : Option Told → Machine → Step → Event → Answer → Machine → Type 0
+Answers told m step event answer m' = Responds told m step.daemon event answer m'
 
 -- the printed line of a step that was answered so, by which the machine went on to m'
 abbrev pub answer_line : Step → Answer → Machine → List ℕ
 answer_line step answer m' = line_text step.line step.daemon answer (given_bytes answer m'.current)
 
+-- media failed, or gave too few bytes, where the answer tells so
+abbrev pub IsCaused : Answer → SeenMedia → SeenMedia → Type 0
+IsCaused answer = HaveFailed (once (is_media_fault answer)) (once (is_short answer))
+
 -- Some answer to the event of a step, of whose printed line P tells.
-pub record SomeLine (m : Machine) (step : Step) (event : Event) (m' : Machine) (P : List ℕ → Type 0) : Type 0 where
+pub record SomeLine (media media' : SeenMedia) (m : Machine) (step : Step) (event : Event) (m' : Machine) (P : List ℕ → Type 0) : Type 0 where
   pub answer : Answer
-  pub answers : Answers m step event answer m'
+  pub answers : Answers media.told m step event answer m'
+  pub caused : IsCaused answer media media'
   pub printed : P (answer_line step answer m')
 
 -- Some answer to a step under what the names hold, of whose printed line P tells.
-abbrev pub SomeAnswer : Machine → List Binding → Step → Machine → (List ℕ → Type 0) → Type 0
-SomeAnswer m bindings step m' P = SomeLine m step (event_of bindings step) m' P
+abbrev pub SomeAnswer : SeenMedia → SeenMedia → Machine → List Binding → Step → Machine → (List ℕ → Type 0) → Type 0
+SomeAnswer media media' m bindings step m' P = SomeLine media media' m step (event_of bindings step) m' P
 
 -- The same, where the step's name holds from then on what the answer gave it.
-pub record SomeStep (m : Machine) (bindings : List Binding) (step : Step) (m' : Machine) (bindings' : List Binding) (P : List ℕ → Type 0) : Type 0 where
-  pub line : SomeAnswer m bindings step m' P
+pub record SomeStep (media media' : SeenMedia) (m : Machine) (bindings : List Binding) (step : Step) (m' : Machine) (bindings' : List Binding) (P : List ℕ → Type 0) : Type 0 where
+  pub line : SomeAnswer media media' m bindings step m' P
   pub names : bindings' ≡ bound bindings step line.answer
 
--- The script's steps but these last ones were made in order, on a core of the script's daemons, with these events and answers.
-pub record RunsDry (script rest : List Step) (made : List Made) : Type 0 where
+-- The script's steps but these last ones were made in order, on a core of the script's daemons, with these events and answers,
+-- where media tell this.
+pub record RunsDry (told : Option Told) (script rest : List Step) (made : List Made) (core : Core) : Type 0 where
   pub front : List Step
   pub steps : script ≡ front ++ rest
   pub follows : Follows [] front made
-  pub core : Core
-  pub runs : RunsCore (first_core (daemons_of script)) made core
+  pub runs : RunsCore told (first_core (daemons_of script)) made core
 
 -- Some run of the script's first steps, of which P tells by the steps that are left and the text of the answers.
-pub record SomeRun (script : List Step) (P : List Step → List ℕ → Type 0) : Type 0 where
+pub record SomeRun (media media' : SeenMedia) (script : List Step) (P : List Step → List ℕ → Type 0) : Type 0 where
   pub rest : List Step
   pub made : List Made
-  pub run : RunsDry script rest made
+  pub core : Core
+  pub run : RunsDry media.told script rest made core
+  pub caused : AreCaused made media media'
   pub printed : P rest (made_text made)

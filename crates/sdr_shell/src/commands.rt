@@ -9,7 +9,7 @@ ghost use Rattle.sdr_shell.specs.Form.{form_of, OnFormat};
 ghost use Rattle.sdr_shell.specs.Formatting.{line_formatted, line_too_small, IsFormatted};
 ghost use Rattle.sdr_shell.specs.Formatting.{HasFormatted, IsFormatStatus, LeavesDisk};
 ghost use Rattle.sdr_shell.specs.Served.{accepted_script, first_unserved};
-ghost use Rattle.sdr_shell.specs.Schedule.{SomeRun};
+ghost use Rattle.sdr_shell.specs.Schedule.{HaveFailed, SomeRun, seen_media};
 ghost use Rattle.sdr_shell.specs.Still.{Writes, HadRun, HadScript, NamesBadLine, IsDone, IsRefused, IsDryStatus, IsStarved, Tells, line_refused};
 ghost use Rattle.sdr_base.specs.Written.{AppendsPart};
 
@@ -43,21 +43,27 @@ fn refuse_line<K: Sink>(output: &mut K, line: u64)
 }
 
 // Runs a script.
-fn run_script<K: Sink>(alloc: Global, script: &[Step], output: &mut K) -> u8
+fn run_script<M: Media, K: Sink>(
+    alloc: Global,
+    script: &[Step],
+    media: &mut M,
+    output: &mut K,
+) -> u8
     requires few { length script.now ≤ 1048577 }
     requires served { first_unserved script.now ≡ None }
     ensures known { (result ≡ DONE) ⊎ (result ≡ OUTPUT_FAULT) ⊎ (result ≡ NO_MEMORY) }
+    ensures media { HaveFailed 0 0 (seen_media M.told M.faults M.short media.old) (seen_media M.told M.faults M.short media.new) }
     ensures later { K.faults output.old ≤ K.faults output.new }
-    ensures done { result ≡ DONE → SomeRun script.now (λ rest text.
+    ensures done { result ≡ DONE → SomeRun (seen_media M.told M.faults M.short media.old) (seen_media M.told M.faults M.short media.new) script.now (λ rest text.
         (rest ≡ []) × Appends (K.taken output.old) (K.taken output.new) text) }
     ensures fault { result ≡ OUTPUT_FAULT → Rose (K.faults output.old) (K.faults output.new) }
-    ensures part { result ≡ OUTPUT_FAULT → SomeRun script.now (λ rest text.
+    ensures part { result ≡ OUTPUT_FAULT → SomeRun (seen_media M.told M.faults M.short media.old) (seen_media M.told M.faults M.short media.new) script.now (λ rest text.
         AppendsPart (K.taken output.old) (K.taken output.new) text) }
-    ensures starved { result ≡ NO_MEMORY → SomeRun script.now (λ rest text.
+    ensures starved { result ≡ NO_MEMORY → SomeRun (seen_media M.told M.faults M.short media.old) (seen_media M.told M.faults M.short media.new) script.now (λ rest text.
         Writes (K.taken output.old) (K.taken output.new) (K.faults output.old) (K.faults output.new)
         (text ++ codes "no memory\n")) }
 {
-    match run(alloc, script, output) {
+    match run(alloc, script, media, output) {
         Ok(()) => DONE,
         Err(RunError::Output) => OUTPUT_FAULT,
         Err(RunError::NoMemory) => {
@@ -123,26 +129,32 @@ fn read_served<S: Source>(alloc: Global, input: &mut S) -> Result<Script, Script
 }
 
 // A dry run of the input's script.
-fn dry<S: Source, K: Sink>(alloc: Global, input: &mut S, output: &mut K) -> u8
+fn dry<M: Media, S: Source, K: Sink>(
+    alloc: Global,
+    media: &mut M,
+    input: &mut S,
+    output: &mut K,
+) -> u8
     ensures known { IsDryStatus result }
     ensures later { (S.faults input.old ≤ S.faults input.new) × (K.faults output.old ≤ K.faults output.new) }
+    ensures media { HaveFailed 0 0 (seen_media M.told M.faults M.short media.old) (seen_media M.told M.faults M.short media.new) }
     ensures reads { S.reads input.new ≤ S.reads input.old + 1048577 }
     ensures done { result ≡ DONE →
-        IsDone (S.left input.old) (S.left input.new) (K.taken output.old) (K.taken output.new) }
+        IsDone (S.left input.old) (S.left input.new) (seen_media M.told M.faults M.short media.old) (seen_media M.told M.faults M.short media.new) (K.taken output.old) (K.taken output.new) }
     ensures input { result ≡ INPUT_FAULT → Rose (S.faults input.old) (S.faults input.new) }
     ensures input_text { result ≡ INPUT_FAULT →
         Writes (K.taken output.old) (K.taken output.new) (K.faults output.old) (K.faults output.new)
         (codes "input fault\n") }
     ensures output { result ≡ OUTPUT_FAULT → Rose (K.faults output.old) (K.faults output.new) }
-    ensures part { result ≡ OUTPUT_FAULT → HadRun (S.left input.old) (λ rest text.
+    ensures part { result ≡ OUTPUT_FAULT → HadRun (S.left input.old) (seen_media M.told M.faults M.short media.old) (seen_media M.told M.faults M.short media.new) (λ rest text.
         AppendsPart (K.taken output.old) (K.taken output.new) text) }
     ensures refused { result ≡ REFUSED_LINE → IsRefused (S.left input.old)
         (K.taken output.old) (K.taken output.new) (K.faults output.old) (K.faults output.new) }
-    ensures starved { result ≡ NO_MEMORY → IsStarved (S.left input.old)
+    ensures starved { result ≡ NO_MEMORY → IsStarved (S.left input.old) (seen_media M.told M.faults M.short media.old) (seen_media M.told M.faults M.short media.new)
         (K.taken output.old) (K.taken output.new) (K.faults output.old) (K.faults output.new) }
 {
     match read_served(alloc, input) {
-        Ok(script) => run_script(alloc, script.as_slice(), output),
+        Ok(script) => run_script(alloc, script.as_slice(), media, output),
         Err(error) => tell(&error, output),
     }
 }
@@ -168,7 +180,7 @@ pub fn still<D: Disk, M: Media, S: Source, K: Sink>(
     alloc: Global,
     words: &[RcStr],
     mut disk: D,
-    media: M,
+    mut media: M,
     input: &mut S,
     output: &mut K,
 ) -> Outcome<D, M>
@@ -180,6 +192,7 @@ pub fn still<D: Disk, M: Media, S: Source, K: Sink>(
     // What the forms answer.
     ensures dry { form_of words.now ≡ Some Form.Dry → (result.disk ≡ disk) × AnswersDry result.status
         (seen S.left S.faults input.old) (seen S.left S.faults input.new)
+        (seen_media M.told M.faults M.short media) (seen_media M.told M.faults M.short result.media)
         (seen K.taken K.faults output.old) (seen K.taken K.faults output.new) }
     ensures format { OnFormat (form_of words.now) (λ frame. (input.new ≡ input.old)
         × AnswersFormat result.status frame (D.size disk)
@@ -189,14 +202,17 @@ pub fn still<D: Disk, M: Media, S: Source, K: Sink>(
     // Every form.
     ensures counts { (S.faults input.old ≤ S.faults input.new) × (K.faults output.old ≤ K.faults output.new)
         × (D.faults disk ≤ D.faults result.disk) × (S.reads input.new ≤ S.reads input.old + 1048577) }
-    ensures given { (result.media ≡ media) × (result.journal ≡ []) }
+    ensures given { result.journal ≡ [] }
+    ensures media { HaveFailed 0 0
+        (seen_media M.told M.faults M.short media) (seen_media M.told M.faults M.short result.media) }
+    ensures unread { (form_of words.now ≢ Some Form.Dry) → result.media ≡ media }
     ensures same { LeavesDisk result.status → result.disk ≡ disk }
     ensures told { (is_some (D.bytes result.disk) ≡ is_some (D.bytes disk))
         × (D.size result.disk ≡ D.size disk) }
 {
     match form_of(words) {
         Some(Form::Dry) => {
-            let status = dry(alloc, input, output);
+            let status = dry(alloc, &mut media, input, output);
             outcome(alloc, status, disk, media)
         }
         Some(Form::Format { frame }) => {

@@ -14,6 +14,7 @@ mod form;
 mod form_tests;
 mod formatting;
 mod last_line;
+mod media;
 mod outcome;
 mod run;
 mod status;

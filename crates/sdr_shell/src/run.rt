@@ -8,13 +8,15 @@ ghost use Rattle.sdr_model.specs.Built.{is_built_event};
 ghost use Rattle.sdr_model.specs.Machine.{first_machine};
 ghost use Rattle.sdr_shell.specs.Served.{first_unserved};
 ghost use Rattle.sdr_words.specs.Bindings.{event_of};
-ghost use Rattle.sdr_shell.specs.Schedule.{Answers, SomeAnswer, SomeLine, SomeRun, SomeStep, answer_line, daemons_of, all_daemons};
+ghost use Rattle.sdr_shell.specs.Schedule.{AllLeave, Answers, HaveFailed, IsCaused, Leave, Leaves, SomeAnswer, SomeLine, SomeRun, SomeStep};
+ghost use Rattle.sdr_shell.specs.Schedule.{all_daemons, answer_line, daemons_of, are_here, seen_media};
 
-use sdr_base::{NoMemory, Sink, SinkFault};
-use sdr_model::{Answer, Event, Plain, Step};
+use crate::media::{Gap, gather};
+use sdr_base::{Bytes, Media, NoMemory, Refusal, Sink, SinkFault};
+use sdr_model::{Answer, Event, Leave, Piece, Plain, Reply, Step};
 use sdr_text::write_answer;
 use sdr_words::Bindings;
-use std::alloc::{AllocFailed, Global};
+use std::alloc::{AllocError, AllocFailed, Global};
 use thiserror::Error;
 
 /// Why a run stopped before its script's end.
@@ -47,9 +49,64 @@ impl From<SinkFault> for RunError {
     }
 }
 
-// The answer to a step's event, printed.
-fn answer<K: Sink>(
+// Answers a call of which these pieces are asked: by the bytes that they are, or by why media didn't give them.
+fn answer_reading<M: Media>(
+    alloc: Global,
     plain: &mut Plain,
+    media: &mut M,
+    daemon: u8,
+    pieces: &[Piece],
+) -> Result<Answer, NoMemory>
+    requires few { plain.old.events < 2_097_152 }
+    requires page { length (pieces_told pieces.now) ≤ 4096 }
+    ensures answers { IfOk result (λ given. (event : Event) → Asks plain.old.machine daemon event pieces.now →
+        Responds (M.told media.old) plain.old.machine daemon event given plain.new.machine) }
+    ensures caused { IfOk result (λ given. IsCaused given (seen_media M.told M.faults M.short media.old) (seen_media M.told M.faults M.short media.new)) }
+    ensures events { OnOk result (plain.new.events ≡ plain.old.events + 1) }
+    ensures later { HaveFailed 0 0 (seen_media M.told M.faults M.short media.old) (seen_media M.told M.faults M.short media.new) }
+{
+    let (reply, given) = match gather(alloc, media, pieces) {
+        Ok(bytes) => {
+            let count = bytes.len() as u64;
+            (Reply::Bytes { count }, Some(bytes))
+        }
+        Err(Gap::Fault) => (Reply::MediaFault, None),
+        Err(Gap::Short { have, want }) => {
+            (Reply::Refused(Refusal::SourceShort { have, want }), None)
+        }
+        Err(Gap::NoMemory) => return Err(AllocError),
+    };
+    plain.settle(daemon, given);
+    Ok(Answer::Reply(reply))
+}
+
+// The answer to a daemon's event. Media are asked where it is a call that reads them.
+fn respond<M: Media>(
+    alloc: Global,
+    plain: &mut Plain,
+    media: &mut M,
+    step: &Step,
+    event: &Event,
+) -> Result<Answer, NoMemory>
+    requires few { plain.old.events < 2_097_152 }
+    requires built { is_built_event event.now ≡ true }
+    ensures answers { IfOk result (λ given.
+        Responds (M.told media.old) plain.old.machine step.now.daemon event.now given plain.new.machine) }
+    ensures caused { IfOk result (λ given. IsCaused given (seen_media M.told M.faults M.short media.old) (seen_media M.told M.faults M.short media.new)) }
+    ensures events { OnOk result (plain.new.events ≡ plain.old.events + 1) }
+    ensures later { HaveFailed 0 0 (seen_media M.told M.faults M.short media.old) (seen_media M.told M.faults M.short media.new) }
+{
+    match plain.pieces(step.daemon, event)? {
+        Some(pieces) => answer_reading(alloc, plain, media, step.daemon, pieces.as_slice()),
+        None => plain.event(step.daemon, step.line, event),
+    }
+}
+
+// The answer to a step's event, printed.
+fn answer<M: Media, K: Sink>(
+    alloc: Global,
+    plain: &mut Plain,
+    media: &mut M,
     step: &Step,
     event: &Event,
     out: &mut K,
@@ -57,17 +114,19 @@ fn answer<K: Sink>(
     requires few { plain.old.events < 2_097_152 }
     requires built { is_built_event event.now ≡ true }
     ensures answers { IfOk result (λ given.
-        Answers plain.old.machine step.now event.now given plain.new.machine) }
+        Responds (M.told media.old) plain.old.machine step.now.daemon event.now given plain.new.machine) }
+    ensures caused { IfOk result (λ given. IsCaused given (seen_media M.told M.faults M.short media.old) (seen_media M.told M.faults M.short media.new)) }
     ensures printed { IfOk result (λ given.
         Appends (K.taken out.old) (K.taken out.new) (answer_line step.now given plain.new.machine)) }
     ensures events { OnOk result (plain.new.events ≡ plain.old.events + 1) }
     ensures same { result ≡ Err RunError.NoMemory → Keeps (K.taken out.old) (K.taken out.new) }
-    ensures cut { result ≡ Err RunError.Output →
-        SomeLine plain.old.machine step.now event.now plain.new.machine (AppendsPart (K.taken out.old) (K.taken out.new)) }
+    ensures cut { result ≡ Err RunError.Output → SomeLine (seen_media M.told M.faults M.short media.old) (seen_media M.told M.faults M.short media.new)
+        plain.old.machine step.now event.now plain.new.machine (AppendsPart (K.taken out.old) (K.taken out.new)) }
+    ensures media { HaveFailed 0 0 (seen_media M.told M.faults M.short media.old) (seen_media M.told M.faults M.short media.new) }
     ensures later { K.faults out.old ≤ K.faults out.new }
     ensures cause { result ≡ Err RunError.Output → Rose (K.faults out.old) (K.faults out.new) }
 {
-    let given = plain.event(step.daemon, step.line, event)?;
+    let given = respond(alloc, plain, media, step, event)?;
     let shown = plain.shown();
     write_answer(out, step.line, step.daemon, &given, shown)?;
     Ok(given)
@@ -75,27 +134,31 @@ fn answer<K: Sink>(
 
 // Makes one step: its event, its printed answer, and what its name holds from then on.
 #[tactic(auto, using(crate::proofs::ServedLemmas::built_now))]
-fn make<K: Sink>(
+fn make<M: Media, K: Sink>(
     alloc: Global,
     plain: &mut Plain,
+    media: &mut M,
     bindings: &mut Bindings,
     step: &Step,
     out: &mut K,
 ) -> Result<(), RunError>
     requires few { plain.old.events < 2_097_152 }
     requires served { is_built_event (event_of [] step.now) ≡ true }
-    ensures ok { OnOk result (SomeStep plain.old.machine bindings.old step.now plain.new.machine bindings.new
+    ensures ok { OnOk result (SomeStep (seen_media M.told M.faults M.short media.old) (seen_media M.told M.faults M.short media.new)
+        plain.old.machine bindings.old step.now plain.new.machine bindings.new
         (Appends (K.taken out.old) (K.taken out.new))) }
     ensures events { OnOk result (plain.new.events ≡ plain.old.events + 1) }
-    ensures memory { result ≡ Err RunError.NoMemory → Keeps (K.taken out.old) (K.taken out.new)
-        ⊎ SomeAnswer plain.old.machine bindings.old step.now plain.new.machine (Appends (K.taken out.old) (K.taken out.new)) }
-    ensures output { result ≡ Err RunError.Output →
-        SomeAnswer plain.old.machine bindings.old step.now plain.new.machine (AppendsPart (K.taken out.old) (K.taken out.new)) }
+    ensures memory { result ≡ Err RunError.NoMemory →
+        (Keeps (K.taken out.old) (K.taken out.new) × HaveFailed 0 0 (seen_media M.told M.faults M.short media.old) (seen_media M.told M.faults M.short media.new))
+        ⊎ SomeAnswer (seen_media M.told M.faults M.short media.old) (seen_media M.told M.faults M.short media.new) plain.old.machine bindings.old step.now plain.new.machine
+        (Appends (K.taken out.old) (K.taken out.new)) }
+    ensures output { result ≡ Err RunError.Output → SomeAnswer (seen_media M.told M.faults M.short media.old) (seen_media M.told M.faults M.short media.new)
+        plain.old.machine bindings.old step.now plain.new.machine (AppendsPart (K.taken out.old) (K.taken out.new)) }
     ensures later { K.faults out.old ≤ K.faults out.new }
     ensures cause { result ≡ Err RunError.Output → Rose (K.faults out.old) (K.faults out.new) }
 {
     let event = bindings.event(alloc, step)?;
-    let given = answer(plain, step, &event, out)?;
+    let given = answer(alloc, plain, media, step, &event, out)?;
     bindings.bind(alloc, step, &given)?;
     Ok(())
 }
@@ -118,9 +181,10 @@ fn daemons_of(alloc: Global, script: &[Step]) -> Result<Vec<u8>, NoMemory>
 
 // Makes the steps of a script in order, on a machine before any event.
 #[tactic(auto, using(crate::proofs::ServedLemmas::serving))]
-fn run_on<K: Sink>(
+fn run_on<M: Media, K: Sink>(
     alloc: Global,
     plain: &mut Plain,
+    media: &mut M,
     bindings: &mut Bindings,
     script: &[Step],
     out: &mut K,
@@ -129,38 +193,43 @@ fn run_on<K: Sink>(
     requires plain { plain.old ≡ record { machine = first_machine (daemons_of script.now); events = 0 } }
     requires bindings { bindings.old ≡ [] }
     requires served { first_unserved script.now ≡ None }
-    ensures ok { OnOk result (SomeRun script.now (λ rest text.
+    ensures ok { OnOk result (SomeRun (seen_media M.told M.faults M.short media.old) (seen_media M.told M.faults M.short media.new) script.now (λ rest text.
         (rest ≡ []) × Appends (K.taken out.old) (K.taken out.new) text)) }
-    ensures memory { result ≡ Err RunError.NoMemory →
-        SomeRun script.now (λ rest text. Appends (K.taken out.old) (K.taken out.new) text) }
-    ensures output { result ≡ Err RunError.Output →
-        SomeRun script.now (λ rest text. AppendsPart (K.taken out.old) (K.taken out.new) text) }
+    ensures memory { result ≡ Err RunError.NoMemory → SomeRun (seen_media M.told M.faults M.short media.old) (seen_media M.told M.faults M.short media.new) script.now (λ rest text.
+        Appends (K.taken out.old) (K.taken out.new) text) }
+    ensures output { result ≡ Err RunError.Output → SomeRun (seen_media M.told M.faults M.short media.old) (seen_media M.told M.faults M.short media.new) script.now (λ rest text.
+        AppendsPart (K.taken out.old) (K.taken out.new) text) }
     ensures later { K.faults out.old ≤ K.faults out.new }
     ensures cause { result ≡ Err RunError.Output → Rose (K.faults out.old) (K.faults out.new) }
 {
     let mut rest = script;
     while let Some((step, after)) = rest.split_first() {
-        make(alloc, plain, bindings, step, out)?;
+        make(alloc, plain, media, bindings, step, out)?;
         rest = after;
     }
     Ok(())
 }
 
 /// Makes the steps of a script in order, on a plain machine of the daemons that it names, and prints
-/// the line of each answer.
-pub fn run<K: Sink>(alloc: Global, script: &[Step], out: &mut K) -> Result<(), RunError>
+/// the line of each answer. Media are asked for the bytes that lie with them.
+pub fn run<M: Media, K: Sink>(
+    alloc: Global,
+    script: &[Step],
+    media: &mut M,
+    out: &mut K,
+) -> Result<(), RunError>
     requires few { length script.now < 2_097_152 }
     requires served { first_unserved script.now ≡ None }
-    ensures ok { OnOk result (SomeRun script.now (λ rest text.
+    ensures ok { OnOk result (SomeRun (seen_media M.told M.faults M.short media.old) (seen_media M.told M.faults M.short media.new) script.now (λ rest text.
         (rest ≡ []) × Appends (K.taken out.old) (K.taken out.new) text)) }
-    ensures memory { result ≡ Err RunError.NoMemory →
-        SomeRun script.now (λ rest text. Appends (K.taken out.old) (K.taken out.new) text) }
-    ensures output { result ≡ Err RunError.Output →
-        SomeRun script.now (λ rest text. AppendsPart (K.taken out.old) (K.taken out.new) text) }
+    ensures memory { result ≡ Err RunError.NoMemory → SomeRun (seen_media M.told M.faults M.short media.old) (seen_media M.told M.faults M.short media.new) script.now (λ rest text.
+        Appends (K.taken out.old) (K.taken out.new) text) }
+    ensures output { result ≡ Err RunError.Output → SomeRun (seen_media M.told M.faults M.short media.old) (seen_media M.told M.faults M.short media.new) script.now (λ rest text.
+        AppendsPart (K.taken out.old) (K.taken out.new) text) }
     ensures later { K.faults out.old ≤ K.faults out.new }
     ensures cause { result ≡ Err RunError.Output → Rose (K.faults out.old) (K.faults out.new) }
 {
     let daemons = daemons_of(alloc, script)?;
     let mut plain = Plain::new(alloc, daemons.as_slice())?;
-    run_on(alloc, &mut plain, &mut Bindings::new(alloc), script, out)
+    run_on(alloc, &mut plain, media, &mut Bindings::new(alloc), script, out)
 }

@@ -1,8 +1,9 @@
 // The call that the program makes.
-ghost use Rattle.std.specs.Prelude.{◌≡◌, ◌≤◌, ◌+◌, ◌↔◌, codes, None, Some, [], is_some};
+ghost use Rattle.std.specs.Prelude.{◌≡◌, ◌≢◌, ◌≤◌, ◌+◌, ◌↔◌, codes, None, Some, [], is_some};
 ghost use Rattle.sdr_shell.specs.Answers.{AnswersDry, AnswersFormat, Wrote, seen};
 ghost use Rattle.sdr_shell.specs.Form.{form_of, OnFormat};
 ghost use Rattle.sdr_shell.specs.Formatting.{LeavesDisk};
+ghost use Rattle.sdr_shell.specs.Schedule.{HaveFailed, seen_media};
 
 use crate::Outcome;
 use crate::commands::still;
@@ -42,6 +43,7 @@ pub fn top<
     // What the forms answer.
     ensures dry { form_of words.now ≡ Some Form.Dry → (result.disk ≡ disk) × AnswersDry result.status
         (seen S.left S.faults input.old) (seen S.left S.faults input.new)
+        (seen_media M.told M.faults M.short media) (seen_media M.told M.faults M.short result.media)
         (seen K.taken K.faults output.old) (seen K.taken K.faults output.new) }
     ensures format { OnFormat (form_of words.now) (λ frame. (input.new ≡ input.old)
         × AnswersFormat result.status frame (D.size disk)
@@ -51,7 +53,10 @@ pub fn top<
     // Every form.
     ensures counts { (S.faults input.old ≤ S.faults input.new) × (K.faults output.old ≤ K.faults output.new)
         × (D.faults disk ≤ D.faults result.disk) × (S.reads input.new ≤ S.reads input.old + 1048577) }
-    ensures given { (result.media ≡ media) × (result.journal ≡ []) }
+    ensures given { result.journal ≡ [] }
+    ensures media { HaveFailed 0 0
+        (seen_media M.told M.faults M.short media) (seen_media M.told M.faults M.short result.media) }
+    ensures unread { (form_of words.now ≢ Some Form.Dry) → result.media ≡ media }
     ensures same { LeavesDisk result.status → result.disk ≡ disk }
     ensures told { (is_some (D.bytes result.disk) ≡ is_some (D.bytes disk))
         × (D.size result.disk ≡ D.size disk) }

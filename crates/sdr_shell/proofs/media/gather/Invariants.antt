@@ -1,0 +1,17 @@
+use Rattle.std.proofs.Common.{◌≡◌, ◌≤◌, length}
+use Rattle.sdr_model.specs.Pieces.{pieces_told}
+use Rattle.sdr_shell.specs.Gathering.{Gathering}
+use Rattle.sdr_shell.proofs.media.gather.Given as goal
+
+abbrev pub invariant-loop-piece : goal.invariant-loop-piece
+invariant-loop-piece g l = record {
+  gathering : Gathering (g.M.Media.told l.fn.media) l.pieces l.rest l.bytes.items;
+  few : length (pieces_told l.rest) ≤ 4096;
+  page : length l.page ≡ 4096;
+  told : g.M.Media.told l.media ≡ g.M.Media.told l.fn.media;
+  faults : g.M.Media.faults l.fn.media ≤ g.M.Media.faults l.media;
+  short : g.M.Media.short l.fn.media ≤ g.M.Media.short l.media;
+}
+
+abbrev pub decreases-loop-piece : goal.decreases-loop-piece
+decreases-loop-piece g l = length l.rest

@@ -1,0 +1,121 @@
+// What a call reads of media.
+ghost use Rattle.std.specs.Prelude.{◌≡◌, ◌≤◌, ◌⊎◌, IfErr, IfOk, OnErr, OnOk, length};
+ghost use Rattle.sdr_base.specs.Causes.{Rose};
+ghost use Rattle.sdr_model.specs.Pieces.{piece_length, pieces_told};
+ghost use Rattle.sdr_shell.specs.Gathering.{AddsPiece, AreGathered, GivesPiece, HasGiven, IsGapIn, IsGapOf};
+
+use sdr_base::{Bytes, Media, MediaFault, NoMemory};
+use sdr_model::Piece;
+use std::alloc::{AllocFailed, Global};
+use thiserror::Error;
+
+/// Why the bytes of some pieces weren't gathered.
+#[derive(Clone, Copy, Debug, PartialEq, Eq, Error)]
+pub enum Gap {
+    #[error("no memory")]
+    NoMemory,
+    #[error("media fault")]
+    Fault,
+    /// Media gave fewer bytes than were asked for.
+    #[error("{have} of {want} bytes")]
+    Short { have: u64, want: u64 },
+}
+
+impl From<NoMemory> for Gap {
+    ghost use Rattle.sdr_shell.specs.declared.media.Gap.TheVariants as gaps;
+
+    ghost from_gives = { λ _ e. e ≡ gaps.NoMemory };
+
+    fn from(_: NoMemory) -> Gap {
+        Gap::NoMemory
+    }
+}
+
+impl From<MediaFault> for Gap {
+    ghost use Rattle.sdr_shell.specs.declared.media.Gap.TheVariants as gaps;
+
+    ghost from_gives = { λ _ e. e ≡ gaps.Fault };
+
+    fn from(_: MediaFault) -> Gap {
+        Gap::Fault
+    }
+}
+
+// Reads a piece into a buffer of its length, and tells how many bytes it had. Media are asked once, for all of it.
+fn ask<M: Media>(media: &mut M, piece: &Piece, into: &mut [u8]) -> Result<u64, MediaFault>
+    requires whole { length into.old ≡ piece_length piece.now }
+    ensures had { IfOk result (λ have. HasGiven (M.told media.old) piece.now into.new have
+        (Rose (M.short media.old) (M.short media.new))) }
+    ensures failed { OnErr result (Rose (M.faults media.old) (M.faults media.new)) }
+    ensures same { length into.new ≡ length into.old }
+    ensures told { M.told media.new ≡ M.told media.old }
+    ensures faults { M.faults media.old ≤ M.faults media.new }
+    ensures short { M.short media.old ≤ M.short media.new }
+{
+    match piece {
+        Piece::Known(bytes) => {
+            into.copy_from_slice(bytes.as_slice());
+            Ok(into.len() as u64)
+        }
+        Piece::File { path, offset, .. } => media.file_read(path.as_slice(), *offset, into),
+        Piece::Bulk { item, offset, .. } => media.bulk_read(*item, *offset, into),
+    }
+}
+
+// Reads a piece into a buffer of its length.
+fn read_piece<M: Media>(media: &mut M, piece: &Piece, into: &mut [u8]) -> Result<(), Gap>
+    requires whole { length into.old ≡ piece_length piece.now }
+    ensures gives { OnOk result (GivesPiece (M.told media.old) piece.now into.new) }
+    ensures gap { IfErr result (IsGapOf (M.told media.old) piece.now (Rose (M.faults media.old) (M.faults media.new))
+        (Rose (M.short media.old) (M.short media.new))) }
+    ensures told { M.told media.new ≡ M.told media.old }
+    ensures faults { M.faults media.old ≤ M.faults media.new }
+    ensures short { M.short media.old ≤ M.short media.new }
+{
+    let have = ask(media, piece, into)?;
+    let want = into.len() as u64;
+    if have < want {
+        return Err(Gap::Short { have, want });
+    }
+    Ok(())
+}
+
+// Reads a piece into a page, and adds its bytes to those gathered.
+fn add_piece<M: Media>(media: &mut M, piece: &Piece, page: &mut [u8], bytes: &mut Vec<u8>) -> Result<(), Gap>
+    requires page { length page.old ≡ 4096 }
+    requires fits { piece_length piece.now ≤ 4096 }
+    ensures adds { OnOk result (AddsPiece (M.told media.old) piece.now bytes.old.items bytes.new.items) }
+    ensures gap { IfErr result (λ gap. gap ≡ Gap.NoMemory ⊎ IsGapOf (M.told media.old) piece.now
+        (Rose (M.faults media.old) (M.faults media.new)) (Rose (M.short media.old) (M.short media.new)) gap) }
+    ensures page { length page.new ≡ length page.old }
+    ensures told { M.told media.new ≡ M.told media.old }
+    ensures faults { M.faults media.old ≤ M.faults media.new }
+    ensures short { M.short media.old ≤ M.short media.new }
+{
+    let into = &mut page[..piece.len()];
+    read_piece(media, piece, into)?;
+    bytes.extend_from_slice(into)?;
+    Ok(())
+}
+
+/// Gathers the bytes of pieces, of at most a page together. Media are asked once for each piece that lies with
+/// them, in order, until the first that fails or gives too few bytes. Each byte is read into a page, and copied
+/// once, to the end of those gathered.
+pub fn gather<M: Media>(alloc: Global, media: &mut M, pieces: &[Piece]) -> Result<Bytes, Gap>
+    requires page { length (pieces_told pieces.now) ≤ 4096 }
+    ensures gathered { IfOk result (AreGathered (M.told media.old) pieces.now) }
+    ensures gap { IfErr result (IsGapIn (M.told media.old) pieces.now (Rose (M.faults media.old) (M.faults media.new))
+        (Rose (M.short media.old) (M.short media.new))) }
+    ensures told { M.told media.new ≡ M.told media.old }
+    ensures faults { M.faults media.old ≤ M.faults media.new }
+    ensures short { M.short media.old ≤ M.short media.new }
+{
+    let mut page = [0u8; 4096];
+    let mut bytes = Vec::new(alloc);
+    let mut rest = pieces;
+    while let Some((piece, after)) = rest.split_first() {
+        add_piece(media, piece, &mut page, &mut bytes)?;
+        rest = after;
+    }
+    Ok(Bytes::of(bytes))
+}
