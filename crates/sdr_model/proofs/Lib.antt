@@ -1,7 +1,8 @@
+mod HashExample
 pub mod Cases
 pub mod CountLemmas
+pub mod CutsLemmas
 pub mod DryLemmas
-mod HashExample
 pub mod HashLemmas
 pub mod MachineLemmas
 pub mod MapLemmas

@@ -4,6 +4,7 @@ pub mod Amounts
 pub mod Answers
 pub mod Blocks
 pub mod BondSteps
+pub mod Bounds
 pub mod Built
 pub mod Catalogue
 pub mod Charges
