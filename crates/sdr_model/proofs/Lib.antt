@@ -1,7 +1,6 @@
 mod HashExample
 pub mod Cases
 pub mod CountLemmas
-pub mod CutsLemmas
 pub mod DryLemmas
 pub mod HashLemmas
 pub mod MachineLemmas
@@ -9,6 +8,7 @@ pub mod MapLemmas
 pub mod NamesLemmas
 pub mod OrderLemmas
 pub mod OwnersLemmas
+pub mod PiecesLemmas
 pub mod SpotLemmas
 pub mod StoreLemmas
 pub mod TableLemmas

@@ -1,37 +1,28 @@
 -- The bounds of what is in an object, by which all sums over it fit a word.
-use Rattle.std.specs.Prelude.{◌≤◌, ◌^◌, ◌+◌, ℕ, List, length}
+use Rattle.std.specs.Prelude.{◌≤◌, ◌^◌, ◌+◌, List}
 use Rattle.std.specs.List.{All}
-use Rattle.sdr_model.specs.Limits.{longest_capsule, longest_source}
-use Rattle.sdr_model.specs.Zco.{extents_length}
+use Rattle.sdr_model.specs.Limits.{longest_source}
+use Rattle.sdr_model.specs.Zco.{capsules_length, extents_length}
 use Rattle.sdr_model.specs.declared.zco.Capsule.{Capsule}
 use Rattle.sdr_model.specs.declared.zco.Extent.{Extent}
 use Rattle.sdr_model.specs.declared.zco.ZcoObject.{ZcoObject}
-
--- the most headers, extents and trailers of an object
-abbrev pub most_pieces : ℕ
-most_pieces = 2 ^ 22
 
 -- the extent ends where the longest source ends, or before
 abbrev pub EndsInTime : Extent → Type 0
 EndsInTime e = e.offset + e.length ≤ longest_source
 
--- the text is at most the longest one
-abbrev pub IsShort : Capsule → Type 0
-IsShort c = length c.text ≤ longest_capsule
+-- these extents have few bytes together
+abbrev pub AreFewBytes : List Extent → Type 0
+AreFewBytes extents = extents_length extents ≤ 2 ^ 42
 
--- the extents are few, and each ends in time
-pub record AreFewExtents (extents : List Extent) : Type 0 where
-  pub few : length extents ≤ most_pieces
-  pub ends : All EndsInTime extents
+-- these headers or trailers have few bytes together
+abbrev pub AreFewTexts : List Capsule → Type 0
+AreFewTexts capsules = capsules_length capsules ≤ 2 ^ 42
 
--- the headers or trailers are few, and each is short
-pub record AreFewCapsules (capsules : List Capsule) : Type 0 where
-  pub few : length capsules ≤ most_pieces
-  pub short : All IsShort capsules
-
--- what is in the object is few, and its part lies inside its extents' sum
+-- the bytes in the object are few, each extent ends in time, and the part lies inside the extents' sum
 pub record IsBounded (z : ZcoObject) : Type 0 where
-  pub headers : AreFewCapsules z.headers
-  pub extents : AreFewExtents z.extents
-  pub trailers : AreFewCapsules z.trailers
+  pub headers : AreFewTexts z.headers
+  pub ends : All EndsInTime z.extents
+  pub extents : AreFewBytes z.extents
+  pub trailers : AreFewTexts z.trailers
   pub part : z.part.offset + z.part.length ≤ extents_length z.extents

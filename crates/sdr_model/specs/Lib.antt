@@ -27,6 +27,7 @@ pub mod Names
 pub mod ObjectSteps
 pub mod Owners
 pub mod PartSteps
+pub mod Pieces
 pub mod Plain
 pub mod Queue
 pub mod RawSteps

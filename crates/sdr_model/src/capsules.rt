@@ -1,7 +1,6 @@
 // Headers and trailers.
 ghost use Rattle.std.specs.Prelude.{◌≡◌, ◌≤◌, ◌^◌};
-ghost use Rattle.sdr_model.specs.Bounds.{AreFewCapsules, IsShort};
-ghost use Rattle.sdr_model.specs.BondSteps.{bond_charge};
+ghost use Rattle.sdr_model.specs.Bounds.{AreFewTexts};
 ghost use Rattle.sdr_model.specs.Charges.{capsule_bytes};
 ghost use Rattle.sdr_model.specs.Zco.{capsules_length};
 
@@ -17,9 +16,8 @@ pub fn capsule_bytes(bytes: u64) -> u64
 
 /// The bytes of these headers or trailers together.
 pub fn capsules_length(capsules: &[Capsule]) -> u64
-    requires few { AreFewCapsules capsules.now }
-    ensures sum { result ≡ capsules_length capsules.now }
-    ensures bound { result ≤ 2 ^ 32 }
+    requires few { AreFewTexts capsules.now }
+    ensures { result ≡ capsules_length capsules.now }
 {
     let mut bytes = 0;
     for capsule in capsules {

@@ -1,7 +1,7 @@
 // Extents, cut to a part of their bytes.
-ghost use Rattle.std.specs.Prelude.{◌≡◌, ◌≤◌, ◌^◌, IfOk};
+ghost use Rattle.std.specs.Prelude.{◌≡◌, IfOk};
 ghost use Rattle.std.specs.List.{All};
-ghost use Rattle.sdr_model.specs.Bounds.{AreFewExtents, EndsInTime};
+ghost use Rattle.sdr_model.specs.Bounds.{AreFewBytes, EndsInTime};
 ghost use Rattle.sdr_model.specs.Cuts.{cut, cut_all, left_out};
 ghost use Rattle.sdr_model.specs.Zco.{extents_length, whole_of};
 
@@ -27,9 +27,8 @@ impl Extent {
 
 /// The bytes of these extents together.
 pub fn extents_length(extents: &[Extent]) -> u64
-    requires few { AreFewExtents extents.now }
-    ensures sum { result ≡ extents_length extents.now }
-    ensures bound { result ≤ 2 ^ 62 }
+    requires few { AreFewBytes extents.now }
+    ensures { result ≡ extents_length extents.now }
 {
     let mut bytes = 0;
     for extent in extents {
@@ -40,7 +39,7 @@ pub fn extents_length(extents: &[Extent]) -> u64
 
 /// The part that is the whole of these extents.
 pub fn whole_of(extents: &[Extent]) -> Part
-    requires few { AreFewExtents extents.now }
+    requires few { AreFewBytes extents.now }
     ensures { result ≡ whole_of extents.now }
 {
     Part {

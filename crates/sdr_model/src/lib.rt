@@ -44,6 +44,7 @@ mod tests;
 mod text_calls;
 mod things;
 mod transaction;
+mod wire;
 mod world;
 mod zco;
 
@@ -64,5 +65,6 @@ pub use script::{Arg, Args, Script, Step};
 use store::Store;
 pub use table::SdrTable;
 pub use things::{Block, Element, HashEntry, SdrList, Spot, Thing};
+pub use wire::Piece;
 pub use world::World;
 pub use zco::{Capsule, Extent, Part, Subject, ZcoObject, ZcoSource};

@@ -1,9 +1,8 @@
 // Objects, made of extents or seen by their lengths.
 ghost use Rattle.std.specs.Prelude.{◌≡◌, ◌≤◌, ◌+◌, ◌^◌, IfOk};
-ghost use Rattle.std.specs.List.{All};
-ghost use Rattle.sdr_model.specs.Bounds.{AreFewExtents, IsBounded, EndsInTime};
-ghost use Rattle.sdr_model.specs.ObjectSteps.{grown_part, wire_length, with_extent};
-ghost use Rattle.sdr_model.specs.PartSteps.{asked_extents, object_of, outside_part, part_end, stripped};
+ghost use Rattle.sdr_model.specs.Bounds.{AreFewBytes, IsBounded};
+ghost use Rattle.sdr_model.specs.ObjectSteps.{grown_part, wire_length};
+ghost use Rattle.sdr_model.specs.PartSteps.{asked_extents, object_of, outside_part, part_end};
 ghost use Rattle.sdr_model.specs.Zco.{empty_object};
 
 use crate::capsules::capsules_length;
@@ -31,7 +30,7 @@ impl ZcoObject {
 
     /// An object of these extents alone, whose part is its whole.
     pub fn of(alloc: Global, account: Acct, extents: Items<Extent>) -> ZcoObject
-        requires few { AreFewExtents extents }
+        requires few { AreFewBytes extents }
         ensures { result ≡ object_of account extents }
     {
         let part = whole_of(extents.as_slice());
@@ -57,8 +56,7 @@ impl ZcoObject {
     /// Where the part ends, in bytes of the extents.
     pub fn part_end(&self) -> u64
         requires bounded { IsBounded self.now }
-        ensures end { result ≡ part_end self.now }
-        ensures bound { result ≤ 2 ^ 62 }
+        ensures { result ≡ part_end self.now }
     {
         self.part.offset + self.part.length
     }
