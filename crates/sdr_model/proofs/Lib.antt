@@ -11,6 +11,7 @@ pub mod MapLemmas
 pub mod NamesLemmas
 pub mod OrderLemmas
 pub mod OwnersLemmas
+pub mod PiecesLemmas
 pub mod SpotLemmas
 pub mod StoreLemmas
 pub mod TableLemmas

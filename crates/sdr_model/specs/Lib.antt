@@ -5,6 +5,7 @@ pub mod Answers
 pub mod Asking
 pub mod Blocks
 pub mod BondSteps
+pub mod Bounds
 pub mod Built
 pub mod Catalogue
 pub mod Charges
@@ -28,6 +29,7 @@ pub mod Names
 pub mod ObjectSteps
 pub mod Owners
 pub mod PartSteps
+pub mod Pieces
 pub mod Plain
 pub mod Queue
 pub mod RawSteps

@@ -1,0 +1,44 @@
+// What calls on objects do to a world.
+ghost use Rattle.std.specs.Prelude.{◌≡◌, ◌<◌, ◌^◌, IfSome};
+ghost use Rattle.std.specs.Option.{option_copied};
+ghost use Rattle.sdr_model.specs.Answers.{Answers};
+ghost use Rattle.sdr_model.specs.Bounds.{IsBounded};
+ghost use Rattle.sdr_model.specs.World.{thing_at};
+ghost use Rattle.sdr_model.specs.Zco.{object_at};
+
+use crate::raw_calls::misnamed;
+use crate::{Reply, Thing, World, ZcoObject};
+use sdr_base::{Addr, NoMemory};
+
+/// The object at an address.
+pub fn object(world: &World, addr: Addr) -> Option<&ZcoObject>
+    ensures is { option_copied result ≡ object_at world.now.now addr }
+    ensures bounded { IfSome result (λ z. IsBounded z.now) }
+{
+    match world.thing(addr) {
+        Some(Thing::Object(object)) => Some(object),
+        _ => None,
+    }
+}
+
+pub fn zco_length(world: &mut World, addr: Addr) -> Result<Reply, NoMemory>
+    ensures { Answers (Call.ZcoLength addr) world.old world.new result }
+{
+    let Some(object) = object(world, addr) else {
+        return Ok(misnamed(world, addr));
+    };
+    let value = object.wire_length();
+    world.hide();
+    Ok(Reply::Value { value })
+}
+
+pub fn source_length(world: &mut World, addr: Addr) -> Result<Reply, NoMemory>
+    ensures { Answers (Call.SourceLength addr) world.old world.new result }
+{
+    let Some(object) = object(world, addr) else {
+        return Ok(misnamed(world, addr));
+    };
+    let value = object.part.length;
+    world.hide();
+    Ok(Reply::Value { value })
+}
