@@ -1,3 +1,4 @@
+pub mod AskingLemmas
 pub mod BlocksTaken
 pub mod Cases
 pub mod CountLemmas

@@ -6,7 +6,7 @@ use Rattle.sdr_base.specs.declared.moves.Move.{Move}
 use Rattle.sdr_base.specs.declared.refusal.Refusal.TheVariants as refusals
 use Rattle.sdr_model.specs.Limits.{longest_read}
 use Rattle.sdr_model.specs.Machine.{Machine, MachineStep, may_come, served_number, with_transaction}
-use Rattle.sdr_model.specs.Pieces.{bytes_by, media_bytes, piece_length, pieces_asked, pieces_told}
+use Rattle.sdr_model.specs.Pieces.{AsksBytes, bytes_by, media_bytes, piece_length, pieces_asked, pieces_told}
 use Rattle.sdr_model.specs.Reading.{reads_media}
 use Rattle.sdr_model.specs.Transaction.{transaction_of}
 use Rattle.sdr_model.specs.Wire.{Spells}
@@ -26,6 +26,12 @@ abbrev pub IsGap : Reply → Type 0
 IsGap replies.MediaFault = ⊤
 IsGap (replies.Refused (refusals.SourceShort have want)) = have < want
 IsGap reply = ⊥
+
+-- the call asks bytes of an object that is there, and these are their pieces
+pub record HasPieces (w : World) (call : Call) (pieces : List Piece) : Type 0 where
+  pub reads : reads_media call ≡ true
+  pub asks : AsksBytes w call
+  pub asked : pieces ≡ pieces_asked w call
 
 -- the machine after an event of a daemon whose call left this world, and its transaction else as it was
 abbrev pub with_current : Machine → ℕ → World → Machine

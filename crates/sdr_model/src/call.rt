@@ -1,7 +1,7 @@
 // What a daemon may ask of the heap.
 ghost use Rattle.std.specs.Prelude.{◌≡◌};
 ghost use Rattle.sdr_model.specs.Built.{is_built};
-ghost use Rattle.sdr_model.specs.Reading.{is_reading};
+ghost use Rattle.sdr_model.specs.Reading.{is_reading, reads_media};
 
 use crate::Keys;
 use sdr_base::{Acct, Addr, Bytes, Space};
@@ -174,6 +174,19 @@ impl Call {
                 | Call::ReceiveSource(_, _, _)
                 | Call::ReceiveTrailers(_, _, _)
                 | Call::Awarded(_)
+        )
+    }
+
+    /// Whether the call may read media: the bytes of an object may lie in files and items.
+    pub fn reads_media(&self) -> bool
+        ensures { result ≡ reads_media self.now }
+    {
+        matches!(
+            self,
+            Call::Transmit(_, _, _)
+                | Call::ReceiveHeaders(_, _, _)
+                | Call::ReceiveSource(_, _, _)
+                | Call::ReceiveTrailers(_, _, _)
         )
     }
 

@@ -1,15 +1,17 @@
 // The lock of a plain machine: numbers are drawn, and the least that isn't done is served.
-ghost use Rattle.std.specs.Prelude.{◌≡◌, ◌<◌, ◌+◌, ◌^◌, ◌==◌, ◌&&◌, ◌||◌, not, IfOk, OnErr, OnOk, filter, find, length, drop, true, [], ◌∷◌, ◌++◌};
+ghost use Rattle.std.specs.Prelude.{◌≡◌, ◌<◌, ◌+◌, ◌^◌, ◌==◌, ◌&&◌, ◌||◌, not, IfOk, IfSome, None, Ok, OnErr, OnOk, filter, find, length, drop, true, [], ◌∷◌, ◌++◌};
 ghost use Rattle.std.specs.List.{list_all, list_any};
 ghost use Rattle.sdr_model.specs.AccountSteps.{is_granted};
 ghost use Rattle.sdr_model.specs.Accounts.{pending_among};
+ghost use Rattle.sdr_model.specs.Asking.{Asks, AsksNothing, makes_calls, settled};
 ghost use Rattle.sdr_model.specs.Built.{is_built, is_built_event};
 ghost use Rattle.sdr_model.specs.Transaction.{refused};
 ghost use Rattle.sdr_model.specs.Machine.{MachineStep, Goes, Draws, Comes, ComesLooking, ComesLeaving, LooksAt, Leaving, Looks, Opens, Serves, Closes, Waits, Holds, event_moves, says_moves, first_machine, served_number, is_outside, is_stalled, may_come, with_entry, with_wait, with_left, with_holder};
 
 use crate::transaction::{close, deepen, refused, retreat, rise, say};
-use crate::{Accounts, Answer, Call, Event, Holder, Reply, Waiting, World};
-use sdr_base::{NoMemory, Refusal};
+use crate::wire_calls::pieces_of;
+use crate::{Accounts, Answer, Call, Event, Holder, Piece, Reply, Waiting, World};
+use sdr_base::{Bytes, Items, NoMemory, Refusal};
 use std::alloc::Global;
 use std::marker::Model;
 
@@ -487,6 +489,57 @@ impl Lock {
         match holder_of(&self.holders, daemon) {
             None => self.comes(daemon, event),
             Some(holder) => self.hold(holder, event),
+        }
+    }
+
+    // Whether a call of the daemon is made: its number is served, and it is in a transaction that isn't doomed.
+    fn makes_calls(&self, daemon: u8) -> bool
+        ensures { result ≡ makes_calls self.now daemon }
+    {
+        if !self.may_come(daemon) {
+            return false;
+        }
+        match holder_of(&self.holders, daemon) {
+            None => false,
+            Some(holder) => {
+                holder.depth > 0
+                    && served_number(&self.holders) == holder.number
+                    && holder.doom.is_none()
+            }
+        }
+    }
+
+    /// The pieces that are asked of media before an event is answered: those of the bytes that its call gives.
+    pub fn pieces(&self, daemon: u8, event: &Event) -> Result<Option<Items<Piece>>, NoMemory>
+        ensures some { IfOk result (λ asked. IfSome asked (Asks self.now daemon event.now)) }
+        ensures none { result ≡ Ok None → AsksNothing self.now daemon event.now }
+    {
+        match event {
+            Event::Say(call) => self.call_pieces(daemon, call),
+            _ => Ok(None),
+        }
+    }
+
+    // The same of a call.
+    fn call_pieces(&self, daemon: u8, call: &Call) -> Result<Option<Items<Piece>>, NoMemory>
+        ensures some { IfOk result (λ asked. IfSome asked (Asks self.now daemon (Event.Say call.now))) }
+        ensures none { result ≡ Ok None → AsksNothing self.now daemon (Event.Say call.now) }
+    {
+        if !self.makes_calls(daemon) {
+            return Ok(None);
+        }
+        pieces_of(self.alloc, &self.world, call)
+    }
+
+    /// Answers the call of which pieces were asked: it gives these bytes, or media stopped it.
+    pub fn settle(&mut self, daemon: u8, given: Option<Bytes>)
+        ensures { self.new ≡ settled self.old daemon given }
+    {
+        if let Some(holder) = holder_of(&self.holders, daemon) {
+            self.put(holder);
+            if let Some(bytes) = given {
+                self.world.show(bytes);
+            }
         }
     }
 }

@@ -1,10 +1,11 @@
 // The machine on a plain world.
-ghost use Rattle.std.specs.Prelude.{◌≡◌, ◌<◌, ◌+◌, IfOk, OnOk, OnErr, true};
+ghost use Rattle.std.specs.Prelude.{◌≡◌, ◌<◌, ◌+◌, IfOk, IfSome, None, Ok, OnOk, OnErr, true};
+ghost use Rattle.sdr_model.specs.Asking.{Asks, AsksNothing, settled};
 ghost use Rattle.sdr_model.specs.Built.{is_built_event};
 ghost use Rattle.sdr_model.specs.Machine.{MachineStep, event_moves, first_machine};
 
-use crate::{Answer, Event, Lock};
-use sdr_base::NoMemory;
+use crate::{Answer, Event, Lock, Piece};
+use sdr_base::{Bytes, Items, NoMemory};
 use std::alloc::Global;
 use std::marker::Model;
 
@@ -58,5 +59,24 @@ impl Plain {
         let answer = self.lock.event(daemon, event)?;
         self.events += 1;
         Ok(answer)
+    }
+
+    /// The pieces that are asked of media before an event is answered: those of the bytes that its call gives. It
+    /// changes nothing. Where there are none, `event` answers it.
+    pub fn pieces(&self, daemon: u8, event: &Event) -> Result<Option<Items<Piece>>, NoMemory>
+        ensures some { IfOk result (λ asked. IfSome asked (Asks self.now.machine daemon event.now)) }
+        ensures none { result ≡ Ok None → AsksNothing self.now.machine daemon event.now }
+    {
+        self.lock.pieces(daemon, event)
+    }
+
+    /// Makes the event of a daemon of which pieces were asked: its call gives the bytes that they are, or media
+    /// stopped it.
+    pub fn settle(&mut self, daemon: u8, given: Option<Bytes>)
+        requires events { self.old.events < 2_097_152 }
+        ensures { self.new ≡ record { machine = settled self.old.machine daemon given; events = self.old.events + 1 } }
+    {
+        self.lock.settle(daemon, given);
+        self.events += 1;
     }
 }

@@ -1,6 +1,7 @@
 // What calls that ask bytes of objects do to a world.
-ghost use Rattle.std.specs.Prelude.{◌≡◌, true, IfOk};
+ghost use Rattle.std.specs.Prelude.{◌≡◌, true, IfOk, IfSome, None, Ok};
 ghost use Rattle.sdr_model.specs.Answers.{Answers};
+ghost use Rattle.sdr_model.specs.Asking.{HasPieces};
 ghost use Rattle.sdr_model.specs.Pieces.{AsksBytes, asked_addr, asked_count, filled, pieces_asked, pieces_told};
 ghost use Rattle.sdr_model.specs.Reading.{reads_media};
 
@@ -74,4 +75,20 @@ pub fn give(alloc: Global, world: &mut World, call: &Call) -> Result<Reply, NoMe
     let count = shown.len() as u64;
     world.show(shown);
     Ok(Reply::Bytes { count })
+}
+
+/// The pieces of the bytes by which a call is answered, where it asks bytes of an object that is there, and
+/// nothing where it doesn't.
+pub fn pieces_of(alloc: Global, world: &World, call: &Call) -> Result<Option<Items<Piece>>, NoMemory>
+    ensures some { IfOk result (λ asked. IfSome asked (HasPieces world.now.now call.now)) }
+    ensures none { result ≡ Ok None → reads_media call.now ≡ true → ¬ AsksBytes world.now.now call.now }
+{
+    if !call.reads_media() {
+        return Ok(None);
+    }
+    let (addr, count) = asked(call);
+    if object(world, addr).is_none() || count > LONGEST_READ {
+        return Ok(None);
+    }
+    Ok(Some(parts(alloc, world, call)?))
 }
