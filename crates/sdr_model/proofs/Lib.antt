@@ -1,6 +1,9 @@
+pub mod BlocksTaken
 pub mod Cases
 pub mod CountLemmas
 pub mod DryLemmas
+pub mod FewLemmas
+pub mod FewSteps
 mod HashExample
 pub mod HashLemmas
 pub mod MachineLemmas

@@ -40,5 +40,4 @@ is_built call = true
 -- whether it serves the event
 abbrev pub is_built_event : Event → Bool
 is_built_event (events.Say call) = is_built call
-is_built_event (events.Leaves leave) = false
 is_built_event event = true

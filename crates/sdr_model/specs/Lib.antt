@@ -13,6 +13,7 @@ pub mod Core
 pub mod Cuts
 pub mod Draft
 pub mod Dry
+pub mod Few
 pub mod Fields
 pub mod Gone
 pub mod HashChanges

@@ -47,7 +47,7 @@ mod transaction;
 mod world;
 mod zco;
 
-pub use accounts::{Account, Accounts, MOST_AMOUNT, Ticket};
+pub use accounts::{Account, Accounts, MOST_AMOUNT, Pending, Ticket};
 pub use answer::{Answer, Close, Reply};
 pub use call::Call;
 pub use calls::apply;

@@ -16,7 +16,7 @@ ghost use Rattle.sdr_model.specs.declared.things.Thing.{Thing};
 use crate::catalogue::Catalogue;
 use crate::owners::Owners;
 use crate::tally::Tally;
-use crate::{Block, Ledger, Named, Names, Spot, Store, Thing};
+use crate::{Accounts, Block, Ledger, Named, Names, Spot, Store, Thing};
 use sdr_base::{Addr, Bytes, Items, NoMemory};
 use std::alloc::Global;
 use std::marker::Model;
@@ -88,6 +88,13 @@ impl World {
         ensures { option_copied result ≡ thing_at self.now.now addr }
     {
         self.things.get(addr)
+    }
+
+    /// The accounts at the begin of the open transaction.
+    pub fn accounts_begun(&self) -> &Accounts
+        ensures { result.now ≡ self.now.begun.accounts }
+    {
+        self.accounts.begun()
     }
 
     /// The catalogue.
