@@ -10,9 +10,12 @@ pub mod HashLemmas
 pub mod MachineLemmas
 pub mod MapLemmas
 pub mod NamesLemmas
+pub mod NotesLemmas
 pub mod OrderLemmas
 pub mod OwnersLemmas
 pub mod PiecesLemmas
 pub mod SpotLemmas
 pub mod StoreLemmas
+pub mod SumLemmas
 pub mod TableLemmas
+pub mod TallyLemmas

@@ -8,6 +8,7 @@ pub mod BondSteps
 pub mod Bounds
 pub mod Built
 pub mod Catalogue
+pub mod Charged
 pub mod Charges
 pub mod Charging
 pub mod Core
@@ -26,6 +27,7 @@ pub mod ListSteps
 pub mod Machine
 pub mod NameSteps
 pub mod Names
+pub mod Notes
 pub mod ObjectSteps
 pub mod Owners
 pub mod PartSteps
@@ -42,6 +44,7 @@ pub mod Steps
 pub mod Store
 pub mod TableSteps
 pub mod Tables
+pub mod Tallies
 pub mod Things
 pub mod Transaction
 pub mod Valid

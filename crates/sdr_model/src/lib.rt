@@ -30,6 +30,8 @@ mod name_calls;
 mod names;
 mod object;
 mod object_calls;
+mod note_map;
+mod notes;
 mod ordered_calls;
 mod owners;
 mod place;
@@ -40,6 +42,7 @@ mod script;
 mod store;
 mod table;
 mod table_calls;
+mod tally;
 #[cfg(test)]
 mod tests;
 mod text_calls;

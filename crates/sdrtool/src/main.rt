@@ -4,7 +4,8 @@
 //!    is made, or lengthened with zero bytes, to N bytes. A file that can't be opened, lengthened or
 //!    locked ends the program with status 1.
 //! 2. The other words go to the top call, whose status the program ends with.
-//! 3. `--help` and `--version`, alone, are answered without a disk.
+//! 3. Files and bulk items are those of the current folder.
+//! 4. `--help` and `--version`, alone, are answered without a disk.
 #![tactic(auto)]
 
 mod about;
@@ -20,14 +21,16 @@ use crate::file_disk::FileDisk;
 use crate::opening::{make_disk, open_disk};
 use crate::place::{Place, place_of};
 use crate::real::{StdSink, StdSource};
-use sdr_base::{NoGate, NoMedia, NoMemory, Sink, Source};
+use sdr_base::{Media, NoGate, NoMemory, Sink, Source};
 use sdr_disk::{Disk, MemoryDisk};
+use sdr_media::FolderMedia;
 use sdr_shell::{NO_MEMORY, top};
 use std::alloc::Global;
 use std::env::{Args, Env};
 use std::fs::File;
 use std::io::ErrorKind;
 use std::iter::Skip;
+use std::path::PathBuf;
 use std::process::ExitCode;
 use std::rc::RcStr;
 use std::rt::Files;
@@ -67,28 +70,40 @@ fn shared(alloc: Global, args: Skip<Args<Global>>) -> Result<Vec<RcStr>, NoMemor
     Ok(words)
 }
 
-// The status of the top call on a disk.
-fn answer<R: Threads + Wait + Sync + AllocGlobal, D: Disk + Send + Drop, S: Source, K: Sink>(
+// The status of the top call on a disk, with these media.
+fn answer<
+    R: Threads + Wait + Sync + AllocGlobal,
+    D: Disk + Send + Drop,
+    M: Media + Send + Drop,
+    S: Source,
+    K: Sink,
+>(
     rt: &R,
     form: &[RcStr],
     disk: D,
+    media: M,
     input: &mut S,
     output: &mut K,
 ) -> u8 {
-    let media = NoMedia::new();
     top(rt, rt.alloc(), form, disk, media, input, output, &NoGate).status
 }
 
 // The same on a file, where it could be opened.
-fn answer_on_file<R: Threads + Wait + Sync + AllocGlobal + Eprint, S: Source, K: Sink>(
+fn answer_on_file<
+    R: Threads + Wait + Sync + AllocGlobal + Eprint,
+    M: Media + Send + Drop,
+    S: Source,
+    K: Sink,
+>(
     rt: &R,
     form: &[RcStr],
     opened: io::Result<FileDisk<File>>,
+    media: M,
     input: &mut S,
     output: &mut K,
 ) -> u8 {
     match opened {
-        Ok(disk) => answer(rt, form, disk, input, output),
+        Ok(disk) => answer(rt, form, disk, media, input, output),
         Err(_) => {
             let _ = eprintln!(rt; "sdrtool: cannot open");
             CANNOT_OPEN
@@ -97,32 +112,44 @@ fn answer_on_file<R: Threads + Wait + Sync + AllocGlobal + Eprint, S: Source, K:
 }
 
 // The same on an empty disk in memory.
-fn answer_in_memory<R: Threads + Wait + Sync + AllocGlobal, S: Source, K: Sink>(
+fn answer_in_memory<
+    R: Threads + Wait + Sync + AllocGlobal,
+    M: Media + Send + Drop,
+    S: Source,
+    K: Sink,
+>(
     rt: &R,
     form: &[RcStr],
+    media: M,
     input: &mut S,
     output: &mut K,
 ) -> u8 {
     let disk = MemoryDisk::new(Vec::new(rt.alloc()), Vec::new(rt.alloc()));
-    answer(rt, form, disk, input, output)
+    answer(rt, form, disk, media, input, output)
 }
 
 // The status of a command line.
-fn run<R: Threads + Wait + Sync + AllocGlobal + Eprint + Files<File = File>, S: Source, K: Sink>(
+fn run<
+    R: Threads + Wait + Sync + AllocGlobal + Eprint + Files<File = File>,
+    M: Media + Send + Drop,
+    S: Source,
+    K: Sink,
+>(
     rt: &R,
     words: &[RcStr],
+    media: M,
     input: &mut S,
     output: &mut K,
 ) -> u8 {
     match words {
-        [] => answer_in_memory(rt, words, input, output),
+        [] => answer_in_memory(rt, words, media, input, output),
         [word] if word.as_str() == "--help" => print(output, HELP),
         [word] if word.as_str() == "--version" => print(output, VERSION),
         [disk, form @ ..] => match place_of(disk.as_str()) {
-            Place::Memory => answer_in_memory(rt, form, input, output),
-            Place::File { path } => { answer_on_file(rt, form, open_disk(rt, path), input, output) }
+            Place::Memory => answer_in_memory(rt, form, media, input, output),
+            Place::File { path } => { answer_on_file(rt, form, open_disk(rt, path), media, input, output) }
             Place::Sized { path, bytes } => {
-                answer_on_file(rt, form, make_disk(rt, path, bytes), input, output)
+                answer_on_file(rt, form, make_disk(rt, path, bytes), media, input, output)
             }
         },
     }
@@ -136,5 +163,7 @@ fn main(rt: HostRuntime) -> ExitCode {
     };
     let mut input = StdSource::new(rt.stdin());
     let mut output = StdSink::new(rt.stdout());
-    ExitCode::from(run(&rt, words.as_slice(), &mut input, &mut output))
+    // Files and items are those of the current folder.
+    let media = FolderMedia::new(rt, PathBuf::new(rt.alloc()));
+    ExitCode::from(run(&rt, words.as_slice(), media, &mut input, &mut output))
 }
