@@ -4,7 +4,7 @@ use Rattle.std.proofs.lemmas.Grind.{common_steps, flat_map-append}
 use Rattle.std.proofs.lemmas.List.{append-nil, take-replicate, drop-replicate, drop-take, length-map, length-replicate, map-append, take-map, take_min, drop-map}
 use Rattle.std.proofs.lemmas.List.Concat.{flat_map-cons}
 use Rattle.std.proofs.lemmas.List.Folds.{flat_map-map}
-use Rattle.std.proofs.lemmas.Bool.{eqb-true, le-ltb, lt-ltb}
+use Rattle.std.proofs.lemmas.Bool.{eqb-true, le-ltb}
 use Rattle.std.specs.Prelude.{nat_lt, MatchBool}
 use Rattle.sdr_base.specs.Parts.{part}
 use Rattle.sdr_base.specs.declared.moves.Move.{Move}
@@ -278,12 +278,9 @@ row-asked w o (calls.ReceiveSource addr place count) reads gives = gives
 row-asked w o (calls.ReceiveTrailers addr place count) reads gives = gives
 row-asked w o call reads gives = cc
 
--- the outcomes of such calls: bytes are shown, or the call is refused
+-- the outcome in which such a call shows bytes
 abbrev Shows : World → List ℕ → Outcome
 Shows w bytes = record { moves = []; after = record w { shown = bytes }; reply = replies.Bytes (length bytes) }
-
-abbrev Refused : World → Refusal → Outcome
-Refused w refusal = record { moves = []; after = w; reply = replies.Refused refusal }
 
 -- where the object is there, at most a page is asked and the bytes are as they are told, they are given
 gives-page : (w : World) (addr count : ℕ) (named : Option ZcoObject) (z : ZcoObject) (of : ZcoObject → Told)
@@ -298,29 +295,6 @@ gives-page w addr count (Some y) z of bytes is most spells =
     (sym (le-ltb longest_read count most))
     (subst (λ x. Gives w (Shows w bytes) (of x)) (let same : z ≡ y = cc in same)
     (refl, refl, spells, ap replies.Bytes (length-spelled (of z) bytes spells)))
-
--- where it isn't there, the call is refused
-gives-none : (w : World) (addr count : ℕ) (named : Option ZcoObject) (of : ZcoObject → Told) → named ≡ None
-    → On w (Refused w (misnamed w addr)) addr named (λ z.
-        MatchBool (nat_lt longest_read count)
-        (Refuses w (Refused w (misnamed w addr)) (refusals.BadLength count longest_read))
-        (Gives w (Refused w (misnamed w addr)) (of z)))
-gives-none w addr count None of is = (refl, refl, refl)
-gives-none w addr count (Some z) of is = cc
-
--- where more than a page is asked, it is refused
-gives-long : (w : World) (addr count : ℕ) (named : Option ZcoObject) (z : ZcoObject) (of : ZcoObject → Told)
-    → named ≡ Some z → longest_read < count
-    → On w (Refused w (refusals.BadLength count longest_read)) addr named (λ z.
-        MatchBool (nat_lt longest_read count)
-        (Refuses w (Refused w (refusals.BadLength count longest_read)) (refusals.BadLength count longest_read))
-        (Gives w (Refused w (refusals.BadLength count longest_read)) (of z)))
-gives-long w addr count None z of is long = cc
-gives-long w addr count (Some y) z of is long =
-    subst (λ b. MatchBool b
-    (Refuses w (Refused w (refusals.BadLength count longest_read)) (refusals.BadLength count longest_read))
-    (Gives w (Refused w (refusals.BadLength count longest_read)) (of y)))
-    (sym (lt-ltb longest_read count long)) (refl, refl, refl)
 
 -- bytes that the pieces asked tell are what the row of the call gives
 pub asked-row : (w : World) (call : Call) (bytes : List ℕ) → AsksBytes w call
@@ -367,24 +341,3 @@ gives-step w w' call z bytes reads there page is shown =
     (row-asked w (Shows w bytes) call reads
     (gives-page w (asked_addr call) (asked_count call) (object_at w (asked_addr call)) z (part_asked w call) bytes there page
     (subst (λ t. Spells t bytes) (pieces_told-part w call z) spells))))
-
--- an object that isn't there is refused
-pub misnamed-step : (w w' : World) (call : Call) → reads_media call ≡ true → object_at w (asked_addr call) ≡ None
-    → w' ≡ w → StepsDry w call [] w' (replies.Refused (misnamed w (asked_addr call)))
-misnamed-step w w' call reads none same =
-    let reply : Reply = replies.Refused (misnamed w (asked_addr call)) in
-    subst (λ v. StepsDry w call [] v reply) (sym same)
-    (step-still w w call [] reply refl refl
-    (row-asked w (Refused w (misnamed w (asked_addr call))) call reads
-    (gives-none w (asked_addr call) (asked_count call) (object_at w (asked_addr call)) (part_asked w call) none)))
-
--- more than a page is refused
-pub long-step : (w w' : World) (call : Call) (z : ZcoObject) → reads_media call ≡ true
-    → object_at w (asked_addr call) ≡ Some z → longest_read < asked_count call → w' ≡ w
-    → StepsDry w call [] w' (replies.Refused (refusals.BadLength (asked_count call) longest_read))
-long-step w w' call z reads there long same =
-    let refusal : Refusal = refusals.BadLength (asked_count call) longest_read in
-    subst (λ v. StepsDry w call [] v (replies.Refused refusal)) (sym same)
-    (step-still w w call [] (replies.Refused refusal) refl refl
-    (row-asked w (Refused w refusal) call reads
-    (gives-long w (asked_addr call) (asked_count call) (object_at w (asked_addr call)) z (part_asked w call) there long)))
