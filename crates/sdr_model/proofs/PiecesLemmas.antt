@@ -7,15 +7,21 @@ use Rattle.std.proofs.lemmas.List.Folds.{flat_map-map}
 use Rattle.std.proofs.lemmas.Bool.{eqb-true, le-ltb}
 use Rattle.std.specs.Prelude.{nat_lt, MatchBool}
 use Rattle.sdr_base.specs.Parts.{part}
+use Rattle.sdr_base.specs.declared.moves.Move.{Move}
+use Rattle.sdr_base.specs.declared.refusal.Refusal.{Refusal}
 use Rattle.sdr_base.specs.declared.refusal.Refusal.TheVariants as refusals
+use Rattle.sdr_model.specs.Dry.{StepsDry, addr_after, answered_moves, dry_moves}
 use Rattle.sdr_model.specs.Limits.{longest_read}
 use Rattle.sdr_model.specs.PartSteps.{part_end}
-use Rattle.sdr_model.specs.Pieces.{AsksBytes, AsksPage, Gathers, capsule_pieces, cut_pieces, extent_piece, extent_pieces, filled, header_pieces, piece_length, piece_part, piece_told, pieces_asked, pieces_of, pieces_told, raw_piece, shows, source_piece, source_pieces, subject_piece, trailer_pieces, told_asked, told_of, wire_pieces}
+use Rattle.sdr_model.specs.Pieces.{AsksBytes, AsksPage, Gathers, asked_addr, asked_count, capsule_pieces, cut_pieces, extent_piece, extent_pieces, filled, header_pieces, piece_length, piece_part, piece_told, pieces_asked, pieces_of, pieces_told, part_asked, part_pieces, raw_piece, source_piece, source_pieces, subject_piece, trailer_pieces, wire_pieces}
+use Rattle.sdr_model.specs.Reading.{reads_media}
+use Rattle.sdr_model.specs.RowMoves.{row_moves}
 use Rattle.sdr_model.specs.Rows.{ByRow}
-use Rattle.sdr_model.specs.Steps.{On, Refuses}
-use Rattle.sdr_model.specs.Wire.{Gives, Spells, Told, capsules_told, extent_told, extents_told, headers_part, known, raw_told, some_of, source_part, source_told, subject_told, trailers_part, unknown, wire_part, wire_told}
-use Rattle.sdr_model.specs.World.{World, as_raw, thing_at}
+use Rattle.sdr_model.specs.Steps.{On, Outcome, Refuses}
+use Rattle.sdr_model.specs.Wire.{Gives, GivesOf, Spells, Told, capsules_told, extent_told, extents_told, headers_part, known, raw_told, some_of, source_part, source_told, subject_told, trailers_part, unknown, wire_part, wire_told}
+use Rattle.sdr_model.specs.World.{World, as_raw, misnamed, thing_at}
 use Rattle.sdr_model.specs.Zco.{object_at, source_at}
+use Rattle.sdr_model.specs.declared.answer.Reply.{Reply}
 use Rattle.sdr_model.specs.declared.answer.Reply.TheVariants as replies
 use Rattle.sdr_model.specs.declared.call.Call.{Call}
 use Rattle.sdr_model.specs.declared.call.Call.TheVariants as calls
@@ -204,26 +210,15 @@ cut_before w skip count end es =
     cut_extents w skip (min count (end - skip)) es
     ∙ some-take skip count end (min count (end - skip)) (extents_told w es) refl
 
-told-of : (named : Option ZcoObject) (pieces : ZcoObject → List Piece) (told : ZcoObject → Told)
-    → ((z : ZcoObject) → pieces_told (pieces z) ≡ told z) → pieces_told (pieces_of named pieces) ≡ told_of named told
-told-of None pieces told same = refl
-told-of (Some z) pieces told same = same z
-
--- the pieces asked tell the bytes asked
-pub pieces_told-asked : (w : World) (call : Call) → pieces_told (pieces_asked w call) ≡ told_asked w call
-pieces_told-asked w (calls.Transmit addr place count) =
-    told-of (object_at w addr) _ (wire_part w place count)
-    (λ z. pieces_told-cut place count (wire_pieces w z) ∙ ap (some_of place count) (pieces_told-wire w z))
-pieces_told-asked w (calls.ReceiveHeaders addr place count) =
-    told-of (object_at w addr) (header_pieces w place count) (headers_part w place count)
-    (λ z. cut_before w place count z.part.offset z.extents)
-pieces_told-asked w (calls.ReceiveSource addr place count) =
-    told-of (object_at w addr) (source_pieces w place count) (source_part w place count)
-    (λ z. cut_before w (max place z.part.offset) count (part_end z) z.extents)
-pieces_told-asked w (calls.ReceiveTrailers addr place count) =
-    told-of (object_at w addr) (trailer_pieces w place count) (trailers_part w place count)
-    (λ z. cut_extents w (max place (part_end z)) count z.extents)
-pieces_told-asked w call = refl
+-- the pieces of a part that is asked tell its bytes
+pub pieces_told-part : (w : World) (call : Call) (z : ZcoObject) → pieces_told (part_pieces w call z) ≡ part_asked w call z
+pieces_told-part w (calls.Transmit addr place count) z =
+    pieces_told-cut place count (wire_pieces w z) ∙ ap (some_of place count) (pieces_told-wire w z)
+pieces_told-part w (calls.ReceiveHeaders addr place count) z = cut_before w place count z.part.offset z.extents
+pieces_told-part w (calls.ReceiveSource addr place count) z =
+    cut_before w (max place z.part.offset) count (part_end z) z.extents
+pieces_told-part w (calls.ReceiveTrailers addr place count) z = cut_extents w (max place (part_end z)) count z.extents
+pieces_told-part w call z = refl
 
 -- bytes that are told are as many
 pub length-spelled : (told : Told) (bytes : List ℕ) → Spells told bytes → length bytes ≡ length told
@@ -238,50 +233,111 @@ Spells-filled [] = tt
 Spells-filled (None ∷ told) = (tt, Spells-filled told)
 Spells-filled (Some b ∷ told) = (refl, Spells-filled told)
 
--- the call gives the bytes that it asks of an object that is there
-gives : (w : World) (addr count : ℕ) (named : Option ZcoObject) (of : ZcoObject → Told) (bytes : List ℕ)
-    → AsksPage named count → Spells (told_of named of) bytes
-    → On w (shows w bytes) addr named (λ z.
-        MatchBool (nat_lt longest_read count)
-        (Refuses w (shows w bytes) (refusals.BadLength count longest_read))
-        (Gives w (shows w bytes) (of z)))
-gives w addr count None of bytes asks spells = absurd asks
-gives w addr count (Some z) of bytes asks spells =
-    subst (λ b. MatchBool b (Refuses w (shows w bytes) (refusals.BadLength count longest_read)) (Gives w (shows w bytes) (of z)))
-    (sym (le-ltb longest_read count asks))
-    (refl, refl, spells, ap replies.Bytes (length-spelled (of z) bytes spells))
+-- bytes that the world tells stay as they are
+pub filled-known : (bytes : List ℕ) → filled (known bytes) ≡ bytes
+filled-known [] = refl
+filled-known (b ∷ bytes) = ap (λ (l : List ℕ). b ∷ l) (filled-known bytes)
 
--- so much of a page is asked
-pub asked-row : (w : World) (call : Call) (bytes : List ℕ) → AsksBytes w call → Spells (told_asked w call) bytes
-    → ByRow w (shows w bytes) call
-asked-row w (calls.Transmit addr place count) bytes asks spells =
-    gives w addr count (object_at w addr) (wire_part w place count) bytes asks spells
-asked-row w (calls.ReceiveHeaders addr place count) bytes asks spells =
-    gives w addr count (object_at w addr) (headers_part w place count) bytes asks spells
-asked-row w (calls.ReceiveSource addr place count) bytes asks spells =
-    gives w addr count (object_at w addr) (source_part w place count) bytes asks spells
-asked-row w (calls.ReceiveTrailers addr place count) bytes asks spells =
-    gives w addr count (object_at w addr) (trailers_part w place count) bytes asks spells
-asked-row w call bytes asks spells = absurd asks
+-- the others are zeros
+pub filled-unknown : (bytes : ℕ) → filled (unknown bytes) ≡ replicate bytes 0
+filled-unknown zero = refl
+filled-unknown (suc bytes) = ap (λ (l : List ℕ). 0 ∷ l) (filled-unknown bytes)
 
--- the bytes of what is asked of a page are at most a page
+-- so much of a page is at most a page
 length-some : (skip count : ℕ) (told : Told) → count ≤ longest_read → length (some_of skip count told) ≤ longest_read
 length-some skip count told most = omega (arith, length-take count (drop skip told))
 
-length-of : (named : Option ZcoObject) (of : ZcoObject → Told) (count : ℕ) → AsksPage named count
-    → ((z : ZcoObject) → count ≤ longest_read → length (of z) ≤ longest_read) → length (told_of named of) ≤ longest_read
-length-of None of count asks each = absurd asks
-length-of (Some z) of count asks each = each z asks
+-- at most a page is asked
+pub length-part : (w : World) (call : Call) (z : ZcoObject) → asked_count call ≤ longest_read
+    → length (part_asked w call z) ≤ longest_read
+length-part w (calls.Transmit addr place count) z most = length-some place count (wire_told w z) most
+length-part w (calls.ReceiveHeaders addr place count) z most =
+    length-some place count (take z.part.offset (extents_told w z.extents)) most
+length-part w (calls.ReceiveSource addr place count) z most =
+    length-some (max place z.part.offset) count (take (part_end z) (extents_told w z.extents)) most
+length-part w (calls.ReceiveTrailers addr place count) z most =
+    length-some (max place (part_end z)) count (extents_told w z.extents) most
+length-part w call z most = omega arith
 
-pub length-asked : (w : World) (call : Call) → AsksBytes w call → length (told_asked w call) ≤ longest_read
-length-asked w (calls.Transmit addr place count) asks =
-    length-of (object_at w addr) (wire_part w place count) count asks (λ z most. length-some place count _ most)
-length-asked w (calls.ReceiveHeaders addr place count) asks =
-    length-of (object_at w addr) (headers_part w place count) count asks (λ z most. length-some place count _ most)
-length-asked w (calls.ReceiveSource addr place count) asks =
-    length-of (object_at w addr) (source_part w place count) count asks
-    (λ z most. length-some (max place z.part.offset) count _ most)
-length-asked w (calls.ReceiveTrailers addr place count) asks =
-    length-of (object_at w addr) (trailers_part w place count) count asks
-    (λ z most. length-some (max place (part_end z)) count _ most)
-length-asked w call asks = absurd asks
+-- the pieces asked have at most a page of bytes
+pub length-asked : (w : World) (call : Call) → AsksBytes w call → length (pieces_told (pieces_asked w call)) ≤ longest_read
+length-asked w call asks = of_object (object_at w (asked_addr call)) asks.there
+  where
+    of_object : (named : Option ZcoObject) → AsksPage named (asked_count call)
+        → length (pieces_told (pieces_of named (part_pieces w call))) ≤ longest_read
+    of_object None there = absurd there
+    of_object (Some z) most = subst (λ told. length told ≤ longest_read) (sym (pieces_told-part w call z))
+        (length-part w call z most)
+
+-- the rows of the calls that ask bytes of an object
+pub row-asked : (w : World) (o : Outcome) (call : Call) → reads_media call ≡ true
+    → GivesOf w o (asked_addr call) (asked_count call) (part_asked w call) → ByRow w o call
+row-asked w o (calls.Transmit addr place count) reads gives = gives
+row-asked w o (calls.ReceiveHeaders addr place count) reads gives = gives
+row-asked w o (calls.ReceiveSource addr place count) reads gives = gives
+row-asked w o (calls.ReceiveTrailers addr place count) reads gives = gives
+row-asked w o call reads gives = cc
+
+-- the outcome in which such a call shows bytes
+abbrev Shows : World → List ℕ → Outcome
+Shows w bytes = record { moves = []; after = record w { shown = bytes }; reply = replies.Bytes (length bytes) }
+
+-- where the object is there, at most a page is asked and the bytes are as they are told, they are given
+gives-page : (w : World) (addr count : ℕ) (named : Option ZcoObject) (z : ZcoObject) (of : ZcoObject → Told)
+    (bytes : List ℕ) → named ≡ Some z → count ≤ longest_read → Spells (of z) bytes
+    → On w (Shows w bytes) addr named (λ z.
+        MatchBool (nat_lt longest_read count)
+        (Refuses w (Shows w bytes) (refusals.BadLength count longest_read))
+        (Gives w (Shows w bytes) (of z)))
+gives-page w addr count None z of bytes is most spells = cc
+gives-page w addr count (Some y) z of bytes is most spells =
+    subst (λ b. MatchBool b (Refuses w (Shows w bytes) (refusals.BadLength count longest_read)) (Gives w (Shows w bytes) (of y)))
+    (sym (le-ltb longest_read count most))
+    (subst (λ x. Gives w (Shows w bytes) (of x)) (let same : z ≡ y = cc in same)
+    (refl, refl, spells, ap replies.Bytes (length-spelled (of z) bytes spells)))
+
+-- bytes that the pieces asked tell are what the row of the call gives
+pub asked-row : (w : World) (call : Call) (bytes : List ℕ) → AsksBytes w call
+    → Spells (pieces_told (pieces_asked w call)) bytes → ByRow w (Shows w bytes) call
+asked-row w call bytes asks spells =
+    of_object (object_at w (asked_addr call)) refl asks.there spells
+  where
+    of_object : (named : Option ZcoObject) → object_at w (asked_addr call) ≡ named → AsksPage named (asked_count call)
+        → Spells (pieces_told (pieces_of named (part_pieces w call))) bytes → ByRow w (Shows w bytes) call
+    of_object None is there spells = absurd there
+    of_object (Some z) is most spells =
+        row-asked w (Shows w bytes) call asks.reads
+        (gives-page w (asked_addr call) (asked_count call) (object_at w (asked_addr call)) z (part_asked w call) bytes is most
+        (subst (λ told. Spells told bytes) (pieces_told-part w call z) spells))
+
+-- a call that reads media moves nothing
+no_moves : (w : World) (call : Call) (at : ℕ → ℕ) → reads_media call ≡ true → row_moves w call at ≡ []
+no_moves w (calls.Transmit addr place count) at reads = refl
+no_moves w (calls.ReceiveHeaders addr place count) at reads = refl
+no_moves w (calls.ReceiveSource addr place count) at reads = refl
+no_moves w (calls.ReceiveTrailers addr place count) at reads = refl
+no_moves w call at reads = cc
+
+-- a step without moves
+step-still : (w w' : World) (call : Call) (moves : List Move) (reply : Reply) → moves ≡ [] → w'.taken ≡ w.taken
+    → ByRow w (record { moves = []; after = record w' { taken = w.taken }; reply = reply }) call
+    → StepsDry w call moves w' reply
+step-still w w' call moves reply none same row =
+    subst (λ m. StepsDry w call m w' reply) (sym none)
+    (record { step = row; in_order = tt; counted = omega (arith, same) })
+
+-- bytes as they are told are given
+pub gives-step : (w w' : World) (call : Call) (z : ZcoObject) (bytes : List ℕ) → reads_media call ≡ true
+    → object_at w (asked_addr call) ≡ Some z → asked_count call ≤ longest_read
+    → bytes ≡ filled (pieces_told (part_pieces w call z)) → w' ≡ record w { shown = bytes }
+    → StepsDry w call (dry_moves w call (replies.Bytes (length bytes))) w' (replies.Bytes (length bytes))
+gives-step w w' call z bytes reads there page is shown =
+    let told = pieces_told (part_pieces w call z) in
+    let spells : Spells told bytes = subst (λ b. Spells told b) (sym is) (Spells-filled told) in
+    let reply : Reply = replies.Bytes (length bytes) in
+    subst (λ v. StepsDry w call (dry_moves w call reply) v reply) (sym shown)
+    (step-still w (record w { shown = bytes }) call (answered_moves w call) reply
+    (no_moves w call (addr_after w.taken) reads) refl
+    (row-asked w (Shows w bytes) call reads
+    (gives-page w (asked_addr call) (asked_count call) (object_at w (asked_addr call)) z (part_asked w call) bytes there page
+    (subst (λ t. Spells t bytes) (pieces_told-part w call z) spells))))

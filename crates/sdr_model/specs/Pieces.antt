@@ -1,14 +1,13 @@
 -- The pieces in which the bytes that a call asks of an object lie: in the world, in files and in items.
-use Rattle.std.specs.Prelude.{◌≡◌, ℕ, ◌+◌, ◌-◌, ◌==◌, ◌≤◌, List, [], ◌∷◌, ◌++◌, length, map, min, max, unwrap_or, flat_map, Option, None, Some, if◌then◌else◌}
+use Rattle.std.specs.Prelude.{◌≡◌, ℕ, ◌+◌, ◌-◌, ◌==◌, ◌≤◌, List, [], ◌∷◌, ◌++◌, length, map, min, max, true, unwrap_or, flat_map, Option, None, Some, if◌then◌else◌}
 use Rattle.sdr_base.specs.Media.{Told as Media}
 use Rattle.sdr_base.specs.Parts.{part}
 use Rattle.sdr_model.specs.Limits.{longest_read}
 use Rattle.sdr_model.specs.PartSteps.{part_end}
-use Rattle.sdr_model.specs.Steps.{Outcome}
+use Rattle.sdr_model.specs.Reading.{reads_media}
 use Rattle.sdr_model.specs.Wire.{Told, headers_part, known, source_part, trailers_part, unknown, wire_part}
 use Rattle.sdr_model.specs.World.{World, thing_at, as_raw}
 use Rattle.sdr_model.specs.Zco.{object_at, source_at}
-use Rattle.sdr_model.specs.declared.answer.Reply.TheVariants as replies
 use Rattle.sdr_model.specs.declared.call.Call.{Call}
 use Rattle.sdr_model.specs.declared.call.Call.TheVariants as calls
 use Rattle.sdr_model.specs.declared.wire.Gathering.{Gathering}
@@ -117,56 +116,6 @@ abbrev pub pieces_of : Option ZcoObject → (ZcoObject → List Piece) → List 
 pieces_of None of = []
 pieces_of (Some z) of = of z
 
--- the pieces of the bytes that a call asks of an object
-abbrev pub pieces_asked : World → Call → List Piece
-pieces_asked w (calls.Transmit addr place count) =
-    pieces_of (object_at w addr) (λ z. cut_pieces place count (wire_pieces w z))
-pieces_asked w (calls.ReceiveHeaders addr place count) = pieces_of (object_at w addr) (header_pieces w place count)
-pieces_asked w (calls.ReceiveSource addr place count) = pieces_of (object_at w addr) (source_pieces w place count)
-pieces_asked w (calls.ReceiveTrailers addr place count) = pieces_of (object_at w addr) (trailer_pieces w place count)
-pieces_asked w call = []
-
--- the object is there, and at most a page of it is asked
-abbrev pub AsksPage : Option ZcoObject → ℕ → Type 0
-AsksPage None count = ⊥
-AsksPage (Some z) count = count ≤ longest_read
-
--- the call asks for bytes of an object that is there, for at most a page
-abbrev pub AsksBytes : World → Call → Type 0
-AsksBytes w (calls.Transmit addr place count) = AsksPage (object_at w addr) count
-AsksBytes w (calls.ReceiveHeaders addr place count) = AsksPage (object_at w addr) count
-AsksBytes w (calls.ReceiveSource addr place count) = AsksPage (object_at w addr) count
-AsksBytes w (calls.ReceiveTrailers addr place count) = AsksPage (object_at w addr) count
-AsksBytes w call = ⊥
-
--- The bytes of these pieces are gathered: the pieces had, and those still to be cut of any others, are as those to be
--- cut of these and the others.
-abbrev pub Gathers : List Piece → Gathering → Gathering → Type 0
-Gathers ps old new =
-    (others : List Piece) → old.pieces ++ cut_pieces old.skip old.count (ps ++ others)
-    ≡ new.pieces ++ cut_pieces new.skip new.count others
-
--- of an object that is there, bytes that are told
-abbrev pub told_of : Option ZcoObject → (ZcoObject → Told) → Told
-told_of None of = []
-told_of (Some z) of = of z
-
--- the bytes that a call asks of an object
-abbrev pub told_asked : World → Call → Told
-told_asked w (calls.Transmit addr place count) = told_of (object_at w addr) (wire_part w place count)
-told_asked w (calls.ReceiveHeaders addr place count) = told_of (object_at w addr) (headers_part w place count)
-told_asked w (calls.ReceiveSource addr place count) = told_of (object_at w addr) (source_part w place count)
-told_asked w (calls.ReceiveTrailers addr place count) = told_of (object_at w addr) (trailers_part w place count)
-told_asked w call = []
-
--- the bytes that are told, with zeros in the place of those that aren't
-abbrev pub filled : Told → List ℕ
-filled = map (λ byte. unwrap_or byte 0)
-
--- the world shows these bytes, and the reply tells how many they are
-abbrev pub shows : World → List ℕ → Outcome
-shows w bytes = record { moves = []; after = record w { shown = bytes }; reply = replies.Bytes (length bytes) }
-
 -- the address of the object of which a call asks bytes
 abbrev pub asked_addr : Call → ℕ
 asked_addr (calls.Transmit addr place count) = addr
@@ -182,3 +131,44 @@ asked_count (calls.ReceiveHeaders addr place count) = count
 asked_count (calls.ReceiveSource addr place count) = count
 asked_count (calls.ReceiveTrailers addr place count) = count
 asked_count call = 0
+
+-- the bytes that a call asks of an object that it names
+abbrev pub part_asked : World → Call → ZcoObject → Told
+part_asked w (calls.Transmit addr place count) z = wire_part w place count z
+part_asked w (calls.ReceiveHeaders addr place count) z = headers_part w place count z
+part_asked w (calls.ReceiveSource addr place count) z = source_part w place count z
+part_asked w (calls.ReceiveTrailers addr place count) z = trailers_part w place count z
+part_asked w call z = []
+
+-- the pieces of these bytes
+abbrev pub part_pieces : World → Call → ZcoObject → List Piece
+part_pieces w (calls.Transmit addr place count) z = cut_pieces place count (wire_pieces w z)
+part_pieces w (calls.ReceiveHeaders addr place count) z = header_pieces w place count z
+part_pieces w (calls.ReceiveSource addr place count) z = source_pieces w place count z
+part_pieces w (calls.ReceiveTrailers addr place count) z = trailer_pieces w place count z
+part_pieces w call z = []
+
+-- the pieces of the bytes that a call asks, where the object is there
+abbrev pub pieces_asked : World → Call → List Piece
+pieces_asked w call = pieces_of (object_at w (asked_addr call)) (part_pieces w call)
+
+-- the object is there, and at most a page of it is asked
+abbrev pub AsksPage : Option ZcoObject → ℕ → Type 0
+AsksPage None count = ⊥
+AsksPage (Some z) count = count ≤ longest_read
+
+-- the call asks for bytes of an object that is there, for at most a page
+pub record AsksBytes (w : World) (call : Call) : Type 0 where
+  pub reads : reads_media call ≡ true
+  pub there : AsksPage (object_at w (asked_addr call)) (asked_count call)
+
+-- The bytes of these pieces are gathered: the pieces had, and those still to be cut of any others, are as those to be
+-- cut of these and the others.
+abbrev pub Gathers : List Piece → Gathering → Gathering → Type 0
+Gathers ps old new =
+    (others : List Piece) → old.pieces ++ cut_pieces old.skip old.count (ps ++ others)
+    ≡ new.pieces ++ cut_pieces new.skip new.count others
+
+-- the bytes that are told, with zeros in the place of those that aren't
+abbrev pub filled : Told → List ℕ
+filled = map (λ byte. unwrap_or byte 0)

@@ -9,6 +9,7 @@
 
 mod accounts;
 mod answer;
+mod asking;
 mod call;
 mod calls;
 mod capsules;

@@ -8,8 +8,8 @@ ghost use Rattle.sdr_model.specs.Built.{is_built, is_built_event};
 ghost use Rattle.sdr_model.specs.Transaction.{refused};
 ghost use Rattle.sdr_model.specs.Machine.{MachineStep, Goes, Draws, Comes, ComesLooking, ComesLeaving, LooksAt, Leaving, Looks, Opens, Serves, Closes, Waits, Holds, event_moves, says_moves, first_machine, served_number, is_outside, is_stalled, may_come, with_entry, with_wait, with_left, with_holder};
 
+use crate::asking::pieces_of;
 use crate::transaction::{close, deepen, refused, retreat, rise, say};
-use crate::wire_calls::pieces_of;
 use crate::{Accounts, Answer, Call, Event, Holder, Piece, Reply, Waiting, World};
 use sdr_base::{Bytes, Items, NoMemory, Refusal};
 use std::alloc::Global;

@@ -1,11 +1,10 @@
 // The bytes of objects, in pieces.
-ghost use Rattle.std.specs.Prelude.{◌≡◌, true, Some, ◌≢◌, ◌≤◌, ◌<◌, ◌+◌, ◌-◌, ◌^◌, [], ◌∷◌, length, min, OnOk, IfOk};
+ghost use Rattle.std.specs.Prelude.{◌≡◌, true, ◌≢◌, ◌≤◌, ◌<◌, ◌+◌, ◌-◌, ◌^◌, [], ◌∷◌, length, min, OnOk, IfOk};
 ghost use Rattle.std.specs.List.{All};
 ghost use Rattle.sdr_model.specs.Bounds.{EndsInTime, IsBounded};
-ghost use Rattle.sdr_model.specs.Pieces.{Gathers, capsule_pieces, cut_pieces, extent_piece, extent_pieces, missing_piece, asked_addr, pieces_asked, raw_piece, wire_pieces};
+ghost use Rattle.sdr_model.specs.Pieces.{Gathers, capsule_pieces, cut_pieces, extent_piece, extent_pieces, missing_piece, part_pieces, raw_piece, wire_pieces};
 ghost use Rattle.sdr_model.specs.Reading.{reads_media};
 ghost use Rattle.sdr_model.specs.World.{as_raw, thing_at};
-ghost use Rattle.sdr_model.specs.Zco.{object_at};
 
 use crate::raw_calls::raw as raw_at;
 use crate::{Call, Capsule, Extent, Part, Subject, Thing, World, ZcoObject};
@@ -25,6 +24,19 @@ pub enum Piece {
     },
     /// Bytes of an item of bulk storage.
     Bulk { item: u64, offset: u64, length: u64 },
+}
+
+impl Piece {
+    /// How many bytes it has, of at most a page.
+    pub fn len(&self) -> usize
+        requires page { piece_length self.now ≤ 4096 }
+        ensures { result ≡ piece_length self.now }
+    {
+        match self {
+            Piece::Known(bytes) => bytes.len(),
+            Piece::File { length, .. } | Piece::Bulk { length, .. } => *length as usize,
+        }
+    }
 }
 
 /// Pieces, gathered one after another.
@@ -221,8 +233,7 @@ pub fn object_pieces(
 ) -> Result<Items<Piece>, NoMemory>
     requires bounded { IsBounded object.now }
     requires reads { reads_media call.now ≡ true }
-    ensures { IfOk result (λ pieces. object_at world.now.now (asked_addr call.now) ≡ Some object.now
-        → pieces ≡ pieces_asked world.now.now call.now) }
+    ensures { IfOk result (λ pieces. pieces ≡ part_pieces world.now.now call.now object.now) }
 {
     let extents = object.extents.as_slice();
     let begin = object.part.offset;

@@ -1,8 +1,7 @@
 // What calls that ask bytes of objects do to a world.
-ghost use Rattle.std.specs.Prelude.{◌≡◌, true, IfOk, IfSome, None, Ok};
+ghost use Rattle.std.specs.Prelude.{◌≡◌, ◌++◌, true, IfOk, OnOk};
 ghost use Rattle.sdr_model.specs.Answers.{Answers};
-ghost use Rattle.sdr_model.specs.Asking.{HasPieces};
-ghost use Rattle.sdr_model.specs.Pieces.{AsksBytes, asked_addr, asked_count, filled, pieces_asked, pieces_told};
+ghost use Rattle.sdr_model.specs.Pieces.{AsksBytes, asked_addr, asked_count, filled, piece_told, pieces_asked, pieces_told};
 ghost use Rattle.sdr_model.specs.Reading.{reads_media};
 
 use crate::limits::LONGEST_READ;
@@ -13,8 +12,8 @@ use crate::{Call, Piece, Reply, World};
 use sdr_base::{Addr, Bytes, Items, NoMemory};
 use std::alloc::Global;
 
-// The address of the object of which a call asks bytes, and how many it asks at most.
-fn asked(call: &Call) -> (Addr, u64)
+/// The address of the object of which a call asks bytes, and how many it asks at most.
+pub fn asked(call: &Call) -> (Addr, u64)
     requires reads { reads_media call.now ≡ true }
     ensures addr { result.0 ≡ asked_addr call.now }
     ensures count { result.1 ≡ asked_count call.now }
@@ -32,8 +31,7 @@ fn asked(call: &Call) -> (Addr, u64)
 /// asks any byte. Known bytes are copied, and no others. It is linear in what is in the object and in the
 /// bytes that are copied.
 pub fn parts(alloc: Global, world: &World, call: &Call) -> Result<Items<Piece>, NoMemory>
-    requires reads { reads_media call.now ≡ true }
-    requires asks { AsksBytes world.now.now call.now }
+    requires { AsksBytes world.now.now call.now }
     ensures { IfOk result (λ pieces. pieces ≡ pieces_asked world.now.now call.now) }
 {
     match object(world, asked(call).0) {
@@ -42,18 +40,26 @@ pub fn parts(alloc: Global, world: &World, call: &Call) -> Result<Items<Piece>, 
     }
 }
 
-// The bytes of these pieces, with zeros in the place of those that media would tell.
+// Adds the bytes of a piece, zeros where media would tell them.
+fn add_piece(alloc: Global, bytes: &mut Vec<u8>, piece: &Piece) -> Result<(), NoMemory>
+    ensures { OnOk result (bytes.new.items ≡ bytes.old.items ++ filled (piece_told piece.now)) }
+{
+    match piece {
+        Piece::Known(known) => bytes.extend_from_slice(known.as_slice()),
+        Piece::File { length, .. } | Piece::Bulk { length, .. } => {
+            let zeros = Bytes::zeros(alloc, *length as usize)?;
+            bytes.extend_from_slice(zeros.as_slice())
+        }
+    }
+}
+
+// The bytes of these pieces, zeros where media would tell them.
 fn filled(alloc: Global, pieces: &[Piece]) -> Result<Bytes, NoMemory>
     ensures { IfOk result (λ bytes. bytes ≡ filled (pieces_told pieces.now)) }
 {
     let mut bytes = Vec::new(alloc);
     for piece in pieces {
-        match piece {
-            Piece::Known(known) => bytes.extend_from_slice(known.as_slice())?,
-            Piece::File { length, .. } | Piece::Bulk { length, .. } => {
-                bytes.resize(bytes.len() + *length as usize, 0)?;
-            }
-        }
+        add_piece(alloc, &mut bytes, piece)?;
     }
     Ok(Bytes::of(bytes))
 }
@@ -75,20 +81,4 @@ pub fn give(alloc: Global, world: &mut World, call: &Call) -> Result<Reply, NoMe
     let count = shown.len() as u64;
     world.show(shown);
     Ok(Reply::Bytes { count })
-}
-
-/// The pieces of the bytes by which a call is answered, where it asks bytes of an object that is there, and
-/// nothing where it doesn't.
-pub fn pieces_of(alloc: Global, world: &World, call: &Call) -> Result<Option<Items<Piece>>, NoMemory>
-    ensures some { IfOk result (λ asked. IfSome asked (HasPieces world.now.now call.now)) }
-    ensures none { result ≡ Ok None → reads_media call.now ≡ true → ¬ AsksBytes world.now.now call.now }
-{
-    if !call.reads_media() {
-        return Ok(None);
-    }
-    let (addr, count) = asked(call);
-    if object(world, addr).is_none() || count > LONGEST_READ {
-        return Ok(None);
-    }
-    Ok(Some(parts(alloc, world, call)?))
 }
