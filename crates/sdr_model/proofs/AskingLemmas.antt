@@ -10,13 +10,13 @@ use Rattle.sdr_base.specs.declared.refusal.Reason.TheVariants as reasons
 use Rattle.sdr_base.specs.declared.refusal.Refusal.{Refusal}
 use Rattle.sdr_base.specs.declared.refusal.Refusal.TheVariants as refusals
 use Rattle.sdr_model.proofs.FewLemmas.{few_more}
-use Rattle.sdr_model.proofs.PiecesLemmas.{Spells-filled, asked-row, length-asked, pieces_told-asked}
+use Rattle.sdr_model.proofs.PiecesLemmas.{Spells-filled, asked-row, length-asked}
 use Rattle.sdr_model.specs.Asking.{AgreesReading, AgreesWith, Asks, AsksNothing, HasPieces, IsGap, is_served, makes_calls, settled, with_current}
 use Rattle.sdr_model.specs.Dry.{StepsDry, StopsReading}
 use Rattle.sdr_model.specs.Few.{IsAfter}
 use Rattle.sdr_model.specs.Limits.{longest_read}
 use Rattle.sdr_model.specs.Machine.{Machine, MachineStep, Comes, Goes, Holds, Waits, Serves, Works, may_come, served_number, with_transaction}
-use Rattle.sdr_model.specs.Pieces.{AsksBytes, AsksPage, filled, pieces_told, told_asked}
+use Rattle.sdr_model.specs.Pieces.{AsksBytes, AsksPage, filled, pieces_asked, pieces_told}
 use Rattle.sdr_model.specs.Reading.{is_reading, reads_media}
 use Rattle.sdr_model.specs.Rows.{ByRow}
 use Rattle.sdr_model.specs.Step.{StopsWith, is_answer}
@@ -155,13 +155,13 @@ module _ (w : World) (o : Outcome) (addr count : ℕ) (of : ZcoObject → Wire.T
 row_quietly : (w : World) (o : Outcome) (call : Call) → reads_media call ≡ true → ¬ AsksBytes w call → ByRow w o call
     → RefusesQuietly o.reply
 row_quietly w o (calls.Transmit addr place count) reads fails h =
-    gives_quietly w o addr count (wire_part w place count) (object_at w addr) fails h
+    gives_quietly w o addr count (wire_part w place count) (object_at w addr) (λ page. fails (record { reads = refl; there = page })) h
 row_quietly w o (calls.ReceiveHeaders addr place count) reads fails h =
-    gives_quietly w o addr count (headers_part w place count) (object_at w addr) fails h
+    gives_quietly w o addr count (headers_part w place count) (object_at w addr) (λ page. fails (record { reads = refl; there = page })) h
 row_quietly w o (calls.ReceiveSource addr place count) reads fails h =
-    gives_quietly w o addr count (source_part w place count) (object_at w addr) fails h
+    gives_quietly w o addr count (source_part w place count) (object_at w addr) (λ page. fails (record { reads = refl; there = page })) h
 row_quietly w o (calls.ReceiveTrailers addr place count) reads fails h =
-    gives_quietly w o addr count (trailers_part w place count) (object_at w addr) fails h
+    gives_quietly w o addr count (trailers_part w place count) (object_at w addr) (λ page. fails (record { reads = refl; there = page })) h
 row_quietly w o call reads fails h = absurd (true≢false (sym reads))
 
 -- a holder of a machine whose calls are made
@@ -227,8 +227,8 @@ stops_with call reply gap reads = absurd gap
 
 -- what is asked of media before the call of a served daemon is answered
 module _ (m : Machine) (daemon : ℕ) (call : Call) (pieces : List Piece) (s : IsServed m daemon) (has : HasPieces m.current call pieces) where
-  told_same : pieces_told pieces ≡ told_asked m.current call
-  told_same = ap pieces_told has.asked ∙ pieces_told-asked m.current call
+  told_same : pieces_told pieces ≡ pieces_told (pieces_asked m.current call)
+  told_same = ap pieces_told has.asked
 
   gives_here : (bytes : List ℕ) → Spells (pieces_told pieces) bytes
       → MachineStep m daemon (events.Say call) (answers.Reply (replies.Bytes (length bytes))) [] (settled m daemon (Some bytes))
@@ -247,7 +247,7 @@ module _ (m : Machine) (daemon : ℕ) (call : Call) (pieces : List Piece) (s : I
       → MachineStep m daemon (events.Say call) (answers.Reply reply) [] (settled m daemon None)
   stops_here reply gap =
       let t = transaction_of s.holder m.current in
-      let told = told_asked m.current call in
+      let told = pieces_told (pieces_asked m.current call) in
       let stopped : StopsReading m.current call [] m.current reply = record {
         reads = has.reads;
         stopped = record {
