@@ -2,6 +2,7 @@ mod HashExample
 pub mod Cases
 pub mod CountLemmas
 pub mod DryLemmas
+pub mod GoneLemmas
 pub mod HashLemmas
 pub mod MachineLemmas
 pub mod MapLemmas

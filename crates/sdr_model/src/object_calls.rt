@@ -1,13 +1,12 @@
 // What calls on objects do to a world.
-ghost use Rattle.std.specs.Prelude.{◌≡◌, ◌<◌, ◌^◌, IfSome};
+ghost use Rattle.std.specs.Prelude.{◌≡◌, IfSome};
 ghost use Rattle.std.specs.Option.{option_copied};
 ghost use Rattle.sdr_model.specs.Answers.{Answers};
 ghost use Rattle.sdr_model.specs.Bounds.{IsBounded};
-ghost use Rattle.sdr_model.specs.World.{thing_at};
 ghost use Rattle.sdr_model.specs.Zco.{object_at};
 
 use crate::raw_calls::misnamed;
-use crate::{Reply, Thing, World, ZcoObject};
+use crate::{Call, Reply, Thing, World, ZcoObject};
 use sdr_base::{Addr, NoMemory};
 
 /// The object at an address.
