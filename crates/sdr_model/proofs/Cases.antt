@@ -26,3 +26,8 @@ in_result (Err e) p q f g = g q
 pub by_test : {R : Type 0} (b : Bool) → (b ≡ true → R) → (b ≡ false → R) → R
 by_test true f g = f refl
 by_test false f g = g refl
+
+-- the same, where the option is known in the second
+pub in_option_is : {T P R : Type 0} {Q : T → Type 0} (o : Option T) → MatchOption o P Q → (P → R) → ((x : T) → o ≡ Some x → Q x → R) → R
+in_option_is None h f g = f h
+in_option_is (Some x) h f g = g x refl h

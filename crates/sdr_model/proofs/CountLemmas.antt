@@ -1,108 +1,181 @@
--- One event draws one number at most, and takes one block at most.
-use Rattle.std.proofs.Common.{◌≡◌, ◌≤◌, ◌+◌, ◌==◌, ◌++◌, ◌∷◌, [], ℕ, List, find, nat_le, ap, refl, arith}
-use Rattle.std.specs.List.{list_any}
-use Rattle.sdr_model.specs.Dry.{dry_moves, answered_moves, blocks_taken}
-use Rattle.sdr_model.specs.RowMoves.{block_of, elements_in, entries_in, keyed_in}
-use Rattle.sdr_model.specs.HashSteps.{as_hash}
-use Rattle.sdr_model.specs.ListSteps.{as_list}
-use Rattle.sdr_model.specs.Names.{name_of}
-use Rattle.sdr_model.specs.Steps.{gave}
-use Rattle.sdr_model.proofs.DryLemmas.{blocks_taken-gave}
-use Rattle.sdr_model.specs.Machine.{Machine, MachineStep, Comes, Holds, Waits, Serves, event_moves, says_moves, is_outside, served_number, with_next, with_transaction}
+-- One event draws one number at most, adds one piece at most to an object, and takes few blocks.
+use Rattle.std.proofs.Common.{◌≡◌, ◌≤◌, ◌<◌, ◌+◌, ◌*◌, ◌^◌, ◌==◌, ◌&&◌, ◌++◌, ◌∷◌, [], ℕ, List, None, Some, find, nat_le, ap, refl, subst, sym, ◌∙◌, arith, ◌⊎◌, inl, inr}
+use Rattle.std.specs.FinMap.{empty, get-empty}
+use Rattle.std.specs.Ordering.{nat_cmp}
+use Rattle.sdr_model.specs.AccountSteps.{pending_of}
+use Rattle.sdr_model.specs.Dry.{StepsDry, StopsReading, dry_moves}
+use Rattle.sdr_model.specs.Few.{HasFewPieces, IsAfter}
+use Rattle.sdr_model.specs.Machine.{Machine, MachineStep, Comes, Holds, Departs, LooksAt, Waits, Serves, Closes, event_moves, first_machine, says_moves, is_outside, is_stalled, may_come, served_number, waits_for, with_drawn, with_entry, with_holder, with_left, with_next, with_transaction, with_wait, without_served}
 use Rattle.sdr_model.specs.Transaction.{Transaction, Transacts, Replies, transaction_of, left_by, closing, is_opening, is_closing, deepest}
+use Rattle.sdr_model.specs.World.{World}
 use Rattle.sdr_model.specs.declared.answer.Answer.{Answer}
 use Rattle.sdr_model.specs.declared.answer.Answer.TheVariants as answers
 use Rattle.sdr_model.specs.declared.answer.Close.{Close}
 use Rattle.sdr_model.specs.declared.answer.Close.TheVariants as closes
 use Rattle.sdr_model.specs.declared.answer.Reply.{Reply}
-use Rattle.sdr_model.specs.declared.answer.Reply.TheVariants as replies
 use Rattle.sdr_model.specs.declared.call.Call.{Call}
-use Rattle.sdr_model.specs.declared.call.Call.TheVariants as calls
 use Rattle.sdr_model.specs.declared.event.Event.{Event}
 use Rattle.sdr_model.specs.declared.event.Event.TheVariants as events
 use Rattle.sdr_model.specs.declared.holder.Holder.{Holder}
-use Rattle.sdr_model.specs.World.{World, thing_at}
+use Rattle.sdr_model.proofs.BlocksTaken.{few_blocks}
 use Rattle.sdr_model.proofs.Cases.{in_bool, in_option}
+use Rattle.sdr_model.proofs.FewLemmas.{few_more}
+use Rattle.sdr_model.proofs.FewSteps.{few_row}
 
--- one number at most was drawn, and one block at most was taken
-pub record Few (m m' : Machine) : Type 0 where
+-- from a world, one with at most one piece more in an object, and few blocks taken
+record FewMore (most : ℕ) (w w' : World) : Type 0 where
+  pub pieces : HasFewPieces (most + 1) w'.things
+  pub taken : w'.taken ≤ w.taken + (3 * most + 2)
+
+-- from a machine, one with one number more at most, and few pieces and blocks more
+record FewAfter (most : ℕ) (m m' : Machine) : Type 0 where
   pub drawn : m'.drawn ≤ m.drawn + 1
-  pub taken : m'.current.taken ≤ m.current.taken + 1
+  pub world : HasFewPieces (most + 1) m'.world.things
+  pub current : FewMore most m.current m'.current
 
-few_of : {m m' : Machine} (next : Machine) → m' ≡ next → next.drawn ≤ m.drawn + 1 → next.current.taken ≤ m.current.taken + 1 → Few m m'
-few_of next is drawn taken = record { drawn = omega (arith, ap (λ n. n.drawn) is, drawn); taken = omega (arith, ap (λ n. n.current.taken) is, taken) }
+few_same : {most : ℕ} (w : World) → HasFewPieces most w.things → FewMore most w w
+few_same w few = record { pieces = few_more _ _ w.things (omega arith) few; taken = omega arith }
 
-few_same : {m m' : Machine} → m' ≡ m → Few m m'
-few_same {m} is = few_of m is (omega arith) (omega arith)
+few_stepped : (most : ℕ) (w w' : World) (call : Call) (reply : Reply) → HasFewPieces most w.things
+    → StepsDry w call (dry_moves w call reply) w' reply → FewMore most w w'
+few_stepped most w w' call reply few s = record {
+  pieces = few_row most w (record { moves = dry_moves w call reply; after = record w' { taken = w.taken }; reply = reply }) few call s.step;
+  taken = omega (arith, s.counted, few_blocks most w call reply few);
+}
 
-few_given : (addrs : List ℕ) → blocks_taken (gave addrs) ≤ 1
-few_given addrs = omega (arith, blocks_taken-gave addrs)
+few_replied : (most : ℕ) (w w' : World) (call : Call) (reply : Reply) → HasFewPieces most w.things
+    → StepsDry w call (dry_moves w call reply) w' reply ⊎ StopsReading w call (dry_moves w call reply) w' reply → FewMore most w w'
+few_replied most w w' call reply few (inl s) = few_stepped most w w' call reply few s
+few_replied most w w' call reply few (inr s) = subst (FewMore most w) (sym s.stopped.same) (few_same w few)
 
-few_answered : (w : World) (call : Call) → blocks_taken (answered_moves w call) ≤ 1
-few_answered w (calls.ListDestroy addr) = few_given (elements_in (as_list (thing_at w addr)) ++ addr ∷ [])
-few_answered w (calls.HashRemove addr key) = few_given (keyed_in (as_hash (thing_at w addr)) key)
-few_answered w (calls.HashDestroy addr) = few_given (entries_in (as_hash (thing_at w addr)) ++ addr ∷ [])
-few_answered w (calls.Uncatlg name) = few_given (block_of (name_of w.names name))
-few_answered w call = omega arith
+few_replies : (most : ℕ) (t t' : Transaction) (call : Call) (answer : Answer) → HasFewPieces most t.world.things
+    → Replies t call answer (says_moves t.world call answer) t' → FewMore most t.world t'.world
+few_replies most t t' call (answers.Reply reply) few r = few_replied most t.world t'.world call reply few r.0
+few_replies most t t' call (answers.Lock number) few r = absurd r
+few_replies most t t' call (answers.Depth depth) few r = absurd r
+few_replies most t t' call answer few r = absurd r
 
-few_blocks : (w : World) (call : Call) (reply : Reply) → blocks_taken (dry_moves w call reply) ≤ 1
-few_blocks w call (replies.Refused refusal) = omega arith
-few_blocks w call reply = few_answered w call
+-- what an event of the machine leaves, where its objects had few pieces
+module _ (most : ℕ) (m m' : Machine) (few_world : HasFewPieces most m.world.things) (few_current : HasFewPieces most m.current.things) where
+  is_few : (next : Machine) → m' ≡ next → next.drawn ≤ m.drawn + 1 → HasFewPieces (most + 1) next.world.things
+      → FewMore most m.current next.current → FewAfter most m m'
+  is_few next is drawn world current =
+      subst (FewAfter most m) (sym is) (record { drawn = drawn; world = world; current = current })
 
-taken_left : (close : Close) (w current : World) → (left_by close w current).taken ≡ current.taken
-taken_left closes.Ended w current = refl
-taken_left close w current = refl
+  few_then : HasFewPieces (most + 1) m.world.things
+  few_then = few_more most (most + 1) m.world.things (omega arith) few_world
 
-few_replies : (t t' : Transaction) (call : Call) (answer : Answer) → Replies t call answer (says_moves t.world call answer) t' → t'.world.taken ≤ t.world.taken + 1
-few_replies t t' call (answers.Reply reply) r = omega (arith, r.0.counted, few_blocks t.world call reply)
-few_replies t t' call (answers.Lock number) r = absurd r
-few_replies t t' call (answers.Depth depth) r = absurd r
-few_replies t t' call answer r = absurd r
+  few_now : FewMore most m.current m.current
+  few_now = few_same m.current few_current
 
-few_transacts : (m : Machine) (h : Holder) (t' : Transaction) (event : Event) (answer : Answer)
-    → Transacts (transaction_of h m.current) event answer (event_moves m event answer) t' → t'.world.taken ≤ m.current.taken + 1
-few_transacts m h t' events.Request answer s = absurd s
-few_transacts m h t' events.Begin answer s =
-    in_bool (nat_le deepest h.depth) s (λ d. omega (arith, ap (λ t. t.world.taken) d.2)) (λ d. omega (arith, ap (λ t. t.world.taken) d.2))
-few_transacts m h t' (events.Say call) answer s =
-    in_option h.doom s (λ r. few_replies (transaction_of h m.current) t' call answer r) (λ reason d. omega (arith, ap (λ t. t.world.taken) d.2))
-few_transacts m h t' events.End answer s = omega (arith, ap (λ t. t.world.taken) s.2)
-few_transacts m h t' events.Exit answer s = omega (arith, ap (λ t. t.world.taken) s.2)
-few_transacts m h t' events.Cancel answer s = omega (arith, ap (λ t. t.world.taken) s.2)
-few_transacts m h t' event answer s = absurd s
+  -- the worlds stay
+  stays : (next : Machine) → m' ≡ next → next.drawn ≤ m.drawn + 1 → next.world ≡ m.world → next.current ≡ m.current → FewAfter most m m'
+  stays next is drawn world current =
+      is_few next is drawn (subst (λ w. HasFewPieces (most + 1) w.things) (sym world) few_then) (subst (FewMore most m.current) (sym current) few_now)
 
-few_serves : (m m' : Machine) (h : Holder) (event : Event) (answer : Answer) → Serves m h event answer (event_moves m event answer) m' → Few m m'
-few_serves m m' h event answer s =
-    in_bool (is_opening (transaction_of h m.current) event) s
-    (λ o. few_of (with_transaction m h (record (transaction_of h m.current) { depth = 1 })) o.2 (omega arith) (omega arith))
-    (λ s'. in_bool (is_closing (transaction_of h m.current) event) s'
-    (λ c. let close = closing (transaction_of h m.current) event in
-    few_of (with_next m (left_by close m.world m.current)) c.2 (omega arith) (omega (arith, taken_left close m.world m.current)))
-    (λ w. few_of (with_transaction m h w.after) w.others (omega arith) (few_transacts m h w.after event answer w.transacts)))
+  unchanged : m' ≡ m → FewAfter most m m'
+  unchanged is = stays m is (omega arith) refl refl
 
-few_waits : (m m' : Machine) (h : Holder) (event : Event) (answer : Answer) → Waits m h event answer (event_moves m event answer) m' → Few m m'
-few_waits m m' h event answer s =
-    in_bool (is_outside h event) s (λ g. few_same g.2)
-    (λ s'. in_bool (served_number m.holders == h.number) s' (few_serves m m' h event answer) (λ g. few_same g.2))
+  few_left : (close : Close) → HasFewPieces (most + 1) (left_by close m.world m.current).things
+  few_left closes.Ended = few_now.pieces
+  few_left close = few_then
 
-few_holds : (m m' : Machine) (h : Holder) (event : Event) (answer : Answer) → Holds m h event answer (event_moves m event answer) m' → Few m m'
-few_holds m m' h events.Request answer s = few_same s.2
-few_holds m m' h (events.Look ticket) answer s =
-    in_bool (h.depth == 0) s
-    (λ s'. in_bool (served_number m.holders == h.number) s' (λ g. few_of _ g.2 (omega arith) (omega arith)) (λ g. few_same g.2))
-    (λ g. few_same g.2)
-few_holds m m' h event answer s = few_waits m m' h event answer s
+  taken_left : (close : Close) → (left_by close m.world m.current).taken ≡ m.current.taken
+  taken_left closes.Ended = refl
+  taken_left close = refl
 
-few_comes : (m m' : Machine) (daemon : ℕ) (event : Event) (answer : Answer) → Comes m daemon event answer (event_moves m event answer) m' → Few m m'
-few_comes m m' daemon events.Request answer s = few_of _ s.2 (omega arith) (omega arith)
-few_comes m m' daemon events.Begin answer s = few_of _ s.2 (omega arith) (omega arith)
-few_comes m m' daemon (events.Look ticket) answer s =
-    in_bool (served_number m.holders == 0) s
-    (λ g. few_of _ g.2 (omega arith) (omega arith)) (λ g. few_of _ g.2 (omega arith) (omega arith))
-few_comes m m' daemon event answer s = few_same s.2
+  kept : (t' t : Transaction) → t' ≡ t → t.world ≡ m.current → FewMore most m.current t'.world
+  kept t' t is same = subst (FewMore most m.current) (sym (ap (λ t. t.world) is ∙ same)) few_now
 
-pub few : (m m' : Machine) (daemon : ℕ) (event : Event) (answer : Answer) → MachineStep m daemon event answer (event_moves m event answer) m' → Few m m'
-few m m' daemon event answer s =
-    in_bool (list_any (λ d. d == daemon) m.daemons) s
-    (λ s'. in_option (find (λ h. h.daemon == daemon) m.holders) s' (few_comes m m' daemon event answer) (λ h. few_holds m m' h event answer))
-    (λ g. few_same g.2)
+  few_transacts : (h : Holder) (t' : Transaction) (event : Event) (answer : Answer)
+      → Transacts (transaction_of h m.current) event answer (event_moves m event answer) t' → FewMore most m.current t'.world
+  few_transacts h t' events.Request answer s = absurd s
+  few_transacts h t' events.Begin answer s =
+      in_bool (nat_le deepest h.depth) s (λ d. kept t' _ d.2 refl) (λ d. kept t' _ d.2 refl)
+  few_transacts h t' (events.Say call) answer s =
+      in_option h.doom s (λ r. few_replies most (transaction_of h m.current) t' call answer few_current r) (λ reason d. kept t' _ d.2 refl)
+  few_transacts h t' events.End answer s = kept t' _ s.2 refl
+  few_transacts h t' events.Exit answer s = kept t' _ s.2 refl
+  few_transacts h t' events.Cancel answer s = kept t' _ s.2 refl
+  few_transacts h t' event answer s = absurd s
+
+  few_closes : (h : Holder) (event : Event) (answer : Answer) → Closes m h event answer (event_moves m event answer) m' → FewAfter most m m'
+  few_closes h event answer s =
+      let close = closing (transaction_of h m.current) event in
+      is_few (with_next m h (left_by close m.world m.current)) s.2 (omega arith) (few_left close)
+      (record { pieces = few_left close; taken = omega (arith, taken_left close) })
+
+  few_serves : (h : Holder) (event : Event) (answer : Answer) → Serves m h event answer (event_moves m event answer) m' → FewAfter most m m'
+  few_serves h event answer s =
+      in_bool (is_opening (transaction_of h m.current) event) s
+      (λ o. stays (with_transaction m h (record (transaction_of h m.current) { depth = 1 })) o.2 (omega arith) refl refl)
+      (λ s. in_bool (is_closing (transaction_of h m.current) event) s (few_closes h event answer)
+      (λ works. is_few (with_transaction m h works.after) works.others (omega arith) few_then
+      (few_transacts h works.after event answer works.transacts)))
+
+  few_waits : (h : Holder) (event : Event) (answer : Answer) → Waits m h event answer (event_moves m event answer) m' → FewAfter most m m'
+  few_waits h event answer s =
+      in_bool (is_outside h event) s (λ g. unchanged g.2)
+      (λ s. in_bool (served_number m.holders == h.number) s (few_serves h event answer) (λ g. unchanged g.2))
+
+  -- a look from a machine of the same worlds
+  few_looks : (from : Machine) (daemon ticket : ℕ) (answer : Answer) → from.drawn ≤ m.drawn + 1 → from.world ≡ m.world → from.current ≡ m.current
+      → LooksAt from daemon ticket answer [] m' → FewAfter most m m'
+  few_looks from daemon ticket answer drawn world current s =
+      in_option (pending_of from.world ticket) s (λ g. stays from g.2 drawn world current)
+      (λ p s. in_bool p.ticket.granted s (λ g. stays (with_entry from daemon) g.2 drawn world current)
+      (λ s. in_bool (waits_for from daemon ticket && is_stalled from) s (λ g. stays (with_entry from daemon) g.2 drawn world current)
+      (λ g. stays (with_wait from daemon ticket) g.2 drawn world current)))
+
+  few_departs : (h : Holder) (event : Event) (answer : Answer) → Departs m h event answer (event_moves m event answer) m' → FewAfter most m m'
+  few_departs h event answer s =
+      in_bool (h.depth == 0) s (λ g. stays (with_left (without_served m) h.daemon) g.2 (omega arith) refl refl) (few_closes h event answer)
+
+  few_holds : (h : Holder) (event : Event) (answer : Answer) → Holds m h event answer (event_moves m event answer) m' → FewAfter most m m'
+  few_holds h events.Request answer s = unchanged s.2
+  few_holds h (events.Look ticket) answer s =
+      in_bool (h.depth == 0) s
+      (λ s. in_bool (served_number m.holders == h.number) s
+      (few_looks (without_served m) h.daemon ticket answer (omega arith) refl refl) (λ g. unchanged g.2))
+      (λ g. unchanged g.2)
+  few_holds h (events.Leaves leave) answer s =
+      in_bool (served_number m.holders == h.number) s (few_departs h (events.Leaves leave) answer) (λ g. unchanged g.2)
+  few_holds h event answer s = few_waits h event answer s
+
+  few_comes : (daemon : ℕ) (event : Event) (answer : Answer) → Comes m daemon event answer (event_moves m event answer) m' → FewAfter most m m'
+  few_comes daemon events.Request answer s = stays _ s.2 (omega arith) refl refl
+  few_comes daemon events.Begin answer s = stays _ s.2 (omega arith) refl refl
+  few_comes daemon (events.Look ticket) answer s =
+      in_bool (served_number m.holders == 0) s (few_looks (with_drawn m) daemon ticket answer (omega arith) refl refl)
+      (λ g. stays (with_holder m daemon) g.2 (omega arith) refl refl)
+  few_comes daemon (events.Leaves leave) answer s =
+      in_bool (served_number m.holders == 0) s (λ g. stays (with_left (with_drawn m) daemon) g.2 (omega arith) refl refl)
+      (λ g. stays (with_holder m daemon) g.2 (omega arith) refl refl)
+  few_comes daemon event answer s = unchanged s.2
+
+  few : (daemon : ℕ) (event : Event) (answer : Answer) → MachineStep m daemon event answer (event_moves m event answer) m' → FewAfter most m m'
+  few daemon event answer s =
+      in_bool (may_come m daemon) s
+      (λ s. in_option (find (λ h. h.daemon == daemon) m.holders) s (few_comes daemon event answer) (λ h. few_holds h event answer))
+      (λ g. unchanged g.2)
+
+-- after fewer than 2^21 events, one more keeps the bounds
+pub after_one_more : (events : ℕ) (m m' : Machine) (daemon : ℕ) (event : Event) (answer : Answer) → events < 2097152 → IsAfter events m
+    → MachineStep m daemon event answer (event_moves m event answer) m' → IsAfter (events + 1) m'
+after_one_more events m m' daemon event answer below before s =
+    let after = few events m m' before.world before.current daemon event answer s in record {
+      drawn = omega (arith, after.drawn, before.drawn);
+      taken = omega (arith, after.current.taken, before.taken);
+      world = after.world;
+      current = after.current.pieces;
+    }
+
+absent : {X : Type 0} (x : X) → None ≡ Some x → ⊥
+absent x is = cc
+
+no_pieces : (most : ℕ) → HasFewPieces most empty
+no_pieces most = record { each = λ addr z is. absurd (absent _ (sym (get-empty nat_cmp addr) ∙ is)) }
+
+-- before any event there is nothing
+pub after_none : (daemons : List ℕ) → IsAfter 0 (first_machine daemons)
+after_none daemons = record { drawn = omega arith; taken = omega arith; world = no_pieces 0; current = no_pieces 0 }

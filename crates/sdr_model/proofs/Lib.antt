@@ -1,15 +1,23 @@
 mod HashExample
+pub mod BlocksTaken
+pub mod BoundsLemmas
 pub mod Cases
 pub mod CountLemmas
 pub mod DryLemmas
+pub mod FewLemmas
+pub mod FewSteps
 pub mod GoneLemmas
 pub mod HashLemmas
 pub mod MachineLemmas
 pub mod MapLemmas
 pub mod NamesLemmas
+pub mod NotesLemmas
 pub mod OrderLemmas
 pub mod OwnersLemmas
 pub mod PiecesLemmas
 pub mod SpotLemmas
 pub mod StoreLemmas
+pub mod SumLemmas
 pub mod TableLemmas
+pub mod TallyBounds
+pub mod TallyLemmas

@@ -1,12 +1,11 @@
 -- The steps of accounts and tickets.
 use Rattle.std.specs.Prelude.{ℕ, ◌+◌, ◌==◌, ◌^◌, List, [], ◌∷◌, Bool, false, remove, nat_lt, Option, None, Some, MatchBool, MatchOption, if◌then◌else◌}
-use Rattle.std.specs.Option.{option_map_or, option_or}
+use Rattle.std.specs.Option.{option_map_or}
 use Rattle.sdr_base.specs.declared.account.Acct.{Acct}
-use Rattle.sdr_base.specs.declared.account.Acct.TheVariants as accts
 use Rattle.sdr_base.specs.declared.account.Amounts.{Amounts}
 use Rattle.sdr_base.specs.declared.kind.Space.{Space}
 use Rattle.sdr_base.specs.declared.refusal.Refusal.TheVariants as refusals
-use Rattle.sdr_model.specs.Accounts.{Pending, account_of, most_amount, pending_in, ticket_need, tickets_of, with_account, with_tickets}
+use Rattle.sdr_model.specs.Accounts.{Pending, account_of, most_amount, pending_among, pending_in, ticket_need, tickets_of, with_account, with_tickets}
 use Rattle.sdr_model.specs.Amounts.{amount, amounts_by, first_above, is_same_space, no_amounts}
 use Rattle.sdr_model.specs.Charges.{occupancy}
 use Rattle.sdr_model.specs.Queue.{enqueued, with_served}
@@ -18,7 +17,7 @@ use Rattle.sdr_model.specs.declared.answer.Reply.TheVariants as replies
 
 -- the ticket of a number, in the queue of either account
 abbrev pub pending_of : World → ℕ → Option Pending
-pending_of w number = option_or (pending_in w.accounts accts.Inbound number) (pending_in w.accounts accts.Outbound number)
+pending_of w number = pending_among w.accounts number
 
 -- what is occupied of a space is given
 abbrev pub Occupancy : World → Outcome → Acct → Space → Type 0

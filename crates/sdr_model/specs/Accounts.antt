@@ -1,6 +1,6 @@
 -- Accounts of space, and the tickets in their queues.
 use Rattle.std.specs.Prelude.{ℕ, ◌^◌, ◌==◌, List, [], ◌∷◌, ◌++◌, Bool, true, false, map, set, slice_get, unwrap_or, position, Option}
-use Rattle.std.specs.Option.{option_map}
+use Rattle.std.specs.Option.{option_map, option_or}
 use Rattle.sdr_base.specs.declared.account.Acct.{Acct}
 use Rattle.sdr_base.specs.declared.account.Acct.TheVariants as accts
 use Rattle.sdr_base.specs.declared.account.Amounts.{Amounts}
@@ -10,6 +10,7 @@ use Rattle.sdr_base.specs.declared.kind.Space.TheVariants as spaces
 use Rattle.sdr_model.specs.Amounts.{amounts_by, no_amounts}
 use Rattle.sdr_model.specs.declared.accounts.Account.{Account}
 use Rattle.sdr_model.specs.declared.accounts.Accounts.{Accounts}
+pub use Rattle.sdr_model.specs.declared.accounts.Pending.{Pending}
 use Rattle.sdr_model.specs.declared.accounts.Ticket.{Ticket}
 use Rattle.sdr_model.specs.declared.things.Block.{Block}
 
@@ -75,18 +76,17 @@ no_ticket = record {
 abbrev pub ticket_at : List Ticket → ℕ → Ticket
 ticket_at tickets place = unwrap_or (slice_get tickets place) no_ticket
 
--- a ticket, the account in whose queue it stands, and its place there, from 0
-pub record Pending : Type 0 where
-  pub acct : Acct
-  pub place : ℕ
-  pub ticket : Ticket
-
 -- the ticket of a number in the queue of an account
 abbrev pub pending_in : Accounts → Acct → ℕ → Option Pending
 pending_in accounts acct number =
     let tickets = tickets_of accounts acct in
     option_map (λ place. record { acct = acct; place = place; ticket = ticket_at tickets place })
     (position (λ t. t.number == number) tickets)
+
+-- the ticket of a number, in the queue of either account
+abbrev pub pending_among : Accounts → ℕ → Option Pending
+pending_among accounts number =
+    option_or (pending_in accounts accts.Inbound number) (pending_in accounts accts.Outbound number)
 
 -- with another ticket in the place of one
 abbrev pub with_ticket : Accounts → Pending → Ticket → Accounts

@@ -25,13 +25,7 @@ is_built (calls.Bond addr ticket) = false
 is_built (calls.ClonePart addr ticket offset length) = false
 is_built (calls.Delimit addr offset length) = false
 is_built (calls.Strip addr) = false
-is_built (calls.ZcoLength addr) = false
-is_built (calls.SourceLength addr) = false
 is_built (calls.Destroy addr) = false
-is_built (calls.Transmit addr place count) = false
-is_built (calls.ReceiveHeaders addr place count) = false
-is_built (calls.ReceiveSource addr place count) = false
-is_built (calls.ReceiveTrailers addr place count) = false
 is_built (calls.Request acct file bulk heap coarse fine) = false
 is_built (calls.Awarded ticket) = false
 is_built (calls.Shred ticket) = false
@@ -40,5 +34,4 @@ is_built call = true
 -- whether it serves the event
 abbrev pub is_built_event : Event → Bool
 is_built_event (events.Say call) = is_built call
-is_built_event (events.Leaves leave) = false
 is_built_event event = true

@@ -7,12 +7,14 @@ pub mod BondSteps
 pub mod Bounds
 pub mod Built
 pub mod Catalogue
+pub mod Charged
 pub mod Charges
 pub mod Charging
 pub mod Core
 pub mod Cuts
 pub mod Draft
 pub mod Dry
+pub mod Few
 pub mod Fields
 pub mod Gone
 pub mod HashChanges
@@ -24,6 +26,7 @@ pub mod ListSteps
 pub mod Machine
 pub mod NameSteps
 pub mod Names
+pub mod Notes
 pub mod ObjectSteps
 pub mod Owners
 pub mod PartSteps
@@ -40,6 +43,7 @@ pub mod Steps
 pub mod Store
 pub mod TableSteps
 pub mod Tables
+pub mod Tallies
 pub mod Things
 pub mod Transaction
 pub mod Valid

@@ -1,10 +1,10 @@
 // Accounts of space, and the tickets in their queues.
-ghost use Rattle.std.specs.Prelude.{◌≡◌, IfOk, map};
-ghost use Rattle.sdr_model.specs.Accounts.{fresh_account, fresh_accounts, ticket_block, ticket_blocks};
+ghost use Rattle.std.specs.Prelude.{◌≡◌, ◌<◌, ◌==◌, IfOk, IfSome, length, map, position};
+ghost use Rattle.sdr_model.specs.Accounts.{account_of, fresh_account, fresh_accounts, pending_among, pending_in, ticket_block, ticket_blocks, tickets_of};
 ghost use Rattle.sdr_model.specs.Things.{block_among};
 
 use crate::Block;
-use sdr_base::{Addr, Amounts, Items, Kind, NoMemory};
+use sdr_base::{Acct, Addr, Amounts, Items, Kind, NoMemory};
 use std::alloc::Global;
 
 /// The most that an account may allow of a space, the number of a ticket may be, and a ticket may ask.
@@ -26,6 +26,14 @@ pub struct Ticket {
     pub granted: bool,
 }
 
+/// A ticket, the account in whose queue it stands, and its place there, from 0.
+#[derive(Clone, Copy, Debug)]
+pub struct Pending {
+    pub acct: Acct,
+    pub place: usize,
+    pub ticket: Ticket,
+}
+
 /// An account of space.
 #[derive(Drop, Debug)]
 pub struct Account {
@@ -42,6 +50,25 @@ pub struct Accounts {
     pub outbound: Account,
     /// The number of the next ticket.
     pub next: u64,
+}
+
+impl Ticket {
+    fn own_block(&self) -> Block
+        ensures { result ≡ ticket_block self.now }
+    {
+        Block {
+            addr: self.block,
+            kind: Kind::Ticket,
+            bytes: 96,
+        }
+    }
+}
+
+// The place of the ticket of a number in a queue.
+fn place_of(tickets: &[Ticket], number: u64) -> Option<usize>
+    ensures { result ≡ position (λ t. t.number == number) tickets.now }
+{
+    tickets.iter().position(|ticket| ticket.number == number)
 }
 
 impl Account {
@@ -65,11 +92,7 @@ impl Account {
     {
         for ticket in self.tickets.as_slice() {
             if ticket.block == addr {
-                return Some(Block {
-                    addr,
-                    kind: Kind::Ticket,
-                    bytes: 96,
-                });
+                return Some(ticket.own_block());
             }
         }
         None
@@ -104,6 +127,42 @@ impl Accounts {
         match self.inbound.block(addr) {
             Some(block) => Some(block),
             None => self.outbound.block(addr),
+        }
+    }
+
+    /// One of both.
+    pub fn account(&self, acct: Acct) -> &Account
+        ensures { result.now ≡ account_of self.now acct }
+    {
+        match acct {
+            Acct::Inbound => &self.inbound,
+            Acct::Outbound => &self.outbound,
+        }
+    }
+
+    /// The ticket of a number, in the queue of an account. It is linear in the queue.
+    pub fn pending_in(&self, acct: Acct, number: u64) -> Option<Pending>
+        ensures pending { result ≡ pending_in self.now acct number }
+        ensures there { IfSome result (λ p. p.place < length (tickets_of self.now acct)) }
+    {
+        let tickets = self.account(acct).tickets.as_slice();
+        let place = place_of(tickets, number)?;
+        let ticket = *tickets.get(place)?;
+        Some(Pending {
+            acct,
+            place,
+            ticket,
+        })
+    }
+
+    /// The ticket of a number, in the queue of either account. It is linear in both.
+    pub fn pending(&self, number: u64) -> Option<Pending>
+        ensures pending { result ≡ pending_among self.now number }
+        ensures there { IfSome result (λ p. p.place < length (tickets_of self.now p.acct)) }
+    {
+        match self.pending_in(Acct::Inbound, number) {
+            Some(pending) => Some(pending),
+            None => self.pending_in(Acct::Outbound, number),
         }
     }
 

@@ -44,7 +44,6 @@ impl Event {
     {
         match self {
             Event::Say(call) => call.is_built(),
-            Event::Leaves(_) => false,
             _ => true,
         }
     }

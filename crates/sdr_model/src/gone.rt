@@ -50,7 +50,7 @@ fn add_last(
     ensures { OnOk result (gone.new ≡ gone.old ++
         (if count == uses_of world.now.now addr then source_blocks addr (source_at world.now.now addr) else [])) }
 {
-    if count == uses(world, addr) {
+    if count == world.uses(addr) {
         add_passing(world, addr, gone)?;
     }
     Ok(())
@@ -74,10 +74,4 @@ pub fn gone_things(
         add_last(world, extent.source, count, &mut gone)?;
     }
     Ok(gone)
-}
-
-fn uses(world: &World, source: Addr) -> u64
-    ensures { result ≡ uses_of world.now.now source }
-{
-    0
 }

@@ -29,6 +29,8 @@ mod list_calls;
 mod lock;
 mod name_calls;
 mod names;
+mod note_map;
+mod notes;
 mod object;
 mod object_calls;
 mod ordered_calls;
@@ -41,6 +43,7 @@ mod script;
 mod store;
 mod table;
 mod table_calls;
+mod tally;
 #[cfg(test)]
 mod tests;
 mod text_calls;
@@ -51,7 +54,7 @@ mod wire_calls;
 mod world;
 mod zco;
 
-pub use accounts::{Account, Accounts, MOST_AMOUNT, Ticket};
+pub use accounts::{Account, Accounts, MOST_AMOUNT, Pending, Ticket};
 pub use answer::{Answer, Close, Reply};
 pub use call::Call;
 pub use calls::apply;

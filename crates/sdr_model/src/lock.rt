@@ -1,11 +1,14 @@
 // The lock of a plain machine: numbers are drawn, and the least that isn't done is served.
-ghost use Rattle.std.specs.Prelude.{◌≡◌, ◌<◌, ◌^◌, ◌==◌, IfOk, OnErr, find, length, drop, true, [], ◌∷◌};
-ghost use Rattle.std.specs.List.{list_any};
+ghost use Rattle.std.specs.Prelude.{◌≡◌, ◌<◌, ◌+◌, ◌^◌, ◌==◌, ◌&&◌, ◌||◌, not, IfOk, OnErr, OnOk, filter, find, length, drop, true, [], ◌∷◌, ◌++◌};
+ghost use Rattle.std.specs.List.{list_all, list_any};
+ghost use Rattle.sdr_model.specs.AccountSteps.{is_granted};
+ghost use Rattle.sdr_model.specs.Accounts.{pending_among};
 ghost use Rattle.sdr_model.specs.Built.{is_built, is_built_event};
-ghost use Rattle.sdr_model.specs.Machine.{MachineStep, Draws, Comes, ComesLooking, Looks, Opens, Serves, Closes, Waits, Holds, event_moves, says_moves, first_machine, served_number, is_outside};
+ghost use Rattle.sdr_model.specs.Transaction.{refused};
+ghost use Rattle.sdr_model.specs.Machine.{MachineStep, Goes, Draws, Comes, ComesLooking, ComesLeaving, LooksAt, Leaving, Looks, Opens, Serves, Closes, Waits, Holds, event_moves, says_moves, first_machine, served_number, is_outside, is_stalled, may_come, with_entry, with_wait, with_left, with_holder};
 
 use crate::transaction::{close, deepen, refused, retreat, rise, say};
-use crate::{Answer, Call, Event, Holder, Waiting, World};
+use crate::{Accounts, Answer, Call, Event, Holder, Reply, Waiting, World};
 use sdr_base::{NoMemory, Refusal};
 use std::alloc::Global;
 use std::marker::Model;
@@ -45,10 +48,67 @@ impl Model for Lock {
     } };
 }
 
-fn is_daemon(daemons: &[u8], daemon: u8) -> bool
+fn is_among(daemons: &[u8], daemon: u8) -> bool
     ensures { result ≡ list_any (λ d. d == daemon) daemons.now }
 {
     daemons.contains(&daemon)
+}
+
+// Whether the ticket of a number is there and granted.
+fn is_granted(accounts: &Accounts, ticket: u64) -> bool
+    ensures { result ≡ is_granted (pending_among accounts.now ticket) }
+{
+    match accounts.pending(ticket) {
+        Some(pending) => pending.ticket.granted,
+        None => false,
+    }
+}
+
+// Whether a daemon waits for a ticket.
+fn waits_for(waiting: &[Waiting], daemon: u8, ticket: u64) -> bool
+    ensures { result ≡ list_any (λ x. x.daemon == daemon && x.ticket == ticket) waiting.now }
+{
+    waiting
+        .iter()
+        .any(|x| x.daemon == daemon && x.ticket == ticket)
+}
+
+// Whether a daemon waits for a ticket that isn't granted.
+fn waits_in_vain(waiting: &[Waiting], accounts: &Accounts, daemon: u8) -> bool
+    ensures { result ≡ list_any
+        (λ x. x.daemon == daemon && not (is_granted (pending_among accounts.now x.ticket))) waiting.now }
+{
+    waiting
+        .iter()
+        .any(|x| x.daemon == daemon && !is_granted(accounts, x.ticket))
+}
+
+// Whether each of these daemons has left, or waits for a ticket that isn't granted.
+fn are_stalled(daemons: &[u8], left: &[u8], waiting: &[Waiting], accounts: &Accounts) -> bool
+    ensures { result ≡ list_all (λ daemon. list_any (λ d. d == daemon) left.now
+        || list_any (λ x. x.daemon == daemon && not (is_granted (pending_among accounts.now x.ticket))) waiting.now)
+        daemons.now }
+{
+    daemons
+        .iter()
+        .all(|daemon| is_among(left, *daemon) || waits_in_vain(waiting, accounts, *daemon))
+}
+
+// Forgets what a daemon waits for.
+fn forget(waiting: &mut Vec<Waiting>, daemon: u8)
+    ensures { waiting.new.items ≡ filter (λ x. not (x.daemon == daemon)) waiting.old.items }
+{
+    waiting.retain(|x| x.daemon != daemon);
+}
+
+// Those that wait where this one does too, for this ticket alone.
+fn with_wait(alloc: Global, waiting: &[Waiting], new: Waiting) -> Result<Vec<Waiting>, NoMemory>
+    ensures { IfOk result (λ all. all.items ≡ filter (λ x. not (x.daemon == new.daemon)) waiting.now ++ new ∷ []) }
+{
+    let mut all = Vec::from_slice(alloc, waiting)?;
+    forget(&mut all, new.daemon);
+    all.push(new)?;
+    Ok(all)
 }
 
 fn holder_of(holders: &[Holder], daemon: u8) -> Option<Holder>
@@ -120,20 +180,103 @@ impl Lock {
         Ok(Answer::Lock { number })
     }
 
+    // An entry of a daemon that is no wait.
+    fn forget(&mut self, daemon: u8)
+        ensures { self.new ≡ with_entry self.old daemon }
+    {
+        forget(&mut self.waiting, daemon);
+    }
+
+    // A daemon waits for a ticket.
+    fn wait(&mut self, daemon: u8, ticket: u64) -> Result<(), NoMemory>
+        ensures ok { OnOk result (self.new ≡ with_wait self.old daemon ticket) }
+        ensures err { OnErr result (self.new ≡ self.old) }
+    {
+        let new = Waiting { daemon, ticket };
+        self.waiting = with_wait(self.alloc, &self.waiting, new)?;
+        Ok(())
+    }
+
+    // A daemon has left, and may come no more.
+    fn depart(&mut self, daemon: u8) -> Result<(), NoMemory>
+        ensures ok { OnOk result (self.new ≡ with_left self.old daemon) }
+        ensures err { OnErr result (self.new ≡ self.old) }
+    {
+        self.left.push(daemon)?;
+        forget(&mut self.waiting, daemon);
+        Ok(())
+    }
+
+    // Whether every daemon has left, or waits for a ticket that isn't granted.
+    fn is_stalled(&self) -> bool
+        ensures { result ≡ is_stalled self.now }
+    {
+        let accounts = self.world.accounts_begun();
+        are_stalled(&self.daemons, &self.left, &self.waiting, accounts)
+    }
+
+    // A look of a daemon whose number is served, and is done with it.
+    fn look_at(&mut self, daemon: u8, ticket: u64) -> Result<Answer, NoMemory>
+        ensures looks { IfOk result (λ answer. LooksAt self.old daemon ticket answer [] self.new) }
+        ensures drawn { self.new.drawn ≡ self.old.drawn }
+        ensures holders { self.new.holders ≡ self.old.holders }
+        ensures err { OnErr result (self.new ≡ self.old) }
+    {
+        let Some(pending) = self.world.accounts_begun().pending(ticket) else {
+            return Ok(refused(Refusal::BadTicket { ticket }));
+        };
+        if pending.ticket.granted {
+            self.forget(daemon);
+            return Ok(Answer::Awarded);
+        }
+        if waits_for(&self.waiting, daemon, ticket) && self.is_stalled() {
+            self.forget(daemon);
+            return Ok(Answer::Stalled);
+        }
+        self.wait(daemon, ticket)?;
+        Ok(Answer::Waits)
+    }
+
+    // A daemon without a number draws one that can't be served yet.
+    fn draw_suspended(&mut self, daemon: u8) -> Result<Answer, NoMemory>
+        requires { self.old.drawn < 2 ^ 60 }
+        ensures suspends { IfOk result (λ answer. Goes answer [] self.new
+            (refused (Refusal.Suspended (served_number self.old.holders) (self.old.drawn + 1)))
+            (with_holder self.old daemon)) }
+        ensures err { OnErr result (self.new ≡ self.old) }
+    {
+        let serving = served_number(&self.holders);
+        self.draw(daemon, 0)?;
+        let mine = self.drawn;
+        Ok(refused(Refusal::Suspended { serving, mine }))
+    }
+
     // A look of a daemon without a number: it draws one, which is done at once where it is served.
     fn comes_looking(&mut self, daemon: u8, ticket: u64) -> Result<Answer, NoMemory>
         requires { self.old.drawn < 2 ^ 60 }
         ensures comes { IfOk result (λ answer. ComesLooking self.old daemon ticket answer [] self.new) }
         ensures err { OnErr result (self.new ≡ self.old) }
     {
-        let serving = served_number(&self.holders);
-        if serving == 0 {
-            self.drawn += 1;
-            return Ok(refused(Refusal::BadTicket { ticket }));
+        if served_number(&self.holders) > 0 {
+            return self.draw_suspended(daemon);
         }
-        self.draw(daemon, 0)?;
-        let mine = self.drawn;
-        Ok(refused(Refusal::Suspended { serving, mine }))
+        let answer = self.look_at(daemon, ticket)?;
+        self.drawn += 1;
+        Ok(answer)
+    }
+
+    // A leave of a daemon without a number: it draws one, which is done at once where it is served.
+    fn comes_leaving(&mut self, daemon: u8) -> Result<Answer, NoMemory>
+        requires { self.old.drawn < 2 ^ 60 }
+        ensures comes { IfOk result (λ answer. ComesLeaving self.old daemon answer [] self.new) }
+        ensures err { OnErr result (self.new ≡ self.old) }
+    {
+        if served_number(&self.holders) > 0 {
+            return self.draw_suspended(daemon);
+        }
+        self.depart(daemon)?;
+        self.drawn += 1;
+        Ok(Answer::Reply(Reply::Done))
     }
 
     // An event of a daemon without a number.
@@ -146,6 +289,7 @@ impl Lock {
             Event::Request => self.draw(daemon, 0),
             Event::Begin => self.draw(daemon, 1),
             Event::Look(ticket) => self.comes_looking(daemon, *ticket),
+            Event::Leaves(_) => self.comes_leaving(daemon),
             _ => Ok(refused(Refusal::NotBegun)),
         }
     }
@@ -165,6 +309,7 @@ impl Lock {
     {
         let close = close(holder, &mut self.world, event);
         let _ = self.holders.remove(0);
+        forget(&mut self.waiting, holder.daemon);
         Answer::Closed(close)
     }
 
@@ -246,20 +391,41 @@ impl Lock {
     }
 
     // A look of a holder: it is refused in a transaction, and where the number isn't served.
-    fn look(&mut self, holder: Holder, ticket: u64) -> Answer
+    fn look(&mut self, holder: Holder, ticket: u64) -> Result<Answer, NoMemory>
         requires { 0 < length self.old.holders }
-        ensures { Looks self.old holder ticket result [] self.new }
+        ensures looks { IfOk result (λ answer. Looks self.old holder ticket answer [] self.new) }
+        ensures err { OnErr result (self.new ≡ self.old) }
     {
         let mine = holder.number;
         if holder.depth > 0 {
-            return refused(Refusal::InTransaction { mine });
+            return Ok(refused(Refusal::InTransaction { mine }));
         }
         let serving = served_number(&self.holders);
         if serving != mine {
-            return refused(Refusal::Suspended { serving, mine });
+            return Ok(refused(Refusal::Suspended { serving, mine }));
         }
+        let answer = self.look_at(holder.daemon, ticket)?;
         let _ = self.holders.remove(0);
-        refused(Refusal::BadTicket { ticket })
+        Ok(answer)
+    }
+
+    // A leave of a holder: it is refused where the number isn't served.
+    fn leave(&mut self, holder: &Holder, event: &Event) -> Result<Answer, NoMemory>
+        requires { 0 < length self.old.holders }
+        ensures leaves { IfOk result (λ answer. Leaving self.old holder.now event.now answer [] self.new) }
+        ensures err { OnErr result (self.new ≡ self.old) }
+    {
+        let mine = holder.number;
+        let serving = served_number(&self.holders);
+        if serving != mine {
+            return Ok(refused(Refusal::Suspended { serving, mine }));
+        }
+        if holder.depth > 0 {
+            return Ok(self.finish(holder, event));
+        }
+        self.depart(holder.daemon)?;
+        let _ = self.holders.remove(0);
+        Ok(Answer::Reply(Reply::Done))
     }
 
     // One event of a daemon that holds a number.
@@ -276,14 +442,18 @@ impl Lock {
             return Ok(Answer::Lock { number: mine });
         }
         if let Event::Look(ticket) = event {
-            return Ok(self.look(holder, *ticket));
+            return self.look(holder, *ticket);
+        }
+        if let Event::Leaves(_) = event {
+            return self.leave(&holder, event);
         }
         if is_outside(&holder, event) {
             return Ok(refused(Refusal::NotBegun));
         }
         let serving = served_number(&self.holders);
         if serving != mine {
-            return Ok(refused(Refusal::Suspended { serving, mine }));
+            let refusal = Refusal::Suspended { serving, mine };
+            return Ok(refused(refusal));
         }
         match event {
             Event::Request | Event::Begin => Ok(self.begin(holder)),
@@ -295,6 +465,13 @@ impl Lock {
         }
     }
 
+    // Whether the daemon is one of the machine's, and hasn't left.
+    fn may_come(&self, daemon: u8) -> bool
+        ensures { result ≡ may_come self.now daemon }
+    {
+        is_among(&self.daemons, daemon) && !is_among(&self.left, daemon)
+    }
+
     /// Makes an event. Want of memory leaves all as before.
     pub fn event(&mut self, daemon: u8, event: &Event) -> Result<Answer, NoMemory>
         requires drawn { self.old.drawn < 2 ^ 60 }
@@ -304,7 +481,7 @@ impl Lock {
             MachineStep self.old daemon event.now answer (event_moves self.old event.now answer) self.new) }
         ensures err { OnErr result (self.new ≡ self.old) }
     {
-        if !is_daemon(&self.daemons, daemon) {
+        if !self.may_come(daemon) {
             return Ok(refused(Refusal::NotBegun));
         }
         match holder_of(&self.holders, daemon) {

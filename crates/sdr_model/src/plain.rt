@@ -18,7 +18,7 @@ pub struct Plain {
 }
 
 impl Model for Plain {
-    ghost use Rattle.std.specs.Prelude.{◌≤◌};
+    ghost use Rattle.sdr_model.specs.Few.{IsAfter};
     ghost use Rattle.sdr_model.specs.Plain as plain;
 
     ghost Value = { plain.Plain };
@@ -27,7 +27,7 @@ impl Model for Plain {
 
     ghost view = { λ s. record { machine = s.lock; events = s.events } };
 
-    ghost invariant = { λ s. (s.lock.drawn ≤ s.events) × (s.lock.current.taken ≤ s.events) };
+    ghost invariant = { λ s. IsAfter s.events s.lock };
 }
 
 impl Plain {

@@ -119,11 +119,12 @@ fn close_of(event: &Event, modified: bool) -> Close
         Event::Cancel => Close::Cancelled(Reason::Asked),
         Event::Exit if modified => Close::Cancelled(Reason::Modified),
         Event::Exit => Close::Exited,
+        Event::Leaves(_) => Close::Cancelled(Reason::Left),
         _ => Close::Ended,
     }
 }
 
-/// Closes the transaction of an outermost end, cancel or exit.
+/// Closes the transaction of an outermost end, cancel or exit, or of a leave.
 pub fn close(holder: &Holder, world: &mut World, event: &Event) -> Close
     ensures close { (w : PlainWorld) → result ≡ closing (transaction_of holder.now w) event.now }
     ensures world { let left = left_by result world.old.begun world.old.now in

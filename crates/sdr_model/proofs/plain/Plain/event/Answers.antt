@@ -1,8 +1,10 @@
-use Rattle.std.proofs.Common.{arith}
-use Rattle.sdr_model.proofs.CountLemmas.{few}
+use Rattle.std.proofs.Common.{◌<◌, subst, sym}
+use Rattle.sdr_model.specs.Plain.{Plain}
+use Rattle.sdr_model.proofs.CountLemmas.{after_one_more}
 use Rattle.sdr_model.proofs.plain.Plain.event.Goals as goal
 
 pub invariant_of-self-2 : goal.invariant_of-self-2
 invariant_of-self-2 c =
-    let counts = few c.self.inside.lock c.event.new.self c.args.daemon c.args.event.now c.in_ok-answer.answer c.in_ok-answer.ensures.step in
-    (omega (arith, counts.drawn, c.self.invariant.0), omega (arith, counts.taken, c.self.invariant.1))
+    after_one_more c.self.inside.events c.self.inside.lock c.event.new.self c.args.daemon c.args.event.now c.in_ok-answer.answer
+    (subst (λ (p : Plain). p.events < 2097152) (sym c.self.view_is) c.requires.events)
+    c.self.invariant c.in_ok-answer.ensures.step

@@ -1,4 +1,0 @@
-use Rattle.sdr_model.proofs.gone.uses.Goals as goal
-
-pub returns : goal.returns
-returns c = ?
