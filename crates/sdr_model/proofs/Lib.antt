@@ -1,10 +1,12 @@
 pub mod AskingLemmas
 pub mod BlocksTaken
+pub mod BoundsLemmas
 pub mod Cases
 pub mod CountLemmas
 pub mod DryLemmas
 pub mod FewLemmas
 pub mod FewSteps
+pub mod GoneLemmas
 mod HashExample
 pub mod HashLemmas
 pub mod MachineLemmas

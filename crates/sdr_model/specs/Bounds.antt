@@ -1,15 +1,11 @@
 -- The bounds of what is in an object, by which all sums over it fit a word.
 use Rattle.std.specs.Prelude.{◌≤◌, ◌^◌, ◌+◌, List}
 use Rattle.std.specs.List.{All}
-use Rattle.sdr_model.specs.Limits.{longest_source}
+use Rattle.sdr_model.specs.Tallies.{EndsInTime}
 use Rattle.sdr_model.specs.Zco.{capsules_length, extents_length}
 use Rattle.sdr_model.specs.declared.zco.Capsule.{Capsule}
 use Rattle.sdr_model.specs.declared.zco.Extent.{Extent}
 use Rattle.sdr_model.specs.declared.zco.ZcoObject.{ZcoObject}
-
--- the extent ends where the longest source ends, or before
-abbrev pub EndsInTime : Extent → Type 0
-EndsInTime e = e.offset + e.length ≤ longest_source
 
 -- these extents have few bytes together
 abbrev pub AreFewBytes : List Extent → Type 0

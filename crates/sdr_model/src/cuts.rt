@@ -1,8 +1,9 @@
 // Extents, cut to a part of their bytes.
 ghost use Rattle.std.specs.Prelude.{◌≡◌, IfOk};
 ghost use Rattle.std.specs.List.{All};
-ghost use Rattle.sdr_model.specs.Bounds.{AreFewBytes, EndsInTime};
+ghost use Rattle.sdr_model.specs.Bounds.{AreFewBytes};
 ghost use Rattle.sdr_model.specs.Cuts.{cut, cut_all, left_out};
+ghost use Rattle.sdr_model.specs.Tallies.{EndsInTime};
 ghost use Rattle.sdr_model.specs.Zco.{extents_length, whole_of};
 
 use crate::{Extent, Part};

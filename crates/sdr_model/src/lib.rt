@@ -17,6 +17,7 @@ mod catalogue;
 mod cuts;
 mod element_calls;
 mod event;
+mod gone;
 mod hash;
 mod hash_calls;
 mod holder;

@@ -1,13 +1,12 @@
 // What calls on objects do to a world.
-ghost use Rattle.std.specs.Prelude.{◌≡◌, ◌<◌, ◌^◌, IfSome};
+ghost use Rattle.std.specs.Prelude.{◌≡◌, IfSome};
 ghost use Rattle.std.specs.Option.{option_copied};
 ghost use Rattle.sdr_model.specs.Answers.{Answers};
 ghost use Rattle.sdr_model.specs.Bounds.{IsBounded};
-ghost use Rattle.sdr_model.specs.World.{thing_at};
 ghost use Rattle.sdr_model.specs.Zco.{object_at};
 
 use crate::raw_calls::misnamed;
-use crate::{Reply, Thing, World, ZcoObject};
+use crate::{Call, Reply, World, ZcoObject};
 use sdr_base::{Addr, NoMemory};
 
 /// The object at an address.
@@ -15,10 +14,8 @@ pub fn object(world: &World, addr: Addr) -> Option<&ZcoObject>
     ensures is { option_copied result ≡ object_at world.now.now addr }
     ensures bounded { IfSome result (λ z. IsBounded z.now) }
 {
-    match world.thing(addr) {
-        Some(Thing::Object(object)) => Some(object),
-        _ => None,
-    }
+    let object = world.object(addr)?;
+    Some(object)
 }
 
 pub fn zco_length(world: &mut World, addr: Addr) -> Result<Reply, NoMemory>
