@@ -8,6 +8,7 @@
 #![tactic(auto)]
 
 mod accounts;
+mod amounts;
 mod answer;
 mod call;
 mod calls;
@@ -31,6 +32,7 @@ mod owners;
 mod place;
 mod places;
 mod plain;
+mod queue;
 mod raw_calls;
 mod script;
 mod store;
