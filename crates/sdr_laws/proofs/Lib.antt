@@ -19,7 +19,6 @@ pub mod Shapes
 pub mod SpotPlaces
 pub mod SpotThere
 pub mod StepLemmas
-pub mod SumLemmas
 pub mod TableShapes
 pub mod ThingChanges
 pub mod ThingLemmas

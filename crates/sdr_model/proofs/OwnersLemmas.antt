@@ -51,8 +51,9 @@ module _ {X Y : Type 0} (P : Y → Type 0) (f : X → Y) where
 
 module _ (owners : Owners) (next owner : ℕ) where
   -- a thing with nothing inside owns all of it
-  pub owns_nothing : (thing : Thing) → inner_blocks thing ≡ [] → OwnsInside owners next owner thing
-  owns_nothing thing bare = record {
+  pub owns_nothing : (thing : Thing) → owner < next → inner_blocks thing ≡ [] → OwnsInside owners next owner thing
+  owns_nothing thing below bare = record {
+    below = below;
     inside = subst (All (Owns owners next owner)) (sym bare) (All-nil (Owns owners next owner));
   }
 
@@ -64,7 +65,7 @@ module _ (owners : Owners) (next owner : ℕ) where
 
     owned_by : (blocks : List Block) → inner_blocks new ≡ blocks → All (Owns owners next owner) blocks
         → OwnsInside owners next owner new
-    owned_by blocks is all = record { inside = subst (All (Owns owners next owner)) (sym is) all }
+    owned_by blocks is all = record { below = owns.below; inside = subst (All (Owns owners next owner)) (sym is) all }
 
     pub OwnsInside-removed : inner_blocks new ≡ map f (remove_at xs place) → OwnsInside owners next owner new
     OwnsInside-removed is = owned_by _ is (All-map-remove (Owns owners next owner) f xs place all_owned)
@@ -93,6 +94,7 @@ module _ (owners : Owners) (next more : ℕ) (higher : next ≤ more) where
   pub OwnsInside-raised : (owner : ℕ) (thing : Thing) → OwnsInside owners next owner thing
       → OwnsInside owners more owner thing
   OwnsInside-raised owner thing owns = record {
+    below = omega (arith, owns.below);
     inside = All-weaker _ _ (λ b is. IsOwned-raised owner b.addr is) (inner_blocks thing) owns.inside;
   }
 
@@ -114,6 +116,7 @@ module _ (owners : Owners) (next block by : ℕ) (new : next ≤ block) where
   OwnInside-noted : (things : Things) → OwnInside owners next things → OwnInside (insert owners block by) next things
   OwnInside-noted things own = record {
     each = λ addr thing is. record {
+      below = (own.each addr thing is).below;
       inside =
           All-weaker _ _ (λ b has. IsOwned-noted addr b.addr has) (inner_blocks thing) (own.each addr thing is).inside;
     };

@@ -25,7 +25,7 @@ left_of : (a b : Bool) → T (a && b) → T a
 left_of true b h = tt
 left_of false b h = absurd h
 
-right_of : (a b : Bool) → T (a && b) → T b
+pub right_of : (a b : Bool) → T (a && b) → T b
 right_of true b h = h
 right_of false b h = absurd h
 
@@ -42,11 +42,11 @@ missing k (e ∷ es) below =
     ∙ missing k es (right_of _ _ below)
 
 -- the first of some things is at its address
-first_there : (e : ℕ × Thing) (es : List (ℕ × Thing)) → find nat_cmp e.0 (e ∷ es) ≡ Some e.1
+pub first_there : (e : ℕ × Thing) (es : List (ℕ × Thing)) → find nat_cmp e.0 (e ∷ es) ≡ Some e.1
 first_there e es = ap (λ b. cond b (Some e.1) (find nat_cmp e.0 es)) (at_itself e.0)
 
 -- and so are the others
-rest_there : (e : ℕ × Thing) (es : List (ℕ × Thing)) (k : ℕ) (thing : Thing) → T (is_sorted nat_cmp (e ∷ es))
+pub rest_there : (e : ℕ × Thing) (es : List (ℕ × Thing)) (k : ℕ) (thing : Thing) → T (is_sorted nat_cmp (e ∷ es))
     → find nat_cmp k es ≡ Some thing → find nat_cmp k (e ∷ es) ≡ Some thing
 rest_there e es k thing sorted is = by (is_at (nat_cmp k) e.0) refl
   where

@@ -226,3 +226,7 @@ insert-removed things k thing = same_things _ _ (λ q.
     last : (t : Bool) (o : Option Thing) → cond t (Some thing) (cond t None o) ≡ cond t (Some thing) o
     last true o = refl
     last false o = refl
+
+-- nothing is where something was taken out
+pub get-removed : (things : Things) (k : ℕ) → get (remove things k) k ≡ None
+get-removed things k = get-remove nat_cmp_total things k k ∙ ap (λ b. cond b None (get things k)) (at_itself k)

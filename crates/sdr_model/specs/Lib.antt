@@ -6,6 +6,7 @@ pub mod Blocks
 pub mod BondSteps
 pub mod Built
 pub mod Catalogue
+pub mod Charged
 pub mod Charges
 pub mod Charging
 pub mod Core
@@ -24,6 +25,7 @@ pub mod ListSteps
 pub mod Machine
 pub mod NameSteps
 pub mod Names
+pub mod Notes
 pub mod ObjectSteps
 pub mod Owners
 pub mod PartSteps
@@ -39,6 +41,7 @@ pub mod Steps
 pub mod Store
 pub mod TableSteps
 pub mod Tables
+pub mod Tallies
 pub mod Things
 pub mod Transaction
 pub mod Valid

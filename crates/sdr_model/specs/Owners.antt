@@ -17,8 +17,9 @@ pub record IsOwned (owners : Owners) (next owner addr : ℕ) : Type 0 where
 abbrev pub Owns : Owners → ℕ → ℕ → Block → Type 0
 Owns owners next owner block = IsOwned owners next owner block.addr
 
--- each block inside the thing at an address is noted as inside it
+-- the address of a thing lies below the next, and each block inside the thing is noted as inside it
 pub record OwnsInside (owners : Owners) (next owner : ℕ) (thing : Thing) : Type 0 where
+  pub below : owner < next
   pub inside : All (Owns owners next owner) (inner_blocks thing)
 
 -- each of the things owns the blocks inside it

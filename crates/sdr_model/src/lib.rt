@@ -27,6 +27,8 @@ mod list_calls;
 mod lock;
 mod name_calls;
 mod names;
+mod note_map;
+mod notes;
 mod ordered_calls;
 mod owners;
 mod place;
@@ -38,6 +40,7 @@ mod script;
 mod store;
 mod table;
 mod table_calls;
+mod tally;
 #[cfg(test)]
 mod tests;
 mod text_calls;

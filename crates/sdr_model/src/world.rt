@@ -1,5 +1,5 @@
 // A world in the making.
-ghost use Rattle.std.specs.Prelude.{◌≡◌, ◌<◌, ◌+◌, ◌^◌, ◌++◌, length, take, ◌∷◌, [], IfOk, IfSome, OnOk, OnErr, IsSome, None, Some, Contains};
+ghost use Rattle.std.specs.Prelude.{◌≡◌, ◌<◌, ◌+◌, ◌^◌, ◌++◌, length, take, ◌∷◌, [], IfOk, IfSome, OnOk, OnErr, IsSome, None, Some, Contains, true};
 ghost use Rattle.std.specs.FinMap as map;
 ghost use Rattle.std.specs.List.{list_any};
 ghost use Rattle.std.specs.Option.{option_copied};
@@ -8,12 +8,14 @@ ghost use Rattle.sdr_model.specs.Dry.{next_addr};
 ghost use Rattle.sdr_model.specs.Names.{name_of, without_name};
 ghost use Rattle.sdr_model.specs.Owners.{MayHave, MayPut};
 ghost use Rattle.sdr_model.specs.Steps.{with_thing, without_thing};
+ghost use Rattle.sdr_model.specs.Tallies.{IsSound, is_plain};
 ghost use Rattle.sdr_model.specs.Things.{IsWithin, SpotIs, inner_among, inner_blocks};
 ghost use Rattle.sdr_model.specs.World.{block_at, empty_world, is_marked, spot_of, thing_at};
 ghost use Rattle.sdr_model.specs.declared.things.Thing.{Thing};
 
 use crate::catalogue::Catalogue;
 use crate::owners::Owners;
+use crate::tally::Tally;
 use crate::{Accounts, Block, Ledger, Named, Names, Spot, Store, Thing};
 use sdr_base::{Addr, Bytes, Items, NoMemory};
 use std::alloc::Global;
@@ -30,6 +32,8 @@ pub struct World {
     owners: Owners,
     catalogue: Catalogue,
     accounts: Ledger,
+    /// The sums over the things.
+    tally: Tally,
     /// The addresses marked in the open transaction.
     marks: Items<Addr>,
     /// The bytes that the last answered call gave.
@@ -44,7 +48,7 @@ impl Model for World {
     ghost use Rattle.std.specs.Prelude.{[]};
     ghost use Rattle.sdr_model.specs.Draft as draft;
     ghost use Rattle.sdr_model.specs.Dry.{next_addr};
-    ghost use Rattle.sdr_model.specs.Owners.{AllOwnInside};
+    ghost use Rattle.sdr_model.specs.Tallies.{IsKept};
 
     ghost Value = { draft.Draft };
 
@@ -57,7 +61,7 @@ impl Model for World {
       owners = s.owners;
     } };
 
-    ghost invariant = { λ s. AllOwnInside s.owners (next_addr s.taken) s.things.begun s.things.now };
+    ghost invariant = { λ s. IsKept s.owners s.tally (next_addr s.taken) s.things s.accounts };
 }
 
 impl World {
@@ -71,6 +75,7 @@ impl World {
             owners: Owners::new(alloc),
             catalogue: Catalogue::new(alloc),
             accounts: Ledger::new(alloc, 32_768),
+            tally: Tally::new(alloc),
             marks: Items::new(alloc),
             shown: Bytes::new(alloc),
             taken: 0,
@@ -213,6 +218,8 @@ impl World {
     pub fn make(&mut self, thing: Thing) -> Result<Addr, NoMemory>
         requires taken { self.old.now.taken < 2 ^ 60 }
         requires bare { inner_blocks thing ≡ [] }
+        requires plain { is_plain (Some thing) ≡ true }
+        requires sound { IsSound (next_addr self.old.now.taken) thing }
         ensures addr { IfOk result (λ addr. addr ≡ next_addr self.old.now.taken) }
         ensures made { IfOk result (λ addr.
             self.new.now ≡ with_taken (with_thing self.old.now addr thing) addr) }
@@ -236,6 +243,7 @@ impl World {
 
     /// Lets the thing at an address go. Want of memory leaves the world as before.
     pub fn lose(&mut self, addr: Addr) -> Result<(), NoMemory>
+        requires plain { is_plain (thing_at self.old.now addr) ≡ true }
         ensures lost { OnOk result (self.new.now ≡ record (without_thing self.old.now addr) { shown = [] }) }
         ensures begun { self.new.begun ≡ self.old.begun }
         ensures same { OnErr result (self.new.now ≡ self.old.now) }
@@ -249,11 +257,14 @@ impl World {
     /// before.
     pub fn take(&mut self, addr: Addr) -> Result<Thing, NoMemory>
         requires some { IsSome (thing_at self.old.now addr) }
+        requires plain { is_plain (thing_at self.old.now addr) ≡ true }
         ensures taken { IfOk result (λ thing. thing_at self.old.now addr ≡ Some thing) }
         ensures again { OnOk result ((thing : Thing) →
             with_thing self.new.now addr thing ≡ with_thing self.old.now addr thing) }
         ensures back { IfOk result (λ thing. with_thing self.new.now addr thing ≡ self.old.now) }
         ensures may_put { IfOk result (λ thing. MayPut self.new addr thing) }
+        ensures plain { OnOk result (is_plain (thing_at self.new.now addr) ≡ true) }
+        ensures sound { IfOk result (λ thing. IsSound (next_addr self.new.now.taken) thing) }
         ensures touched { OnOk result (Contains self.new.touched addr) }
         ensures owners { self.new.owners ≡ self.old.owners }
         ensures begun { self.new.begun ≡ self.old.begun }
@@ -266,6 +277,9 @@ impl World {
     pub fn put(&mut self, addr: Addr, thing: Thing)
         requires touched { Contains self.old.touched addr }
         requires may_put { MayPut self.old addr thing }
+        requires plain { is_plain (Some thing) ≡ true }
+        requires was_plain { is_plain (thing_at self.old.now addr) ≡ true }
+        requires sound { IsSound (next_addr self.old.now.taken) thing }
         ensures put { self.new.now ≡ with_thing self.old.now addr thing }
         ensures begun { self.new.begun ≡ self.old.begun }
     {
@@ -351,6 +365,7 @@ impl World {
         self.things.keep();
         self.catalogue.keep();
         self.accounts.keep();
+        self.tally.keep();
         self.marks = Items::new(self.alloc);
         self.shown = Bytes::new(self.alloc);
         self.taken_before = self.taken;
@@ -364,6 +379,7 @@ impl World {
         self.things.put_back();
         self.catalogue.put_back();
         self.accounts.put_back();
+        self.tally.put_back();
         self.marks = Items::new(self.alloc);
         self.shown = Bytes::new(self.alloc);
         self.taken_before = self.taken;

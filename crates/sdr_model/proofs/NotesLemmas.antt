@@ -1,0 +1,155 @@
+-- Notes by address, and a log of those before.
+use Rattle.std.proofs.Common.{◌≡◌, ℕ, zero, suc, arith, Bool, true, false, List, [], ◌∷◌, ◌++◌, cond, Option, Some, None, ap, sym, ◌∙◌, refl, subst, unwrap_or, true≢false, ◌⊎◌, inl, inr}
+use Rattle.std.proofs.lemmas.List.Elements.{Contains-append_left, Contains-append_right, Contains-append_cases}
+use Rattle.std.specs.BTreeMap.{is_at}
+use Rattle.std.specs.Cmp.{nat_cmp_total}
+use Rattle.std.specs.FinMap.{get, insert, get-insert}
+use Rattle.std.specs.List.{Contains}
+use Rattle.std.specs.Ordering.{nat_cmp}
+use Rattle.std.specs.Prelude.{IsSome}
+use Rattle.sdr_model.specs.Notes.{HaveNotes, Notes, SameNotes, blank, logged, note_at, undone}
+use Rattle.sdr_model.specs.declared.tally.Note.{Note}
+use Rattle.sdr_model.proofs.StoreLemmas.{at_itself, same_address}
+
+-- the note that was put at an address is there, and others stay
+pub note_at-insert : (notes : Notes) (k : ℕ) (note : Note) (q : ℕ)
+    → note_at (insert notes k note) q ≡ cond (is_at (nat_cmp q) k) note (note_at notes q)
+note_at-insert notes k note q =
+    ap (λ o. unwrap_or o blank) (get-insert nat_cmp_total notes k note q) ∙ by (is_at (nat_cmp q) k)
+  where
+    by : (b : Bool) → unwrap_or (cond b (Some note) (get notes q)) blank ≡ cond b note (note_at notes q)
+    by true = refl
+    by false = refl
+
+-- the note that is there may be put there again
+pub note_at-again : (notes : Notes) (k : ℕ) → SameNotes (insert notes k (note_at notes k)) notes
+note_at-again notes k q = note_at-insert notes k (note_at notes k) q ∙ by (is_at (nat_cmp q) k) refl
+  where
+    by : (b : Bool) → is_at (nat_cmp q) k ≡ b → cond b (note_at notes k) (note_at notes q) ≡ note_at notes q
+    by true at = sym (ap (note_at notes) (same_address q k at))
+    by false at = refl
+
+-- the note that a log has first for an address, and else this one
+abbrev pub first_logged : List (ℕ × Note) → ℕ → Note → Note
+first_logged [] q note = note
+first_logged (e ∷ log) q note = cond (is_at (nat_cmp q) e.0) e.1 (first_logged log q note)
+
+pub note_at-undone : (log : List (ℕ × Note)) (notes : Notes) (q : ℕ)
+    → note_at (undone log notes) q ≡ first_logged log q (note_at notes q)
+note_at-undone [] notes q = refl
+note_at-undone (e ∷ log) notes q =
+    note_at-insert (undone log notes) e.0 e.1 q ∙ ap (cond (is_at (nat_cmp q) e.0) e.1) (note_at-undone log notes q)
+
+-- the same notes, undone, are the same
+pub undone-same : (log : List (ℕ × Note)) (a b : Notes) → SameNotes a b → SameNotes (undone log a) (undone log b)
+undone-same log a b same q =
+    note_at-undone log a q ∙ ap (first_logged log q) (same q) ∙ sym (note_at-undone log b q)
+
+-- the last entry of a log is undone first
+pub undone-push : (log : List (ℕ × Note)) (k : ℕ) (note : Note) (notes : Notes)
+    → undone (log ++ (k, note) ∷ []) notes ≡ undone log (insert notes k note)
+undone-push [] k note notes = refl
+undone-push (e ∷ log) k note notes = ap (λ m. insert m e.0 e.1) (undone-push log k note notes)
+
+-- the note that is there was put there again: all notes stay
+module _ (log : List (ℕ × Note)) (k : ℕ) (note : Note) (notes new : Notes)
+    (there : note ≡ note_at notes k) (is : new ≡ insert notes k note) where
+  pub now-touched : SameNotes new notes
+  now-touched q = ap (λ m. note_at m q) (is ∙ ap (insert notes k) there) ∙ note_at-again notes k q
+
+  pub undone-kept : SameNotes (undone log new) (undone log notes)
+  undone-kept = undone-same log new notes now-touched
+
+  pub undone-touched : SameNotes (undone (log ++ (k, note) ∷ []) new) (undone log notes)
+  undone-touched =
+      subst (λ m. SameNotes m (undone log notes)) (sym (undone-push log k note new))
+      (undone-same log (insert new k note) notes (λ q. note_at-insert new k note q ∙ by q (is_at (nat_cmp q) k) refl))
+    where
+      by : (q : ℕ) (b : Bool) → is_at (nat_cmp q) k ≡ b → cond b note (note_at new q) ≡ note_at notes q
+      by q true at = there ∙ sym (ap (note_at notes) (same_address q k at))
+      by q false at = now-touched q
+
+-- where a log has an address, it doesn't matter what note is there now
+first_logged-any : (log : List (ℕ × Note)) (k : ℕ) (a b : Note) → Contains (logged log) k
+    → first_logged log k a ≡ first_logged log k b
+first_logged-any [] k a b has = absurd (omega (arith, has.1))
+first_logged-any (e ∷ log) k a b has =
+    by (λ at. ap (cond (is_at (nat_cmp k) e.0) e.1) (first_logged-any log k a b (later has at))) (is_at (nat_cmp k) e.0) refl
+  where
+    later : Contains (logged (e ∷ log)) k → is_at (nat_cmp k) e.0 ≡ false → Contains (logged log) k
+    later (zero, lt, is) at = absurd (true≢false (sym (at_itself k) ∙ ap (λ q. is_at (nat_cmp k) q) (sym is) ∙ at))
+    later (suc i, lt, is) at = (i, omega (arith, lt), is)
+
+    by : (is_at (nat_cmp k) e.0 ≡ false
+        → cond (is_at (nat_cmp k) e.0) e.1 (first_logged log k a) ≡ cond (is_at (nat_cmp k) e.0) e.1 (first_logged log k b))
+        → (t : Bool) → is_at (nat_cmp k) e.0 ≡ t
+        → cond (is_at (nat_cmp k) e.0) e.1 (first_logged log k a) ≡ cond (is_at (nat_cmp k) e.0) e.1 (first_logged log k b)
+    by rest true at =
+        ap (λ t. cond t e.1 (first_logged log k a)) at ∙ ap (λ t. cond t e.1 (first_logged log k b)) (sym at)
+    by rest false at = rest at
+
+-- a note is set at an address that was touched: the notes at the begin stay
+pub undone-set : (log : List (ℕ × Note)) (k : ℕ) (note : Note) (notes : Notes) → Contains (logged log) k
+    → SameNotes (undone log (insert notes k note)) (undone log notes)
+undone-set log k note notes has q =
+    note_at-undone log (insert notes k note) q
+    ∙ ap (first_logged log q) (note_at-insert notes k note q)
+    ∙ by (is_at (nat_cmp q) k) refl
+    ∙ sym (note_at-undone log notes q)
+  where
+    by : (b : Bool) → is_at (nat_cmp q) k ≡ b
+        → first_logged log q (cond b note (note_at notes q)) ≡ first_logged log q (note_at notes q)
+    by true at =
+        first_logged-any log q note (note_at notes q) (subst (Contains (logged log)) (sym (same_address q k at)) has)
+    by false at = refl
+
+-- where there is a note, there still is one
+pub some-inserted : (notes : Notes) (k q : ℕ) (note : Note) → IsSome (get notes q) → IsSome (get (insert notes k note) q)
+some-inserted notes k q note has =
+    subst IsSome (sym (get-insert nat_cmp_total notes k note q)) (by (is_at (nat_cmp q) k))
+  where
+    by : (b : Bool) → IsSome (cond b (Some note) (get notes q))
+    by true = refl
+    by false = has
+
+-- there is a note where one was put
+pub some-there : (notes : Notes) (k : ℕ) (note : Note) → IsSome (get (insert notes k note) k)
+some-there notes k note =
+    subst IsSome (sym (get-insert nat_cmp_total notes k note k ∙ ap (λ b. cond b (Some note) (get notes k)) (at_itself k)))
+    refl
+
+-- the addresses of a longer log
+pub logged-push : (log : List (ℕ × Note)) (k : ℕ) (note : Note) → logged (log ++ (k, note) ∷ []) ≡ logged log ++ k ∷ []
+logged-push [] k note = refl
+logged-push (e ∷ log) k note = ap (λ ks. e.0 ∷ ks) (logged-push log k note)
+
+-- the one element of a list
+only : {k : ℕ} (q : ℕ) → Contains (k ∷ []) q → q ≡ k
+only q (zero, lt, is) = sym is
+only q (suc i, lt, is) = absurd (omega (arith, lt))
+
+-- one more address was touched
+pub HaveNotes-touched : (log : List (ℕ × Note)) (k : ℕ) (note : Note) (notes : Notes) → HaveNotes log notes
+    → HaveNotes (log ++ (k, note) ∷ []) (insert notes k note)
+HaveNotes-touched log k note notes have q has =
+    by (Contains-append_cases (logged log) (k ∷ []) q (subst (λ ks. Contains ks q) (logged-push log k note) has))
+  where
+    by : Contains (logged log) q ⊎ Contains (k ∷ []) q → IsSome (get (insert notes k note) q)
+    by (inl old) = some-inserted notes k q note (have q old)
+    by (inr new) = subst (λ a. IsSome (get (insert notes k note) a)) (sym (only q new)) (some-there notes k note)
+
+-- a note was set
+pub HaveNotes-set : (log : List (ℕ × Note)) (k : ℕ) (note : Note) (notes : Notes) → HaveNotes log notes
+    → HaveNotes log (insert notes k note)
+HaveNotes-set log k note notes have q has = some-inserted notes k q note (have q has)
+
+-- a longer log has the addresses of the shorter one, and its own
+pub logged-more : (log : List (ℕ × Note)) (k : ℕ) (note : Note) (q : ℕ) → Contains (logged log) q
+    → Contains (logged (log ++ (k, note) ∷ [])) q
+logged-more log k note q has =
+    subst (λ ks. Contains ks q) (sym (logged-push log k note)) (Contains-append_left (logged log) (k ∷ []) q has)
+
+pub logged-last : (log : List (ℕ × Note)) (k : ℕ) (note : Note) → Contains (logged (log ++ (k, note) ∷ [])) k
+logged-last log k note =
+    subst (λ ks. Contains ks k) (sym (logged-push log k note))
+    (Contains-append_right (logged log) (k ∷ []) k (0, omega arith, refl))

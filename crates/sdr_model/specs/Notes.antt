@@ -1,0 +1,57 @@
+-- Notes of what names each address.
+use Rattle.std.specs.Prelude.{◌≡◌, ℕ, List, [], ◌∷◌, map, None, unwrap_or, Contains, IsSome, refl}
+use Rattle.std.specs.Coded.{Coded, code_by, coded×, coded_ℕ, coded_list}
+use Rattle.std.specs.FinMap as finite
+use Rattle.std.specs.Ordering.{nat_cmp}
+use Rattle.sdr_base.specs.declared.account.Acct.{Acct}
+use Rattle.sdr_base.specs.declared.account.Acct.TheVariants as accts
+use Rattle.sdr_model.specs.contracts.tally.Note as note
+use Rattle.sdr_model.specs.declared.tally.Note.{Note}
+
+-- what names each address
+abbrev pub Notes : Type 0
+Notes = finite.FinMap nat_cmp Note
+
+-- the note of what nothing names
+abbrev pub blank : Note
+blank = record { inbound = 0; outbound = 0; source = None }
+
+-- the note at an address
+abbrev pub note_at : Notes → ℕ → Note
+note_at notes addr = unwrap_or (finite.get notes addr) blank
+
+-- both have the same note at each address
+abbrev pub SameNotes : Notes → Notes → Type 0
+SameNotes a b = (addr : ℕ) → note_at a addr ≡ note_at b addr
+
+-- how many extents of an account a note has
+abbrev pub noted_count : Note → Acct → ℕ
+noted_count note accts.Inbound = note.inbound
+noted_count note accts.Outbound = note.outbound
+
+-- the notes before those of the log, oldest first, were changed
+abbrev pub undone : List (ℕ × Note) → Notes → Notes
+undone [] notes = notes
+undone (e ∷ log) notes = finite.insert (undone log notes) e.0 e.1
+
+-- the addresses of a log
+abbrev pub logged : List (ℕ × Note) → List ℕ
+logged = map (λ e. e.0)
+
+-- each address of a log has a note
+abbrev pub HaveNotes : List (ℕ × Note) → Notes → Type 0
+HaveNotes log notes = (addr : ℕ) → Contains (logged log) addr → IsSome (finite.get notes addr)
+
+-- the notes at the begin of the open transaction, the notes now, and the addresses that were touched since
+pub record Notebook : Type 0 where
+  pub begun : Notes
+  pub now : Notes
+  pub touched : List ℕ
+
+-- a notebook as its parts
+abbrev pub coded_notebook : Coded Notebook
+coded_notebook = code_by (Notes × (Notes × List ℕ))
+    (coded× (finite.code coded_ℕ note.the_row.coded) (coded× (finite.code coded_ℕ note.the_row.coded) (coded_list coded_ℕ)))
+    (λ s. (s.begun, (s.now, s.touched)))
+    (λ p. record { begun = p.0; now = p.1.0; touched = p.1.1 })
+    (λ _. refl)

@@ -1,0 +1,93 @@
+-- What a world in the making knows of its sums, and what is sound in it.
+use Rattle.std.specs.Prelude.{◌≡◌, ◌≤◌, ◌<◌, ◌+◌, ℕ, Bool, true, false, length, sum_by, [], Option, None, Some, All}
+use Rattle.std.specs.FinMap as finite
+use Rattle.sdr_base.specs.declared.account.Acct.{Acct}
+use Rattle.sdr_base.specs.declared.account.Acct.TheVariants as accts
+use Rattle.sdr_base.specs.declared.account.Amounts.{Amounts}
+use Rattle.sdr_base.specs.declared.kind.Space.{Space}
+use Rattle.sdr_model.specs.Accounts.{most_amount}
+use Rattle.sdr_model.specs.Amounts.{amount}
+use Rattle.sdr_model.specs.Charged.{charged_to}
+use Rattle.sdr_model.specs.Charges.{occupancy, thing_charge}
+use Rattle.sdr_model.specs.Ledger.{Ledger}
+use Rattle.sdr_model.specs.Limits.{longest_capsule, longest_raw, longest_source}
+use Rattle.sdr_model.specs.Notes.{Notes, note_at, noted_count}
+use Rattle.sdr_model.specs.Owners.{AllOwnInside}
+use Rattle.sdr_model.specs.Store.{Store}
+use Rattle.sdr_model.specs.Things.{Owners, Things}
+use Rattle.sdr_model.specs.World.{World}
+use Rattle.sdr_model.specs.Zco.{count_of, extents_length, names_raw}
+use Rattle.sdr_model.specs.declared.accounts.Accounts.{Accounts}
+use Rattle.sdr_model.specs.declared.tally.Charged.{Charged}
+use Rattle.sdr_model.specs.declared.tally.Tally.{Tally}
+use Rattle.sdr_model.specs.declared.things.Thing.{Thing}
+use Rattle.sdr_model.specs.declared.things.Thing.TheVariants as things
+use Rattle.sdr_model.specs.declared.zco.Capsule.{Capsule}
+use Rattle.sdr_model.specs.declared.zco.Extent.{Extent}
+use Rattle.sdr_model.specs.declared.zco.ZcoObject.{ZcoObject}
+
+-- what the objects of a world charge an account of a space
+abbrev pub charged : World → Acct → Space → ℕ
+charged w acct space = sum_by (λ e. thing_charge w acct space e.1) (finite.entries w.things)
+
+-- whether there is neither a source nor an object
+abbrev pub is_plain : Option Thing → Bool
+is_plain (Some (things.Source source)) = false
+is_plain (Some (things.Object object)) = false
+is_plain thing = true
+
+-- whether there is a source of a raw object
+abbrev pub names_at : ℕ → Option Thing → Bool
+names_at raw None = false
+names_at raw (Some thing) = names_raw raw thing
+
+-- the extent ends where the longest source ends, or before
+abbrev pub EndsInTime : Extent → Type 0
+EndsInTime e = e.offset + e.length ≤ longest_source
+
+-- the text is at most the longest one
+abbrev pub IsShort : Capsule → Type 0
+IsShort c = length c.text ≤ longest_capsule
+
+-- What is in an object keeps to the limits, its sources lie below the next address, and its part inside its extents.
+pub record IsModest (next : ℕ) (z : ZcoObject) : Type 0 where
+  pub headers : All IsShort z.headers
+  pub extents : All EndsInTime z.extents
+  pub trailers : All IsShort z.trailers
+  pub sources : All (λ e. e.source < next) z.extents
+  pub part : z.part.offset + z.part.length ≤ extents_length z.extents
+
+-- what may be summed of a thing fits a word
+abbrev pub IsSound : ℕ → Thing → Type 0
+IsSound next (things.Raw bytes) = length bytes ≤ longest_raw
+IsSound next (things.Source source) = source.length ≤ longest_source
+IsSound next (things.Object object) = IsModest next object
+IsSound next thing = Unit {0}
+
+-- the notes know the source of each raw object that has one, and no raw object has two
+pub record KnowSources (notes : Notes) (things : Things) : Type 0 where
+  pub each : (raw addr : ℕ) (thing : Thing) → finite.get things addr ≡ Some thing → names_raw raw thing ≡ true
+      → (note_at notes raw).source ≡ Some addr
+  pub there : (raw addr : ℕ) → (note_at notes raw).source ≡ Some addr → names_at raw (finite.get things addr) ≡ true
+
+-- a world of these things and accounts, and of nothing else
+abbrev pub world_of : Things → Accounts → World
+world_of things accounts = record { things = things; names = []; accounts = accounts; marks = []; shown = []; taken = 0 }
+
+-- Notes, and what is charged, tell of a world what its sums are. All of these are small.
+pub record Tallied (notes : Notes) (sums : Charged) (next : ℕ) (w : World) : Type 0 where
+  pub counts : (addr : ℕ) (acct : Acct) → noted_count (note_at notes addr) acct ≡ count_of w addr acct
+  pub sources : KnowSources notes w.things
+  pub charges : (acct : Acct) (space : Space) → amount (charged_to sums acct) space ≡ charged w acct space
+  pub bound : (acct : Acct) (space : Space) → occupancy w acct space ≤ most_amount
+  pub sound : (addr : ℕ) (thing : Thing) → finite.get w.things addr ≡ Some thing → IsSound next thing
+
+-- at the begin of the open transaction and now
+pub record AllTallied (tally : Tally) (next : ℕ) (things : Store) (accounts : Ledger) : Type 0 where
+  pub begun : Tallied tally.notes.begun tally.begun next (world_of things.begun accounts.begun)
+  pub now : Tallied tally.notes.now tally.now next (world_of things.now accounts.now)
+
+-- What a world in the making always keeps: its things own the blocks inside them, and its sums are told.
+pub record IsKept (owners : Owners) (tally : Tally) (next : ℕ) (things : Store) (accounts : Ledger) : Type 0 where
+  pub own : AllOwnInside owners next things.begun things.now
+  pub told : AllTallied tally next things accounts
