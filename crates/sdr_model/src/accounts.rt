@@ -1,11 +1,13 @@
 // Accounts of space, and the tickets in their queues.
 ghost use Rattle.std.specs.Prelude.{◌≡◌, ◌<◌, ◌==◌, IfOk, IfSome, length, map, position};
-ghost use Rattle.sdr_model.specs.Accounts.{account_of, fresh_account, fresh_accounts, pending_among, pending_in, ticket_block, ticket_blocks, tickets_of};
+ghost use Rattle.sdr_model.specs.Accounts.{account_of, fresh_account, fresh_accounts, pending_among, pending_in, ticket_block, ticket_blocks, tickets_of, with_account};
 ghost use Rattle.sdr_model.specs.Things.{block_among};
+ghost use Rattle.sdr_model.specs.declared.accounts.Account.{Account};
 
 use crate::Block;
 use sdr_base::{Acct, Addr, Amounts, Items, Kind, NoMemory};
 use std::alloc::Global;
+use std::mem;
 
 /// The most that an account may allow of a space, the number of a ticket may be, and a ticket may ask.
 pub const MOST_AMOUNT: u64 = 1 << 40;
@@ -137,6 +139,28 @@ impl Accounts {
         match acct {
             Acct::Inbound => &self.inbound,
             Acct::Outbound => &self.outbound,
+        }
+    }
+
+    /// Takes out one of both, to be changed and put again.
+    pub fn take(&mut self, alloc: Global, acct: Acct) -> Account
+        ensures taken { result ≡ account_of self.old acct }
+        ensures again { (account : Account) → with_account self.new acct account ≡ with_account self.old acct account }
+    {
+        let none = Account::fresh(alloc, 0);
+        match acct {
+            Acct::Inbound => mem::replace(&mut self.inbound, none),
+            Acct::Outbound => mem::replace(&mut self.outbound, none),
+        }
+    }
+
+    /// Puts one in its place.
+    pub fn put(&mut self, acct: Acct, account: Account)
+        ensures { self.new ≡ with_account self.old acct account }
+    {
+        match acct {
+            Acct::Inbound => self.inbound = account,
+            Acct::Outbound => self.outbound = account,
         }
     }
 
