@@ -1,3 +1,5 @@
+pub mod AccountLemmas
+pub mod AmountLemmas
 pub mod BlocksTaken
 pub mod Cases
 pub mod CountLemmas

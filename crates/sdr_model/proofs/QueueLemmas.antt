@@ -1,6 +1,5 @@
 -- What serving a queue keeps.
 use Rattle.std.proofs.Common.{◌≡◌, ◌≤◌, ◌+◌, ◌-◌, ◌++◌, ◌∷◌, [], ℕ, suc, List, Bool, true, false, cond, drop, take, insert, remove, sum_by, refl, arith, ap, sym, subst, ◌∙◌, nat_le, is_some, unwrap_or, Option, None, Some}
-use Rattle.std.proofs.lemmas.Bool.Decides.{nat_tests}
 use Rattle.std.proofs.lemmas.List.Elements.{All-append, All-cons, All-drop, All-from_recursion, All-take, recursion_from_All}
 use Rattle.std.proofs.lemmas.List.Sums.{sum_by-cons}
 use Rattle.std.specs.List.{All, AllByRecursion}
@@ -8,7 +7,6 @@ use Rattle.sdr_base.specs.declared.account.Acct.{Acct}
 use Rattle.sdr_base.specs.declared.account.Acct.TheVariants as accts
 use Rattle.sdr_base.specs.declared.account.Amounts.{Amounts}
 use Rattle.sdr_base.specs.declared.kind.Space.{Space}
-use Rattle.sdr_base.specs.declared.kind.Space.TheVariants as spaces
 use Rattle.sdr_model.specs.Accounts.{account_of, with_account}
 use Rattle.sdr_model.specs.Amounts.{amount, are_within, minus, no_amounts, plus}
 use Rattle.sdr_model.specs.Charges.{left_in}
@@ -17,6 +15,7 @@ use Rattle.sdr_model.specs.Queue.{enqueued, granted, served}
 use Rattle.sdr_model.specs.declared.accounts.Account.{Account}
 use Rattle.sdr_model.specs.declared.accounts.Accounts.{Accounts}
 use Rattle.sdr_model.specs.declared.accounts.Ticket.{Ticket}
+use Rattle.sdr_model.proofs.AmountLemmas.{amount-minus, amount-plus, nothing_in, within_in}
 
 -- what holds of each of three choices
 picks : (P : List Ticket → Type 0) (a b : Bool) {x y z : List Ticket} → (a ≡ true → P x) → (a ≡ false → b ≡ true → P y) → P z
@@ -55,29 +54,8 @@ pub keep_with : (accounts : Accounts) (acct : Acct) (account : Account) → Keep
 keep_with accounts accts.Inbound account keep keeps = record { inbound = keeps; outbound = keep.outbound }
 keep_with accounts accts.Outbound account keep keeps = record { inbound = keep.inbound; outbound = keeps }
 
--- an amount that is within another is at most it in each space
-pub within_in : (a b : Amounts) (space : Space) → are_within a b ≡ true → amount a space ≤ amount b space
-within_in a b spaces.File is = grind (arith, nat_tests)
-within_in a b spaces.Bulk is = grind (arith, nat_tests)
-within_in a b spaces.Heap is = grind (arith, nat_tests)
-
-pub amount-minus : (a b : Amounts) (space : Space) → amount (minus a b) space ≡ amount a space - amount b space
-amount-minus a b spaces.File = refl
-amount-minus a b spaces.Bulk = refl
-amount-minus a b spaces.Heap = refl
-
-pub amount-plus : (a b : Amounts) (space : Space) → amount (plus a b) space ≡ amount a space + amount b space
-amount-plus a b spaces.File = refl
-amount-plus a b spaces.Bulk = refl
-amount-plus a b spaces.Heap = refl
-
 left_in-cons : (space : Space) (t : Ticket) (ts : List Ticket) → left_in space (t ∷ ts) ≡ amount t.left space + left_in space ts
 left_in-cons space t ts = sum_by-cons (λ t. amount t.left space) t ts
-
-nothing_in : (space : Space) → amount no_amounts space ≡ 0
-nothing_in spaces.File = refl
-nothing_in spaces.Bulk = refl
-nothing_in spaces.Heap = refl
 
 -- What is occupied stays at most what it was, or the maximum, where a queue is served: `other` is occupied beside these
 -- tickets.
