@@ -19,4 +19,5 @@ pub mod SpotLemmas
 pub mod StoreLemmas
 pub mod SumLemmas
 pub mod TableLemmas
+pub mod TallyBounds
 pub mod TallyLemmas

@@ -12,10 +12,10 @@ use Rattle.sdr_base.specs.declared.account.Acct.{Acct}
 use Rattle.sdr_base.specs.declared.account.Acct.TheVariants as accts
 use Rattle.sdr_base.specs.declared.kind.Space.{Space}
 use Rattle.sdr_base.specs.declared.kind.Space.TheVariants as spaces
-use Rattle.sdr_model.specs.Accounts.{fresh_accounts, is_same_account, tickets_of}
+use Rattle.sdr_model.specs.Accounts.{fresh_accounts, is_same_account, most_amount, tickets_of}
 use Rattle.sdr_model.specs.Amounts.{amount, in_space}
 use Rattle.sdr_model.specs.Charged.{charged_to, no_charges}
-use Rattle.sdr_model.specs.Charges.{bytes_charge, capsule_charge, extent_charge, object_bytes, left_in, object_charge, space_in, thing_charge}
+use Rattle.sdr_model.specs.Charges.{bytes_charge, capsule_charge, extent_charge, object_bytes, left_in, object_charge, occupancy, space_in, thing_charge}
 use Rattle.sdr_model.specs.Ledger.{Ledger}
 use Rattle.sdr_model.specs.Notes.{Notes, SameNotes, blank, note_at, noted_count}
 use Rattle.sdr_model.specs.Owners.{OwnInside}
@@ -389,4 +389,23 @@ IsKept-raised owners tally next more store ledger higher kept = record {
     now = OwnInside-raised owners next more higher store.now kept.own.now;
   };
   told = AllTallied-raised tally next more store ledger higher kept.told;
+}
+
+-- accounts may change where what is occupied stays small
+pub IsKept-accounts : (owners : Owners) (tally : Tally) (next : ℕ) (store : Store) (old changed : Ledger)
+    → changed.begun ≡ old.begun
+    → ((acct : Acct) (space : Space) → occupancy (world_of store.now changed.now) acct space ≤ most_amount)
+    → IsKept owners tally next store old → IsKept owners tally next store changed
+IsKept-accounts owners tally next store old changed begun small kept = record {
+  own = kept.own;
+  told = record {
+    begun = Tallied-of _ _ _ _ next _ _ _ _ refl refl refl begun kept.told.begun;
+    now = record {
+      counts = kept.told.now.counts;
+      sources = kept.told.now.sources;
+      charges = kept.told.now.charges;
+      bound = small;
+      sound = kept.told.now.sound;
+    };
+  };
 }

@@ -3,6 +3,7 @@ ghost use Rattle.std.specs.Prelude.{◌≡◌, ◌<◌, ◌≤◌, ◌+◌, ◌^
 ghost use Rattle.std.specs.Option.{option_copied};
 ghost use Rattle.sdr_model.specs.Answers.{Answers, HasRoom, Overwrites};
 ghost use Rattle.sdr_model.specs.World.{as_raw, misnamed, thing_at};
+ghost use Rattle.sdr_model.specs.Zco.{uses_of};
 
 use crate::limits::{LONGEST_RAW, LONGEST_READ};
 use crate::{Call, Reply, Thing, World};
@@ -51,16 +52,30 @@ pub fn malloc(alloc: Global, world: &mut World, bytes: u64) -> Result<Reply, NoM
     Ok(Reply::At { addr })
 }
 
+/// The refusal of a raw object that a source names.
+pub fn in_use(world: &World, raw: Addr, source: Addr) -> Reply
+    ensures { result ≡ Reply.Refused (Refusal.InUse raw (uses_of world.now.now source)) }
+{
+    Reply::Refused(Refusal::InUse {
+        addr: raw,
+        count: world.uses(source),
+    })
+}
+
 pub fn free(world: &mut World, addr: Addr) -> Result<Reply, NoMemory>
     ensures { Answers (Call.Free addr) world.old world.new result }
 {
     match world.thing(addr) {
-        Some(Thing::Raw(_) | Thing::Text(_)) => {
-            world.lose(addr)?;
-            Ok(Reply::Done)
+        Some(Thing::Raw(_)) => {
+            if let Some(source) = world.source_on(addr) {
+                return Ok(in_use(world, addr, source));
+            }
         }
-        _ => Ok(misnamed(world, addr)),
+        Some(Thing::Text(_)) => {}
+        _ => return Ok(misnamed(world, addr)),
     }
+    world.lose(addr)?;
+    Ok(Reply::Done)
 }
 
 pub fn length(world: &mut World, addr: Addr) -> Result<Reply, NoMemory>

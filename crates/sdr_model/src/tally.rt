@@ -2,7 +2,7 @@
 ghost use Rattle.std.specs.Prelude.{◌≡◌, []};
 ghost use Rattle.std.specs.FinMap as map;
 ghost use Rattle.sdr_model.specs.Charged.{charged_to, no_charges, with_charged};
-ghost use Rattle.sdr_model.specs.Notes.{SameNotes};
+ghost use Rattle.sdr_model.specs.Notes.{SameNotes, noted_count};
 
 use crate::notes::Notes;
 use sdr_base::{Acct, Addr, Amounts};
@@ -17,6 +17,18 @@ pub struct Note {
     pub outbound: u64,
     /// The address of the source of the raw object there.
     pub source: Option<Addr>,
+}
+
+impl Note {
+    /// How many extents of an account's objects are noted.
+    pub fn count(&self, acct: Acct) -> u64
+        ensures { result ≡ noted_count self.now acct }
+    {
+        match acct {
+            Acct::Inbound => self.inbound,
+            Acct::Outbound => self.outbound,
+        }
+    }
 }
 
 /// What objects charge each account, in bytes.

@@ -14,6 +14,7 @@ ghost use Rattle.sdr_model.specs.World.{block_at, empty_world, is_marked, spot_o
 ghost use Rattle.sdr_model.specs.declared.things.Thing.{Thing};
 
 mod charging;
+mod sources;
 
 use crate::catalogue::Catalogue;
 use crate::owners::Owners;
