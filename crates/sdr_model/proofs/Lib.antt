@@ -1,3 +1,5 @@
+pub mod AccountLemmas
+pub mod AmountLemmas
 pub mod AskingLemmas
 pub mod BlocksTaken
 pub mod BoundsLemmas
@@ -16,6 +18,7 @@ pub mod NotesLemmas
 pub mod OrderLemmas
 pub mod OwnersLemmas
 pub mod PiecesLemmas
+pub mod QueueLemmas
 pub mod SpotLemmas
 pub mod StoreLemmas
 pub mod SumLemmas

@@ -8,6 +8,7 @@
 #![tactic(auto)]
 
 mod accounts;
+mod amounts;
 mod answer;
 mod asking;
 mod call;
@@ -39,6 +40,7 @@ mod owners;
 mod place;
 mod places;
 mod plain;
+mod queue;
 mod raw_calls;
 mod script;
 mod store;
