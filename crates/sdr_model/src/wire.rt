@@ -2,7 +2,7 @@
 ghost use Rattle.std.specs.Prelude.{◌≡◌, true, ◌≢◌, ◌≤◌, ◌<◌, ◌+◌, ◌-◌, ◌^◌, [], ◌∷◌, length, min, OnOk, IfOk};
 ghost use Rattle.std.specs.List.{All};
 ghost use Rattle.sdr_model.specs.Bounds.{IsBounded};
-ghost use Rattle.sdr_model.specs.Pieces.{Gathers, capsule_pieces, cut_pieces, extent_piece, extent_pieces, missing_piece, part_pieces, raw_piece, wire_pieces};
+ghost use Rattle.sdr_model.specs.Pieces.{Gathers, capsule_pieces, cut_pieces, extent_piece, extent_pieces, missing_piece, part_pieces, piece_length, raw_piece, wire_pieces};
 ghost use Rattle.sdr_model.specs.Reading.{reads_media};
 ghost use Rattle.sdr_model.specs.Tallies.{EndsInTime};
 ghost use Rattle.sdr_model.specs.World.{as_raw, thing_at};
