@@ -38,7 +38,8 @@ use Rattle.sdr_model.specs.declared.zco.ZcoSource.{ZcoSource}
 abbrev pub TakesOver : World → Outcome → ℕ → ZcoObject → ℕ → List ℕ → ℕ → ℕ → World → Type 0
 TakesOver w o addr z raw text offset bytes used =
     DoesWith w o object.raw_append_moves
-    (λ at. object.with_object (with_thing used (at 0) (things.Source (new_source (subjects.Heap raw) (length text)))) addr
+    (λ at. object.with_object
+    (with_thing used (at 0) (things.Source (new_source (subjects.Heap raw) (length text)))) addr
     (object.with_extent z (record { block = at 1; source = at 0; offset = offset; length = bytes })))
     (λ at. replies.Done)
 
@@ -75,7 +76,8 @@ module _ {w : World} {o : Outcome} where
         gives = sym (ap given_addresses d.0);
         sums = λ valid fresh measure.
             let none = nothing_there w (at 0) (subst (AreFresh (addresses_of (blocks_of w))) d.0 fresh).1 in
-            let still = thing_at-apart w (at 0) (Some source) addr (elsewhere w addr (at 0) (things.Object z) is none) ∙ is in
+            let still = thing_at-apart w (at 0) (Some source) addr
+            (elsewhere w addr (at 0) (things.Object z) is none) ∙ is in
             omega (
               arith,
               swapped_sums measure w (at 0) (Some source),

@@ -59,7 +59,8 @@ bonded_object : (measure : Block → ℕ) (addr : ℕ) (at : ℕ → ℕ) (z : Z
 bonded_object measure addr at z =
     let first = bonds.bonded_extents at 0 z.headers in
     let last = bonds.bonded_extents at (3 * length z.headers) z.trailers in
-    let joined : (a b : List Extent) → extents_sum measure addr (a ++ b) ≡ extents_sum measure addr a + extents_sum measure addr b =
+    let joined : (a b : List Extent)
+    → extents_sum measure addr (a ++ b) ≡ extents_sum measure addr a + extents_sum measure addr b =
     λ a b. ap (sum_by measure) (map-append extent_block a b)
     ∙ sum_by-append measure (map extent_block a) (map extent_block b) in
     let parts : object_sum measure addr (bonds.bonded at z)

@@ -59,7 +59,8 @@ module _ (w : World) (fits : FitsFields w) where
 
   -- a world with another thing, or none, at an address
   fits_with : (v : World) (addr : ℕ) (o : Option Thing) → v.things ≡ with_at w.things addr o → v.names ≡ w.names
-      → v.accounts ≡ w.accounts → ((q : ℕ) → is_at (nat_cmp q) addr ≡ true → IfSome o (λ t. IsWord q × FitsThing t)) → FitsFields v
+      → v.accounts ≡ w.accounts
+      → ((q : ℕ) → is_at (nat_cmp q) addr ≡ true → IfSome o (λ t. IsWord q × FitsThing t)) → FitsFields v
   fits_with v addr o things names accounts fit = record {
     things = λ q. subst (λ t. IfSome t (λ t. IsWord q × FitsThing t))
         (sym (ap (λ m. get m q) things ∙ get-with_at w.things addr o q)) (at q (is_at (nat_cmp q) addr) refl);

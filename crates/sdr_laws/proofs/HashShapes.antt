@@ -84,7 +84,8 @@ module _ {w : World} {o : Outcome} where
       takes_one (entry_need (length key)) _ made refl (λ at. refl)
       (gains addr (entry_need (length key)) (things.Hash t)
       (λ a. things.Hash (record t { entries = insert t.entries (hash.bucket_place t key) (entry a) }))
-      (entry_block_at (length key)) (λ a. replies.Done) (hash_is _ _ is) (λ a. itself) (λ a. refl) (λ a. refl) (λ a. refl) made
+      (entry_block_at (length key)) (λ a. replies.Done) (hash_is _ _ is) (λ a. itself)
+      (λ a. refl) (λ a. refl) (λ a. refl) made
       (λ a measure. hash_sum-insert t measure addr (hash.bucket_place t key) (entry a))
       (λ a valid. valid_inserted t key (entry a) refl long new valid))))
 
@@ -104,7 +105,8 @@ module _ {w : World} {o : Outcome} where
       ∙ ap (λ k. entry_block_at (length k) (get_or t.entries place no_entry).block) found.1) in
       let keys = map-set_same (λ (e : HashEntry). e.key) t.entries place revised no_entry found.1 in
       does d refl (λ at. refl)
-      (stays addr (things.Hash t) (things.Hash (record t { entries = set t.entries place revised })) (hash_is _ _ is) itself d
+      (stays addr (things.Hash t) (things.Hash (record t { entries = set t.entries place revised })) (hash_is _ _ is)
+      itself d
       (λ valid. ap (λ bs. own_block addr (things.Hash t) ∷ bs) blocks)
       (λ valid. same_keys t (set t.entries place revised) keys valid)))
 
@@ -117,7 +119,8 @@ module _ {w : World} {o : Outcome} where
       sym (ap (entry_block_at (length key)) found.2
       ∙ ap (λ k. entry_block_at (length k) (get_or t.entries place no_entry).block) found.1) in
       does d refl (λ at. ap (λ t. gave (keyed_in t key)) is ∙ ap (λ p. gave (keyed_at t p)) there)
-      (loses addr (things.Hash t) (things.Hash (record t { entries = remove t.entries place })) block (hash_is _ _ is) itself d
+      (loses addr (things.Hash t) (things.Hash (record t { entries = remove t.entries place })) block
+      (hash_is _ _ is) itself d
       (λ measure. omega (arith, hash_sum-remove t measure addr place found.0, ap measure same))
       (λ valid. valid_removed t place found.0 valid)))
 

@@ -196,21 +196,22 @@ module _ {w : World} {o : Outcome} where
       → ((a : ℕ) → (own_block a thing).bytes ≡ need) → ((a : ℕ) → is_answer (reply a) ≡ true)
       → (KeepsLimits w → IsValidThing thing) → ((a : ℕ) → Alike (with_thing w a thing) (next a))
       → Takes w o need next reply → Changes w o
-  makes need thing reply inner bytes answers valid like takes = in_takes o.moves need _ takes (λ a moves did. swaps_thing w o (record {
-    addr = a;
-    before = None;
-    after = Some thing;
-    taken = own_block a thing ∷ [];
-    given = [];
-    answered = ap is_answer did.1 ∙ answers a;
-    marks = one_marked w o a _ did.0 (ap taken_addresses moves) refl refl (like a).taken;
-    needs = ap (λ n. n ∷ []) (bytes a) ∙ sym (ap taken_needs moves);
-    takes = ap (λ n. n ∷ []) (own_addr a thing) ∙ sym (ap taken_addresses moves);
-    gives = sym (ap given_addresses moves);
-    was = λ fresh. nothing_there w a (subst (λ ms. AreFresh (addresses_of (blocks_of w)) ms) moves fresh).1;
-    things = ap (λ (v : World). v.things) did.0 ∙ (like a).things;
-    names = ap (λ (v : World). v.names) did.0 ∙ (like a).names;
-    tickets = ap (λ (v : World). ticket_blocks v.accounts) did.0 ∙ (like a).tickets;
-    sums = λ limits measure. omega (arith, ap (λ bs. sum_by measure (own_block a thing ∷ bs)) inner);
-    valid = valid;
-  }))
+  makes need thing reply inner bytes answers valid like takes =
+      in_takes o.moves need _ takes (λ a moves did. swaps_thing w o (record {
+        addr = a;
+        before = None;
+        after = Some thing;
+        taken = own_block a thing ∷ [];
+        given = [];
+        answered = ap is_answer did.1 ∙ answers a;
+        marks = one_marked w o a _ did.0 (ap taken_addresses moves) refl refl (like a).taken;
+        needs = ap (λ n. n ∷ []) (bytes a) ∙ sym (ap taken_needs moves);
+        takes = ap (λ n. n ∷ []) (own_addr a thing) ∙ sym (ap taken_addresses moves);
+        gives = sym (ap given_addresses moves);
+        was = λ fresh. nothing_there w a (subst (λ ms. AreFresh (addresses_of (blocks_of w)) ms) moves fresh).1;
+        things = ap (λ (v : World). v.things) did.0 ∙ (like a).things;
+        names = ap (λ (v : World). v.names) did.0 ∙ (like a).names;
+        tickets = ap (λ (v : World). ticket_blocks v.accounts) did.0 ∙ (like a).tickets;
+        sums = λ limits measure. omega (arith, ap (λ bs. sum_by measure (own_block a thing ∷ bs)) inner);
+        valid = valid;
+      }))
