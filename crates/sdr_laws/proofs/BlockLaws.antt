@@ -1,24 +1,24 @@
 -- Why the blocks of a world go with the moves, and a valid world stays valid.
-use Rattle.std.proofs.Common.{◌≡◌, ◌≢◌, ℕ, ◌+◌, ◌≤◌, List, [], ◌∷◌, true, false, inl, inr, nat_eq, refl, sym, ap, ◌∙◌, subst, arith}
+use Rattle.std.proofs.Common.{◌≡◌, ◌≢◌, ◌⊎◌, ℕ, ◌+◌, ◌≤◌, List, [], ◌∷◌, true, false, inl, inr, nat_eq, refl, sym, ap, ◌∙◌, subst, arith}
 use Rattle.std.specs.Cmp.{nat_eq_equiv}
 use Rattle.std.specs.List.{count_by, sum_by}
 use Rattle.std.proofs.lemmas.Bool.{eqb-true}
 use Rattle.sdr_base.specs.declared.moves.Move.{Move}
 use Rattle.sdr_base.specs.declared.moves.Move.TheVariants.{Took, Gave, Short}
-use Rattle.sdr_laws.proofs.Changes.{KeepsLimits, limits_of}
+use Rattle.sdr_laws.proofs.Changes.{Fewer, KeepsLimits, limits_of}
 use Rattle.sdr_laws.proofs.DistinctLemmas.{absent, count_by-cons, from_once, none_counted, not_contained, on_test, once, others, others_counted, weight, weight_of}
 use Rattle.sdr_laws.proofs.EditLemmas.{count_by-map}
 use Rattle.sdr_laws.proofs.RowShapes.{row_shape}
 use Rattle.sdr_laws.proofs.Shapes.{Shape}
 use Rattle.sdr_laws.proofs.StepLemmas.{answered_shape}
 use Rattle.sdr_laws.specs.Fresh.{AreFresh}
-use Rattle.sdr_laws.specs.MovesBlocks.{MovesBlocks, taken_needs, taken_addresses, given_addresses}
+use Rattle.sdr_laws.specs.MovesBlocks.{MovesBlocks, taken_needs, given_addresses}
+use Rattle.sdr_model.specs.Steps.{taken_addresses, Outcome}
 use Rattle.sdr_laws.specs.Shows.{ShowsOnly}
 use Rattle.sdr_model.specs.Blocks.{addresses_of, blocks_of}
 use Rattle.sdr_model.specs.Rows.{ByRow}
 use Rattle.sdr_model.specs.Step.{Step, is_answer}
-use Rattle.sdr_model.specs.Steps.{Outcome}
-use Rattle.sdr_model.specs.Valid.{IsValid}
+use Rattle.sdr_model.specs.Valid.{FitTogether, IsValid}
 use Rattle.sdr_model.specs.World.{World}
 use Rattle.sdr_model.specs.declared.answer.Reply.{Reply}
 use Rattle.sdr_model.specs.declared.call.Call.{Call}
@@ -50,27 +50,32 @@ moves_none w w' moves none same = record {
   sums = λ measure. omega (arith, ap (sum_by measure) same);
 }
 
--- what a row comes to moves the blocks of a valid world, and keeps the limits
+-- what a row comes to moves the blocks of a valid world, or leaves fewer, and keeps the limits
 module _ (w : World) (call : Call) (o : Outcome) (valid : IsValid w)
     (fresh : AreFresh (addresses_of (blocks_of w)) o.moves) where
-  shape_moves : Shape w call o → MovesBlocks w o.moves o.after
-  shape_moves (Shape.refuses refusal of_row h) = moves_none w o.after o.moves h.0 (ap blocks_of h.1)
-  shape_moves (Shape.shows s) = moves_none w o.after o.moves s.moves (shows_blocks w o.after call s.only)
-  shape_moves (Shape.acts a) = a.changes.moved (limits_of w valid) fresh
+  shape_moves : FitTogether w → Shape w call o → MovesBlocks w o.moves o.after
+  shape_moves fit (Shape.refuses refusal of_row h) = moves_none w o.after o.moves h.0 (ap blocks_of h.1)
+  shape_moves fit (Shape.shows s) = moves_none w o.after o.moves s.moves (shows_blocks w o.after call s.only)
+  shape_moves fit (Shape.acts a) = a.changes.moved valid fit fresh
+
+  shape_keeps : Shape w call o → MovesBlocks w o.moves o.after ⊎ Fewer w o.moves o.after
+  shape_keeps (Shape.refuses refusal of_row h) = inl (moves_none w o.after o.moves h.0 (ap blocks_of h.1))
+  shape_keeps (Shape.shows s) = inl (moves_none w o.after o.moves s.moves (shows_blocks w o.after call s.only))
+  shape_keeps (Shape.acts a) = a.changes.kept valid fresh
 
   shape_limits : Shape w call o → KeepsLimits o.after
   shape_limits (Shape.refuses refusal of_row h) = subst KeepsLimits (sym h.1) (limits_of w valid)
   shape_limits (Shape.shows s) = shows_limits w o.after call s.only (limits_of w valid)
-  shape_limits (Shape.acts a) = a.changes.limits (limits_of w valid) fresh
+  shape_limits (Shape.acts a) = a.changes.limits (limits_of w valid)
 
 -- The blocks of the world go with the moves of an answered call.
 pub blocks_move : (w w' : World) (call : Call) (moves : List Move) (reply : Reply)
-    → IsValid w → AreFresh (addresses_of (blocks_of w)) moves → Step w call moves w' reply → is_answer reply ≡ true
-    → MovesBlocks w moves w'
-blocks_move w w' call moves reply valid fresh step is =
+    → IsValid w → FitTogether w → AreFresh (addresses_of (blocks_of w)) moves → Step w call moves w' reply
+    → is_answer reply ≡ true → MovesBlocks w moves w'
+blocks_move w w' call moves reply valid fit fresh step is =
     answered_shape w w' call moves reply step is
-    (λ s. shape_moves w call (record { moves = moves; after = w'; reply = reply }) valid fresh (Shape.shows s))
-    (λ a. shape_moves w call (record { moves = moves; after = w'; reply = reply }) valid fresh (Shape.acts a))
+    (λ s. shape_moves w call (record { moves = moves; after = w'; reply = reply }) valid fresh fit (Shape.shows s))
+    (λ a. shape_moves w call (record { moves = moves; after = w'; reply = reply }) valid fresh fit (Shape.acts a))
 
 -- an address that is the same
 pub same_addr : (k a : ℕ) (xs : List ℕ) → nat_eq k a ≡ true → count_by (nat_eq k) xs ≡ count_by (nat_eq a) xs
@@ -135,10 +140,10 @@ nonzero_after used (Gave addr ∷ moves) fresh = nonzero_after (others addr used
 nonzero_after used (Short need ∷ moves) fresh = nonzero_after used moves fresh
 
 -- how often an address is that of a block, after the moves
-pub counted_after : (w w' : World) (moves : List Move) → MovesBlocks w moves w' → (k : ℕ)
+counted_moved : (w w' : World) (moves : List Move) → MovesBlocks w moves w' → (k : ℕ)
     → count_by (nat_eq k) (addresses_of (blocks_of w)) + count_by (nat_eq k) (taken_addresses moves)
     ≡ count_by (nat_eq k) (addresses_of (blocks_of w')) + count_by (nat_eq k) (given_addresses moves)
-counted_after w w' moves m k =
+counted_moved w w' moves m k =
     let at = count_by-map (λ (b : Block). b.addr) (nat_eq k) in
     omega (
       arith,
@@ -151,9 +156,37 @@ counted_after w w' moves m k =
       ap (count_by (nat_eq k)) m.gives,
     )
 
+-- an address is that of a block at most as often as before the moves and in what they take
+pub counted_after : (w w' : World) (moves : List Move) → MovesBlocks w moves w' ⊎ Fewer w moves w' → (k : ℕ)
+    → count_by (nat_eq k) (addresses_of (blocks_of w'))
+    ≤ count_by (nat_eq k) (addresses_of (blocks_of w)) + count_by (nat_eq k) (taken_addresses moves)
+counted_after w w' moves (inl m) k = omega (arith, counted_moved w w' moves m k)
+counted_after w w' moves (inr f) k =
+    let at = count_by-map (λ (b : Block). b.addr) (nat_eq k) in
+    omega (arith, f.sums (λ b. weight (nat_eq k b.addr)), at (blocks_of w), at (blocks_of w'))
+
+-- and at most once, where the blocks taken are fresh
+once_after : (w w' : World) (moves : List Move) → IsValid w → AreFresh (addresses_of (blocks_of w)) moves
+    → MovesBlocks w moves w' ⊎ Fewer w moves w' → (k : ℕ)
+    → count_by (nat_eq k) (addresses_of (blocks_of w')) ≤ 1
+once_after w w' moves valid fresh (inl m) k =
+    omega (
+      arith,
+      counted_moved w w' moves m k,
+      few_after (addresses_of (blocks_of w)) moves
+          (once nat_eq_equiv (addresses_of (blocks_of w)) valid.distinct_addresses) fresh k,
+    )
+once_after w w' moves valid fresh (inr f) k =
+    omega (
+      arith,
+      counted_after w w' moves (inr f) k,
+      ap (count_by (nat_eq k)) f.none,
+      once nat_eq_equiv (addresses_of (blocks_of w)) valid.distinct_addresses k,
+    )
+
 -- a world whose blocks went with the moves is valid again
 valid_after : (w w' : World) (moves : List Move) → IsValid w → AreFresh (addresses_of (blocks_of w)) moves
-    → MovesBlocks w moves w' → KeepsLimits w' → IsValid w'
+    → MovesBlocks w moves w' ⊎ Fewer w moves w' → KeepsLimits w' → IsValid w'
 valid_after w w' moves valid fresh m limits = record {
   things = limits.things;
   names = limits.names;
@@ -165,19 +198,13 @@ valid_after w w' moves valid fresh m limits = record {
         nonzero_after (addresses_of (blocks_of w)) moves fresh,
         absent 0 (addresses_of (blocks_of w)) valid.nonzero,
       ));
-  distinct_addresses = from_once nat_eq_equiv (addresses_of (blocks_of w')) (λ k.
-      omega (
-        arith,
-        counted_after w w' moves m k,
-        few_after (addresses_of (blocks_of w)) moves
-            (once nat_eq_equiv (addresses_of (blocks_of w)) valid.distinct_addresses) fresh k,
-      ));
+  distinct_addresses = from_once nat_eq_equiv (addresses_of (blocks_of w')) (once_after w w' moves valid fresh m);
 }
 
 -- what a row comes to goes with its moves, and is valid
 pub row_goes : (w : World) (call : Call) (o : Outcome) → IsValid w → AreFresh (addresses_of (blocks_of w)) o.moves
-    → ByRow w o call → MovesBlocks w o.moves o.after
-row_goes w call o valid fresh row = shape_moves w call o valid fresh (row_shape w call o row)
+    → ByRow w o call → MovesBlocks w o.moves o.after ⊎ Fewer w o.moves o.after
+row_goes w call o valid fresh row = shape_keeps w call o valid fresh (row_shape w call o row)
 
 pub row_keeps : (w : World) (call : Call) (o : Outcome) → IsValid w → AreFresh (addresses_of (blocks_of w)) o.moves
     → ByRow w o call → IsValid o.after

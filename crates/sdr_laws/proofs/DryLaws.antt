@@ -9,11 +9,10 @@ use Rattle.sdr_base.specs.declared.moves.Move.TheVariants.{Took, Gave, Short}
 use Rattle.sdr_laws.proofs.BlockLaws.{counted_after, row_goes, row_keeps, same_addr, differ}
 use Rattle.sdr_laws.proofs.DistinctLemmas.{absent, count_by-cons, none_counted, not_contained, on_test, others, others_counted, weight_of}
 use Rattle.sdr_laws.specs.Fresh.{AreFresh}
-use Rattle.sdr_laws.specs.MovesBlocks.{taken_addresses}
+use Rattle.sdr_model.specs.Steps.{taken_addresses, Outcome}
 use Rattle.sdr_laws.specs.ValidDry.{IsValidDry}
 use Rattle.sdr_model.specs.Blocks.{addresses_of, blocks_of}
 use Rattle.sdr_model.specs.Dry.{AreInOrder, StepsDry, blocks_taken}
-use Rattle.sdr_model.specs.Steps.{Outcome}
 use Rattle.sdr_model.specs.Valid.{IsValid}
 use Rattle.sdr_model.specs.World.{World}
 use Rattle.sdr_model.specs.declared.answer.Reply.{Reply}
@@ -69,9 +68,10 @@ taken_up_to taken (Took need addr ∷ moves) order k above =
 taken_up_to taken (Gave addr ∷ moves) order k above = taken_up_to taken moves order k above
 taken_up_to taken (Short need ∷ moves) order k above = absurd order
 
--- a world with the things and names of a valid one is valid
-pub valid_from : (w w' : World) → w'.things ≡ w.things → w'.names ≡ w.names → IsValid w → IsValid w'
-valid_from w w' things names valid = subst IsValid (sym parts) (record {
+-- a world with the things, names and accounts of a valid one is valid
+pub valid_from : (w w' : World) → w'.things ≡ w.things → w'.names ≡ w.names → w'.accounts ≡ w.accounts → IsValid w
+    → IsValid w'
+valid_from w w' things names accounts valid = subst IsValid (sym parts) (record {
   things = valid.things;
   names = valid.names;
   distinct_names = valid.distinct_names;
@@ -80,13 +80,20 @@ valid_from w w' things names valid = subst IsValid (sym parts) (record {
 })
   where
     parts : w' ≡ record w { marks = w'.marks; shown = w'.shown; taken = w'.taken }
-    parts i = record { things = things i; names = names i; marks = w'.marks; shown = w'.shown; taken = w'.taken }
+    parts i = record {
+      things = things i;
+      names = names i;
+      accounts = accounts i;
+      marks = w'.marks;
+      shown = w'.shown;
+      taken = w'.taken;
+    }
 
 -- A valid world of a machine without a heap stays one.
 pub valid_kept_dry : (w w' : World) (call : Call) (moves : List Move) (reply : Reply) → IsValidDry w
     → StepsDry w call moves w' reply → IsValidDry w'
 valid_kept_dry w w' call moves reply dry steps = record {
-  valid = valid_from o.after w' refl refl (row_keeps w call o dry.valid fresh steps.step);
+  valid = valid_from o.after w' refl refl refl (row_keeps w call o dry.valid fresh steps.step);
   given = all_up_to (8 * w'.taken) (addresses_of (blocks_of w')) (λ k above.
       omega (
         arith,

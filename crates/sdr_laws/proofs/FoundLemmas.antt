@@ -11,6 +11,7 @@ use Rattle.sdr_laws.proofs.DistinctLemmas.{count_by-cons, on_test, once, weight,
 use Rattle.sdr_laws.proofs.EditLemmas.{count_by-map}
 use Rattle.sdr_laws.proofs.ThingChanges.{own_addr}
 use Rattle.sdr_model.proofs.StoreLemmas.{same_address}
+use Rattle.sdr_model.specs.Accounts.{ticket_blocks}
 use Rattle.sdr_model.specs.Blocks.{addresses_of, blocks_of, thing_blocks}
 use Rattle.sdr_model.specs.Things.{block_among, inner_among, inner_blocks, name_block, own_block}
 use Rattle.sdr_model.specs.Valid.{IsValid}
@@ -114,17 +115,23 @@ module _ (addr : ℕ) where
 -- The block that begins at an address of a valid world is the one of its blocks there.
 pub blocks_are_found : (w : World) (addr : ℕ) → IsValid w → block_at w addr ≡ block_among addr (blocks_of w)
 blocks_are_found w addr valid =
-    ap (λ o. option_or (option_map (own_block addr) o) (option_or (inner_among addr es) names))
+    ap (λ o. option_or (option_map (own_block addr) o) (option_or (inner_among addr es) (option_or names tickets)))
     (finite.get-entries w.things addr)
-    ∙ first_of_three (option_map (own_block addr) (finite.find nat_cmp addr es)) (inner_among addr es) names
-    ∙ ap (λ o. option_or o names) (found_among addr es few)
-    ∙ sym (find-append (begins_there addr) (all_blocks addr es) (map name_block w.names))
+    ∙ first_of_three (option_map (own_block addr) (finite.find nat_cmp addr es)) (inner_among addr es)
+    (option_or names tickets)
+    ∙ ap (λ o. option_or o (option_or names tickets)) (found_among addr es few)
+    ∙ first_of_three (block_among addr (all_blocks addr es)) names tickets
+    ∙ ap (λ o. option_or o tickets) (sym (find-append (begins_there addr) (all_blocks addr es) (map name_block w.names)))
+    ∙ sym (find-append (begins_there addr) (all_blocks addr es ++ map name_block w.names) (ticket_blocks w.accounts))
   where
     es : List (ℕ × Thing)
     es = finite.entries w.things
 
     names : Option Block
     names = block_among addr (map name_block w.names)
+
+    tickets : Option Block
+    tickets = block_among addr (ticket_blocks w.accounts)
 
     other_way : (λ (b : Block). nat_eq addr b.addr) ≡ begins_there addr
     other_way i b = nat_eq_equiv.symm addr b.addr i
@@ -136,5 +143,7 @@ blocks_are_found w addr valid =
           once nat_eq_equiv (addresses_of (blocks_of w)) valid.distinct_addresses addr,
           count_by-map (λ (b : Block). b.addr) (nat_eq addr) (blocks_of w),
           ap (λ p. count_by p (blocks_of w)) other_way,
+          sum_by-append (λ b. weight (begins_there addr b)) (all_blocks addr es ++ map name_block w.names)
+              (ticket_blocks w.accounts),
           sum_by-append (λ b. weight (begins_there addr b)) (all_blocks addr es) (map name_block w.names),
         )

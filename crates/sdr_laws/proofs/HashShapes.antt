@@ -7,6 +7,7 @@ use Rattle.std.proofs.lemmas.List.Elements.{All-nil}
 use Rattle.std.proofs.lemmas.Simd.{map-map}
 use Rattle.sdr_laws.proofs.DistinctLemmas.{from_once}
 use Rattle.sdr_laws.proofs.HashLemmas.{entry_block_at, entry_there, hash_sum-insert, hash_sum-remove, no_entry, same_keys, texts, valid_inserted, valid_removed}
+use Rattle.sdr_laws.proofs.Alike.{itself}
 use Rattle.sdr_laws.proofs.Shapes.{Shape, on_failed, on_passed, on_some, on_none, on_addr, reads, reads_named, takes_one, does}
 use Rattle.sdr_laws.proofs.ThingChanges.{goes, stays, loses, gains, makes}
 use Rattle.sdr_laws.proofs.ThingLemmas.{hash_is}
@@ -26,7 +27,7 @@ use Rattle.sdr_model.specs.declared.things.HashEntry.{HashEntry}
 use Rattle.sdr_model.specs.declared.things.Thing.TheVariants as things
 
 -- a number that is neither below nor above two others is between them
-neither : (a b : Bool) → (a || b) ≡ false → (a ≡ false) × (b ≡ false)
+pub neither : (a b : Bool) → (a || b) ≡ false → (a ≡ false) × (b ≡ false)
 neither false b e = (refl, e)
 neither true b e = cc
 
@@ -53,9 +54,9 @@ module _ {w : World} {o : Outcome} where
       on_failed (hash.is_no_count buckets) _ h refl (λ many made.
       takes_one (hash_need buckets) _ made refl (λ at. refl)
       (makes (hash_need buckets)
-      (things.Hash (record { key_length = key_length; buckets = buckets; entries = [] })) refl (λ a. refl)
+      (things.Hash (record { key_length = key_length; buckets = buckets; entries = [] })) _ refl (λ a. refl) (λ a. refl)
       (λ limits. valid_empty key_length buckets (between 1 longest_key key_length long)
-      (between 1 most_buckets buckets many)) made)))
+      (between 1 most_buckets buckets many)) (λ a. itself) made)))
 
   -- a call on a key of a hash's length
   on_hash : {call : Call} (addr : ℕ) (key : List ℕ) (Q : Hash → Type 0) → hash.OnHash w o addr key Q
@@ -83,7 +84,8 @@ module _ {w : World} {o : Outcome} where
       takes_one (entry_need (length key)) _ made refl (λ at. refl)
       (gains addr (entry_need (length key)) (things.Hash t)
       (λ a. things.Hash (record t { entries = insert t.entries (hash.bucket_place t key) (entry a) }))
-      (entry_block_at (length key)) (λ a. replies.Done) (hash_is _ _ is) (λ a. refl) (λ a. refl) (λ a. refl) made
+      (entry_block_at (length key)) (λ a. replies.Done) (hash_is _ _ is) (λ a. itself)
+      (λ a. refl) (λ a. refl) (λ a. refl) made
       (λ a measure. hash_sum-insert t measure addr (hash.bucket_place t key) (entry a))
       (λ a valid. valid_inserted t key (entry a) refl long new valid))))
 
@@ -103,7 +105,8 @@ module _ {w : World} {o : Outcome} where
       ∙ ap (λ k. entry_block_at (length k) (get_or t.entries place no_entry).block) found.1) in
       let keys = map-set_same (λ (e : HashEntry). e.key) t.entries place revised no_entry found.1 in
       does d refl (λ at. refl)
-      (stays addr (things.Hash t) (things.Hash (record t { entries = set t.entries place revised })) (hash_is _ _ is) d
+      (stays addr (things.Hash t) (things.Hash (record t { entries = set t.entries place revised })) (hash_is _ _ is)
+      itself d
       (λ valid. ap (λ bs. own_block addr (things.Hash t) ∷ bs) blocks)
       (λ valid. same_keys t (set t.entries place revised) keys valid)))
 
@@ -116,7 +119,8 @@ module _ {w : World} {o : Outcome} where
       sym (ap (entry_block_at (length key)) found.2
       ∙ ap (λ k. entry_block_at (length k) (get_or t.entries place no_entry).block) found.1) in
       does d refl (λ at. ap (λ t. gave (keyed_in t key)) is ∙ ap (λ p. gave (keyed_at t p)) there)
-      (loses addr (things.Hash t) (things.Hash (record t { entries = remove t.entries place })) block (hash_is _ _ is) d
+      (loses addr (things.Hash t) (things.Hash (record t { entries = remove t.entries place })) block
+      (hash_is _ _ is) itself d
       (λ measure. omega (arith, hash_sum-remove t measure addr place found.0, ap measure same))
       (λ valid. valid_removed t place found.0 valid)))
 
@@ -128,4 +132,4 @@ module _ {w : World} {o : Outcome} where
       on_addr addr (hash.as_hash (thing_at w addr)) h (λ t is d.
       does d refl (λ at. ap (λ r. gave (entries_in r ++ addr ∷ [])) is)
       (goes addr (things.Hash t) (map (λ (e : HashEntry). e.block) t.entries) (hash_is _ _ is)
-      (map-map (λ (b : Block). b.addr) entry_block t.entries) d))
+      (map-map (λ (b : Block). b.addr) entry_block t.entries) itself d))

@@ -8,9 +8,10 @@ use Rattle.std.proofs.lemmas.List.Quantifiers.{position-Some}
 use Rattle.std.proofs.lemmas.List.Sums.{sum_by-cons, sum_by-insert, sum_by-remove}
 use Rattle.std.proofs.lemmas.Simd.{map-map}
 use Rattle.sdr_base.specs.declared.kind.Kind.TheVariants as kinds
+use Rattle.sdr_laws.proofs.Alike.{itself}
 use Rattle.sdr_laws.proofs.Shapes.{Shape, on_addr, takes_one, does}
 use Rattle.sdr_laws.proofs.SpotPlaces.{stands_there}
-use Rattle.sdr_model.proofs.SumLemmas.{sum_by-map}
+use Rattle.sdr_laws.proofs.SumLemmas.{sum_by-map}
 use Rattle.sdr_laws.proofs.ThingChanges.{goes, stays, loses, gains, makes}
 use Rattle.sdr_laws.proofs.ThingLemmas.{list_is}
 use Rattle.sdr_laws.proofs.SpotThere.{spot_there}
@@ -77,20 +78,21 @@ module _ {w : World} {o : Outcome} where
   pub make_list : (user : ℕ) → list.MakeList w o user → Shape w (calls.List user) o
   make_list user made =
       takes_one list_need _ made refl (λ at. refl)
-      (makes list_need (things.List (record { user = user; elements = [] })) refl (λ a. refl) (λ limits. tt) made)
+      (makes list_need (things.List (record { user = user; elements = [] })) _ refl (λ a. refl) (λ a. refl) (λ limits. tt)
+      (λ a. itself) made)
 
   pub list_destroy : (addr : ℕ) → list.ListDestroy w o addr → Shape w (calls.ListDestroy addr) o
   list_destroy addr h =
       on_addr addr (list.as_list (thing_at w addr)) h (λ row is d.
       does d refl (λ at. ap (λ r. gave (elements_in r ++ addr ∷ [])) is)
       (goes addr (things.List row) (map (λ (e : Element). e.block) row.elements) (list_is _ _ is)
-      (map-map (λ (b : Block). b.addr) element_block row.elements) d))
+      (map-map (λ (b : Block). b.addr) element_block row.elements) itself d))
 
   pub set_list_user : (addr user : ℕ) → list.SetListUser w o addr user → Shape w (calls.SetListUser addr user) o
   set_list_user addr user h =
       on_addr addr (list.as_list (thing_at w addr)) h (λ row is d.
       does d refl (λ at. refl)
-      (stays addr (things.List row) (things.List (record row { user = user })) (list_is _ _ is) d (λ valid. refl)
+      (stays addr (things.List row) (things.List (record row { user = user })) (list_is _ _ is) itself d (λ valid. refl)
       (λ valid. tt)))
 
   -- a list of its own that gains an element
@@ -101,7 +103,7 @@ module _ {w : World} {o : Outcome} where
       takes_one element_need _ made changing moves
       (gains addr element_need (things.List row)
       (λ a. things.List (record row { elements = insert row.elements place (record { block = a; datum = datum }) }))
-      block_at_addr (λ a. replies.At a) is (λ a. refl) (λ a. refl) (λ a. refl) made
+      block_at_addr (λ a. replies.At a) is (λ a. itself) (λ a. refl) (λ a. refl) (λ a. refl) made
       (λ a measure. list_sum-insert measure addr row place (record { block = a; datum = datum })) (λ a valid. tt))
 
   pub insert_at : {call : Call} → is_reading call ≡ false → ((at : ℕ → ℕ) → row_moves w call at ≡ takes at element_need)
@@ -124,7 +126,7 @@ module _ {w : World} {o : Outcome} where
       let there = at_place w element s is in
       does d refl (λ at. refl)
       (loses s.list (things.List s.row) (things.List (record s.row { elements = remove s.row.elements s.place }))
-      (block_at_addr element) (spot_there w.things element s is) d
+      (block_at_addr element) (spot_there w.things element s is) itself d
       (λ measure. omega (
         arith,
         list_sum-remove measure s.list s.row s.place there.0,
@@ -145,5 +147,5 @@ module _ {w : World} {o : Outcome} where
         elements =
             set s.row.elements s.place (record { block = element; datum = datum });
       }))
-      (spot_there w.things element s is) d
+      (spot_there w.things element s is) itself d
       (λ valid. ap (λ bs. own_block s.list (things.List s.row) ∷ bs) same) (λ valid. tt)))

@@ -12,15 +12,16 @@ use Rattle.sdr_laws.proofs.EditLemmas.{All-insert, All-remove, IsDistinct-insert
 use Rattle.sdr_laws.proofs.HashLemmas.{texts}
 use Rattle.sdr_laws.proofs.HashShapes.{between}
 use Rattle.sdr_laws.proofs.Shapes.{Shape, on_failed, on_some, on_none, reads, takes_one, does}
-use Rattle.sdr_model.proofs.SumLemmas.{sum_by-map}
+use Rattle.sdr_laws.proofs.SumLemmas.{sum_by-map}
 use Rattle.sdr_laws.proofs.ThingChanges.{in_takes}
-use Rattle.sdr_laws.specs.MovesBlocks.{taken_needs, taken_addresses, given_addresses}
+use Rattle.sdr_laws.specs.MovesBlocks.{taken_needs, given_addresses}
+use Rattle.sdr_model.specs.Steps.{taken_addresses, Outcome, gave}
+use Rattle.sdr_model.specs.Accounts.{ticket_blocks}
 use Rattle.sdr_model.specs.Limits.{longest_name, is_no_name}
 use Rattle.sdr_model.specs.NameSteps as catalogue
 use Rattle.sdr_model.specs.Names.{name_of, without_name}
 use Rattle.sdr_model.specs.RowMoves.{block_of}
 use Rattle.sdr_model.specs.Step.{is_answer}
-use Rattle.sdr_model.specs.Steps.{Outcome, gave}
 use Rattle.sdr_model.specs.Things.{name_block, name_need}
 use Rattle.sdr_model.specs.Valid.{AreDistinct, IsBetween, names_of}
 use Rattle.sdr_model.specs.World.{World}
@@ -95,6 +96,7 @@ module _ {w : World} {o : Outcome} where
         takes = sym takes;
         gives = sym gives;
         things = ap (λ (v : World). v.things) is;
+        tickets = ap (λ (v : World). ticket_blocks v.accounts) is;
         sums = λ measure.
             omega (
               arith,
@@ -143,6 +145,7 @@ module _ {w : World} {o : Outcome} where
         takes = sym (ap taken_addresses moves);
         gives = sym (ap given_addresses moves);
         things = ap (λ (v : World). v.things) did;
+        tickets = ap (λ (v : World). ticket_blocks v.accounts) did;
         sums = λ measure.
             omega (
               arith,

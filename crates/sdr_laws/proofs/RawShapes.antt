@@ -5,8 +5,9 @@ use Rattle.std.proofs.lemmas.List.{length-replicate}
 use Rattle.sdr_base.proofs.PartsLemmas.{length-overwrite}
 use Rattle.sdr_base.specs.Parts.{overwrite}
 use Rattle.sdr_base.specs.declared.kind.Kind.TheVariants as kinds
+use Rattle.sdr_laws.proofs.Alike.{itself}
 use Rattle.sdr_laws.proofs.Changes.{thing_limits}
-use Rattle.sdr_laws.proofs.Shapes.{Shape, misnamed-IsOfRow, on_failed, on_passed, on_addr, reads, takes_one, does}
+use Rattle.sdr_laws.proofs.Shapes.{Shape, misnamed-IsOfRow, on_failed, on_passed, on_none, on_addr, reads, takes_one, does}
 use Rattle.sdr_laws.proofs.ThingChanges.{goes, stays, makes}
 use Rattle.sdr_laws.proofs.ThingLemmas.{raw_is, text_is}
 use Rattle.sdr_model.specs.Limits.{longest_raw, longest_string, longest_read}
@@ -15,6 +16,7 @@ use Rattle.sdr_model.specs.RowMoves.{text_length, takes}
 use Rattle.sdr_model.specs.Steps.{Outcome}
 use Rattle.sdr_model.specs.Things.{raw_need, text_need}
 use Rattle.sdr_model.specs.World.{World, thing_at, block_at, as_raw, as_text, is_marked, misnamed}
+use Rattle.sdr_model.specs.Zco.{source_on}
 use Rattle.sdr_model.specs.declared.call.Call.TheVariants as calls
 use Rattle.sdr_model.specs.declared.things.Block.{Block}
 use Rattle.sdr_model.specs.declared.things.Thing.{Thing}
@@ -25,14 +27,18 @@ module _ {w : World} {o : Outcome} where
   malloc bytes h =
       on_failed (nat_lt longest_raw bytes) _ h refl (λ fits made.
       takes_one (raw_need bytes) _ made refl (λ at. refl)
-      (makes (raw_need bytes) (things.Raw (replicate bytes 0)) refl
+      (makes (raw_need bytes) (things.Raw (replicate bytes 0)) _ refl
       (λ a. ap raw_need (length-replicate {A = ℕ} bytes 0))
-      (λ limits. omega (arith, length-replicate {A = ℕ} bytes 0, ltb-false longest_raw bytes fits)) made))
+      (λ a. refl) (λ limits. omega (arith, length-replicate {A = ℕ} bytes 0, ltb-false longest_raw bytes fits))
+      (λ a. itself) made))
 
   freed : (addr : ℕ) (t : Option Thing) → thing_at w addr ≡ t → raw.FreesThing w o addr (as_raw t) (as_text t)
       → Shape w (calls.Free addr) o
-  freed addr (Some (things.Raw bytes)) is h = does h refl (λ at. refl) (goes addr (things.Raw bytes) [] is refl h)
-  freed addr (Some (things.Text text)) is h = does h refl (λ at. refl) (goes addr (things.Text text) [] is refl h)
+  freed addr (Some (things.Raw bytes)) is h =
+      on_none (source_on w addr) _ h (λ s. refl) (λ unnamed d.
+      does d refl (λ at. refl) (goes addr (things.Raw bytes) [] is refl itself d))
+  freed addr (Some (things.Text text)) is h =
+      does h refl (λ at. refl) (goes addr (things.Text text) [] is refl itself h)
   freed addr t is h = Shape.refuses (misnamed w addr) (misnamed-IsOfRow w addr) h
 
   pub free : (addr : ℕ) → raw.Free w o addr → Shape w (calls.Free addr) o
@@ -57,7 +63,7 @@ module _ {w : World} {o : Outcome} where
       length-overwrite place from bytes (ltb-false _ _ within) in
       let block : ℕ → List Block = λ n. record { addr = addr; kind = kinds.Raw; bytes = raw_need n } ∷ [] in
       does d refl (λ at. refl)
-      (stays addr (things.Raw bytes) (things.Raw (overwrite place from bytes)) (raw_is _ _ is) d
+      (stays addr (things.Raw bytes) (things.Raw (overwrite place from bytes)) (raw_is _ _ is) itself d
       (λ valid. ap block same) (λ valid. omega (arith, same, valid))))))
 
   pub stage : (addr count : ℕ) → raw.Stage w o addr count → Shape w (calls.Stage addr count) o
@@ -71,7 +77,8 @@ module _ {w : World} {o : Outcome} where
   make_text text h =
       on_failed (nat_lt longest_string (length text)) _ h refl (λ fits made.
       takes_one (text_need (length text)) _ made refl (λ at. refl)
-      (makes (text_need (length text)) (things.Text text) refl (λ a. refl) (λ limits. ltb-false _ _ fits) made))
+      (makes (text_need (length text)) (things.Text text) _ refl (λ a. refl) (λ a. refl) (λ limits. ltb-false _ _ fits)
+      (λ a. itself) made))
 
   pub text_length_of : (addr : ℕ) → raw.TextLength w o addr → Shape w (calls.StringLength addr) o
   text_length_of addr h = on_addr addr (as_text (thing_at w addr)) h (λ text is r. reads r refl refl (λ at. refl) refl)
@@ -82,5 +89,5 @@ module _ {w : World} {o : Outcome} where
   pub text_dup : (addr : ℕ) → raw.TextDup w o addr → Shape w (calls.StringDup addr) o
   text_dup addr h = on_addr addr (as_text (thing_at w addr)) h (λ text is made.
       takes_one (text_need (length text)) _ made refl (λ at. ap (λ t. takes at (text_need (text_length t))) is)
-      (makes (text_need (length text)) (things.Text text) refl (λ a. refl)
-      (λ limits. thing_limits w addr (things.Text text) (text_is _ _ is) limits) made))
+      (makes (text_need (length text)) (things.Text text) _ refl (λ a. refl) (λ a. refl)
+      (λ limits. thing_limits w addr (things.Text text) (text_is _ _ is) limits) (λ a. itself) made))

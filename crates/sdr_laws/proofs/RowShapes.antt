@@ -1,14 +1,23 @@
 -- Each row has one of the three shapes.
 use Rattle.std.proofs.Common.{◌+◌, length, refl}
+use Rattle.sdr_laws.proofs.AccountShapes as account
+use Rattle.sdr_laws.proofs.AppendShapes as append
+use Rattle.sdr_laws.proofs.BondShapes as bond
+use Rattle.sdr_laws.proofs.CloneShapes as clone
+use Rattle.sdr_laws.proofs.GoneShapes as gone
 use Rattle.sdr_laws.proofs.HashShapes as hash
 use Rattle.sdr_laws.proofs.ListShapes as list
 use Rattle.sdr_laws.proofs.NameShapes as catalogue
+use Rattle.sdr_laws.proofs.ObjectShapes as object
 use Rattle.sdr_laws.proofs.RawShapes as raw
 use Rattle.sdr_laws.proofs.Shapes.{Shape, reads_named}
+use Rattle.sdr_laws.proofs.SourceShapes as source
 use Rattle.sdr_laws.proofs.TableShapes as table
+use Rattle.sdr_laws.proofs.WireShapes.{gives_of}
 use Rattle.sdr_model.specs.ListSteps.{ordered_place}
 use Rattle.sdr_model.specs.Rows.{ByRow}
 use Rattle.sdr_model.specs.Steps.{Outcome}
+use Rattle.sdr_model.specs.Wire.{headers_part, source_part, trailers_part, wire_part}
 use Rattle.sdr_model.specs.World.{World}
 use Rattle.sdr_model.specs.declared.call.Call.{Call}
 use Rattle.sdr_model.specs.declared.call.Call.TheVariants as calls
@@ -63,4 +72,36 @@ row_shape w (calls.Catlg name kind object) o h = catalogue.catlg name kind objec
 row_shape w (calls.Find name) o h = catalogue.find name h
 row_shape w (calls.Uncatlg name) o h = catalogue.uncatlg name h
 row_shape w (calls.Entry place) o h = catalogue.entry place h
-row_shape w call o h = absurd h
+row_shape w (calls.FileRef path bytes) o h = source.file_ref path bytes h
+row_shape w (calls.BulkRef item bytes) o h = source.bulk_ref item bytes h
+row_shape w (calls.ObjRef raw) o h = source.obj_ref raw h
+row_shape w (calls.DestroyRef addr) o h = source.destroy_ref addr h
+row_shape w (calls.Count addr) o h = source.count addr h
+row_shape w (calls.Occupancy acct space) o h = account.occupancy acct space h
+row_shape w (calls.Maximum acct space) o h = account.maximum acct space h
+row_shape w (calls.SetMaximum acct space value) o h = account.set_maximum acct space value h
+row_shape w (calls.Create acct ticket) o h = object.create acct ticket h
+row_shape w (calls.AppendExtent addr ticket named offset bytes) o h =
+    append.append_extent addr ticket named offset bytes h
+row_shape w (calls.PrependHeader addr ticket text) o h = object.prepend_header addr ticket text h
+row_shape w (calls.AppendTrailer addr ticket text) o h = object.append_trailer addr ticket text h
+row_shape w (calls.DiscardFirstHeader addr) o h = object.discard_first_header addr h
+row_shape w (calls.DiscardLastTrailer addr) o h = object.discard_last_trailer addr h
+row_shape w (calls.Bond addr ticket) o h = bond.bond addr ticket h
+row_shape w (calls.ClonePart addr ticket offset bytes) o h = clone.clone_part addr ticket offset bytes h
+row_shape w (calls.Delimit addr offset bytes) o h = object.delimit addr offset bytes h
+row_shape w (calls.Strip addr) o h = gone.strip addr h
+row_shape w (calls.ZcoLength addr) o h = object.zco_length addr h
+row_shape w (calls.SourceLength addr) o h = object.source_length addr h
+row_shape w (calls.Destroy addr) o h = gone.destroy addr h
+row_shape w (calls.Transmit addr place count) o h =
+    gives_of refl (λ at. refl) (λ only. only) addr count (wire_part w place count) h
+row_shape w (calls.ReceiveHeaders addr place count) o h =
+    gives_of refl (λ at. refl) (λ only. only) addr count (headers_part w place count) h
+row_shape w (calls.ReceiveSource addr place count) o h =
+    gives_of refl (λ at. refl) (λ only. only) addr count (source_part w place count) h
+row_shape w (calls.ReceiveTrailers addr place count) o h =
+    gives_of refl (λ at. refl) (λ only. only) addr count (trailers_part w place count) h
+row_shape w (calls.Request acct file bulk heap coarse fine) o h = account.request acct file bulk heap coarse fine h
+row_shape w (calls.Awarded ticket) o h = account.awarded ticket h
+row_shape w (calls.Shred ticket) o h = account.shred ticket h

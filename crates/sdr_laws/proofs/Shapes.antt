@@ -6,13 +6,12 @@ use Rattle.sdr_base.specs.declared.moves.Move.TheVariants.{Took}
 use Rattle.sdr_base.specs.declared.refusal.Refusal.{Refusal}
 use Rattle.sdr_laws.proofs.Changes.{Changes}
 use Rattle.sdr_laws.proofs.ThingChanges.{in_takes}
-use Rattle.sdr_laws.specs.MovesBlocks.{taken_addresses}
+use Rattle.sdr_model.specs.Steps.{taken_addresses, Outcome, Refuses, Reads, TakesOne, On, taken_at}
 use Rattle.sdr_laws.specs.Refused.{may_stop_midway}
 use Rattle.sdr_laws.specs.Shows.{ShowsOnly}
 use Rattle.sdr_model.specs.Reading.{is_reading}
 use Rattle.sdr_model.specs.RowMoves.{row_moves, takes}
 use Rattle.sdr_model.specs.Step.{is_answer}
-use Rattle.sdr_model.specs.Steps.{Outcome, Refuses, Reads, TakesOne, On}
 use Rattle.sdr_model.specs.World.{World, misnamed, refusal_for, block_at}
 use Rattle.sdr_model.specs.declared.answer.Reply.{Reply}
 use Rattle.sdr_model.specs.declared.answer.Reply.TheVariants as replies
@@ -112,6 +111,15 @@ module _ {w : World} {call : Call} {o : Outcome} where
   does h changing row changes = Shape.acts (record {
     changing = changing;
     row = h.0 ∙ sym (row (slice_index (taken_addresses o.moves)));
+    changes = changes;
+  })
+
+  -- a call that takes blocks by the addresses that they have
+  pub does_with : (moves : (ℕ → ℕ) → List Move) → o.moves ≡ moves (taken_at o.moves) → is_reading call ≡ false
+      → ((at : ℕ → ℕ) → row_moves w call at ≡ moves at) → Changes w o → Shape w call o
+  does_with moves did changing row changes = Shape.acts (record {
+    changing = changing;
+    row = did ∙ sym (row (taken_at o.moves));
     changes = changes;
   })
 

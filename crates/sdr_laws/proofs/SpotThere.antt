@@ -1,5 +1,5 @@
 -- The list of a spot is among the things.
-use Rattle.std.proofs.Common.{◌≡◌, ◌==◌, ℕ, Bool, true, false, List, [], ◌∷◌, ◌&&◌, T, cond, Option, Some, None, ap, sym, ◌∙◌, refl, subst, Ordering, Less, Equal, Greater, is_lt, is_eq, unwrap_or, position}
+use Rattle.std.proofs.Common.{◌≡◌, ◌==◌, ℕ, Bool, true, false, List, [], ◌∷◌, ◌&&◌, T, cond, Option, Some, None, ap, sym, ◌∙◌, refl, Ordering, Less, Equal, Greater, is_lt, is_eq, unwrap_or, position}
 use Rattle.std.specs.FinMap.{get, entries, entries_sorted, find, is_sorted, get-entries}
 use Rattle.std.specs.FinMap.Entries.{below_all}
 use Rattle.std.specs.Option.{option_map, option_or}

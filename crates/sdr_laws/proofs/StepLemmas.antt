@@ -6,13 +6,12 @@ use Rattle.sdr_base.specs.declared.refusal.Refusal.TheVariants as refusals
 use Rattle.sdr_laws.proofs.RowShapes.{row_shape}
 use Rattle.sdr_laws.proofs.Shapes.{Shape, Shows, Acts}
 use Rattle.sdr_laws.specs.Marks.{MarksTaken}
-use Rattle.sdr_laws.specs.MovesBlocks.{taken_addresses}
+use Rattle.sdr_model.specs.Steps.{taken_addresses, Outcome}
 use Rattle.sdr_laws.specs.Refused.{may_stop_midway}
 use Rattle.sdr_laws.specs.Shows.{ShowsOnly}
 use Rattle.sdr_model.specs.Reading.{is_reading}
 use Rattle.sdr_model.specs.RowMoves.{row_moves}
 use Rattle.sdr_model.specs.Step.{Step, StopsWith, is_answer}
-use Rattle.sdr_model.specs.Steps.{Outcome}
 use Rattle.sdr_model.specs.World.{World}
 use Rattle.sdr_model.specs.declared.answer.Reply.{Reply}
 use Rattle.sdr_model.specs.declared.answer.Reply.TheVariants as replies
@@ -34,6 +33,7 @@ stops_first : (reply : Reply) (call : Call) (all moves : List Move) → StopsWit
     → may_stop_midway reply ≡ false → moves ≡ []
 stops_first (replies.Refused (refusals.NoBlock need)) call all moves s first = absurd (true≢false first)
 stops_first (replies.Refused (refusals.LogFull lines room)) call all moves s first = absurd (true≢false first)
+stops_first (replies.Refused (refusals.SourceShort have want)) call all moves s first = s.0
 stops_first (replies.Refused refusal) call all moves s first = absurd s
 stops_first replies.MediaFault call all moves s first = s.0
 stops_first reply call all moves s first = absurd s

@@ -5,6 +5,7 @@ use Rattle.std.proofs.lemmas.List.{length-replicate}
 use Rattle.sdr_base.proofs.PartsLemmas.{length-overwrite}
 use Rattle.sdr_base.specs.Parts.{overwrite}
 use Rattle.sdr_base.specs.declared.kind.Kind.TheVariants as kinds
+use Rattle.sdr_laws.proofs.Alike.{itself}
 use Rattle.sdr_laws.proofs.Shapes.{Shape, on_failed, on_passed, on_addr, reads, reads_named, takes_one, does}
 use Rattle.sdr_laws.proofs.ThingChanges.{goes, stays, makes}
 use Rattle.sdr_laws.proofs.ThingLemmas.{table_is}
@@ -36,8 +37,8 @@ module _ {w : World} {o : Outcome} where
       on_failed (nat_lt longest_raw (rows * size)) _ h refl (λ fits made.
       takes_one (table_need rows size) _ made refl (λ at. refl)
       (makes (table_need rows size)
-      (things.Table (record { user = user; rows = rows; size = size; bytes = replicate (rows * size) 0 })) refl
-      (λ a. omega (arith, length-replicate {A = ℕ} (rows * size) 0))
+      (things.Table (record { user = user; rows = rows; size = size; bytes = replicate (rows * size) 0 })) _ refl
+      (λ a. omega (arith, length-replicate {A = ℕ} (rows * size) 0)) (λ a. refl)
       (λ limits. record {
         rows = ltb-false _ _ few;
         size = ltb-false _ _ short;
@@ -45,7 +46,7 @@ module _ {w : World} {o : Outcome} where
         bytes =
             length-replicate {A = ℕ} (rows * size) 0;
       })
-      made))))
+      (λ a. itself) made))))
 
   -- a call on a row of a table
   on_row : {call : Call} (addr row : ℕ) (Q : Table → Type 0) → table.OnRow w o addr row Q
@@ -68,7 +69,7 @@ module _ {w : World} {o : Outcome} where
       let block : ℕ → List Block = λ n. record { addr = addr; kind = kinds.Table; bytes = 24 + n } ∷ [] in
       does d refl (λ _. refl)
       (stays addr (things.Table t) (things.Table (record t { bytes = overwrite (t.size * at) from t.bytes }))
-      (table_is _ _ is) d
+      (table_is _ _ is) itself d
       (λ valid. ap block (row_set t at from valid inside (eqb-true _ _ whole)))
       (λ valid. record {
         rows = valid.rows;
@@ -89,4 +90,4 @@ module _ {w : World} {o : Outcome} where
   pub table_destroy : (addr : ℕ) → table.TableDestroy w o addr → Shape w (calls.TableDestroy addr) o
   table_destroy addr h =
       on_addr addr (table.as_table (thing_at w addr)) h (λ t is d.
-      does d refl (λ at. refl) (goes addr (things.Table t) [] (table_is _ _ is) refl d))
+      does d refl (λ at. refl) (goes addr (things.Table t) [] (table_is _ _ is) refl itself d))

@@ -1,3 +1,4 @@
+pub mod Decided
 pub mod Example
 pub mod Fresh
 pub mod Marks

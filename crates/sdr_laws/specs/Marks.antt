@@ -1,7 +1,7 @@
 -- What an answered changing call leaves beside things and names.
 use Rattle.std.specs.Prelude.{◌≡◌, List, [], ◌++◌}
 use Rattle.sdr_base.specs.declared.moves.Move.{Move}
-use Rattle.sdr_laws.specs.MovesBlocks.{taken_addresses}
+use Rattle.sdr_model.specs.Steps.{taken_addresses}
 use Rattle.sdr_model.specs.World.{World}
 
 -- the blocks taken are marked, behind those marked before, no bytes are shown, and the count of blocks taken without a

@@ -3,6 +3,7 @@ use Rattle.std.specs.Prelude.{◌≡◌, ℕ, ◌+◌, List, [], ◌∷◌, map,
 use Rattle.sdr_base.specs.declared.moves.Move.{Move}
 use Rattle.sdr_base.specs.declared.moves.Move.TheVariants.{Took, Gave}
 use Rattle.sdr_model.specs.Blocks.{blocks_of, addresses_of}
+use Rattle.sdr_model.specs.Steps.{taken_addresses}
 use Rattle.sdr_model.specs.World.{World}
 use Rattle.sdr_model.specs.declared.things.Block.{Block}
 
@@ -11,12 +12,6 @@ abbrev pub taken_needs : List Move → List ℕ
 taken_needs [] = []
 taken_needs (Took need addr ∷ moves) = need ∷ taken_needs moves
 taken_needs (move ∷ moves) = taken_needs moves
-
--- the addresses of the blocks taken, in order
-abbrev pub taken_addresses : List Move → List ℕ
-taken_addresses [] = []
-taken_addresses (Took need addr ∷ moves) = addr ∷ taken_addresses moves
-taken_addresses (move ∷ moves) = taken_addresses moves
 
 -- the addresses of the blocks given back, in order
 abbrev pub given_addresses : List Move → List ℕ

@@ -6,16 +6,16 @@ ghost use Rattle.sdr_laws.specs.MovesBlocks.{MovesBlocks};
 ghost use Rattle.sdr_model.specs.Blocks.{addresses_of, blocks_of};
 ghost use Rattle.sdr_model.specs.Step.{Step, is_answer};
 ghost use Rattle.sdr_model.specs.Things.{block_among};
-ghost use Rattle.sdr_model.specs.Valid.{IsValid};
+ghost use Rattle.sdr_model.specs.Valid.{FitTogether, IsValid};
 ghost use Rattle.sdr_model.specs.World.{World, block_at};
 ghost use Rattle.sdr_model.specs.declared.answer.Reply.{Reply};
 ghost use Rattle.sdr_model.specs.declared.call.Call.{Call};
 
 /// A law: in an answered call the blocks of a valid world change just by its moves, with their kinds and
-/// lengths, where the blocks that it takes are fresh. It does nothing.
+/// lengths, where sources and extents fit each other and the blocks that it takes are fresh. It does nothing.
 pub fn blocks_move()
     ensures { (w w' : World) (call : Call) (moves : List Move) (reply : Reply) →
-        IsValid w → AreFresh (addresses_of (blocks_of w)) moves →
+        IsValid w → FitTogether w → AreFresh (addresses_of (blocks_of w)) moves →
         Step w call moves w' reply → is_answer reply ≡ true → MovesBlocks w moves w' }
 {}
 

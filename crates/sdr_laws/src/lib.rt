@@ -4,11 +4,11 @@
 //! 1. A refused call and a fault leave the world (`refused_leaves`).
 //! 2. A reading call changes nothing but the bytes shown, and `stage` adds a mark (`reading_shows`).
 //! 3. An answered call has just the moves of its row (`moves_are_the_rows`).
-//! 4. A row leaves no choice but that of the addresses of blocks taken (`rows_decide`), and without a heap
-//!    there is none (`dry_decides`).
+//! 4. A row leaves no choice but that of the addresses of blocks taken and of the bytes that media give
+//!    (`rows_decide`), and without a heap that of bytes alone (`dry_decides`).
 //! 5. A changing call that is answered marks just the blocks that it takes (`taken_are_marked`).
-//! 6. The blocks of a valid world change just by the moves (`blocks_move`), and the one that begins at an
-//!    address is among them (`blocks_are_found`).
+//! 6. The blocks of a valid world, in which sources and extents fit each other, change just by the moves
+//!    (`blocks_move`), and the one that begins at an address is among them (`blocks_are_found`).
 //! 7. A valid world stays valid, where the blocks taken are fresh (`valid_kept`). Where there is no heap,
 //!    addresses by a count are fresh (`valid_kept_dry`), so every world that is reached there is valid
 //!    (`dry_worlds_are_valid`).

@@ -1,7 +1,7 @@
 // The moves of a call.
 ghost use Rattle.std.specs.Prelude.{◌≡◌, List, slice_index, true};
 ghost use Rattle.sdr_base.specs.declared.moves.Move.{Move};
-ghost use Rattle.sdr_laws.specs.MovesBlocks.{taken_addresses};
+ghost use Rattle.sdr_model.specs.Steps.{taken_addresses};
 ghost use Rattle.sdr_model.specs.RowMoves.{row_moves};
 ghost use Rattle.sdr_model.specs.Step.{Step, is_answer};
 ghost use Rattle.sdr_model.specs.World.{World};

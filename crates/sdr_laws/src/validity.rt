@@ -1,5 +1,6 @@
 // Valid worlds.
-ghost use Rattle.std.specs.Prelude.{ℕ, List};
+ghost use Rattle.std.specs.Prelude.{ℕ, List, Option};
+ghost use Rattle.sdr_base.specs.Media.{Told};
 ghost use Rattle.sdr_base.specs.declared.moves.Move.{Move};
 ghost use Rattle.sdr_laws.specs.Fresh.{AreFresh};
 ghost use Rattle.sdr_laws.specs.ValidDry.{IsValidDry};
@@ -26,8 +27,8 @@ pub fn valid_kept_dry()
 {}
 
 /// A law: without a heap every world that a run of the machine comes to is valid, the one between
-/// transactions and the one that the served transaction has made. It does nothing.
+/// transactions and the one that the served transaction has made, whatever media tell. It does nothing.
 pub fn dry_worlds_are_valid()
-    ensures { (daemons : List ℕ) (made : List Made) (c : Core) →
-        RunsCore (first_core daemons) made c → IsValidDry c.machine.world × IsValidDry c.machine.current }
+    ensures { (told : Option Told) (daemons : List ℕ) (made : List Made) (c : Core) →
+        RunsCore told (first_core daemons) made c → IsValidDry c.machine.world × IsValidDry c.machine.current }
 {}

@@ -1,4 +1,5 @@
-use Rattle.sdr_laws.proofs.Examples.{empty_is_valid, example_destroyed, example_fits, example_fresh, example_grows, example_is, example_is_valid, example_short}
+use Rattle.sdr_laws.proofs.ExampleFits.{example_fits, example_fit_together}
+use Rattle.sdr_laws.proofs.Examples.{empty_is_valid, example_list_goes, example_object_goes, example_fresh, example_grows, example_is, example_is_valid, example_short}
 use Rattle.sdr_laws.proofs.example.example_meets_the_laws.Goals as goal
 
 pub returns-clause-empty : goal.returns-clause-empty
@@ -6,6 +7,9 @@ returns-clause-empty c = empty_is_valid
 
 pub returns-clause-valid : goal.returns-clause-valid
 returns-clause-valid c = example_is_valid
+
+pub returns-clause-fit : goal.returns-clause-fit
+returns-clause-fit c = example_fit_together
 
 pub returns-clause-fresh : goal.returns-clause-fresh
 returns-clause-fresh c = example_fresh
@@ -19,8 +23,11 @@ returns-clause-stops c = example_short
 pub returns-clause-blocks : goal.returns-clause-blocks
 returns-clause-blocks c = example_is
 
-pub returns-clause-moves : goal.returns-clause-moves
-returns-clause-moves c = example_destroyed
+pub returns-clause-list_goes : goal.returns-clause-list_goes
+returns-clause-list_goes c = example_list_goes
+
+pub returns-clause-object_goes : goal.returns-clause-object_goes
+returns-clause-object_goes c = example_object_goes
 
 pub returns-clause-fits : goal.returns-clause-fits
 returns-clause-fits c = example_fits
