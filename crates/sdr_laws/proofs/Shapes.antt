@@ -7,7 +7,7 @@ use Rattle.sdr_base.specs.declared.refusal.Refusal.{Refusal}
 use Rattle.sdr_laws.proofs.Changes.{Changes}
 use Rattle.sdr_laws.proofs.ThingChanges.{in_takes}
 use Rattle.sdr_model.specs.Steps.{taken_addresses, Outcome, Refuses, Reads, TakesOne, On, taken_at}
-use Rattle.sdr_laws.specs.Refused.{may_stop_midway}
+use Rattle.sdr_laws.specs.Refused.{is_stop}
 use Rattle.sdr_laws.specs.Shows.{ShowsOnly}
 use Rattle.sdr_model.specs.Reading.{is_reading}
 use Rattle.sdr_model.specs.RowMoves.{row_moves, takes}
@@ -34,7 +34,7 @@ pub record Acts (w : World) (call : Call) (o : Outcome) : Type 0 where
 
 -- no stop on the way has this refusal
 abbrev pub IsOfRow : Refusal → Type 0
-IsOfRow refusal = may_stop_midway (replies.Refused refusal) ≡ false
+IsOfRow refusal = is_stop (replies.Refused refusal) ≡ false
 
 -- the three shapes
 pub data Shape (w : World) (call : Call) (o : Outcome) : Type 0 where

@@ -7,10 +7,11 @@ use Rattle.sdr_laws.proofs.RowShapes.{row_shape}
 use Rattle.sdr_laws.proofs.Shapes.{Shape, Shows, Acts}
 use Rattle.sdr_laws.specs.Marks.{MarksTaken}
 use Rattle.sdr_model.specs.Steps.{taken_addresses, Outcome}
-use Rattle.sdr_laws.specs.Refused.{may_stop_midway}
+use Rattle.sdr_laws.specs.Refused.{is_stop, may_stop_midway}
 use Rattle.sdr_laws.specs.Shows.{ShowsOnly}
 use Rattle.sdr_model.specs.Reading.{is_reading}
 use Rattle.sdr_model.specs.RowMoves.{row_moves}
+use Rattle.sdr_model.specs.Rows.{ByRow}
 use Rattle.sdr_model.specs.Step.{Step, StopsWith, is_answer}
 use Rattle.sdr_model.specs.World.{World}
 use Rattle.sdr_model.specs.declared.answer.Reply.{Reply}
@@ -82,3 +83,20 @@ module _ (w w' : World) (call : Call) (moves : List Move) (reply : Reply) where
       → MarksTaken w moves w'
   taken_are_marked changing step answered =
       answered_shape step answered (λ s. contrary (s.reading) changing) (λ a. a.changes.marks)
+
+-- a reply that answers its call tells of no stop
+answered_whole : (reply : Reply) → is_answer reply ≡ true → is_stop reply ≡ false
+answered_whole (replies.Refused refusal) answered = contrary answered refl
+answered_whole replies.MediaFault answered = contrary answered refl
+answered_whole replies.DiskFault answered = contrary answered refl
+answered_whole (replies.Failed moment) answered = contrary answered refl
+answered_whole reply answered = refl
+
+-- a row tells of no stop
+pub row_is_no_stop : (w : World) (o : Outcome) (call : Call) → ByRow w o call → is_stop o.reply ≡ false
+row_is_no_stop w o call row = by (row_shape w call o row)
+  where
+    by : Shape w call o → is_stop o.reply ≡ false
+    by (Shape.refuses refusal of_row h) = ap is_stop h.2 ∙ of_row
+    by (Shape.shows s) = answered_whole o.reply s.answered
+    by (Shape.acts a) = answered_whole o.reply a.changes.answered

@@ -9,3 +9,14 @@ abbrev pub may_stop_midway : Reply → Bool
 may_stop_midway (replies.Refused (refusals.NoBlock need)) = true
 may_stop_midway (replies.Refused (refusals.LogFull lines room)) = true
 may_stop_midway reply = false
+
+-- whether the reply tells of a stop on the way: a block or room in the undo log is wanting, a device failed, or media gave fewer
+-- bytes than were asked for
+abbrev pub is_stop : Reply → Bool
+is_stop (replies.Refused (refusals.NoBlock need)) = true
+is_stop (replies.Refused (refusals.LogFull lines room)) = true
+is_stop (replies.Refused (refusals.SourceShort have want)) = true
+is_stop replies.MediaFault = true
+is_stop replies.DiskFault = true
+is_stop (replies.Failed moment) = true
+is_stop reply = false

@@ -1,7 +1,8 @@
 //! Laws above one step of the object machine: what holds of every call, whichever it is. Each law is the
 //! contract of a function that does nothing.
 //!
-//! 1. A refused call and a fault leave the world (`refused_leaves`).
+//! 1. A refused call and a fault leave the world (`refused_leaves`). A stop on the way is the answer of no row
+//!    (`stops_are_no_rows`).
 //! 2. A reading call changes nothing but the bytes shown, and `stage` adds a mark (`reading_shows`).
 //! 3. An answered call has just the moves of its row (`moves_are_the_rows`).
 //! 4. A row leaves no choice but that of the addresses of blocks taken and of the bytes that media give
@@ -34,5 +35,5 @@ pub use fields::fields_fit;
 pub use marks::taken_are_marked;
 pub use moves::moves_are_the_rows;
 pub use reading::reading_shows;
-pub use refused::refused_leaves;
+pub use refused::{refused_leaves, stops_are_no_rows};
 pub use validity::{dry_worlds_are_valid, valid_kept, valid_kept_dry};

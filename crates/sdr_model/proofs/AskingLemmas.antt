@@ -2,26 +2,28 @@
 use Rattle.std.proofs.Common.{◌≡◌, ◌<◌, ◌≤◌, ◌==◌, ◌&&◌, ℕ, List, [], ◌∷◌, Bool, true, false, not, cond, ◌+◌, unwrap_or, Result, Ok, Err, IfOk, IfSome, Option, None, Some, ◌⊎◌, inl, inr, length, refl, sym, ap, ◌∙◌, subst, arith, MatchBool, MatchOption, true≢false}
 use Rattle.std.proofs.lemmas.Bool.{ltb-false}
 use Rattle.std.specs.Option.{option_map_or}
-use Rattle.std.specs.Prelude.{find, is_none, nat_lt, ⊤}
+use Rattle.std.specs.Prelude.{find, is_none, nat_le, nat_lt, ⊤}
 use Rattle.sdr_base.specs.Media.{Told}
 use Rattle.sdr_base.specs.declared.moves.Move.{Move}
 use Rattle.sdr_base.specs.declared.refusal.Reason.{Reason}
 use Rattle.sdr_base.specs.declared.refusal.Reason.TheVariants as reasons
 use Rattle.sdr_base.specs.declared.refusal.Refusal.{Refusal}
 use Rattle.sdr_base.specs.declared.refusal.Refusal.TheVariants as refusals
+use Rattle.sdr_model.proofs.Cases.{in_bool, in_option}
 use Rattle.sdr_model.proofs.FewLemmas.{few_more}
 use Rattle.sdr_model.proofs.PiecesLemmas.{Spells-filled, asked-row, length-asked}
-use Rattle.sdr_model.specs.Asking.{AgreesReading, AgreesWith, Asks, AsksNothing, HasPieces, IsGap, is_served, makes_calls, settled, with_current}
+use Rattle.sdr_model.specs.AccountSteps.{pending_of}
+use Rattle.sdr_model.specs.Asking.{AgreesReading, AgreesWith, Asks, AsksNothing, HasPieces, IsGap, IsUnstopped, is_gap, is_served, makes_calls, settled, with_current}
 use Rattle.sdr_model.specs.Dry.{StepsDry, StopsReading}
 use Rattle.sdr_model.specs.Few.{IsAfter}
 use Rattle.sdr_model.specs.Limits.{longest_read}
-use Rattle.sdr_model.specs.Machine.{Machine, MachineStep, Comes, Goes, Holds, Waits, Serves, Works, may_come, served_number, with_transaction}
+use Rattle.sdr_model.specs.Machine.{Machine, MachineStep, Comes, Goes, Holds, LooksAt, is_outside, is_stalled, waits_for, with_drawn, without_served, Waits, Serves, Works, may_come, served_number, with_transaction}
 use Rattle.sdr_model.specs.Pieces.{AsksBytes, AsksPage, filled, pieces_asked, pieces_told}
 use Rattle.sdr_model.specs.Reading.{is_reading, reads_media}
 use Rattle.sdr_model.specs.Rows.{ByRow}
 use Rattle.sdr_model.specs.Step.{StopsWith, is_answer}
 use Rattle.sdr_model.specs.Steps.{Outcome, Refuses}
-use Rattle.sdr_model.specs.Transaction.{Becomes, Replies, after_reply, doomed_for, modified, Says, Transaction, refused, transaction_of}
+use Rattle.sdr_model.specs.Transaction.{Becomes, Replies, Transacts, deepest, is_closing, is_opening, after_reply, doomed_for, modified, Says, Transaction, refused, transaction_of}
 use Rattle.sdr_model.specs.Wire as Wire
 use Rattle.sdr_model.specs.Wire.{Spells, Gives, GivesOf, headers_part, source_part, trailers_part, wire_part}
 use Rattle.sdr_model.specs.World.{World, block_at, misnamed, refusal_for}
@@ -75,6 +77,18 @@ module _ (m : Machine) (daemon : ℕ) (h : Holder) (call : Call) (answer : Answe
       (at_false _ (h.depth == 0) inside
       (at_true _ (served_number m.holders == h.number) served
       (record { after = t'; transacts = at_none _ _ h.doom undoomed replies; others = refl }))))
+
+-- whether the event is a call
+abbrev pub is_call : Event → Bool
+is_call (events.Say call) = true
+is_call event = false
+
+-- an event that is no call agrees with all media
+agrees_else : (told : Option Told) (w : World) (event : Event) (answer : Answer) (bytes : List ℕ) → is_call event ≡ false
+    → AgreesWith told w event answer bytes
+agrees_else (Some media) w (events.Say call) answer bytes other = absurd (true≢false other)
+agrees_else None w event answer bytes other = tt
+agrees_else (Some media) w event answer bytes other = tt
 
 -- an answer that tells nothing of media: whatever they hold, it agrees with them
 abbrev pub TellsNothing : Answer → Type 0
@@ -308,18 +322,172 @@ module _ (m : Machine) (daemon : ℕ) (call : Call) (reads : reads_media call �
       (Goes answer moves m' (refused (refusals.Suspended (served_number m.holders) s.holder.number)) m)) s.served waits in
       says_nothing s.holder works.after answer moves s.undoomed works.transacts
 
+said_agrees : (m : Machine) (daemon : ℕ) (call : Call) → makes_calls m daemon ≡ true
+    → (reads_media call ≡ true → ¬ AsksBytes m.current call)
+    → (answer : Answer) (moves : List Move) (m' : Machine) (told : Option Told) (bytes : List ℕ)
+    → MachineStep m daemon (events.Say call) answer moves m' → AgreesWith told m.current (events.Say call) answer bytes
+said_agrees m daemon call makes fails answer moves m' None bytes step = tt
+said_agrees m daemon call makes fails answer moves m' (Some media) bytes step =
+    λ reads. served_nothing m daemon call reads (fails reads) (is_served_by m daemon makes) answer moves m' step
+        (Some media) m.current call bytes reads
+
+-- an answer that is known, and tells of no gap
+whole_by : (answer given : Answer) → answer ≡ given → is_gap given ≡ false → IsUnstopped answer
+whole_by answer given is no_gap = IsUnstopped.whole (ap is_gap is ∙ no_gap)
+
+-- media don't stop a call that asks for no bytes of an object
+module _ (m : Machine) (daemon : ℕ) (call : Call) (fails : reads_media call ≡ true → ¬ AsksBytes m.current call) where
+  replies_unstopped : (t t' : Transaction) (answer : Answer) (moves : List Move) → t.world ≡ m.current → Replies t call answer moves t'
+      → IsUnstopped answer
+  replies_unstopped t t' (answers.Reply reply) moves is (inl steps, after) = IsUnstopped.by_row t.world _ call steps.step refl
+  replies_unstopped t t' (answers.Reply reply) moves is (inr stops, after) =
+      let quiet = row_quietly t.world stops.stopped.aim call stops.reads
+      (subst (λ w. ¬ AsksBytes w call) (sym is) (fails stops.reads)) stops.stopped.row in
+      absurd (true≢false (sym (sym (ap is_answer quiet.is) ∙ stops.stopped.answered)))
+  replies_unstopped t t' answer moves is h = absurd h
+
+  says_unstopped : (h : Holder) (t' : Transaction) (answer : Answer) (moves : List Move)
+      → Says (transaction_of h m.current) call answer moves t' → IsUnstopped answer
+  says_unstopped h t' answer moves says =
+      in_option h.doom says
+      (λ replied. replies_unstopped (transaction_of h m.current) t' answer moves refl replied)
+      (λ reason becomes. whole_by answer _ becomes.0 refl)
+
+  call_unstopped : (answer : Answer) (moves : List Move) (m' : Machine) → MachineStep m daemon (events.Say call) answer moves m'
+      → IsUnstopped answer
+  call_unstopped answer moves m' step =
+      in_bool (may_come m daemon) step
+      (λ comes. in_option (find (λ h. h.daemon == daemon) m.holders) comes
+      (λ goes. whole_by answer _ goes.0 refl)
+      (λ h holds. in_bool (h.depth == 0) holds
+      (λ goes. whole_by answer _ goes.0 refl)
+      (λ waits. in_bool (served_number m.holders == h.number) waits
+      (λ works. says_unstopped h works.after answer moves works.transacts)
+      (λ goes. whole_by answer _ goes.0 refl))))
+      (λ goes. whole_by answer _ goes.0 refl)
+
+-- media don't stop a call that isn't made
+module _ (m : Machine) (daemon : ℕ) (call : Call) (answer : Answer) (moves : List Move) (m' : Machine) where
+  unserved_unstopped : (h : Holder) (outside served : Bool) (doom : Option Reason) → h.doom ≡ doom
+      → not outside && served && is_none doom ≡ false
+      → MatchBool outside (Goes answer moves m' (refused refusals.NotBegun) m)
+      (MatchBool served (Serves m h (events.Say call) answer moves m')
+      (Goes answer moves m' (refused (refusals.Suspended (served_number m.holders) h.number)) m))
+      → IsUnstopped answer
+  unserved_unstopped h true served doom doomed fails step = whole_by answer _ step.0 refl
+  unserved_unstopped h false false doom doomed fails step = whole_by answer _ step.0 refl
+  unserved_unstopped h false true None doomed fails step = absurd (true≢false fails)
+  unserved_unstopped h false true (Some reason) doomed fails step =
+      let says = subst (λ d. MatchOption d (Replies (transaction_of h m.current) call answer moves step.after)
+      (λ reason. Becomes answer moves step.after (refused (refusals.Doomed reason)) (transaction_of h m.current)))
+      doomed step.transacts in
+      whole_by answer _ says.0 refl
+
+  unsaid_unstopped_at : (comes : Bool) (held : Option Holder) → comes && option_map_or (is_served m) held false ≡ false
+      → MatchBool comes
+      (MatchOption held (Comes m daemon (events.Say call) answer moves m') (λ h. Holds m h (events.Say call) answer moves m'))
+      (Goes answer moves m' (refused refusals.NotBegun) m)
+      → IsUnstopped answer
+  unsaid_unstopped_at false held fails step = whole_by answer _ step.0 refl
+  unsaid_unstopped_at true None fails step = whole_by answer _ step.0 refl
+  unsaid_unstopped_at true (Some h) fails step =
+      unserved_unstopped h (h.depth == 0) (served_number m.holders == h.number) h.doom refl fails step
+
+  unsaid_unstopped : makes_calls m daemon ≡ false → MachineStep m daemon (events.Say call) answer moves m' → IsUnstopped answer
+  unsaid_unstopped fails step = unsaid_unstopped_at (may_come m daemon) (find (λ h. h.daemon == daemon) m.holders) fails step
+
 -- media aren't asked before a call that isn't made
 pub asks_nothing_unsaid : (m : Machine) (daemon : ℕ) (call : Call) → makes_calls m daemon ≡ false → AsksNothing m daemon (events.Say call)
-asks_nothing_unsaid m daemon call fails answer moves m' told bytes step =
-    unsaid m daemon call answer moves m' fails step told m.current call bytes
+asks_nothing_unsaid m daemon call fails = record {
+  agrees = λ answer moves m' told bytes step. unsaid m daemon call answer moves m' fails step told m.current call bytes;
+  unstopped = λ answer moves m' step. unsaid_unstopped m daemon call answer moves m' fails step;
+}
 
 -- nor before one that asks for no bytes of an object
 pub asks_nothing_said : (m : Machine) (daemon : ℕ) (call : Call) → makes_calls m daemon ≡ true
     → (reads_media call ≡ true → ¬ AsksBytes m.current call) → AsksNothing m daemon (events.Say call)
-asks_nothing_said m daemon call makes fails answer moves m' None bytes step = tt
-asks_nothing_said m daemon call makes fails answer moves m' (Some media) bytes step =
-    λ reads. served_nothing m daemon call reads (fails reads) (is_served_by m daemon makes) answer moves m' step
-        (Some media) m.current call bytes reads
+asks_nothing_said m daemon call makes fails = record {
+  agrees = said_agrees m daemon call makes fails;
+  unstopped = call_unstopped m daemon call fails;
+}
+
+-- media don't stop an event that is no call
+module _ (m : Machine) (answer : Answer) (moves : List Move) (m' : Machine) where
+  looks_whole : (n : Machine) (daemon ticket : ℕ) → LooksAt n daemon ticket answer moves m' → IsUnstopped answer
+  looks_whole n daemon ticket h =
+      in_option (pending_of n.world ticket) h
+      (λ goes. whole_by answer _ goes.0 refl)
+      (λ p looked. in_bool p.ticket.granted looked
+      (λ goes. whole_by answer _ goes.0 refl)
+      (λ waits. in_bool (waits_for n daemon ticket && is_stalled n) waits
+      (λ goes. whole_by answer _ goes.0 refl)
+      (λ goes. whole_by answer _ goes.0 refl)))
+
+  comes_whole : (daemon : ℕ) (event : Event) → Comes m daemon event answer moves m' → IsUnstopped answer
+  comes_whole daemon events.Request h = whole_by answer _ h.0 refl
+  comes_whole daemon events.Begin h = whole_by answer _ h.0 refl
+  comes_whole daemon (events.Look ticket) h =
+      in_bool (served_number m.holders == 0) h (looks_whole (with_drawn m) daemon ticket) (λ goes. whole_by answer _ goes.0 refl)
+  comes_whole daemon (events.Leaves leave) h =
+      in_bool (served_number m.holders == 0) h (λ goes. whole_by answer _ goes.0 refl) (λ goes. whole_by answer _ goes.0 refl)
+  comes_whole daemon event h = whole_by answer _ h.0 refl
+
+  transacts_whole : (t t' : Transaction) (event : Event) → is_call event ≡ false → Transacts t event answer moves t' → IsUnstopped answer
+  transacts_whole t t' events.Request other h = absurd h
+  transacts_whole t t' events.Begin other h =
+      in_bool (nat_le deepest t.depth) h (λ becomes. whole_by answer _ becomes.0 refl) (λ becomes. whole_by answer _ becomes.0 refl)
+  transacts_whole t t' (events.Say call) other h = absurd (true≢false other)
+  transacts_whole t t' events.End other h = whole_by answer _ h.0 refl
+  transacts_whole t t' events.Exit other h = whole_by answer _ h.0 refl
+  transacts_whole t t' events.Cancel other h = whole_by answer _ h.0 refl
+  transacts_whole t t' event other h = absurd h
+
+  serves_whole : (h : Holder) (event : Event) → is_call event ≡ false → Serves m h event answer moves m' → IsUnstopped answer
+  serves_whole h event other s =
+      in_bool (is_opening (transaction_of h m.current) event) s
+      (λ goes. whole_by answer _ goes.0 refl)
+      (λ s. in_bool (is_closing (transaction_of h m.current) event) s
+      (λ goes. whole_by answer _ goes.0 refl)
+      (λ works. transacts_whole (transaction_of h m.current) works.after event other works.transacts))
+
+  waits_whole : (h : Holder) (event : Event) → is_call event ≡ false → Waits m h event answer moves m' → IsUnstopped answer
+  waits_whole h event other w =
+      in_bool (is_outside h event) w
+      (λ goes. whole_by answer _ goes.0 refl)
+      (λ w. in_bool (served_number m.holders == h.number) w
+      (serves_whole h event other)
+      (λ goes. whole_by answer _ goes.0 refl))
+
+  holds_whole : (h : Holder) (event : Event) → is_call event ≡ false → Holds m h event answer moves m' → IsUnstopped answer
+  holds_whole h events.Request other s = whole_by answer _ s.0 refl
+  holds_whole h (events.Look ticket) other s =
+      in_bool (h.depth == 0) s
+      (λ s. in_bool (served_number m.holders == h.number) s
+      (looks_whole (without_served m) h.daemon ticket)
+      (λ goes. whole_by answer _ goes.0 refl))
+      (λ goes. whole_by answer _ goes.0 refl)
+  holds_whole h (events.Leaves leave) other s =
+      in_bool (served_number m.holders == h.number) s
+      (λ s. in_bool (h.depth == 0) s
+      (λ goes. whole_by answer _ goes.0 refl)
+      (λ goes. whole_by answer _ goes.0 refl))
+      (λ goes. whole_by answer _ goes.0 refl)
+  holds_whole h event other s = waits_whole h event other s
+
+  event_whole : (daemon : ℕ) (event : Event) → is_call event ≡ false → MachineStep m daemon event answer moves m' → IsUnstopped answer
+  event_whole daemon event other step =
+      in_bool (may_come m daemon) step
+      (λ s. in_option (find (λ h. h.daemon == daemon) m.holders) s
+      (comes_whole daemon event)
+      (λ h holds. holds_whole h event other holds))
+      (λ goes. whole_by answer _ goes.0 refl)
+
+-- media aren't asked before an event that is no call
+pub asks_nothing_else : (m : Machine) (daemon : ℕ) (event : Event) → is_call event ≡ false → AsksNothing m daemon event
+asks_nothing_else m daemon event other = record {
+  agrees = λ answer moves m' told bytes step. agrees_else told m.current event answer bytes other;
+  unstopped = λ answer moves m' step. event_whole m answer moves m' daemon event other step;
+}
 
 -- what follows of something that was found
 pub in_found : {X E : Type 0} {P Q : X → Type 0} (r : Result (Option X) E) → IfOk r (λ o. IfSome o P) → ((x : X) → P x → Q x)
@@ -348,3 +516,8 @@ after_settled events m daemon given after = settled_at (find (λ h. h.daemon == 
       world = few_more events (events + 1) m.world.things (omega arith) after.world;
       current = few_more events (events + 1) m.current.things (omega arith) after.current;
     }
+
+-- an event that is none of the calls
+pub no_call : (event : Event) → ((call : Call) → event ≡ events.Say call → ⊥) → is_call event ≡ false
+no_call (events.Say call) none = absurd (none call refl)
+no_call event none = refl

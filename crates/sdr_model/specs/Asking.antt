@@ -8,6 +8,8 @@ use Rattle.sdr_model.specs.Limits.{longest_read}
 use Rattle.sdr_model.specs.Machine.{Machine, MachineStep, may_come, served_number, with_transaction}
 use Rattle.sdr_model.specs.Pieces.{AsksBytes, bytes_by, media_bytes, piece_length, pieces_asked, pieces_told}
 use Rattle.sdr_model.specs.Reading.{reads_media}
+use Rattle.sdr_model.specs.Rows.{ByRow}
+use Rattle.sdr_model.specs.Steps.{Outcome}
 use Rattle.sdr_model.specs.Transaction.{transaction_of}
 use Rattle.sdr_model.specs.Wire.{Spells}
 use Rattle.sdr_model.specs.World.{World}
@@ -85,8 +87,21 @@ abbrev pub AgreesWith : Option Told → World → Event → Answer → List ℕ 
 AgreesWith (Some media) w (events.Say call) answer bytes = reads_media call ≡ true → AgreesReading media w call answer bytes
 AgreesWith media w event answer bytes = ⊤
 
--- Media aren't asked before the event is answered, and whatever the machine answers to it agrees with them.
-abbrev pub AsksNothing : Machine → ℕ → Event → Type 0
-AsksNothing m daemon event =
-    (answer : Answer) (moves : List Move) (m' : Machine) (told : Option Told) (bytes : List ℕ)
-    → MachineStep m daemon event answer moves m' → AgreesWith told m.current event answer bytes
+-- whether an answer tells that media failed, or gave fewer bytes than were asked for
+abbrev pub is_gap : Answer → Bool
+is_gap (answers.Reply replies.MediaFault) = true
+is_gap (answers.Reply (replies.Refused (refusals.SourceShort have want))) = true
+is_gap answer = false
+
+-- an answer that no stop of a call gave: a row gave it, or it tells of no gap
+pub data IsUnstopped (answer : Answer) : Type 0 where
+  by_row : (w : World) (o : Outcome) (call : Call) → ByRow w o call → answer ≡ answers.Reply o.reply → IsUnstopped answer
+  whole : is_gap answer ≡ false → IsUnstopped answer
+
+-- Media aren't asked before the event is answered: whatever the machine answers to it agrees with them, and media stop no
+-- call.
+pub record AsksNothing (m : Machine) (daemon : ℕ) (event : Event) : Type 0 where
+  pub agrees : (answer : Answer) (moves : List Move) (m' : Machine) (told : Option Told) (bytes : List ℕ)
+      → MachineStep m daemon event answer moves m' → AgreesWith told m.current event answer bytes
+  pub unstopped : (answer : Answer) (moves : List Move) (m' : Machine) → MachineStep m daemon event answer moves m'
+      → IsUnstopped answer

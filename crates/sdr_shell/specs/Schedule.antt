@@ -51,10 +51,10 @@ is_short (answers.Reply (replies.Refused (refusals.SourceShort have want))) = tr
 is_short answer = false
 
 -- Media still tell the same, and have failed and given too few bytes at least so often since.
-pub record HaveFailed (faults short : ℕ) (media media' : SeenMedia) : Type 0 where
+pub record HaveFailed (failures lacks : ℕ) (media media' : SeenMedia) : Type 0 where
   pub told : media'.told ≡ media.told
-  pub faults : RoseBy faults media.faults media'.faults
-  pub short : RoseBy short media.short media'.short
+  pub faults : RoseBy failures media.faults media'.faults
+  pub short : RoseBy lacks media.short media'.short
 
 -- how many answers of these are faults of media
 abbrev pub media_faults : List Made → ℕ
