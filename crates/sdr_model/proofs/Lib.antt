@@ -1,4 +1,5 @@
 mod HashExample
+pub mod BlocksLemmas
 pub mod BlocksTaken
 pub mod BoundsLemmas
 pub mod Cases
@@ -19,5 +20,6 @@ pub mod SpotLemmas
 pub mod StoreLemmas
 pub mod SumLemmas
 pub mod TableLemmas
+pub mod TakenLemmas
 pub mod TallyBounds
 pub mod TallyLemmas

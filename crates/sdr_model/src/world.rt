@@ -13,6 +13,7 @@ ghost use Rattle.sdr_model.specs.Things.{IsWithin, SpotIs, inner_among, inner_bl
 ghost use Rattle.sdr_model.specs.World.{block_at, empty_world, is_marked, spot_of, thing_at};
 ghost use Rattle.sdr_model.specs.declared.things.Thing.{Thing};
 
+mod blocks;
 mod sources;
 
 use crate::catalogue::Catalogue;

@@ -1,0 +1,39 @@
+// The blocks that a call takes in a world in the making.
+ghost use Rattle.std.specs.Prelude.{◌≡◌, ◌≤◌, ◌<◌, ◌+◌, ◌^◌, ◌++◌, ◌∷◌, [], ℕ, length, take, Some, OnErr, OnOk};
+ghost use Rattle.std.specs.FinMap as map;
+ghost use Rattle.sdr_model.specs.Dry.{next_addr, next_addrs};
+ghost use Rattle.sdr_model.specs.Owners.{MayHave};
+
+use crate::World;
+use sdr_base::{Addr, Bytes, NoMemory};
+
+impl World {
+    // Marks an address where no block was taken yet, for a block inside the thing at another.
+    fn mark_at(&mut self, owner: Addr, addr: Addr) -> Result<(), NoMemory>
+        requires new { next_addr self.old.now.taken ≤ addr }
+        ensures marked { OnOk result (self.new.now
+            ≡ record self.old.now { marks = self.old.now.marks ++ addr ∷ [] }) }
+        ensures owner { OnOk result (map.get self.new.owners addr ≡ Some owner) }
+        ensures others { (other of : ℕ) → other < addr → map.get self.old.owners other ≡ Some of
+            → map.get self.new.owners other ≡ Some of }
+        ensures begun { self.new.begun ≡ self.old.begun }
+        ensures touched { self.new.touched ≡ self.old.touched }
+        ensures same { OnErr result (self.new.now ≡ self.old.now) }
+    {
+        self.owners.insert(addr, owner)?;
+        self.marks.push(addr)
+    }
+
+    /// Counts so many blocks that were taken, with no bytes shown.
+    pub fn count_blocks(&mut self, count: u64)
+        requires taken { self.old.now.taken + count < 2 ^ 61 }
+        ensures counted { self.new.now
+            ≡ record self.old.now { shown = []; taken = self.old.now.taken + count } }
+        ensures begun { self.new.begun ≡ self.old.begun }
+        ensures touched { self.new.touched ≡ self.old.touched }
+        ensures owners { self.new.owners ≡ self.old.owners }
+    {
+        self.shown = Bytes::new(self.alloc);
+        self.taken += count;
+    }
+}
