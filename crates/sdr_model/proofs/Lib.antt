@@ -1,4 +1,6 @@
 mod HashExample
+pub mod AccountLemmas
+pub mod AmountLemmas
 pub mod BlocksLemmas
 pub mod BlocksTaken
 pub mod BoundsLemmas
@@ -16,6 +18,7 @@ pub mod NotesLemmas
 pub mod OrderLemmas
 pub mod OwnersLemmas
 pub mod PiecesLemmas
+pub mod QueueLemmas
 pub mod SpotLemmas
 pub mod StoreLemmas
 pub mod SumLemmas

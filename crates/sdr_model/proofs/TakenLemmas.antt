@@ -147,9 +147,12 @@ pub bond-in_order : (taken k now : ℕ) (capsules : List Capsule) → now ≡ ta
 bond-in_order taken k now [] is = tt
 bond-in_order taken k now (c ∷ cs) is =
     ( addr_after-next taken k ∙ ap next_addr (sym is)
-    , addr_after-next taken (k + 1) ∙ ap next_addr (let same : taken + (k + 1) ≡ now + 1 = omega (arith, is) in same)
-    , addr_after-next taken (k + 2) ∙ ap next_addr (let same : taken + (k + 2) ≡ now + 1 + 1 = omega (arith, is) in same)
-    , bond-in_order taken (k + 3) (now + 1 + 1 + 1) cs (omega (arith, is))
+    , ( addr_after-next taken (k + 1) ∙ ap next_addr (let same : taken + (k + 1) ≡ now + 1 = omega (arith, is) in same)
+      , ( addr_after-next taken (k + 2)
+          ∙ ap next_addr (let same : taken + (k + 2) ≡ now + 1 + 1 = omega (arith, is) in same)
+        , bond-in_order taken (k + 3) (now + 1 + 1 + 1) cs (omega (arith, is))
+        )
+      )
     )
 
 pub bond-blocks : (at : ℕ → ℕ) (k : ℕ) (capsules : List Capsule) → blocks_taken (bond_moves at k capsules) ≡ 3 * length capsules
@@ -173,3 +176,13 @@ run-next taken k now zero is = refl
 run-next taken k now (suc n) is =
     ap₂ (λ addr (l : List ℕ). addr ∷ l) (addr_after-next taken k ∙ ap next_addr (sym is))
     (run-next taken (suc k) (now + 1) n (omega (arith, is)))
+
+-- one more address
+pub next_addrs-more : (taken n : ℕ) → next_addrs taken (n + 1) ≡ next_addrs taken n ++ next_addr (taken + n) ∷ []
+next_addrs-more taken zero =
+    ap (λ addr. addr ∷ []) (ap next_addr (let same : taken ≡ taken + 0 = omega arith in same))
+next_addrs-more taken (suc n) =
+    ap (next_addrs taken) (let same : suc n + 1 ≡ suc (n + 1) = omega arith in same)
+    ∙ ap (λ (l : List ℕ). next_addr taken ∷ l)
+    (next_addrs-more (taken + 1) n
+    ∙ ap (λ t. next_addrs (taken + 1) n ++ next_addr t ∷ []) (let same : taken + 1 + n ≡ taken + suc n = omega arith in same))

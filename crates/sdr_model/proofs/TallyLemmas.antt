@@ -362,7 +362,7 @@ Tallied-of notes notes' sums sums' next m m' accounts accounts' n s t a told =
 pub AllTallied-empty : (next heap : ℕ) (tally : Tally) (store : Store) (ledger : Ledger)
     → tally ≡ record { notes = record { begun = empty; now = empty; touched = [] }; now = no_charges; begun = no_charges }
     → store ≡ record { begun = empty; now = empty; touched = [] }
-    → ledger ≡ (let fresh = fresh_accounts heap in record { begun = fresh; now = fresh })
+    → ledger ≡ (let fresh = fresh_accounts heap in record { begun = fresh; now = fresh; saved = false })
     → AllTallied tally next store ledger
 AllTallied-empty next heap tally store ledger t s l = record {
   begun = Tallied-of _ _ _ _ next _ _ _ _ (ap (λ x. x.notes.begun) t) (ap (λ x. x.begun) t) (ap (λ x. x.begun) s) (ap (λ x. x.begun) l) (Tallied-empty next heap);

@@ -1,5 +1,5 @@
 -- Accounts of space, and the tickets in their queues.
-use Rattle.std.specs.Prelude.{ℕ, ◌^◌, ◌==◌, List, [], ◌∷◌, ◌++◌, Bool, true, false, map, set, slice_get, unwrap_or, position, Option}
+use Rattle.std.specs.Prelude.{◌≡◌, ◌<◌, ℕ, ◌^◌, ◌==◌, List, [], ◌∷◌, ◌++◌, Bool, true, false, map, set, length, slice_get, unwrap_or, position, Option, Some}
 use Rattle.std.specs.Option.{option_map, option_or}
 use Rattle.sdr_base.specs.declared.account.Acct.{Acct}
 use Rattle.sdr_base.specs.declared.account.Acct.TheVariants as accts
@@ -87,6 +87,11 @@ pending_in accounts acct number =
 abbrev pub pending_among : Accounts → ℕ → Option Pending
 pending_among accounts number =
     option_or (pending_in accounts accts.Inbound number) (pending_in accounts accts.Outbound number)
+
+-- the ticket stands at its place
+pub record Stands (accounts : Accounts) (p : Pending) : Type 0 where
+  pub there : p.place < length (tickets_of accounts p.acct)
+  pub is : slice_get (tickets_of accounts p.acct) p.place ≡ Some p.ticket
 
 -- with another ticket in the place of one
 abbrev pub with_ticket : Accounts → Pending → Ticket → Accounts

@@ -1,5 +1,6 @@
 pub mod AccountSteps
 pub mod Accounts
+pub mod Allowed
 pub mod Amounts
 pub mod Answers
 pub mod Blocks

@@ -1,11 +1,13 @@
 // Accounts of space, and the tickets in their queues.
 ghost use Rattle.std.specs.Prelude.{◌≡◌, ◌<◌, ◌==◌, IfOk, IfSome, length, map, position};
-ghost use Rattle.sdr_model.specs.Accounts.{account_of, fresh_account, fresh_accounts, pending_among, pending_in, ticket_block, ticket_blocks, tickets_of};
+ghost use Rattle.sdr_model.specs.Accounts.{Stands, account_of, fresh_account, fresh_accounts, pending_among, pending_in, ticket_block, ticket_blocks, with_account};
 ghost use Rattle.sdr_model.specs.Things.{block_among};
+ghost use Rattle.sdr_model.specs.declared.accounts.Account.{Account};
 
 use crate::Block;
 use sdr_base::{Acct, Addr, Amounts, Items, Kind, NoMemory};
 use std::alloc::Global;
+use std::mem;
 
 /// The most that an account may allow of a space, the number of a ticket may be, and a ticket may ask.
 pub const MOST_AMOUNT: u64 = 1 << 40;
@@ -140,10 +142,32 @@ impl Accounts {
         }
     }
 
+    /// Takes out one of both, to be changed and put again.
+    pub fn take(&mut self, alloc: Global, acct: Acct) -> Account
+        ensures taken { result ≡ account_of self.old acct }
+        ensures again { (account : Account) → with_account self.new acct account ≡ with_account self.old acct account }
+    {
+        let none = Account::fresh(alloc, 0);
+        match acct {
+            Acct::Inbound => mem::replace(&mut self.inbound, none),
+            Acct::Outbound => mem::replace(&mut self.outbound, none),
+        }
+    }
+
+    /// Puts one in its place.
+    pub fn put(&mut self, acct: Acct, account: Account)
+        ensures { self.new ≡ with_account self.old acct account }
+    {
+        match acct {
+            Acct::Inbound => self.inbound = account,
+            Acct::Outbound => self.outbound = account,
+        }
+    }
+
     /// The ticket of a number, in the queue of an account. It is linear in the queue.
     pub fn pending_in(&self, acct: Acct, number: u64) -> Option<Pending>
         ensures pending { result ≡ pending_in self.now acct number }
-        ensures there { IfSome result (λ p. p.place < length (tickets_of self.now acct)) }
+        ensures stands { IfSome result (Stands self.now) }
     {
         let tickets = self.account(acct).tickets.as_slice();
         let place = place_of(tickets, number)?;
@@ -158,7 +182,7 @@ impl Accounts {
     /// The ticket of a number, in the queue of either account. It is linear in both.
     pub fn pending(&self, number: u64) -> Option<Pending>
         ensures pending { result ≡ pending_among self.now number }
-        ensures there { IfSome result (λ p. p.place < length (tickets_of self.now p.acct)) }
+        ensures stands { IfSome result (Stands self.now) }
     {
         match self.pending_in(Acct::Inbound, number) {
             Some(pending) => Some(pending),

@@ -8,11 +8,13 @@
 #![tactic(auto)]
 
 mod accounts;
+mod amounts;
 mod answer;
 mod call;
 mod calls;
 mod capsules;
 mod catalogue;
+mod charges;
 mod cuts;
 mod element_calls;
 mod event;
@@ -38,6 +40,7 @@ mod owners;
 mod place;
 mod places;
 mod plain;
+mod queue;
 mod raw_calls;
 mod script;
 mod store;

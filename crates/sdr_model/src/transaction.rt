@@ -1,5 +1,5 @@
 // The events of an open transaction.
-ghost use Rattle.std.specs.Prelude.{◌≡◌, ◌<◌, ◌≤◌, ◌^◌, IfOk, OnErr, None, Some, unwrap_or, [], true};
+ghost use Rattle.std.specs.Prelude.{◌≡◌, ◌<◌, ◌≤◌, ◌^◌, IfOk, OnErr, None, Some, unwrap_or, [], true, false};
 ghost use Rattle.sdr_model.specs.Built.{is_built};
 ghost use Rattle.sdr_model.specs.Transaction.{transaction_of, Deepens, Rises, Retreats, Says, after_reply, refused, close_of, closing, left_by};
 ghost use Rattle.sdr_model.specs.Machine.{says_moves};
@@ -128,7 +128,7 @@ fn close_of(event: &Event, modified: bool) -> Close
 pub fn close(holder: &Holder, world: &mut World, event: &Event) -> Close
     ensures close { (w : PlainWorld) → result ≡ closing (transaction_of holder.now w) event.now }
     ensures world { let left = left_by result world.old.begun world.old.now in
-        world.new ≡ record world.old { begun = left; now = left; touched = [] } }
+        world.new ≡ record world.old { begun = left; now = left; touched = []; saved = false } }
 {
     let close = match holder.doom {
         None => close_of(event, holder.modified),

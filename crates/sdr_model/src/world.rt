@@ -1,5 +1,5 @@
 // A world in the making.
-ghost use Rattle.std.specs.Prelude.{◌≡◌, ◌<◌, ◌+◌, ◌^◌, ◌++◌, length, take, ◌∷◌, [], IfOk, IfSome, OnOk, OnErr, IsSome, None, Some, Contains, true};
+ghost use Rattle.std.specs.Prelude.{◌≡◌, ◌<◌, ◌+◌, ◌^◌, ◌++◌, length, take, ◌∷◌, [], IfOk, IfSome, OnOk, OnErr, IsSome, None, Some, Contains, true, false};
 ghost use Rattle.std.specs.FinMap as map;
 ghost use Rattle.std.specs.List.{list_any};
 ghost use Rattle.std.specs.Option.{option_copied};
@@ -14,6 +14,8 @@ ghost use Rattle.sdr_model.specs.World.{block_at, empty_world, is_marked, spot_o
 ghost use Rattle.sdr_model.specs.declared.things.Thing.{Thing};
 
 mod blocks;
+mod charges;
+mod charging;
 mod sources;
 
 use crate::catalogue::Catalogue;
@@ -62,6 +64,7 @@ impl Model for World {
       now = record { things = s.things.now; names = s.catalogue.now; accounts = s.accounts.now; marks = s.marks; shown = s.shown; taken = s.taken };
       touched = s.things.touched;
       owners = s.owners;
+      saved = s.accounts.saved;
     } };
 
     ghost invariant = { λ s. IsKept s.owners s.tally (next_addr s.taken) s.things s.accounts };
@@ -70,7 +73,7 @@ impl Model for World {
 impl World {
     /// A world without things, where no transaction is open. It takes no memory.
     pub fn new(alloc: Global) -> World
-        ensures { result ≡ record { begun = empty_world; now = empty_world; touched = []; owners = map.empty } }
+        ensures { result ≡ record { begun = empty_world; now = empty_world; touched = []; owners = map.empty; saved = false } }
     {
         World {
             alloc,
@@ -169,6 +172,7 @@ impl World {
     pub fn unmark(&mut self, marks: usize)
         ensures unmarked { self.new.now ≡ record self.old.now { marks = take marks self.old.now.marks } }
         ensures begun { self.new.begun ≡ self.old.begun }
+        ensures saved { self.new.saved ≡ self.old.saved }
     {
         self.marks.truncate(marks);
     }
@@ -178,6 +182,7 @@ impl World {
         requires taken { self.old.now.taken < 2 ^ 60 }
         ensures counted { self.new.now ≡ record self.old.now { shown = []; taken = self.old.now.taken + 1 } }
         ensures begun { self.new.begun ≡ self.old.begun }
+        ensures saved { self.new.saved ≡ self.old.saved }
         ensures touched { self.new.touched ≡ self.old.touched }
         ensures owners { self.new.owners ≡ self.old.owners }
     {
@@ -192,6 +197,7 @@ impl World {
         ensures marked { IfOk result (λ addr.
             self.new.now ≡ record self.old.now { marks = self.old.now.marks ++ addr ∷ [] }) }
         ensures begun { self.new.begun ≡ self.old.begun }
+        ensures saved { self.new.saved ≡ self.old.saved }
         ensures touched { self.new.touched ≡ self.old.touched }
         ensures same { OnErr result (self.new.now ≡ self.old.now) }
     {
@@ -209,6 +215,7 @@ impl World {
             self.new.now ≡ record self.old.now { marks = self.old.now.marks ++ addr ∷ [] }) }
         ensures noted { IfOk result (λ addr. map.get self.new.owners addr ≡ Some owner) }
         ensures begun { self.new.begun ≡ self.old.begun }
+        ensures saved { self.new.saved ≡ self.old.saved }
         ensures same { OnErr result (self.new.now ≡ self.old.now) }
     {
         let addr = 8 * (self.taken + 1);
@@ -227,6 +234,7 @@ impl World {
         ensures made { IfOk result (λ addr.
             self.new.now ≡ with_taken (with_thing self.old.now addr thing) addr) }
         ensures begun { self.new.begun ≡ self.old.begun }
+        ensures saved { self.new.saved ≡ self.old.saved }
         ensures same { OnErr result (self.new.now ≡ self.old.now) }
     {
         let marks = self.marks.len();
@@ -249,6 +257,7 @@ impl World {
         requires plain { is_plain (thing_at self.old.now addr) ≡ true }
         ensures lost { OnOk result (self.new.now ≡ record (without_thing self.old.now addr) { shown = [] }) }
         ensures begun { self.new.begun ≡ self.old.begun }
+        ensures saved { self.new.saved ≡ self.old.saved }
         ensures same { OnErr result (self.new.now ≡ self.old.now) }
     {
         self.things.replace(addr, None)?;
@@ -271,6 +280,7 @@ impl World {
         ensures touched { OnOk result (Contains self.new.touched addr) }
         ensures owners { self.new.owners ≡ self.old.owners }
         ensures begun { self.new.begun ≡ self.old.begun }
+        ensures saved { self.new.saved ≡ self.old.saved }
         ensures same { OnErr result (self.new.now ≡ self.old.now) }
     {
         self.things.take(addr)
@@ -285,6 +295,7 @@ impl World {
         requires sound { IsSound (next_addr self.old.now.taken) thing }
         ensures put { self.new.now ≡ with_thing self.old.now addr thing }
         ensures begun { self.new.begun ≡ self.old.begun }
+        ensures saved { self.new.saved ≡ self.old.saved }
     {
         self.things.put(addr, Some(thing));
     }
@@ -293,6 +304,7 @@ impl World {
     pub fn hide(&mut self)
         ensures hidden { self.new.now ≡ record self.old.now { shown = [] } }
         ensures begun { self.new.begun ≡ self.old.begun }
+        ensures saved { self.new.saved ≡ self.old.saved }
     {
         self.shown = Bytes::new(self.alloc);
     }
@@ -301,6 +313,7 @@ impl World {
     pub fn show(&mut self, shown: Bytes)
         ensures shown { self.new.now ≡ record self.old.now { shown = shown } }
         ensures begun { self.new.begun ≡ self.old.begun }
+        ensures saved { self.new.saved ≡ self.old.saved }
     {
         self.shown = shown;
     }
@@ -310,6 +323,7 @@ impl World {
         ensures staged { OnOk result
             (self.new.now ≡ record self.old.now { marks = self.old.now.marks ++ addr ∷ []; shown = shown }) }
         ensures begun { self.new.begun ≡ self.old.begun }
+        ensures saved { self.new.saved ≡ self.old.saved }
         ensures same { OnErr result (self.new.now ≡ self.old.now) }
     {
         self.marks.push(addr)?;
@@ -363,7 +377,7 @@ impl World {
 
     /// Takes the world now as the one to begin from.
     pub fn keep(&mut self)
-        ensures { let kept = at_rest self.old.now in self.new ≡ record self.old { begun = kept; now = kept; touched = [] } }
+        ensures { let kept = at_rest self.old.now in self.new ≡ record self.old { begun = kept; now = kept; touched = []; saved = false } }
     {
         self.things.keep();
         self.catalogue.keep();
@@ -377,7 +391,7 @@ impl World {
     /// Puts the world back to the begin. Blocks once taken stay counted.
     pub fn put_back(&mut self)
         ensures { let left = record self.old.begun { taken = self.old.now.taken } in
-            self.new ≡ record self.old { begun = left; now = left; touched = [] } }
+            self.new ≡ record self.old { begun = left; now = left; touched = []; saved = false } }
     {
         self.things.put_back();
         self.catalogue.put_back();

@@ -1,0 +1,161 @@
+// What a world in the making charges its accounts, and grants.
+ghost use Rattle.std.specs.Prelude.{◌≡◌, ◌≤◌, IfErr, IfOk, IfSome, OnErr, OnOk, true};
+ghost use Rattle.sdr_base.specs.declared.account.Amounts.{Amounts as GhostAmounts};
+ghost use Rattle.sdr_base.specs.declared.kind.Space.{Space};
+ghost use Rattle.sdr_model.specs.Accounts.{Stands, most_amount};
+ghost use Rattle.sdr_model.specs.Allowed.{HasRoomFor, IsGrantOf, MayCharge, MayTakeBack, RefusesCharge, refusal_of, with_back};
+ghost use Rattle.sdr_model.specs.Amounts.{amount};
+ghost use Rattle.sdr_model.specs.Charges.{occupancies};
+ghost use Rattle.sdr_model.specs.Charging.{grant_left, with_used};
+ghost use Rattle.sdr_model.specs.Ledger.{KeepGrants};
+ghost use Rattle.sdr_model.specs.Queue.{with_served};
+
+use crate::amounts::{NOTHING, amount, first_above, minus, plus};
+use crate::queue::{barrier, left};
+use crate::{Accounts, Pending, Ticket, World};
+use sdr_base::{Acct, Amounts, NoMemory, Refusal};
+
+// What is left of the grant of a ticket, nothing where there is none.
+fn grant_left(granted: &Option<Pending>) -> Amounts
+    ensures { result ≡ grant_left granted.now }
+{
+    match granted {
+        Some(pending) => pending.ticket.left,
+        None => NOTHING,
+    }
+}
+
+impl World {
+    /// The accounts now.
+    pub fn accounts(&self) -> &Accounts
+        ensures { result.now ≡ self.now.now.accounts }
+    {
+        self.accounts.now()
+    }
+
+    /// What is occupied in an account. It is linear in the account's queue.
+    pub fn occupied(&self, acct: Acct) -> Amounts
+        ensures value { result ≡ occupancies self.now.now acct }
+        ensures small { (space : Space) → amount result space ≤ most_amount }
+        ensures keep { KeepGrants self.now.now.accounts }
+    {
+        let account = self.accounts.now().account(acct);
+        plus(&self.tally.now.to(acct), &left(account.tickets.as_slice()))
+    }
+
+    /// Copies the accounts, so that they may be changed. Want of memory leaves the world as before.
+    pub fn save_accounts(&mut self) -> Result<(), NoMemory>
+        ensures saved { OnOk result (self.new ≡ record self.old { saved = true }) }
+        ensures same { OnErr result (self.new ≡ self.old) }
+    {
+        self.accounts.save()
+    }
+
+    /// Serves the queue of an account. It is linear in the queue.
+    pub fn serve(&mut self, acct: Acct)
+        requires saved { self.old.saved ≡ true }
+        ensures { self.new ≡ record self.old { now = with_served self.old.now acct } }
+    {
+        let occupied = self.occupied(acct);
+        self.accounts.serve(acct, &occupied);
+    }
+
+    // The ticket that a charge names: it is the account's, and granted. 0 names none.
+    fn grant_of(&self, acct: Acct, number: u64) -> Result<Option<Pending>, Refusal>
+        ensures granted { IfOk result (IsGrantOf self.now.now.accounts acct number) }
+        ensures stands { IfOk result (λ p. IfSome p (Stands self.now.now.accounts)) }
+        ensures refused { IfErr result (λ refusal. (amounts : GhostAmounts) →
+            RefusesCharge self.now.now acct number amounts refusal) }
+    {
+        if number == 0 {
+            return Ok(None);
+        }
+        let Some(pending) = self.accounts.now().pending_in(acct, number) else {
+            return Err(Refusal::BadTicket { ticket: number });
+        };
+        if !pending.ticket.granted {
+            return Err(Refusal::NotAwarded { ticket: number });
+        }
+        Ok(Some(pending))
+    }
+
+    // Why an account refuses amounts that no grant covers.
+    fn refusal(&self, acct: Acct, uncovered: &Amounts) -> Option<Refusal>
+        ensures { result ≡ refusal_of self.now.now acct uncovered.now }
+    {
+        let account = self.accounts.now().account(acct);
+        if let Some(ticket) = barrier(uncovered, account.tickets.as_slice()) {
+            let ticket = ticket.number;
+            return Some(Refusal::Queue { ticket });
+        }
+        let occupied = self.occupied(acct);
+        let space = first_above(uncovered, &minus(&account.maxima, &occupied))?;
+        Some(Refusal::NoSpace {
+            space,
+            occupied: amount(&occupied, space),
+            asked: amount(uncovered, space),
+            most: amount(&account.maxima, space),
+        })
+    }
+
+    // The grant of a ticket covers of these amounts what it can.
+    fn use_grant(&mut self, granted: Option<Pending>, amounts: &Amounts)
+        requires saved { self.old.saved ≡ true }
+        requires stands { IfSome granted (Stands self.old.now.accounts) }
+        requires granted { IfSome granted (λ p. p.ticket.granted ≡ true) }
+        ensures { self.new ≡ record self.old { now = with_used self.old.now granted amounts.now } }
+    {
+        if let Some(pending) = granted {
+            let left = minus(&pending.ticket.left, amounts);
+            let ticket = Ticket {
+                left,
+                ..pending.ticket
+            };
+            self.accounts.put_ticket(&pending, ticket);
+        }
+    }
+
+    /// Gives back to the grant of a ticket what a charge used of it, where the call came to nothing.
+    pub fn take_back(&mut self, granted: Option<Pending>)
+        requires saved { self.old.saved ≡ true }
+        requires may { MayTakeBack self.old.now granted }
+        ensures { self.new ≡ record self.old { now = with_back self.old.now granted } }
+    {
+        if let Some(pending) = granted {
+            self.accounts.put_ticket(&pending, pending.ticket);
+        }
+    }
+
+    /// Charges an account by a ticket; 0 is none. What is left of its grant covers what it can, and gives
+    /// that up. Want of memory leaves the world as before.
+    ///
+    /// What a charge used may be given back by `take_back`, where the call then finds no memory.
+    pub fn charge(
+        &mut self,
+        acct: Acct,
+        number: u64,
+        amounts: &Amounts,
+    ) -> Result<Result<Option<Pending>, Refusal>, NoMemory>
+        ensures allowed { IfOk result (λ r. IfOk r (MayCharge self.old.now acct number amounts.now)) }
+        ensures charged { IfOk result (λ r. IfOk r (λ p.
+            self.new ≡ record self.old { now = with_used self.old.now p amounts.now; saved = true })) }
+        ensures room { IfOk result (λ r. OnOk r (HasRoomFor self.new.now acct amounts.now)) }
+        ensures back { IfOk result (λ r. IfOk r (λ p. with_back self.new.now p ≡ self.old.now)) }
+        ensures may_take_back { IfOk result (λ r. IfOk r (MayTakeBack self.new.now)) }
+        ensures refused { IfOk result (λ r. IfErr r (RefusesCharge self.old.now acct number amounts.now)) }
+        ensures same { IfOk result (λ r. OnErr r (self.new ≡ self.old)) }
+        ensures err { OnErr result (self.new ≡ self.old) }
+    {
+        let granted = match self.grant_of(acct, number) {
+            Ok(granted) => granted,
+            Err(refusal) => return Ok(Err(refusal)),
+        };
+        let uncovered = minus(amounts, &grant_left(&granted));
+        if let Some(refusal) = self.refusal(acct, &uncovered) {
+            return Ok(Err(refusal));
+        }
+        self.save_accounts()?;
+        self.use_grant(granted, amounts);
+        Ok(Ok(granted))
+    }
+}
