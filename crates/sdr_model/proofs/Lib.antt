@@ -12,6 +12,7 @@ pub mod NamesLemmas
 pub mod NotesLemmas
 pub mod OrderLemmas
 pub mod OwnersLemmas
+pub mod SourceLemmas
 pub mod SpotLemmas
 pub mod StoreLemmas
 pub mod SumLemmas

@@ -5,20 +5,21 @@ use Rattle.std.specs.Coded.{Coded, code_by, coded×, coded_ℕ, coded_list}
 use Rattle.sdr_model.specs.Things.{Owners}
 use Rattle.sdr_model.specs.World.{World, coded_world}
 
--- the world at the begin of the open transaction, the world now, where things were changed since, and which
--- thing each block inside one belongs to
+-- the world at the begin of the open transaction, the world now, where things were changed since, which thing each
+-- block inside one belongs to, and of which addresses it was noted since what names them
 pub record Draft : Type 0 where
   pub begun : World
   pub now : World
   pub touched : List ℕ
   pub owners : Owners
+  pub noted : List ℕ
 
 -- a draft as its parts
 abbrev pub coded_draft : Coded Draft
-coded_draft = code_by (World × (World × (List ℕ × Owners)))
-    (coded× coded_world (coded× coded_world (coded× (coded_list coded_ℕ) (finite.code coded_ℕ coded_ℕ))))
-    (λ d. (d.begun, (d.now, (d.touched, d.owners))))
-    (λ p. record { begun = p.0; now = p.1.0; touched = p.1.1.0; owners = p.1.1.1 })
+coded_draft = code_by (World × (World × (List ℕ × (Owners × List ℕ))))
+    (coded× coded_world (coded× coded_world (coded× (coded_list coded_ℕ) (coded× (finite.code coded_ℕ coded_ℕ) (coded_list coded_ℕ)))))
+    (λ d. (d.begun, (d.now, (d.touched, (d.owners, d.noted)))))
+    (λ p. record { begun = p.0; now = p.1.0; touched = p.1.1.0; owners = p.1.1.1.0; noted = p.1.1.1.1 })
     (λ _. refl)
 
 -- the world with one more block taken, which is marked, and no bytes shown

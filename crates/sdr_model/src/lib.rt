@@ -35,6 +35,7 @@ mod places;
 mod plain;
 mod raw_calls;
 mod script;
+mod source_calls;
 mod store;
 mod table;
 mod table_calls;

@@ -61,6 +61,7 @@ impl Model for World {
       now = record { things = s.things.now; names = s.catalogue.now; accounts = s.accounts.now; marks = s.marks; shown = s.shown; taken = s.taken };
       touched = s.things.touched;
       owners = s.owners;
+      noted = s.tally.notes.touched;
     } };
 
     ghost invariant = { λ s. IsKept s.owners s.tally (next_addr s.taken) s.things s.accounts };
@@ -69,7 +70,7 @@ impl Model for World {
 impl World {
     /// A world without things, where no transaction is open. It takes no memory.
     pub fn new(alloc: Global) -> World
-        ensures { result ≡ record { begun = empty_world; now = empty_world; touched = []; owners = map.empty } }
+        ensures { result ≡ record { begun = empty_world; now = empty_world; touched = []; owners = map.empty; noted = [] } }
     {
         World {
             alloc,
@@ -168,6 +169,8 @@ impl World {
     pub fn unmark(&mut self, marks: usize)
         ensures unmarked { self.new.now ≡ record self.old.now { marks = take marks self.old.now.marks } }
         ensures begun { self.new.begun ≡ self.old.begun }
+        ensures touched { self.new.touched ≡ self.old.touched }
+        ensures noted { self.new.noted ≡ self.old.noted }
     {
         self.marks.truncate(marks);
     }
@@ -178,6 +181,7 @@ impl World {
         ensures counted { self.new.now ≡ record self.old.now { shown = []; taken = self.old.now.taken + 1 } }
         ensures begun { self.new.begun ≡ self.old.begun }
         ensures touched { self.new.touched ≡ self.old.touched }
+        ensures noted { self.new.noted ≡ self.old.noted }
         ensures owners { self.new.owners ≡ self.old.owners }
     {
         self.shown = Bytes::new(self.alloc);
@@ -192,6 +196,8 @@ impl World {
             self.new.now ≡ record self.old.now { marks = self.old.now.marks ++ addr ∷ [] }) }
         ensures begun { self.new.begun ≡ self.old.begun }
         ensures touched { self.new.touched ≡ self.old.touched }
+        ensures noted { self.new.noted ≡ self.old.noted }
+        ensures owners { self.new.owners ≡ self.old.owners }
         ensures same { OnErr result (self.new.now ≡ self.old.now) }
     {
         let addr = 8 * (self.taken + 1);
@@ -292,6 +298,8 @@ impl World {
     pub fn hide(&mut self)
         ensures hidden { self.new.now ≡ record self.old.now { shown = [] } }
         ensures begun { self.new.begun ≡ self.old.begun }
+        ensures touched { self.new.touched ≡ self.old.touched }
+        ensures noted { self.new.noted ≡ self.old.noted }
     {
         self.shown = Bytes::new(self.alloc);
     }
@@ -362,7 +370,7 @@ impl World {
 
     /// Takes the world now as the one to begin from.
     pub fn keep(&mut self)
-        ensures { let kept = at_rest self.old.now in self.new ≡ record self.old { begun = kept; now = kept; touched = [] } }
+        ensures { let kept = at_rest self.old.now in self.new ≡ record self.old { begun = kept; now = kept; touched = []; noted = [] } }
     {
         self.things.keep();
         self.catalogue.keep();
@@ -376,7 +384,7 @@ impl World {
     /// Puts the world back to the begin. Blocks once taken stay counted.
     pub fn put_back(&mut self)
         ensures { let left = record self.old.begun { taken = self.old.now.taken } in
-            self.new ≡ record self.old { begun = left; now = left; touched = [] } }
+            self.new ≡ record self.old { begun = left; now = left; touched = []; noted = [] } }
     {
         self.things.put_back();
         self.catalogue.put_back();
