@@ -19,6 +19,7 @@ pub mod OrderLemmas
 pub mod OwnersLemmas
 pub mod PiecesLemmas
 pub mod QueueLemmas
+pub mod SourceLemmas
 pub mod SpotLemmas
 pub mod StoreLemmas
 pub mod SumLemmas

@@ -183,12 +183,7 @@ impl Call {
     {
         !matches!(
             self,
-            Call::FileRef(_, _)
-                | Call::BulkRef(_, _)
-                | Call::ObjRef(_)
-                | Call::DestroyRef(_)
-                | Call::Count(_)
-                | Call::Occupancy(_, _)
+            Call::Occupancy(_, _)
                 | Call::Maximum(_, _)
                 | Call::SetMaximum(_, _, _)
                 | Call::Create(_, _)

@@ -15,6 +15,7 @@ use crate::name_calls::{catlg, entry, find, uncatlg};
 use crate::object_calls::{source_length, zco_length};
 use crate::ordered_calls::{insert_ordered, search};
 use crate::raw_calls::{free, length, malloc, read, stage, write};
+use crate::source_calls::{bulk_ref, count, destroy_ref, file_ref, obj_ref};
 use crate::table_calls::{dimensions, make_table, row, set_row, table_destroy, table_user};
 use crate::text_calls::{string, string_dup, string_length, string_read};
 use crate::wire_calls::give;
@@ -87,12 +88,12 @@ pub fn apply(alloc: Global, world: &mut World, call: &Call) -> Result<Reply, NoM
         | Call::ReceiveHeaders(_, _, _)
         | Call::ReceiveSource(_, _, _)
         | Call::ReceiveTrailers(_, _, _) => give(alloc, world, call),
-        Call::FileRef(_, _)
-        | Call::BulkRef(_, _)
-        | Call::ObjRef(_)
-        | Call::DestroyRef(_)
-        | Call::Count(_)
-        | Call::Occupancy(_, _)
+        Call::FileRef(path, length) => file_ref(alloc, world, path, *length),
+        Call::BulkRef(item, length) => bulk_ref(world, *item, *length),
+        Call::ObjRef(addr) => obj_ref(world, *addr),
+        Call::DestroyRef(addr) => destroy_ref(world, *addr),
+        Call::Count(addr) => count(world, *addr),
+        Call::Occupancy(_, _)
         | Call::Maximum(_, _)
         | Call::SetMaximum(_, _, _)
         | Call::Create(_, _)

@@ -65,6 +65,7 @@ impl Model for World {
       touched = s.things.touched;
       owners = s.owners;
       saved = s.accounts.saved;
+      noted = s.tally.notes.touched;
     } };
 
     ghost invariant = { λ s. IsKept s.owners s.tally (next_addr s.taken) s.things s.accounts };
@@ -73,7 +74,7 @@ impl Model for World {
 impl World {
     /// A world without things, where no transaction is open. It takes no memory.
     pub fn new(alloc: Global) -> World
-        ensures { result ≡ record { begun = empty_world; now = empty_world; touched = []; owners = map.empty; saved = false } }
+        ensures { result ≡ record { begun = empty_world; now = empty_world; touched = []; owners = map.empty; noted = []; saved = false } }
     {
         World {
             alloc,
@@ -173,6 +174,8 @@ impl World {
         ensures unmarked { self.new.now ≡ record self.old.now { marks = take marks self.old.now.marks } }
         ensures begun { self.new.begun ≡ self.old.begun }
         ensures saved { self.new.saved ≡ self.old.saved }
+        ensures touched { self.new.touched ≡ self.old.touched }
+        ensures noted { self.new.noted ≡ self.old.noted }
     {
         self.marks.truncate(marks);
     }
@@ -184,6 +187,7 @@ impl World {
         ensures begun { self.new.begun ≡ self.old.begun }
         ensures saved { self.new.saved ≡ self.old.saved }
         ensures touched { self.new.touched ≡ self.old.touched }
+        ensures noted { self.new.noted ≡ self.old.noted }
         ensures owners { self.new.owners ≡ self.old.owners }
     {
         self.shown = Bytes::new(self.alloc);
@@ -199,6 +203,8 @@ impl World {
         ensures begun { self.new.begun ≡ self.old.begun }
         ensures saved { self.new.saved ≡ self.old.saved }
         ensures touched { self.new.touched ≡ self.old.touched }
+        ensures noted { self.new.noted ≡ self.old.noted }
+        ensures owners { self.new.owners ≡ self.old.owners }
         ensures same { OnErr result (self.new.now ≡ self.old.now) }
     {
         let addr = 8 * (self.taken + 1);
@@ -305,6 +311,8 @@ impl World {
         ensures hidden { self.new.now ≡ record self.old.now { shown = [] } }
         ensures begun { self.new.begun ≡ self.old.begun }
         ensures saved { self.new.saved ≡ self.old.saved }
+        ensures touched { self.new.touched ≡ self.old.touched }
+        ensures noted { self.new.noted ≡ self.old.noted }
     {
         self.shown = Bytes::new(self.alloc);
     }
@@ -377,7 +385,7 @@ impl World {
 
     /// Takes the world now as the one to begin from.
     pub fn keep(&mut self)
-        ensures { let kept = at_rest self.old.now in self.new ≡ record self.old { begun = kept; now = kept; touched = []; saved = false } }
+        ensures { let kept = at_rest self.old.now in self.new ≡ record self.old { begun = kept; now = kept; touched = []; noted = []; saved = false } }
     {
         self.things.keep();
         self.catalogue.keep();
@@ -391,7 +399,7 @@ impl World {
     /// Puts the world back to the begin. Blocks once taken stay counted.
     pub fn put_back(&mut self)
         ensures { let left = record self.old.begun { taken = self.old.now.taken } in
-            self.new ≡ record self.old { begun = left; now = left; touched = []; saved = false } }
+            self.new ≡ record self.old { begun = left; now = left; touched = []; noted = []; saved = false } }
     {
         self.things.put_back();
         self.catalogue.put_back();

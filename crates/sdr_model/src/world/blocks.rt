@@ -17,6 +17,7 @@ impl World {
             → map.get self.new.owners other ≡ Some of }
         ensures begun { self.new.begun ≡ self.old.begun }
         ensures touched { self.new.touched ≡ self.old.touched }
+        ensures noted { self.new.noted ≡ self.old.noted }
         ensures saved { self.new.saved ≡ self.old.saved }
         ensures same { OnErr result (self.new.now ≡ self.old.now) }
     {
@@ -37,6 +38,7 @@ impl World {
             → map.get self.old.owners other ≡ Some of → map.get self.new.owners other ≡ Some of }
         ensures begun { self.new.begun ≡ self.old.begun }
         ensures touched { self.new.touched ≡ self.old.touched }
+        ensures noted { self.new.noted ≡ self.old.noted }
         ensures saved { self.new.saved ≡ self.old.saved }
         ensures some { OnErr result (self.new.now ≡ record self.old.now { marks = self.new.now.marks }) }
         ensures front { take (length self.old.now.marks) self.new.now.marks ≡ self.old.now.marks }
@@ -60,6 +62,7 @@ impl World {
             → map.get self.old.owners other ≡ Some of → map.get self.new.owners other ≡ Some of }
         ensures begun { self.new.begun ≡ self.old.begun }
         ensures touched { self.new.touched ≡ self.old.touched }
+        ensures noted { self.new.noted ≡ self.old.noted }
         ensures saved { self.new.saved ≡ self.old.saved }
         ensures same { OnErr result (self.new.now ≡ self.old.now) }
     {
@@ -80,6 +83,7 @@ impl World {
             ≡ record self.old.now { shown = []; taken = self.old.now.taken + count } }
         ensures begun { self.new.begun ≡ self.old.begun }
         ensures touched { self.new.touched ≡ self.old.touched }
+        ensures noted { self.new.noted ≡ self.old.noted }
         ensures saved { self.new.saved ≡ self.old.saved }
         ensures owners { self.new.owners ≡ self.old.owners }
     {
