@@ -2,6 +2,7 @@ pub mod AccountLemmas
 pub mod AmountLemmas
 pub mod BlocksTaken
 pub mod Cases
+pub mod ChargeLemmas
 pub mod CountLemmas
 pub mod DryLemmas
 pub mod FewLemmas

@@ -3,7 +3,7 @@ ghost use Rattle.std.specs.Prelude.{◌≡◌, ◌≤◌, IfErr, IfOk, IfSome, O
 ghost use Rattle.sdr_base.specs.declared.account.Amounts.{Amounts as GhostAmounts};
 ghost use Rattle.sdr_base.specs.declared.kind.Space.{Space};
 ghost use Rattle.sdr_model.specs.Accounts.{Stands, most_amount};
-ghost use Rattle.sdr_model.specs.Allowed.{HasRoomFor, IsGrantOf, MayCharge, MayTakeBack, RefusesCharge, refusal_of, with_back};
+ghost use Rattle.sdr_model.specs.Allowed.{HasRoomFor, IsBound, IsGrantOf, MayCharge, MayTakeBack, RefusesCharge, refusal_of, with_back};
 ghost use Rattle.sdr_model.specs.Amounts.{amount};
 ghost use Rattle.sdr_model.specs.Charges.{occupancies};
 ghost use Rattle.sdr_model.specs.Charging.{grant_left, with_used};
@@ -79,6 +79,14 @@ impl World {
         Ok(Some(pending))
     }
 
+    // What is always known of the accounts: no more is occupied than the greatest amount.
+    fn known(&self)
+        ensures keep { KeepGrants self.now.now.accounts }
+        ensures bound { IsBound self.now.now }
+    {
+        let _ = self.accounts.now();
+    }
+
     // Why an account refuses amounts that no grant covers.
     fn refusal(&self, acct: Acct, uncovered: &Amounts) -> Option<Refusal>
         ensures { result ≡ refusal_of self.now.now acct uncovered.now }
@@ -146,15 +154,16 @@ impl World {
         ensures same { IfOk result (λ r. OnErr r (self.new ≡ self.old)) }
         ensures err { OnErr result (self.new ≡ self.old) }
     {
+        self.known();
         let granted = match self.grant_of(acct, number) {
             Ok(granted) => granted,
             Err(refusal) => return Ok(Err(refusal)),
         };
         let uncovered = minus(amounts, &grant_left(&granted));
-        if let Some(refusal) = self.refusal(acct, &uncovered) {
-            return Ok(Err(refusal));
+        match self.refusal(acct, &uncovered) {
+            Some(refusal) => return Ok(Err(refusal)),
+            None => self.save_accounts()?,
         }
-        self.save_accounts()?;
         self.use_grant(granted, amounts);
         Ok(Ok(granted))
     }
