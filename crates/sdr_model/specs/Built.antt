@@ -12,9 +12,6 @@ is_built (calls.BulkRef item length) = false
 is_built (calls.ObjRef addr) = false
 is_built (calls.DestroyRef addr) = false
 is_built (calls.Count addr) = false
-is_built (calls.Occupancy acct space) = false
-is_built (calls.Maximum acct space) = false
-is_built (calls.SetMaximum acct space value) = false
 is_built (calls.Create acct ticket) = false
 is_built (calls.AppendExtent addr ticket source offset length) = false
 is_built (calls.PrependHeader addr ticket text) = false
@@ -32,9 +29,6 @@ is_built (calls.Transmit addr place count) = false
 is_built (calls.ReceiveHeaders addr place count) = false
 is_built (calls.ReceiveSource addr place count) = false
 is_built (calls.ReceiveTrailers addr place count) = false
-is_built (calls.Request acct file bulk heap coarse fine) = false
-is_built (calls.Awarded ticket) = false
-is_built (calls.Shred ticket) = false
 is_built call = true
 
 -- whether it serves the event

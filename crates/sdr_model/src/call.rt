@@ -188,9 +188,6 @@ impl Call {
                 | Call::ObjRef(_)
                 | Call::DestroyRef(_)
                 | Call::Count(_)
-                | Call::Occupancy(_, _)
-                | Call::Maximum(_, _)
-                | Call::SetMaximum(_, _, _)
                 | Call::Create(_, _)
                 | Call::AppendExtent(_, _, _, _, _)
                 | Call::PrependHeader(_, _, _)
@@ -208,9 +205,6 @@ impl Call {
                 | Call::ReceiveHeaders(_, _, _)
                 | Call::ReceiveSource(_, _, _)
                 | Call::ReceiveTrailers(_, _, _)
-                | Call::Request(_, _, _, _, _, _)
-                | Call::Awarded(_)
-                | Call::Shred(_)
         )
     }
 }

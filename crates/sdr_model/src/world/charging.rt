@@ -201,19 +201,32 @@ impl World {
         self.accounts.set_maxima(acct, maxima);
     }
 
-    /// Sets the maximum of a space in an account, and serves its queue.
-    pub fn set_maximum(&mut self, acct: Acct, space: Space, value: u64)
-        requires saved { self.old.saved ≡ true }
+    /// Sets the maximum of a space in an account, and serves its queue. Want of memory leaves the world as
+    /// before.
+    pub fn set_maximum(&mut self, acct: Acct, space: Space, value: u64) -> Result<(), NoMemory>
         requires small { value ≤ most_amount }
-        ensures { let accounts = self.old.now.accounts in self.new ≡ record self.old {
-          now = with_served (record self.old.now {
-            accounts = with_account accounts acct (with_maximum (account_of accounts acct) space value);
-          }) acct;
-        } }
+        ensures ok { OnOk result (let accounts = self.old.now.accounts in self.new.now
+            ≡ record (with_served (record self.old.now {
+              accounts = with_account accounts acct (with_maximum (account_of accounts acct) space value);
+            }) acct) { shown = [] }) }
+        ensures begun { self.new.begun ≡ self.old.begun }
+        ensures same { OnErr result (self.new.now ≡ self.old.now) }
     {
+        self.save_accounts()?;
         let maxima = self.maxima_with(acct, space, value);
         self.put_maxima(acct, maxima);
         self.serve(acct);
+        self.hide();
+        Ok(())
+    }
+
+    /// The number of the next ticket.
+    pub fn next_ticket(&self) -> u64
+        ensures value { result ≡ self.now.now.accounts.next }
+        ensures small { result ≤ most_amount }
+    {
+        self.known();
+        self.accounts().next
     }
 
     // A new ticket enters the queue of an account. Want of memory leaves the world as before.
