@@ -5,6 +5,7 @@ pub mod BlocksLemmas
 pub mod BlocksTaken
 pub mod BoundsLemmas
 pub mod Cases
+pub mod ChargeLemmas
 pub mod CountLemmas
 pub mod DryLemmas
 pub mod FewLemmas

@@ -183,10 +183,7 @@ impl Call {
     {
         !matches!(
             self,
-            Call::Occupancy(_, _)
-                | Call::Maximum(_, _)
-                | Call::SetMaximum(_, _, _)
-                | Call::Create(_, _)
+            Call::Create(_, _)
                 | Call::AppendExtent(_, _, _, _, _)
                 | Call::PrependHeader(_, _, _)
                 | Call::AppendTrailer(_, _, _)
@@ -197,9 +194,6 @@ impl Call {
                 | Call::Delimit(_, _, _)
                 | Call::Strip(_)
                 | Call::Destroy(_)
-                | Call::Request(_, _, _, _, _, _)
-                | Call::Awarded(_)
-                | Call::Shred(_)
         )
     }
 }

@@ -3,6 +3,9 @@ ghost use Rattle.std.specs.Prelude.{◌≡◌, ◌<◌, ◌^◌, true};
 ghost use Rattle.sdr_model.specs.Answers.{Answers};
 ghost use Rattle.sdr_model.specs.Built.{is_built};
 
+use crate::account_calls::{
+    Asking, awarded, maximum, occupancy, request, set_maximum, shred,
+};
 use crate::element_calls::{datum, delete, next, prev, set_datum};
 use crate::hash_calls::{
     hash_count, hash_destroy, hash_insert, hash_remove, hash_retrieve, hash_revise, make_hash,
@@ -20,7 +23,7 @@ use crate::table_calls::{dimensions, make_table, row, set_row, table_destroy, ta
 use crate::text_calls::{string, string_dup, string_length, string_read};
 use crate::wire_calls::give;
 use crate::{Call, Reply, World};
-use sdr_base::NoMemory;
+use sdr_base::{Amounts, NoMemory};
 use std::alloc::Global;
 
 /// Makes a call on a plain world, where the k-th block that is taken has address 8 k. A refused call
@@ -82,6 +85,7 @@ pub fn apply(alloc: Global, world: &mut World, call: &Call) -> Result<Reply, NoM
         Call::Find(name) => find(world, name),
         Call::Uncatlg(name) => uncatlg(world, name),
         Call::Entry(place) => entry(alloc, world, *place),
+<<<<<<< HEAD
         Call::ZcoLength(addr) => zco_length(world, *addr),
         Call::SourceLength(addr) => source_length(world, *addr),
         Call::Transmit(_, _, _)
@@ -96,6 +100,31 @@ pub fn apply(alloc: Global, world: &mut World, call: &Call) -> Result<Reply, NoM
         Call::Occupancy(_, _)
         | Call::Maximum(_, _)
         | Call::SetMaximum(_, _, _)
+=======
+        Call::Occupancy(acct, space) => occupancy(world, *acct, *space),
+        Call::Maximum(acct, space) => maximum(world, *acct, *space),
+        Call::SetMaximum(acct, space, value) => set_maximum(world, *acct, *space, *value),
+        Call::Request(acct, file, bulk, heap, coarse, fine) => {
+            let amounts = Amounts {
+                file: *file,
+                bulk: *bulk,
+                heap: *heap,
+            };
+            let asking = Asking {
+                amounts,
+                coarse: *coarse,
+                fine: *fine,
+            };
+            request(world, *acct, asking)
+        }
+        Call::Awarded(ticket) => awarded(world, *ticket),
+        Call::Shred(ticket) => shred(world, *ticket),
+        Call::FileRef(_, _)
+        | Call::BulkRef(_, _)
+        | Call::ObjRef(_)
+        | Call::DestroyRef(_)
+        | Call::Count(_)
+>>>>>>> 3ecb3d2c493959aa86b11f244c672112513a9497
         | Call::Create(_, _)
         | Call::AppendExtent(_, _, _, _, _)
         | Call::PrependHeader(_, _, _)
@@ -107,8 +136,15 @@ pub fn apply(alloc: Global, world: &mut World, call: &Call) -> Result<Reply, NoM
         | Call::Delimit(_, _, _)
         | Call::Strip(_)
         | Call::Destroy(_)
+<<<<<<< HEAD
         | Call::Request(_, _, _, _, _, _)
         | Call::Awarded(_)
         | Call::Shred(_) => unreachable!(),
+=======
+        | Call::Transmit(_, _, _)
+        | Call::ReceiveHeaders(_, _, _)
+        | Call::ReceiveSource(_, _, _)
+        | Call::ReceiveTrailers(_, _, _) => unreachable!(),
+>>>>>>> 3ecb3d2c493959aa86b11f244c672112513a9497
     }
 }

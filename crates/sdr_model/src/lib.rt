@@ -7,6 +7,7 @@
 //! 4. A refused changing call dooms its transaction: it can only be cancelled, with the first reason.
 #![tactic(auto)]
 
+mod account_calls;
 mod accounts;
 mod amounts;
 mod answer;
