@@ -85,7 +85,6 @@ pub fn apply(alloc: Global, world: &mut World, call: &Call) -> Result<Reply, NoM
         Call::Find(name) => find(world, name),
         Call::Uncatlg(name) => uncatlg(world, name),
         Call::Entry(place) => entry(alloc, world, *place),
-<<<<<<< HEAD
         Call::ZcoLength(addr) => zco_length(world, *addr),
         Call::SourceLength(addr) => source_length(world, *addr),
         Call::Transmit(_, _, _)
@@ -97,10 +96,6 @@ pub fn apply(alloc: Global, world: &mut World, call: &Call) -> Result<Reply, NoM
         Call::ObjRef(addr) => obj_ref(world, *addr),
         Call::DestroyRef(addr) => destroy_ref(world, *addr),
         Call::Count(addr) => count(world, *addr),
-        Call::Occupancy(_, _)
-        | Call::Maximum(_, _)
-        | Call::SetMaximum(_, _, _)
-=======
         Call::Occupancy(acct, space) => occupancy(world, *acct, *space),
         Call::Maximum(acct, space) => maximum(world, *acct, *space),
         Call::SetMaximum(acct, space, value) => set_maximum(world, *acct, *space, *value),
@@ -119,13 +114,7 @@ pub fn apply(alloc: Global, world: &mut World, call: &Call) -> Result<Reply, NoM
         }
         Call::Awarded(ticket) => awarded(world, *ticket),
         Call::Shred(ticket) => shred(world, *ticket),
-        Call::FileRef(_, _)
-        | Call::BulkRef(_, _)
-        | Call::ObjRef(_)
-        | Call::DestroyRef(_)
-        | Call::Count(_)
->>>>>>> 3ecb3d2c493959aa86b11f244c672112513a9497
-        | Call::Create(_, _)
+        Call::Create(_, _)
         | Call::AppendExtent(_, _, _, _, _)
         | Call::PrependHeader(_, _, _)
         | Call::AppendTrailer(_, _, _)
@@ -135,16 +124,6 @@ pub fn apply(alloc: Global, world: &mut World, call: &Call) -> Result<Reply, NoM
         | Call::ClonePart(_, _, _, _)
         | Call::Delimit(_, _, _)
         | Call::Strip(_)
-        | Call::Destroy(_)
-<<<<<<< HEAD
-        | Call::Request(_, _, _, _, _, _)
-        | Call::Awarded(_)
-        | Call::Shred(_) => unreachable!(),
-=======
-        | Call::Transmit(_, _, _)
-        | Call::ReceiveHeaders(_, _, _)
-        | Call::ReceiveSource(_, _, _)
-        | Call::ReceiveTrailers(_, _, _) => unreachable!(),
->>>>>>> 3ecb3d2c493959aa86b11f244c672112513a9497
+        | Call::Destroy(_) => unreachable!(),
     }
 }
