@@ -7,7 +7,7 @@ use Rattle.sdr_base.specs.declared.account.Acct.{Acct}
 use Rattle.sdr_base.specs.declared.account.Acct.TheVariants as accts
 use Rattle.sdr_base.specs.declared.account.Amounts.{Amounts}
 use Rattle.sdr_base.specs.declared.kind.Space.{Space}
-use Rattle.sdr_model.specs.Accounts.{account_of, with_account}
+use Rattle.sdr_model.specs.Accounts.{account_of, most_amount, with_account}
 use Rattle.sdr_model.specs.Amounts.{amount, are_within, minus, no_amounts, plus}
 use Rattle.sdr_model.specs.Charges.{left_in}
 use Rattle.sdr_model.specs.Ledger.{KeepGrants, KeepsGrants, WaitsEmpty}
@@ -51,8 +51,8 @@ keeps_of accounts accts.Outbound keep = keep.outbound
 -- both, with another in the place of one
 pub keep_with : (accounts : Accounts) (acct : Acct) (account : Account) → KeepGrants accounts → KeepsGrants account
     → KeepGrants (with_account accounts acct account)
-keep_with accounts accts.Inbound account keep keeps = record { inbound = keeps; outbound = keep.outbound }
-keep_with accounts accts.Outbound account keep keeps = record { inbound = keep.inbound; outbound = keeps }
+keep_with accounts accts.Inbound account keep keeps = record { inbound = keeps; outbound = keep.outbound; next = keep.next }
+keep_with accounts accts.Outbound account keep keeps = record { inbound = keep.inbound; outbound = keeps; next = keep.next }
 
 left_in-cons : (space : Space) (t : Ticket) (ts : List Ticket) → left_in space (t ∷ ts) ≡ amount t.left space + left_in space ts
 left_in-cons space t ts = sum_by-cons (λ t. amount t.left space) t ts
@@ -84,9 +84,10 @@ keep_put None old between new acct account saved keep keeps again is = cc
 keep_put (Some begun) old between new acct account saved keep keeps again is =
     (keep.0, subst KeepGrants (sym (is ∙ again account)) (keep_with old acct account keep.1 keeps))
 
--- the number of the next ticket doesn't matter
-pub keep_numbered : (before : Option Accounts) (now : Accounts) (next : ℕ) → is_some before ≡ true
+-- the next ticket may have any number up to the greatest
+pub keep_numbered : (before : Option Accounts) (now : Accounts) (next : ℕ) → is_some before ≡ true → next ≤ most_amount
     → KeepGrants (unwrap_or before now) × KeepGrants now
     → KeepGrants (unwrap_or before (record now { next = next })) × KeepGrants (record now { next = next })
-keep_numbered None now next saved keep = cc
-keep_numbered (Some begun) now next saved keep = (keep.0, record { inbound = keep.1.inbound; outbound = keep.1.outbound })
+keep_numbered None now next saved small keep = cc
+keep_numbered (Some begun) now next saved small keep =
+    (keep.0, record { inbound = keep.1.inbound; outbound = keep.1.outbound; next = small })

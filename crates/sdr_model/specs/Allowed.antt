@@ -53,12 +53,16 @@ abbrev pub with_back : World → Option Pending → World
 with_back w None = w
 with_back w (Some p) = record w { accounts = with_ticket w.accounts p p.ticket }
 
+-- no more is occupied in either account than the greatest amount
+abbrev pub IsBound : World → Type 0
+IsBound w = (acct : Acct) (space : Space) → occupancy w acct space ≤ most_amount
+
 -- What a charge used of a grant may be given back: the ticket has its place and is granted, and no more is occupied after it
 -- than the greatest amount.
 pub record MayTakeBack (w : World) (p : Option Pending) : Type 0 where
   pub there : IfSome p (λ p. p.place < length (tickets_of w.accounts p.acct))
   pub granted : IfSome p (λ p. p.ticket.granted ≡ true)
-  pub bound : (acct : Acct) (space : Space) → occupancy (with_back w p) acct space ≤ most_amount
+  pub bound : IsBound (with_back w p)
 
 -- there is room for these amounts in an account
 abbrev pub HasRoomFor : World → Acct → Amounts → Type 0

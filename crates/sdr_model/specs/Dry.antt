@@ -20,6 +20,11 @@ abbrev pub addr_after : ℕ → ℕ → ℕ
 addr_after taken zero = next_addr taken
 addr_after taken (suc more) = addr_after (taken + 1) more
 
+-- the addresses of the next so many blocks
+abbrev pub next_addrs : ℕ → ℕ → List ℕ
+next_addrs taken zero = []
+next_addrs taken (suc more) = next_addr taken ∷ next_addrs (taken + 1) more
+
 -- where so many blocks were taken before, each block taken has the next address, and there is always one
 abbrev pub AreInOrder : ℕ → List Move → Type 0
 AreInOrder taken [] = Unit {0}

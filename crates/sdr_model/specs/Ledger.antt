@@ -30,7 +30,8 @@ pub record KeepsGrants (account : Account) : Type 0 where
   pub maxima : (space : Space) → amount account.maxima space ≤ most_amount
   pub waiting : All WaitsEmpty account.tickets
 
--- so do both accounts
+-- so do both accounts, and the number of the next ticket is at most the greatest
 pub record KeepGrants (accounts : Accounts) : Type 0 where
   pub inbound : KeepsGrants accounts.inbound
   pub outbound : KeepsGrants accounts.outbound
+  pub next : accounts.next ≤ most_amount

@@ -196,15 +196,7 @@ impl Call {
     {
         !matches!(
             self,
-            Call::FileRef(_, _)
-                | Call::BulkRef(_, _)
-                | Call::ObjRef(_)
-                | Call::DestroyRef(_)
-                | Call::Count(_)
-                | Call::Occupancy(_, _)
-                | Call::Maximum(_, _)
-                | Call::SetMaximum(_, _, _)
-                | Call::Create(_, _)
+            Call::Create(_, _)
                 | Call::AppendExtent(_, _, _, _, _)
                 | Call::PrependHeader(_, _, _)
                 | Call::AppendTrailer(_, _, _)
@@ -215,9 +207,6 @@ impl Call {
                 | Call::Delimit(_, _, _)
                 | Call::Strip(_)
                 | Call::Destroy(_)
-                | Call::Request(_, _, _, _, _, _)
-                | Call::Awarded(_)
-                | Call::Shred(_)
         )
     }
 }

@@ -3,6 +3,9 @@ ghost use Rattle.std.specs.Prelude.{◌≡◌, ◌<◌, ◌^◌, true};
 ghost use Rattle.sdr_model.specs.Answers.{Answers};
 ghost use Rattle.sdr_model.specs.Built.{is_built};
 
+use crate::account_calls::{
+    Asking, awarded, maximum, occupancy, request, set_maximum, shred,
+};
 use crate::element_calls::{datum, delete, next, prev, set_datum};
 use crate::hash_calls::{
     hash_count, hash_destroy, hash_insert, hash_remove, hash_retrieve, hash_revise, make_hash,
@@ -15,11 +18,12 @@ use crate::name_calls::{catlg, entry, find, uncatlg};
 use crate::object_calls::{source_length, zco_length};
 use crate::ordered_calls::{insert_ordered, search};
 use crate::raw_calls::{free, length, malloc, read, stage, write};
+use crate::source_calls::{bulk_ref, count, destroy_ref, file_ref, obj_ref};
 use crate::table_calls::{dimensions, make_table, row, set_row, table_destroy, table_user};
 use crate::text_calls::{string, string_dup, string_length, string_read};
 use crate::wire_calls::give;
 use crate::{Call, Reply, World};
-use sdr_base::NoMemory;
+use sdr_base::{Amounts, NoMemory};
 use std::alloc::Global;
 
 /// Makes a call on a plain world, where the k-th block that is taken has address 8 k. A refused call
@@ -87,15 +91,30 @@ pub fn apply(alloc: Global, world: &mut World, call: &Call) -> Result<Reply, NoM
         | Call::ReceiveHeaders(_, _, _)
         | Call::ReceiveSource(_, _, _)
         | Call::ReceiveTrailers(_, _, _) => give(alloc, world, call),
-        Call::FileRef(_, _)
-        | Call::BulkRef(_, _)
-        | Call::ObjRef(_)
-        | Call::DestroyRef(_)
-        | Call::Count(_)
-        | Call::Occupancy(_, _)
-        | Call::Maximum(_, _)
-        | Call::SetMaximum(_, _, _)
-        | Call::Create(_, _)
+        Call::FileRef(path, length) => file_ref(alloc, world, path, *length),
+        Call::BulkRef(item, length) => bulk_ref(world, *item, *length),
+        Call::ObjRef(addr) => obj_ref(world, *addr),
+        Call::DestroyRef(addr) => destroy_ref(world, *addr),
+        Call::Count(addr) => count(world, *addr),
+        Call::Occupancy(acct, space) => occupancy(world, *acct, *space),
+        Call::Maximum(acct, space) => maximum(world, *acct, *space),
+        Call::SetMaximum(acct, space, value) => set_maximum(world, *acct, *space, *value),
+        Call::Request(acct, file, bulk, heap, coarse, fine) => {
+            let amounts = Amounts {
+                file: *file,
+                bulk: *bulk,
+                heap: *heap,
+            };
+            let asking = Asking {
+                amounts,
+                coarse: *coarse,
+                fine: *fine,
+            };
+            request(world, *acct, asking)
+        }
+        Call::Awarded(ticket) => awarded(world, *ticket),
+        Call::Shred(ticket) => shred(world, *ticket),
+        Call::Create(_, _)
         | Call::AppendExtent(_, _, _, _, _)
         | Call::PrependHeader(_, _, _)
         | Call::AppendTrailer(_, _, _)
@@ -105,9 +124,6 @@ pub fn apply(alloc: Global, world: &mut World, call: &Call) -> Result<Reply, NoM
         | Call::ClonePart(_, _, _, _)
         | Call::Delimit(_, _, _)
         | Call::Strip(_)
-        | Call::Destroy(_)
-        | Call::Request(_, _, _, _, _, _)
-        | Call::Awarded(_)
-        | Call::Shred(_) => unreachable!(),
+        | Call::Destroy(_) => unreachable!(),
     }
 }

@@ -8,7 +8,7 @@ use crate::Capsule;
 
 /// What a header or trailer of so many bytes charges: the words that it fills, with the link before it.
 pub fn capsule_bytes(bytes: u64) -> u64
-    requires short { bytes ≤ 2 ^ 40 }
+    requires small { bytes ≤ 2 ^ 62 }
     ensures { result ≡ capsule_bytes bytes }
 {
     8 * ((15 + bytes) / 8)

@@ -1,5 +1,5 @@
 // The accounts of a world in the making, which can be put back to what they were at the begin.
-ghost use Rattle.std.specs.Prelude.{◌≡◌, ◌≤◌, ◌<◌, ◌+◌, ◌^◌, OnErr, OnOk, true, false, length, remove};
+ghost use Rattle.std.specs.Prelude.{◌≡◌, ◌≤◌, ◌<◌, ◌+◌, OnErr, OnOk, true, false, length, remove};
 ghost use Rattle.sdr_base.specs.declared.kind.Space.{Space};
 ghost use Rattle.sdr_model.specs.Accounts.{account_of, fresh_accounts, most_amount, tickets_of, with_account, with_ticket, with_tickets};
 ghost use Rattle.sdr_model.specs.Amounts.{amount};
@@ -120,7 +120,7 @@ impl Ledger {
     pub fn enqueue(&mut self, acct: Acct, ticket: Ticket) -> Result<(), NoMemory>
         requires saved { self.old.saved ≡ true }
         requires waits_empty { WaitsEmpty ticket }
-        requires number { ticket.number < 2 ^ 60 }
+        requires number { ticket.number < most_amount }
         ensures ok { OnOk result (self.new ≡ record self.old {
           now = record (with_tickets self.old.now acct (enqueued (tickets_of self.old.now acct) ticket)) { next = ticket.number + 1 };
         }) }

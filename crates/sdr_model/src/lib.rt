@@ -7,6 +7,7 @@
 //! 4. A refused changing call dooms its transaction: it can only be cancelled, with the first reason.
 #![tactic(auto)]
 
+mod account_calls;
 mod accounts;
 mod amounts;
 mod answer;
@@ -15,6 +16,7 @@ mod call;
 mod calls;
 mod capsules;
 mod catalogue;
+mod charges;
 mod cuts;
 mod element_calls;
 mod event;
@@ -43,6 +45,7 @@ mod plain;
 mod queue;
 mod raw_calls;
 mod script;
+mod source_calls;
 mod store;
 mod table;
 mod table_calls;

@@ -1,19 +1,22 @@
 // What a world in the making charges its accounts, and grants.
-ghost use Rattle.std.specs.Prelude.{◌≡◌, ◌≤◌, IfErr, IfOk, IfSome, OnErr, OnOk, true};
+ghost use Rattle.std.specs.Prelude.{◌≡◌, ◌≤◌, ◌<◌, ◌+◌, ◌^◌, [], IfErr, IfOk, IfSome, OnErr, OnOk, remove, true};
 ghost use Rattle.sdr_base.specs.declared.account.Amounts.{Amounts as GhostAmounts};
-ghost use Rattle.sdr_base.specs.declared.kind.Space.{Space};
-ghost use Rattle.sdr_model.specs.Accounts.{Stands, most_amount};
-ghost use Rattle.sdr_model.specs.Allowed.{HasRoomFor, IsGrantOf, MayCharge, MayTakeBack, RefusesCharge, refusal_of, with_back};
-ghost use Rattle.sdr_model.specs.Amounts.{amount};
-ghost use Rattle.sdr_model.specs.Charges.{occupancies};
+ghost use Rattle.sdr_base.specs.declared.kind.Space.{Space as GhostSpace};
+ghost use Rattle.sdr_model.specs.AccountSteps.{new_ticket, with_amount, with_maximum, with_request, without_ticket};
+ghost use Rattle.sdr_model.specs.Accounts.{Stands, account_of, most_amount, tickets_of, with_account, with_tickets};
+ghost use Rattle.sdr_model.specs.Allowed.{HasRoomFor, IsBound, IsGrantOf, MayCharge, MayTakeBack, RefusesCharge, refusal_of, with_back};
+ghost use Rattle.sdr_model.specs.Amounts.{amount, no_amounts};
+ghost use Rattle.sdr_model.specs.Charges.{occupancies, occupancy};
 ghost use Rattle.sdr_model.specs.Charging.{grant_left, with_used};
+ghost use Rattle.sdr_model.specs.Draft.{with_taken};
+ghost use Rattle.sdr_model.specs.Dry.{next_addr};
 ghost use Rattle.sdr_model.specs.Ledger.{KeepGrants};
-ghost use Rattle.sdr_model.specs.Queue.{with_served};
+ghost use Rattle.sdr_model.specs.Queue.{enqueued, with_served};
 
-use crate::amounts::{NOTHING, amount, first_above, minus, plus};
+use crate::amounts::{NOTHING, amount, first_above, minus, plus, with_amount};
 use crate::queue::{barrier, left};
 use crate::{Accounts, Pending, Ticket, World};
-use sdr_base::{Acct, Amounts, NoMemory, Refusal};
+use sdr_base::{Acct, Amounts, NoMemory, Refusal, Space};
 
 // What is left of the grant of a ticket, nothing where there is none.
 fn grant_left(granted: &Option<Pending>) -> Amounts
@@ -36,7 +39,7 @@ impl World {
     /// What is occupied in an account. It is linear in the account's queue.
     pub fn occupied(&self, acct: Acct) -> Amounts
         ensures value { result ≡ occupancies self.now.now acct }
-        ensures small { (space : Space) → amount result space ≤ most_amount }
+        ensures small { (space : GhostSpace) → amount result space ≤ most_amount }
         ensures keep { KeepGrants self.now.now.accounts }
     {
         let account = self.accounts.now().account(acct);
@@ -77,6 +80,14 @@ impl World {
             return Err(Refusal::NotAwarded { ticket: number });
         }
         Ok(Some(pending))
+    }
+
+    // What is always known of the accounts: no more is occupied than the greatest amount.
+    fn known(&self)
+        ensures keep { KeepGrants self.now.now.accounts }
+        ensures bound { IsBound self.now.now }
+    {
+        let _ = self.accounts.now();
     }
 
     // Why an account refuses amounts that no grant covers.
@@ -146,16 +157,153 @@ impl World {
         ensures same { IfOk result (λ r. OnErr r (self.new ≡ self.old)) }
         ensures err { OnErr result (self.new ≡ self.old) }
     {
+        self.known();
         let granted = match self.grant_of(acct, number) {
             Ok(granted) => granted,
             Err(refusal) => return Ok(Err(refusal)),
         };
         let uncovered = minus(amounts, &grant_left(&granted));
-        if let Some(refusal) = self.refusal(acct, &uncovered) {
-            return Ok(Err(refusal));
+        match self.refusal(acct, &uncovered) {
+            Some(refusal) => return Ok(Err(refusal)),
+            None => self.save_accounts()?,
         }
-        self.save_accounts()?;
         self.use_grant(granted, amounts);
         Ok(Ok(granted))
+    }
+
+    /// What is occupied of a space in an account. It is linear in the account's queue.
+    pub fn occupancy(&self, acct: Acct, space: Space) -> u64
+        ensures { result ≡ occupancy self.now.now acct space }
+    {
+        amount(&self.occupied(acct), space)
+    }
+
+    // The maxima of an account with this one of a space.
+    fn maxima_with(&self, acct: Acct, space: Space, value: u64) -> Amounts
+        requires small { value ≤ most_amount }
+        ensures value { result ≡ with_amount (account_of self.now.now.accounts acct).maxima space value }
+        ensures small { (other : GhostSpace) → amount result other ≤ most_amount }
+    {
+        self.known();
+        with_amount(&self.accounts().account(acct).maxima, space, value)
+    }
+
+    // Sets the maxima of an account.
+    fn put_maxima(&mut self, acct: Acct, maxima: Amounts)
+        requires saved { self.old.saved ≡ true }
+        requires small { (space : GhostSpace) → amount maxima space ≤ most_amount }
+        ensures { let accounts = self.old.now.accounts in self.new ≡ record self.old {
+          now = record self.old.now {
+            accounts = with_account accounts acct (record (account_of accounts acct) { maxima = maxima });
+          };
+        } }
+    {
+        self.accounts.set_maxima(acct, maxima);
+    }
+
+    /// Sets the maximum of a space in an account, and serves its queue. Want of memory leaves the world as
+    /// before.
+    pub fn set_maximum(&mut self, acct: Acct, space: Space, value: u64) -> Result<(), NoMemory>
+        requires small { value ≤ most_amount }
+        ensures ok { OnOk result (let accounts = self.old.now.accounts in self.new.now
+            ≡ record (with_served (record self.old.now {
+              accounts = with_account accounts acct (with_maximum (account_of accounts acct) space value);
+            }) acct) { shown = [] }) }
+        ensures begun { self.new.begun ≡ self.old.begun }
+        ensures same { OnErr result (self.new.now ≡ self.old.now) }
+    {
+        self.save_accounts()?;
+        let maxima = self.maxima_with(acct, space, value);
+        self.put_maxima(acct, maxima);
+        self.serve(acct);
+        self.hide();
+        Ok(())
+    }
+
+    /// The number of the next ticket.
+    pub fn next_ticket(&self) -> u64
+        ensures value { result ≡ self.now.now.accounts.next }
+        ensures small { result ≤ most_amount }
+    {
+        self.known();
+        self.accounts().next
+    }
+
+    // A new ticket enters the queue of an account. Want of memory leaves the world as before.
+    fn enter(&mut self, acct: Acct, ticket: Ticket) -> Result<(), NoMemory>
+        requires saved { self.old.saved ≡ true }
+        requires empty { ticket.left ≡ no_amounts }
+        requires number { ticket.number < most_amount }
+        ensures entered { OnOk result (let accounts = self.old.now.accounts in self.new ≡ record self.old {
+          now = record self.old.now {
+            accounts = record (with_tickets accounts acct (enqueued (tickets_of accounts acct) ticket)) { next = ticket.number + 1 };
+          };
+        }) }
+        ensures same { OnErr result (self.new ≡ self.old) }
+    {
+        self.accounts.enqueue(acct, ticket)
+    }
+
+    /// A new ticket asks an account for space, and its queue is served. The ticket has the next number and
+    /// address. Want of memory leaves the world as before.
+    pub fn request(&mut self, acct: Acct, asked: Amounts, coarse: u8, fine: u8) -> Result<(), NoMemory>
+        requires taken { self.old.now.taken < 2 ^ 60 }
+        requires number { self.old.now.accounts.next < most_amount }
+        ensures ok { OnOk result (let addr = next_addr self.old.now.taken in self.new.now
+            ≡ with_taken (with_request self.old.now acct (new_ticket self.old.now.accounts.next addr asked coarse fine)) addr) }
+        ensures begun { self.new.begun ≡ self.old.begun }
+        ensures same { OnErr result (self.new.now ≡ self.old.now) }
+    {
+        self.save_accounts()?;
+        let marks = self.marks();
+        let block = self.mark_next()?;
+        let ticket = Ticket {
+            block,
+            number: self.accounts().next,
+            coarse,
+            fine,
+            asked,
+            left: NOTHING,
+            granted: false,
+        };
+        match self.enter(acct, ticket) {
+            Ok(()) => {
+                self.serve(acct);
+                self.count();
+                Ok(())
+            }
+            Err(error) => {
+                self.unmark(marks);
+                Err(error)
+            }
+        }
+    }
+
+    // A ticket goes out of its queue.
+    fn drop_ticket(&mut self, pending: &Pending)
+        requires saved { self.old.saved ≡ true }
+        requires stands { Stands self.old.now.accounts pending.now }
+        ensures { let p = pending.now in let accounts = self.old.now.accounts in self.new ≡ record self.old {
+          now = record self.old.now {
+            accounts = with_tickets accounts p.acct (remove (tickets_of accounts p.acct) p.place);
+          };
+        } }
+    {
+        self.accounts.remove_ticket(pending);
+    }
+
+    /// A ticket goes, with what is left of its grant, and the queue is served. Want of memory leaves the
+    /// world as before.
+    pub fn shred(&mut self, pending: &Pending) -> Result<(), NoMemory>
+        requires stands { Stands self.old.now.accounts pending.now }
+        ensures ok { OnOk result (self.new.now ≡ record (without_ticket self.old.now pending.now) { shown = [] }) }
+        ensures begun { self.new.begun ≡ self.old.begun }
+        ensures same { OnErr result (self.new.now ≡ self.old.now) }
+    {
+        self.save_accounts()?;
+        self.drop_ticket(pending);
+        self.serve(pending.acct);
+        self.hide();
+        Ok(())
     }
 }
