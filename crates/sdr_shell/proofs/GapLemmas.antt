@@ -1,5 +1,5 @@
 -- Answers that media have no part in.
-use Rattle.std.proofs.Common.{◌≡◌, ℕ, List, Bool, true, false, Option, refl, sym, ap, ◌∙◌, subst, true≢false}
+use Rattle.std.proofs.Common.{◌≡◌, ℕ, List, Bool, true, false, Option, Result, Ok, Err, IfOk, refl, sym, ap, ◌∙◌, subst, true≢false}
 use Rattle.sdr_base.specs.declared.moves.Move.{Move}
 use Rattle.sdr_base.specs.declared.refusal.Refusal.TheVariants as refusals
 use Rattle.sdr_laws.proofs.StepLemmas.{row_is_no_stop}
@@ -36,3 +36,10 @@ pub unasked_cause : (m m' : Machine) (daemon : ℕ) (event : Event) (answer : An
     → AsksNothing m daemon event → MachineStep m daemon event answer moves m' → IsCaused answer media media
 unasked_cause m m' daemon event answer moves media asks step =
     no_cause answer media (gapless answer (asks.unstopped answer moves m' step))
+
+-- the same of an event's result
+pub unasked_causes : {E : Type 0} (m m' : Machine) (daemon : ℕ) (event : Event) (moves : Answer → List Move) (media : SeenMedia)
+    → AsksNothing m daemon event → (r : Result Answer E) → IfOk r (λ answer. MachineStep m daemon event answer (moves answer) m')
+    → IfOk r (λ answer. IsCaused answer media media)
+unasked_causes m m' daemon event moves media asks (Ok answer) step = unasked_cause m m' daemon event answer (moves answer) media asks step
+unasked_causes m m' daemon event moves media asks (Err e) step = tt

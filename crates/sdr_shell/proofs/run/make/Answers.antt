@@ -5,7 +5,9 @@ use Rattle.sdr_shell.proofs.run.make.Goals as goal
 pub returns-in_err-bind-clause-memory : goal.returns-in_err-bind-clause-memory
 returns-in_err-bind-clause-memory g c is = inr (record {
   answer = c.in_ok-given.given;
-  answers = subst (λ e. Answers c.args.plain.now.machine c.args.step.now e c.in_ok-given.given c.answer.new.plain.machine) c.in_ok-event.ensures c.in_ok-given.ensures.answers;
+  answers = subst (λ e. Answers (g.M.Media.told c.args.media.now) c.args.plain.now.machine c.args.step.now e c.in_ok-given.given c.answer.new.plain.machine)
+      c.in_ok-event.ensures c.in_ok-given.ensures.answers;
+  caused = c.in_ok-given.ensures.caused;
   printed = c.in_ok-given.ensures.printed;
 })
 
@@ -13,7 +15,9 @@ pub returns-clause-ok : goal.returns-clause-ok
 returns-clause-ok g c = record {
   line = record {
     answer = c.in_ok-given.given;
-    answers = subst (λ e. Answers c.args.plain.now.machine c.args.step.now e c.in_ok-given.given c.answer.new.plain.machine) c.in_ok-event.ensures c.in_ok-given.ensures.answers;
+    answers = subst (λ e. Answers (g.M.Media.told c.args.media.now) c.args.plain.now.machine c.args.step.now e c.in_ok-given.given c.answer.new.plain.machine)
+        c.in_ok-event.ensures c.in_ok-given.ensures.answers;
+    caused = c.in_ok-given.ensures.caused;
     printed = c.in_ok-given.ensures.printed;
   };
   names = c.in_ok-bind.ensures.ok;

@@ -1,15 +1,17 @@
 use Rattle.std.proofs.Common.{◌≡◌, Err, None, ◌∷◌, ap, sym, subst, arith, length}
+use Rattle.std.proofs.lemmas.List.{nil_from_length}
 use Rattle.std.proofs.lemmas.Result.{err_from_is_err_and}
 use Rattle.sdr_shell.specs.declared.run.RunError.TheVariants.{NoMemory, Output}
-use Rattle.sdr_shell.proofs.ScheduleLemmas.{Running, running_start, running_next, running_kept, running_cut}
+use Rattle.sdr_shell.proofs.ScheduleLemmas.{Running, running_start, running_next, running_kept, running_cut, running_done}
 use Rattle.sdr_shell.proofs.ServedLemmas.{served_rest}
+use Rattle.sdr_shell.specs.Schedule.{seen_media}
 use Rattle.sdr_shell.specs.Served.{first_unserved}
 use Rattle.sdr_shell.proofs.run.run_on.Goals as goal
 
 pub loop-step-init : goal.loop-step-init
 loop-step-init g c = record {
-  running = subst (λ b. Running c.args.script.now c.args.script.now b c.args.plain.now.machine (g.K.Sink.taken c.args.out.now) (g.K.Sink.taken c.args.out.now)) (sym c.requires.bindings)
-      (running_start c.args.script.now c.args.plain.now.machine (g.K.Sink.taken c.args.out.now) (sym (ap (λ p. p.machine) c.requires.plain)));
+  running = subst (λ b. Running (seen_media g.M.Media.told g.M.Media.faults g.M.Media.short c.args.media.now) (seen_media g.M.Media.told g.M.Media.faults g.M.Media.short c.args.media.now) c.args.script.now c.args.script.now b c.args.plain.now.machine (g.K.Sink.taken c.args.out.now) (g.K.Sink.taken c.args.out.now)) (sym c.requires.bindings)
+      (running_start (seen_media g.M.Media.told g.M.Media.faults g.M.Media.short c.args.media.now) c.args.script.now c.args.plain.now.machine (g.K.Sink.taken c.args.out.now) (sym (ap (λ p. p.machine) c.requires.plain)));
   later = omega arith;
   served = c.requires.served;
   few = omega (arith, ap (λ p. p.events) c.requires.plain, c.requires.few);
@@ -20,8 +22,8 @@ returns-in_err-make-clause-memory g c is =
     let e : c.loop-step.rest.now ≡ c.in-Some.step.now ∷ c.in-Some.after.now = search c.in-Some.ensures.cases in
     let p = err_from_is_err_and c.from_residual.result c.from_residual.ensures.1 in
     let h : c.make.result ≡ Err NoMemory = cc (p.1, p.2, is, c.in_err-make.was) in
-    running_kept c.args.script.now c.in-Some.step.now c.in-Some.after.now c.loop-step.bindings c.loop-step.plain.machine c.make.new.plain.machine _ _ _
-    (subst (λ r. Running c.args.script.now r c.loop-step.bindings c.loop-step.plain.machine (g.K.Sink.taken c.args.out.now) (g.K.Sink.taken c.loop-step.out)) e c.loop-step.invariant.running)
+    running_kept (seen_media g.M.Media.told g.M.Media.faults g.M.Media.short c.args.media.now) (seen_media g.M.Media.told g.M.Media.faults g.M.Media.short c.loop-step.media) (seen_media g.M.Media.told g.M.Media.faults g.M.Media.short c.make.new.media) c.args.script.now c.in-Some.step.now c.in-Some.after.now c.loop-step.bindings c.loop-step.plain.machine c.make.new.plain.machine _ _ _
+    (subst (λ r. Running (seen_media g.M.Media.told g.M.Media.faults g.M.Media.short c.args.media.now) (seen_media g.M.Media.told g.M.Media.faults g.M.Media.short c.loop-step.media) c.args.script.now r c.loop-step.bindings c.loop-step.plain.machine (g.K.Sink.taken c.args.out.now) (g.K.Sink.taken c.loop-step.out)) e c.loop-step.invariant.running)
     (c.make.ensures.memory h)
 
 pub returns-in_err-make-clause-output : goal.returns-in_err-make-clause-output
@@ -29,8 +31,8 @@ returns-in_err-make-clause-output g c is =
     let e : c.loop-step.rest.now ≡ c.in-Some.step.now ∷ c.in-Some.after.now = search c.in-Some.ensures.cases in
     let p = err_from_is_err_and c.from_residual.result c.from_residual.ensures.1 in
     let h : c.make.result ≡ Err Output = cc (p.1, p.2, is, c.in_err-make.was) in
-    running_cut c.args.script.now c.in-Some.step.now c.in-Some.after.now c.loop-step.bindings c.loop-step.plain.machine c.make.new.plain.machine _ _ _
-    (subst (λ r. Running c.args.script.now r c.loop-step.bindings c.loop-step.plain.machine (g.K.Sink.taken c.args.out.now) (g.K.Sink.taken c.loop-step.out)) e c.loop-step.invariant.running)
+    running_cut (seen_media g.M.Media.told g.M.Media.faults g.M.Media.short c.args.media.now) (seen_media g.M.Media.told g.M.Media.faults g.M.Media.short c.loop-step.media) (seen_media g.M.Media.told g.M.Media.faults g.M.Media.short c.make.new.media) c.args.script.now c.in-Some.step.now c.in-Some.after.now c.loop-step.bindings c.loop-step.plain.machine c.make.new.plain.machine _ _ _
+    (subst (λ r. Running (seen_media g.M.Media.told g.M.Media.faults g.M.Media.short c.args.media.now) (seen_media g.M.Media.told g.M.Media.faults g.M.Media.short c.loop-step.media) c.args.script.now r c.loop-step.bindings c.loop-step.plain.machine (g.K.Sink.taken c.args.out.now) (g.K.Sink.taken c.loop-step.out)) e c.loop-step.invariant.running)
     (c.make.ensures.output h)
 
 pub loop-step-preserved : goal.loop-step-preserved
@@ -38,11 +40,16 @@ loop-step-preserved g c =
     let e : c.loop-step.rest.now ≡ c.in-Some.step.now ∷ c.in-Some.after.now = search c.in-Some.ensures.cases in
     let made = c.in_ok-make.ensures.ok in
     record {
-      running = subst (λ b. Running c.args.script.now c.in-Some.after.now b c.make.new.plain.machine (g.K.Sink.taken c.args.out.now) (g.K.Sink.taken c.make.new.out)) (sym made.names)
-          (running_next c.args.script.now c.in-Some.step.now c.in-Some.after.now c.loop-step.bindings c.loop-step.plain.machine c.make.new.plain.machine _ _ _ made.line.answer
-          (subst (λ r. Running c.args.script.now r c.loop-step.bindings c.loop-step.plain.machine (g.K.Sink.taken c.args.out.now) (g.K.Sink.taken c.loop-step.out)) e c.loop-step.invariant.running)
-          made.line.answers made.line.printed);
+      running = subst (λ b. Running (seen_media g.M.Media.told g.M.Media.faults g.M.Media.short c.args.media.now) (seen_media g.M.Media.told g.M.Media.faults g.M.Media.short c.make.new.media) c.args.script.now c.in-Some.after.now b c.make.new.plain.machine (g.K.Sink.taken c.args.out.now) (g.K.Sink.taken c.make.new.out)) (sym made.names)
+          (running_next (seen_media g.M.Media.told g.M.Media.faults g.M.Media.short c.args.media.now) (seen_media g.M.Media.told g.M.Media.faults g.M.Media.short c.loop-step.media) (seen_media g.M.Media.told g.M.Media.faults g.M.Media.short c.make.new.media) c.args.script.now c.in-Some.step.now c.in-Some.after.now c.loop-step.bindings c.loop-step.plain.machine c.make.new.plain.machine _ _ _
+          (subst (λ r. Running (seen_media g.M.Media.told g.M.Media.faults g.M.Media.short c.args.media.now) (seen_media g.M.Media.told g.M.Media.faults g.M.Media.short c.loop-step.media) c.args.script.now r c.loop-step.bindings c.loop-step.plain.machine (g.K.Sink.taken c.args.out.now) (g.K.Sink.taken c.loop-step.out)) e c.loop-step.invariant.running)
+          made.line.answer made.line.answers made.line.caused made.line.printed);
       later = omega (arith, c.loop-step.invariant.later, c.make.ensures.later);
       served = served_rest c.in-Some.step.now c.in-Some.after.now (subst (λ l. first_unserved l ≡ None) e c.loop-step.invariant.served);
       few = omega (arith, c.loop-step.invariant.few, c.in_ok-make.ensures.events, ap length e);
     }
+
+pub returns-clause-ok : goal.returns-clause-ok
+returns-clause-ok g c =
+    running_done _ _ c.args.script.now c.loop-step.rest.now _ _ _ _ c.loop-step.invariant.running
+    (nil_from_length c.loop-step.rest.now (search c.in_default.ensures))
