@@ -17,6 +17,7 @@ mod blocks;
 mod charges;
 mod charging;
 mod sources;
+mod stub;
 mod taking;
 
 use crate::catalogue::Catalogue;

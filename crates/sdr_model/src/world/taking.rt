@@ -19,7 +19,7 @@ impl World {
         owner: Addr,
         count: u64,
     ) -> Result<Result<Option<Pending>, Refusal>, NoMemory>
-        requires taken { self.old.now.taken + count < 2 ^ 60 }
+        requires taken { self.old.now.taken + count < 2 ^ 60 + 2 ^ 30 }
         ensures allowed { IfOk result (λ r. IfOk r (MayCharge self.old.now acct number amounts.now)) }
         ensures taken { IfOk result (λ r. IfOk r (λ p.
             self.new.now ≡ with_blocks (with_used self.old.now p amounts.now) count)) }
