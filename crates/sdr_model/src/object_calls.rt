@@ -58,6 +58,6 @@ pub fn create(
         Ok(granted) => granted,
         Err(refusal) => return Ok(Reply::Refused(refusal)),
     };
-    world.put_object(addr, ZcoObject::empty(alloc, acct));
+    world.add_object(addr, ZcoObject::empty(alloc, acct));
     Ok(Reply::At { addr })
 }

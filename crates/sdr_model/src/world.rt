@@ -16,8 +16,8 @@ ghost use Rattle.sdr_model.specs.declared.things.Thing.{Thing};
 mod blocks;
 mod charges;
 mod charging;
+mod replacing;
 mod sources;
-mod stub;
 mod taking;
 
 use crate::catalogue::Catalogue;

@@ -19,20 +19,11 @@ use Rattle.sdr_model.specs.declared.zco.ZcoObject.{ZcoObject}
 use Rattle.sdr_model.proofs.ObjectLemmas.{charged_one, room_made, taken_one, thing_at-blocks}
 use Rattle.sdr_model.proofs.object_calls.create.Goals as goal
 
-pub put_object-requires-clause-room : goal.put_object-requires-clause-room
-put_object-requires-clause-room c =
-    let w = c.args.world.now.now in
+pub add_object-requires-clause-room : goal.add_object-requires-clause-room
+add_object-requires-clause-room c =
     let amounts = c.heap_charge.result in
-    let taken = subst (λ r. IfOk r (λ p. c.charge_blocks.new.self.now ≡ with_blocks (with_used c.touch.new.self.now p amounts) 1))
-    c.in-Ok.is c.in_ok-granted.ensures.taken in
     let room = subst (λ r. OnOk r (HasRoomFor c.charge_blocks.new.self.now c.args.acct amounts)) c.in-Ok.is c.in_ok-granted.ensures.room in
-    let none : thing_at c.charge_blocks.new.self.now c.next-addr.result ≡ None =
-    ap (λ v. thing_at v c.next-addr.result) taken
-    ∙ thing_at-blocks c.touch.new.self.now c.in-Ok.granted amounts 1 c.next-addr.result
-    ∙ ap (λ v. thing_at v c.next-addr.result) c.touch.ensures.now
-    ∙ c.next-addr.ensures.fresh c.next-addr.result (omega arith) in
-    room_made c.charge_blocks.new.self.now c.next-addr.result c.empty.result c.args.acct amounts none
-    c.empty.ensures c.heap_charge.ensures room
+    room_made c.charge_blocks.new.self.now c.empty.result c.args.acct amounts c.empty.ensures c.heap_charge.ensures room
 
 pub returns : goal.returns
 returns c =
@@ -44,18 +35,18 @@ returns c =
     (subst (λ r. IfOk r (MayCharge c.touch.new.self.now c.args.acct c.args.number amounts)) c.in-Ok.is c.in_ok-granted.ensures.allowed) in
     let taken = subst (λ r. IfOk r (λ p. c.charge_blocks.new.self.now ≡ with_blocks (with_used c.touch.new.self.now p amounts) 1))
     c.in-Ok.is c.in_ok-granted.ensures.taken in
-    let put : c.put_object.new.self.now ≡ with_object (with_blocks (with_used w c.in-Ok.granted amounts) 1) addr (empty_object c.args.acct) =
-    c.put_object.ensures.put
+    let put : c.add_object.new.self.now ≡ with_object (with_blocks (with_used w c.in-Ok.granted amounts) 1) addr (empty_object c.args.acct) =
+    c.add_object.ensures.put
     ∙ ap (λ v. with_object v c.next-addr.result c.empty.result)
     (taken ∙ ap (λ v. with_blocks (with_used v c.in-Ok.granted amounts) 1) c.touch.ensures.now)
     ∙ ap₂ (λ a z. with_object (with_blocks (with_used w c.in-Ok.granted amounts) 1) a z) c.next-addr.ensures.value c.empty.ensures in
     record {
-      step = subst (λ a. StepsDry w call (dry_moves w call (replies.At a)) c.put_object.new.self.now (replies.At a)) (sym c.next-addr.ensures.value) (record {
-        step = charged_one w c.put_object.new.self.now (λ a. a) (λ a. empty_object c.args.acct) c.args.acct c.args.number object_need
+      step = subst (λ a. StepsDry w call (dry_moves w call (replies.At a)) c.add_object.new.self.now (replies.At a)) (sym c.next-addr.ensures.value) (record {
+        step = charged_one w c.add_object.new.self.now (λ a. a) (λ a. empty_object c.args.acct) c.args.acct c.args.number object_need
             (in_space spaces.Heap object_bytes) amounts c.in-Ok.granted (λ a. replies.At a) c.heap_charge.ensures may put;
         in_order = (refl, tt);
-        counted = taken_one w c.put_object.new.self.now c.in-Ok.granted amounts addr (empty_object c.args.acct) put;
+        counted = taken_one w c.add_object.new.self.now c.in-Ok.granted amounts addr (empty_object c.args.acct) put;
       });
-      begun = c.put_object.ensures.begun ∙ c.charge_blocks.ensures.begun ∙ c.touch.ensures.begun;
+      begun = c.add_object.ensures.begun ∙ c.charge_blocks.ensures.begun ∙ c.touch.ensures.begun;
       same = tt;
     }
