@@ -16,7 +16,7 @@ use Rattle.sdr_model.specs.declared.answer.Reply.TheVariants as replies
 use Rattle.sdr_model.specs.declared.call.Call.{Call}
 use Rattle.sdr_model.specs.declared.call.Call.TheVariants as calls
 use Rattle.sdr_model.specs.declared.zco.ZcoObject.{ZcoObject}
-use Rattle.sdr_model.proofs.ObjectLemmas.{charged_one, room_made, taken_one, thing_at-blocks}
+use Rattle.sdr_model.proofs.ObjectCallLemmas.{charged_one, room_made, taken_one, thing_at-blocks}
 use Rattle.sdr_model.proofs.object_calls.create.Goals as goal
 
 pub add_object-requires-clause-room : goal.add_object-requires-clause-room

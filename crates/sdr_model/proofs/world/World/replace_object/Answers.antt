@@ -7,7 +7,7 @@ use Rattle.sdr_model.specs.Steps.{with_thing}
 use Rattle.sdr_model.specs.Tallies.{is_plain}
 use Rattle.sdr_model.specs.World.{thing_at}
 use Rattle.sdr_model.specs.declared.things.Thing.TheVariants as things
-use Rattle.sdr_model.proofs.ObjectLemmas.{room_replaced}
+use Rattle.sdr_model.proofs.ObjectCallLemmas.{room_replaced}
 use Rattle.sdr_model.proofs.StoreLemmas.{get-removed, insert-removed}
 use Rattle.sdr_model.proofs.world.World.replace_object.Goals as goal
 
