@@ -1,13 +1,15 @@
 -- Why a valid world stays valid where there is no heap.
-use Rattle.std.proofs.Common.{sym, subst, ◌≡◌, ℕ, ◌+◌, ◌*◌, ◌<◌, ◌≤◌, List, [], ◌∷◌, nat_eq, nat_le, refl, ◌∙◌, arith, get_or}
+use Rattle.std.proofs.Common.{inl, sym, subst, ◌≡◌, ℕ, ◌+◌, ◌*◌, ◌<◌, ◌≤◌, List, [], ◌∷◌, nat_eq, nat_le, refl, ◌∙◌, arith, get_or}
 use Rattle.std.specs.List.{count_by}
 use Rattle.std.specs.Prelude.{All}
 use Rattle.std.proofs.lemmas.Bool.{eqb-true, leb-false, leb-true}
 use Rattle.std.proofs.lemmas.List.Elements.{Contains-get_or}
 use Rattle.sdr_base.specs.declared.moves.Move.{Move}
 use Rattle.sdr_base.specs.declared.moves.Move.TheVariants.{Took, Gave, Short}
-use Rattle.sdr_laws.proofs.BlockLaws.{counted_after, row_goes, row_keeps, same_addr, differ}
+use Rattle.sdr_laws.proofs.BlockLaws.{counted_after, row_goes, same_addr, differ}
 use Rattle.sdr_laws.proofs.DistinctLemmas.{absent, count_by-cons, none_counted, not_contained, on_test, others, others_counted, weight_of}
+use Rattle.sdr_laws.proofs.WholeLaws.{whole_kept, whole_same}
+use Rattle.sdr_laws.specs.Whole.{IsWhole}
 use Rattle.sdr_laws.specs.Fresh.{AreFresh}
 use Rattle.sdr_model.specs.Steps.{taken_addresses, Outcome}
 use Rattle.sdr_laws.specs.ValidDry.{IsValidDry}
@@ -69,7 +71,7 @@ taken_up_to taken (Gave addr ∷ moves) order k above = taken_up_to taken moves 
 taken_up_to taken (Short need ∷ moves) order k above = absurd order
 
 -- a world with the things, names and accounts of a valid one is valid
-pub valid_from : (w w' : World) → w'.things ≡ w.things → w'.names ≡ w.names → w'.accounts ≡ w.accounts → IsValid w
+valid_from : (w w' : World) → w'.things ≡ w.things → w'.names ≡ w.names → w'.accounts ≡ w.accounts → IsValid w
     → IsValid w'
 valid_from w w' things names accounts valid = subst IsValid (sym parts) (record {
   things = valid.things;
@@ -89,15 +91,22 @@ valid_from w w' things names accounts valid = subst IsValid (sym parts) (record 
       taken = w'.taken;
     }
 
+-- and where it is whole, this one is too
+pub whole_from : (w w' : World) → w'.things ≡ w.things → w'.names ≡ w.names → w'.accounts ≡ w.accounts → IsWhole w
+    → IsWhole w'
+whole_from w w' things names accounts whole =
+    whole_same w w' things accounts (valid_from w w' things names accounts whole.valid) whole
+
 -- A valid world of a machine without a heap stays one.
 pub valid_kept_dry : (w w' : World) (call : Call) (moves : List Move) (reply : Reply) → IsValidDry w
     → StepsDry w call moves w' reply → IsValidDry w'
 valid_kept_dry w w' call moves reply dry steps = record {
-  valid = valid_from o.after w' refl refl refl (row_keeps w call o dry.valid fresh steps.step);
+  whole = whole_from o.after w' refl refl refl
+      (whole_kept w o.after call moves reply dry.whole fresh (inl steps.step));
   given = all_up_to (8 * w'.taken) (addresses_of (blocks_of w')) (λ k above.
       omega (
         arith,
-        counted_after w o.after moves (row_goes w call o dry.valid fresh steps.step) k,
+        counted_after w o.after moves (row_goes w call o dry.whole.valid fresh steps.step) k,
         few k (omega (arith, above, steps.counted)),
         taken_up_to w.taken moves steps.in_order k (omega (arith, above, steps.counted)),
       ));

@@ -1,9 +1,10 @@
 -- Why every world that a machine without a heap reaches is valid.
-use Rattle.std.proofs.Common.{◌≡◌, ℕ, ◌*◌, ◌==◌, ◌&&◌, ◌≤◌, ◌⊎◌, inl, inr, List, [], ◌∷◌, Option, find, nat_le, refl, sym, ap, ◌∙◌, subst, arith, map, ◌++◌}
+use Rattle.std.proofs.Common.{lit≤, ◌≡◌, ℕ, ◌*◌, ◌==◌, ◌&&◌, ◌≤◌, ◌⊎◌, inl, inr, List, [], ◌∷◌, Option, find, nat_le, refl, sym, ap, ◌∙◌, subst, arith, map, ◌++◌}
 use Rattle.std.specs.Prelude.{All}
 use Rattle.sdr_base.specs.Media.{Told}
 use Rattle.sdr_base.specs.declared.moves.Move.{Move}
-use Rattle.sdr_laws.proofs.DryLaws.{valid_from, valid_kept_dry}
+use Rattle.sdr_laws.proofs.DryLaws.{valid_kept_dry, whole_from}
+use Rattle.sdr_laws.proofs.FreshWorlds.{fresh_barred, fresh_fits, fresh_queues}
 use Rattle.sdr_laws.proofs.Examples.{empty_is_valid, empty_addresses}
 use Rattle.sdr_laws.specs.ValidDry.{IsValidDry}
 use Rattle.sdr_model.proofs.Cases.{in_bool, in_option}
@@ -36,7 +37,7 @@ again : (w v v' : World) → v'.things ≡ v.things → v'.names ≡ v.names →
     → Follows w v → Follows w v'
 again w v v' things names accounts more f = record {
   valid = record {
-    valid = valid_from v v' things names accounts f.valid.valid;
+    whole = whole_from v v' things names accounts f.valid.whole;
     given =
         λ k d within. omega (arith, given k d within, more);
   };
@@ -202,7 +203,12 @@ run_sound told c c' (e ∷ made) sound (mid, step, rest) =
 -- the machine begins with the empty world
 empty_dry : IsValidDry empty_world
 empty_dry = record {
-  valid = empty_is_valid;
+  whole = record {
+    valid = empty_is_valid;
+    fits = fresh_fits 32768;
+    queues = fresh_queues 32768 (lit≤ tt);
+    barred = fresh_barred 32768;
+  };
   given =
       subst (All (λ addr. addr ≤ 0)) (sym empty_addresses) (λ k d within. absurd (omega (arith, within)));
 }

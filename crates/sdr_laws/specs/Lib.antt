@@ -1,9 +1,13 @@
+pub mod Charged
 pub mod Decided
 pub mod Example
 pub mod Fresh
 pub mod Marks
 pub mod MovesBlocks
+pub mod Payload
 pub mod Refused
 pub mod Shows
 pub mod TakesAt
 pub mod ValidDry
+pub mod Whole
+pub mod ZcoExample

@@ -14,26 +14,45 @@
 //!    addresses by a count are fresh (`valid_kept_dry`), so every world that is reached there is valid
 //!    (`dry_worlds_are_valid`).
 //! 8. The numbers of a world keep fitting the fields of its blocks, bytes and words (`fields_fit`).
+//! 9. Both queues of tickets keep their order, and the numbers stay distinct (`queues_kept`).
+//! 10. Where a queue has been served, the first ticket that waits asks for more than the room
+//!     (`served_is_barred`), and each step keeps that (`front_kept`).
+//! 11. What is occupied moves by what a call charges, releases and grants (`occupancy_moves`).
+//! 12. A clone takes blocks for an object and for extents alone (`clone_takes_no_payload`).
+//! 13. Sources and extents fit each other after each step: the source of an extent is never gone, and
+//!     one that goes with its last extent has one until then (`sources_kept`).
+//! 14. So a whole world stays whole (`whole_kept`), and each that is reached without a heap is whole.
 //!
-//! `example_meets_the_laws` shows worlds and steps that meet what the laws ask for.
+//! `example_meets_the_laws`, `small_world_meets_the_laws` and `fresh_world_meets_the_laws` show worlds and
+//! steps that meet what the laws ask for.
 #![tactic(auto)]
 
 mod blocks;
+mod clones;
 mod decided;
 mod example;
 mod fields;
 mod marks;
 mod moves;
+mod occupancies;
+mod queues;
 mod reading;
 mod refused;
+mod sources;
 mod validity;
+mod zco_example;
 
 pub use blocks::{blocks_are_found, blocks_move};
+pub use clones::clone_takes_no_payload;
 pub use decided::{dry_decides, rows_decide};
 pub use example::example_meets_the_laws;
 pub use fields::fields_fit;
 pub use marks::taken_are_marked;
 pub use moves::moves_are_the_rows;
+pub use occupancies::{front_kept, occupancy_moves, served_is_barred};
+pub use queues::queues_kept;
 pub use reading::reading_shows;
 pub use refused::{refused_leaves, stops_are_no_rows};
-pub use validity::{dry_worlds_are_valid, valid_kept, valid_kept_dry};
+pub use sources::sources_kept;
+pub use validity::{dry_worlds_are_valid, valid_kept, valid_kept_dry, whole_kept};
+pub use zco_example::{fresh_world_meets_the_laws, small_world_meets_the_laws};

@@ -4,6 +4,7 @@ ghost use Rattle.sdr_base.specs.Media.{Told};
 ghost use Rattle.sdr_base.specs.declared.moves.Move.{Move};
 ghost use Rattle.sdr_laws.specs.Fresh.{AreFresh};
 ghost use Rattle.sdr_laws.specs.ValidDry.{IsValidDry};
+ghost use Rattle.sdr_laws.specs.Whole.{IsWhole};
 ghost use Rattle.sdr_model.specs.Blocks.{addresses_of, blocks_of};
 ghost use Rattle.sdr_model.specs.Core.{Core, Made, RunsCore, first_core};
 ghost use Rattle.sdr_model.specs.Dry.{StepsDry};
@@ -19,14 +20,21 @@ pub fn valid_kept()
         IsValid w → AreFresh (addresses_of (blocks_of w)) moves → Step w call moves w' reply → IsValid w' }
 {}
 
-/// A law: without a heap a valid world, whose blocks begin at addresses that were given so far, stays one.
+/// A law: a step leaves a whole world whole, where the blocks that it takes are fresh: sources, extents and
+/// queues keep their laws too. It does nothing.
+pub fn whole_kept()
+    ensures { (w w' : World) (call : Call) (moves : List Move) (reply : Reply) →
+        IsWhole w → AreFresh (addresses_of (blocks_of w)) moves → Step w call moves w' reply → IsWhole w' }
+{}
+
+/// A law: without a heap a whole world, whose blocks begin at addresses that were given so far, stays one.
 /// It does nothing.
 pub fn valid_kept_dry()
     ensures { (w w' : World) (call : Call) (moves : List Move) (reply : Reply) →
         IsValidDry w → StepsDry w call moves w' reply → IsValidDry w' }
 {}
 
-/// A law: without a heap every world that a run of the machine comes to is valid, the one between
+/// A law: without a heap every world that a run of the machine comes to is whole, the one between
 /// transactions and the one that the served transaction has made, whatever media tell. It does nothing.
 pub fn dry_worlds_are_valid()
     ensures { (told : Option Told) (daemons : List ℕ) (made : List Made) (c : Core) →
