@@ -70,7 +70,7 @@ module _ (m : Things) (Spare : ℕ → Type 0) (fits : Fits m Spare) (addr : ℕ
           (λ unnamed. absurd (true≢false (sym named ∙ ap (λ i. is_of_raw i s.subject) here ∙ unnamed q s there))) bytes)
           (λ apart. subst (λ t. HasBytes s.length (as_raw t)) (sym (apart_at m addr o raw apart)) h)
 
--- a thing that is neither a source nor an object, nor a raw object: a source that comes stands alone
+-- a source comes, is flagged or goes, or an object comes, goes or is another
 module _ (m : Things) (Spare : ℕ → Type 0) (fits : Fits m Spare) (addr : ℕ) where
   -- a new source comes
   pub fits_source : (s : ZcoSource) → get m addr ≡ None → HasSubject (of m) s.length s.subject

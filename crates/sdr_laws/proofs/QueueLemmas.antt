@@ -101,7 +101,7 @@ times_served k m o (t ∷ ts) =
     ))
     (λ waits above. refl)
 
--- a queue after a ticket at a place is another of the same standing
+-- a ticket of the same standing as another: only its block and its amounts may differ
 pub record IsAlike (t u : Ticket) : Type 0 where
   pub number : u.number ≡ t.number
   pub coarse : u.coarse ≡ t.coarse
