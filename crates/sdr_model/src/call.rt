@@ -184,8 +184,6 @@ impl Call {
         !matches!(
             self,
             Call::AppendExtent(_, _, _, _, _)
-                | Call::PrependHeader(_, _, _)
-                | Call::AppendTrailer(_, _, _)
                 | Call::DiscardFirstHeader(_)
                 | Call::DiscardLastTrailer(_)
                 | Call::Bond(_, _)
