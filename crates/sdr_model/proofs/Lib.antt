@@ -16,6 +16,7 @@ pub mod MachineLemmas
 pub mod MapLemmas
 pub mod NamesLemmas
 pub mod NotesLemmas
+pub mod ObjectCallLemmas
 pub mod ObjectLemmas
 pub mod OrderLemmas
 pub mod OwnersLemmas

@@ -9,7 +9,7 @@ use Rattle.sdr_base.specs.declared.kind.Space.{Space}
 use Rattle.sdr_model.specs.Accounts.{most_amount}
 use Rattle.sdr_model.specs.Amounts.{amount, minus}
 use Rattle.sdr_model.specs.Charged.{charged_to, with_charged}
-use Rattle.sdr_model.specs.Charges.{occupancy, thing_charge}
+use Rattle.sdr_model.specs.Charges.{object_charge, occupancy, thing_charge}
 use Rattle.sdr_model.specs.Ledger.{Ledger}
 use Rattle.sdr_model.specs.Limits.{longest_capsule, longest_raw, longest_source}
 use Rattle.sdr_model.specs.Notes.{Notes, UsesMore, note_at, noted_count, raw_of}
@@ -105,6 +105,13 @@ pub record IsKept (owners : Owners) (tally : Tally) (next : ℕ) (things : Store
 abbrev pub FlagsSource : Option ZcoSource → ℕ → World → World → Type 0
 FlagsSource None addr w w' = ⊥
 FlagsSource (Some source) addr w w' = w' ≡ record (with_thing w addr (things.Source (flagged source))) { shown = [] }
+
+-- an object of the same account is there, and with the other one in its place no more is occupied than the greatest amount
+abbrev pub MayReplace : World → Option ZcoObject → ZcoObject → Type 0
+MayReplace w None object = ⊥
+MayReplace w (Some z) object =
+    (z.account ≡ object.account)
+    × ((space : Space) → occupancy w object.account space + object_charge w space object ≤ most_amount + object_charge w space z)
 
 -- the object is there, its extents are counted no more, and this isn't charged any more
 abbrev pub CountsOut : Option ZcoObject → Amounts → Tally → Tally → Type 0

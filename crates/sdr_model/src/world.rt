@@ -17,7 +17,9 @@ mod blocks;
 mod charges;
 mod charging;
 mod objects;
+mod replacing;
 mod sources;
+mod taking;
 
 use crate::catalogue::Catalogue;
 use crate::owners::Owners;

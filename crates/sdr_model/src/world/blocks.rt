@@ -29,7 +29,7 @@ impl World {
     // Marks the next so many addresses, for blocks inside the thing at one. Want of memory leaves some of the
     // marks.
     fn mark_blocks(&mut self, owner: Addr, count: u64) -> Result<(), NoMemory>
-        requires taken { self.old.now.taken + count < 2 ^ 60 }
+        requires taken { self.old.now.taken + count < 2 ^ 60 + 2 ^ 30 }
         ensures marked { OnOk result (self.new.now ≡ record self.old.now {
             marks = self.old.now.marks ++ next_addrs self.old.now.taken count }) }
         ensures owned { OnOk result ((k : ℕ) → k < count
@@ -53,7 +53,7 @@ impl World {
     /// Marks the next so many addresses, for blocks inside the thing at one. Want of memory leaves the world
     /// as before.
     pub fn reserve_blocks(&mut self, owner: Addr, count: u64) -> Result<(), NoMemory>
-        requires taken { self.old.now.taken + count < 2 ^ 60 }
+        requires taken { self.old.now.taken + count < 2 ^ 60 + 2 ^ 30 }
         ensures marked { OnOk result (self.new.now ≡ record self.old.now {
             marks = self.old.now.marks ++ next_addrs self.old.now.taken count }) }
         ensures owned { OnOk result ((k : ℕ) → k < count
@@ -78,7 +78,7 @@ impl World {
 
     /// Counts so many blocks that were taken, with no bytes shown.
     pub fn count_blocks(&mut self, count: u64)
-        requires taken { self.old.now.taken + count < 2 ^ 61 }
+        requires taken { self.old.now.taken + count < 2 ^ 60 + 2 ^ 30 }
         ensures counted { self.new.now
             ≡ record self.old.now { shown = []; taken = self.old.now.taken + count } }
         ensures begun { self.new.begun ≡ self.old.begun }
