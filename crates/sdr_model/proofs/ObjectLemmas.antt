@@ -34,7 +34,7 @@ use Rattle.sdr_model.proofs.NotesLemmas.{naming-push}
 use Rattle.sdr_model.proofs.OwnersLemmas.{OwnInside-insert, OwnInside-remove}
 use Rattle.sdr_model.proofs.SumLemmas.{counted_at, sum_by-removed}
 use Rattle.sdr_model.proofs.TallyBounds.{counted_thing, count_of-charged}
-use Rattle.sdr_model.proofs.TallyLemmas.{All-each, KnowSources-same, Tallied-notes, Tallied-of, charged-with_at, count_of-with_at, object_charge-same, plain_charge, plain_source, plain_uses, same_spaces, sound-with_at}
+use Rattle.sdr_model.proofs.TallyLemmas.{All-each, KnowSources-same, Tallied-notes, Tallied-of, charged-with_at, count_of-with_at, plain_charge, plain_source, plain_uses, same_spaces, sound-with_at}
 
 -- what the thing at an address counts among the uses of a source, and charges
 abbrev pub uses_at : ℕ → ℕ → Acct → Option Thing → ℕ
@@ -323,32 +323,6 @@ pub object_there : (o : Option Thing) → IsSome (as_object o) → (z : ZcoObjec
 object_there None none = absurd (true≢false (sym none))
 object_there (Some (things.Object z)) some = (z, refl)
 object_there (Some thing) none = absurd (true≢false (sym none))
-
--- an object charges the same in a world without an object
-pub object_charge-without : (m : Things) (accounts : Accounts) (k : ℕ) (z object : ZcoObject) → get m k ≡ Some (things.Object z)
-    → (space : Space) → object_charge (world_of (with_at m k None) accounts) space object ≡ object_charge (world_of m accounts) space object
-object_charge-without m accounts k z object there space =
-    object_charge-same (world_of m accounts) (world_of (with_at m k None) accounts) space object
-    (All-each _ (λ e. same_spaces m accounts k None (ap (λ o. space_in (as_source o)) (sym there)) e.source) object.extents)
-
--- what is occupied without an object
-pub occupancy-without : (m : Things) (accounts : Accounts) (k : ℕ) (z : ZcoObject) → get m k ≡ Some (things.Object z)
-    → (space : Space)
-    → occupancy (world_of (with_at m k None) accounts) z.account space + object_charge (world_of m accounts) space z
-    ≡ occupancy (world_of m accounts) z.account space
-occupancy-without m accounts k z there space =
-    omega (
-      arith,
-      charged-with_at m accounts k None
-      (λ q x is. All-each _ (λ e. same_spaces m accounts k None (ap (λ o. space_in (as_source o)) (sym there)) e.source) x.extents)
-      z.account space,
-      ap (charge_at (world_of m accounts) k z.account space) there,
-      whole z.account,
-    )
-  where
-    whole : (a : Acct) → cond (is_same_account a a) (object_charge (world_of m accounts) space z) 0 ≡ object_charge (world_of m accounts) space z
-    whole accts.Inbound = refl
-    whole accts.Outbound = refl
 
 -- an object with one more extent charges that extent besides
 object_charge-push : (w : World) (space : Space) (z : ZcoObject) (e : Extent)

@@ -114,32 +114,6 @@ impl World {
         self.things.put(addr, Some(Thing::Object(object)));
     }
 
-    /// Puts an object in the place of another of the same account, at an address that was touched. The
-    /// sources of the extents of both were touched too. It is linear in both, times the logarithm of the
-    /// world.
-    pub fn put_object(&mut self, addr: Addr, object: ZcoObject)
-        requires touched { Contains self.old.touched addr }
-        requires may_put { MayPut self.old addr (Thing.Object object) }
-        requires there { IsSome (object_at self.old.now addr) }
-        requires was_noted { IfSome (object_at self.old.now addr) (λ z.
-            All (λ e. Contains self.old.noted e.source) z.extents) }
-        requires noted { All (λ e. Contains self.old.noted e.source) object.extents }
-        requires modest { IsModest (next_addr self.old.now.taken) object }
-        requires account { IfSome (object_at self.old.now addr) (λ z. object.account ≡ z.account) }
-        requires room { IfSome (object_at self.old.now addr) (λ z. (space : GhostSpace) →
-            occupancy self.old.now z.account space + object_charge self.old.now space object
-            ≤ most_amount + object_charge self.old.now space z) }
-        ensures put { self.new.now ≡ with_thing self.old.now addr (Thing.Object object) }
-        ensures begun { self.new.begun ≡ self.old.begun }
-        ensures owners { self.new.owners ≡ self.old.owners }
-        ensures touched { self.new.touched ≡ self.old.touched }
-        ensures noted_stay { self.new.noted ≡ self.old.noted }
-        ensures saved { self.new.saved ≡ self.old.saved }
-    {
-        self.lose_object(addr);
-        self.add_object(addr, object);
-    }
-
     /// Adds an extent to the object at an address, whose source was touched. Want of memory leaves the world
     /// as before. It is linear in the object.
     pub fn push_extent(&mut self, addr: Addr, extent: Extent) -> Result<(), NoMemory>
