@@ -14,6 +14,7 @@ mod answer;
 mod asking;
 mod call;
 mod calls;
+mod capsule_calls;
 mod capsules;
 mod catalogue;
 mod charges;
