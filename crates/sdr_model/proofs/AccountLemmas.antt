@@ -10,35 +10,19 @@ use Rattle.sdr_base.specs.declared.kind.Space.{Space}
 use Rattle.sdr_model.specs.Accounts.{Pending, Stands, account_of, most_amount, tickets_of, with_account, with_tickets}
 use Rattle.sdr_model.specs.Amounts.{amount, no_amounts}
 use Rattle.sdr_model.specs.Charges.{left_in, occupancy}
-use Rattle.sdr_model.specs.Ledger.{KeepGrants, Ledger, WaitsEmpty}
+use Rattle.sdr_model.specs.Ledger.{KeepGrants, WaitsEmpty}
 use Rattle.sdr_model.specs.Queue.{enqueued, served, stands_before}
-use Rattle.sdr_model.specs.Store.{Store}
-use Rattle.sdr_model.specs.Tallies.{AllTallied, Tallied, charged, world_of}
+use Rattle.sdr_model.specs.Tallies.{charged, world_of}
 use Rattle.sdr_model.specs.Things.{Things}
 use Rattle.sdr_model.specs.declared.accounts.Account.{Account}
 use Rattle.sdr_model.specs.declared.accounts.Accounts.{Accounts}
 use Rattle.sdr_model.specs.declared.accounts.Ticket.{Ticket}
-use Rattle.sdr_model.specs.declared.tally.Tally.{Tally}
 use Rattle.sdr_model.proofs.AmountLemmas.{nothing_in}
 use Rattle.sdr_model.proofs.QueueLemmas.{keeps_of, occupied_served}
 
 -- no more than the greatest amount is occupied in either account
 abbrev pub AreBound : Things → Accounts → Type 0
 AreBound things accounts = (acct : Acct) (space : Space) → occupancy (world_of things accounts) acct space ≤ most_amount
-
--- the sums are told of other accounts too, in which no more is occupied than the greatest amount
-pub AllTallied-accounts : (tally : Tally) (next : ℕ) (store : Store) (old new' : Ledger) → new'.begun ≡ old.begun
-    → AreBound store.now new'.now → AllTallied tally next store old → AllTallied tally next store new'
-AllTallied-accounts tally next store old new' begun bound told = record {
-  begun = subst (λ a. Tallied tally.notes.begun tally.begun next (world_of store.begun a)) (sym begun) told.begun;
-  now = record {
-    counts = told.now.counts;
-    sources = told.now.sources;
-    charges = told.now.charges;
-    bound = bound;
-    sound = told.now.sound;
-  };
-}
 
 -- an account's tickets decide what is occupied in it, and not what is in the other
 pub bound_with : (things : Things) (accounts : Accounts) (acct : Acct) (account : Account) → AreBound things accounts

@@ -16,6 +16,7 @@ pub mod NotesLemmas
 pub mod OrderLemmas
 pub mod OwnersLemmas
 pub mod QueueLemmas
+pub mod SourceLemmas
 pub mod SpotLemmas
 pub mod StoreLemmas
 pub mod SumLemmas

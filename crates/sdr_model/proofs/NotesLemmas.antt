@@ -1,5 +1,6 @@
 -- Notes by address, and a log of those before.
-use Rattle.std.proofs.Common.{◌≡◌, ℕ, zero, suc, arith, Bool, true, false, List, [], ◌∷◌, ◌++◌, cond, Option, Some, None, ap, sym, ◌∙◌, refl, subst, unwrap_or, true≢false, ◌⊎◌, inl, inr}
+use Rattle.std.proofs.Common.{◌≡◌, ◌==◌, ℕ, zero, suc, arith, Bool, true, false, List, [], ◌∷◌, ◌++◌, cond, Option, Some, None, ap, sym, ◌∙◌, refl, subst, unwrap_or, true≢false, ◌⊎◌, inl, inr}
+use Rattle.std.proofs.lemmas.Bool.{eqb-false, eqb-true}
 use Rattle.std.proofs.lemmas.List.Elements.{Contains-append_left, Contains-append_right, Contains-append_cases}
 use Rattle.std.specs.BTreeMap.{is_at}
 use Rattle.std.specs.Cmp.{nat_cmp_total}
@@ -7,7 +8,7 @@ use Rattle.std.specs.FinMap.{get, insert, get-insert}
 use Rattle.std.specs.List.{Contains}
 use Rattle.std.specs.Ordering.{nat_cmp}
 use Rattle.std.specs.Prelude.{IsSome}
-use Rattle.sdr_model.specs.Notes.{HaveNotes, Notes, SameNotes, blank, logged, note_at, undone}
+use Rattle.sdr_model.specs.Notes.{HaveNotes, NameSource, Notes, SameNotes, blank, is_this, logged, note_at, undone, with_source}
 use Rattle.sdr_model.specs.declared.tally.Note.{Note}
 use Rattle.sdr_model.proofs.StoreLemmas.{at_itself, same_address}
 
@@ -153,3 +154,26 @@ pub logged-last : (log : List (ℕ × Note)) (k : ℕ) (note : Note) → Contain
 logged-last log k note =
     subst (λ ks. Contains ks k) (sym (logged-push log k note))
     (Contains-append_right (logged log) (k ∷ []) k (0, omega arith, refl))
+
+-- an address compares alike to another just where it is the same
+pub is_at-same : (q k : ℕ) → is_at (nat_cmp q) k ≡ (k == q)
+is_at-same q k = by (is_at (nat_cmp q) k) (k == q) refl refl
+  where
+    by : (a b : Bool) → is_at (nat_cmp q) k ≡ a → (k == q) ≡ b → a ≡ b
+    by true true at is = refl
+    by false false at is = refl
+    by true false at is = absurd (eqb-false k q is (sym (same_address q k at)))
+    by false true at is =
+        absurd (true≢false (sym (at_itself k) ∙ ap (λ n. is_at (nat_cmp n) k) (eqb-true k q is) ∙ at))
+
+-- the source of a raw object was set
+pub named-set : (raw : ℕ) (source : Option ℕ) (note : Note) (old new : Notes) → note ≡ with_source source (note_at old raw)
+    → new ≡ insert old raw note → NameSource (Some raw) source old new
+named-set raw source note old new is set q =
+    ap (λ m. note_at m q) set ∙ note_at-insert old raw note q ∙ by (is_at (nat_cmp q) raw) refl
+    ∙ ap (λ b. cond b (with_source source (note_at old q)) (note_at old q)) (is_at-same q raw)
+  where
+    by : (b : Bool) → is_at (nat_cmp q) raw ≡ b
+        → cond b note (note_at old q) ≡ cond b (with_source source (note_at old q)) (note_at old q)
+    by true at = is ∙ ap (λ a. with_source source (note_at old a)) (sym (same_address q raw at))
+    by false at = refl

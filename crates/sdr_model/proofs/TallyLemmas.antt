@@ -89,7 +89,7 @@ sum_by-with_at f m k (Some thing) = sum_by-inserted f m k thing
 
 -- an object whose sources are in the same spaces in two worlds charges the same
 module _ (w w' : World) where
-  abbrev SameSpace : Extent → Type 0
+  abbrev pub SameSpace : Extent → Type 0
   SameSpace e = space_in (source_at w' e.source) ≡ space_in (source_at w e.source)
 
   pub object_charge-same : (space : Space) (z : ZcoObject) → All SameSpace z.extents
@@ -209,7 +209,7 @@ plain_source (Some (things.Source s)) plain = absurd (true≢false (sym plain))
 plain_source (Some thing) plain = refl
 
 -- what is left where nothing comes and nothing goes
-sum_same : {a b x y : ℕ} → a + x ≡ b + y → x ≡ 0 → y ≡ 0 → a ≡ b
+pub sum_same : {a b x y : ℕ} → a + x ≡ b + y → x ≡ 0 → y ≡ 0 → a ≡ b
 sum_same is none nothing = omega (arith, is, none, nothing)
 
 -- what is told of a world is told of one with another plain thing, or none, in the place of a plain one
@@ -302,7 +302,7 @@ nothing_next owners next k m own above = by (get m k) refl
     by (Some thing) is = absurd (omega (arith, (own.each k thing is).below))
 
 -- no things have no sum
-sum_by-nothing : (xs : List (ℕ × Thing)) → sum_by (λ e. 0) xs ≡ 0
+pub sum_by-nothing : (xs : List (ℕ × Thing)) → sum_by (λ e. 0) xs ≡ 0
 sum_by-nothing [] = refl
 sum_by-nothing (x ∷ xs) = omega (arith, sum_by-cons (λ (e : ℕ × Thing). 0) x xs, sum_by-nothing xs)
 

@@ -7,11 +7,6 @@ use Rattle.sdr_model.specs.declared.event.Event.TheVariants as events
 
 -- whether it serves the call
 abbrev pub is_built : Call → Bool
-is_built (calls.FileRef path length) = false
-is_built (calls.BulkRef item length) = false
-is_built (calls.ObjRef addr) = false
-is_built (calls.DestroyRef addr) = false
-is_built (calls.Count addr) = false
 is_built (calls.Create acct ticket) = false
 is_built (calls.AppendExtent addr ticket source offset length) = false
 is_built (calls.PrependHeader addr ticket text) = false

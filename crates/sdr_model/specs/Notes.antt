@@ -1,5 +1,5 @@
 -- Notes of what names each address.
-use Rattle.std.specs.Prelude.{◌≡◌, ℕ, List, [], ◌∷◌, map, None, unwrap_or, Contains, IsSome, refl}
+use Rattle.std.specs.Prelude.{◌≡◌, ◌==◌, ℕ, Bool, true, false, if◌then◌else◌, List, [], ◌∷◌, map, Option, None, Some, unwrap_or, Contains, IsSome, refl}
 use Rattle.std.specs.Coded.{Coded, code_by, coded×, coded_ℕ, coded_list}
 use Rattle.std.specs.FinMap as finite
 use Rattle.std.specs.Ordering.{nat_cmp}
@@ -7,6 +7,8 @@ use Rattle.sdr_base.specs.declared.account.Acct.{Acct}
 use Rattle.sdr_base.specs.declared.account.Acct.TheVariants as accts
 use Rattle.sdr_model.specs.contracts.tally.Note as note
 use Rattle.sdr_model.specs.declared.tally.Note.{Note}
+use Rattle.sdr_model.specs.declared.zco.Subject.{Subject}
+use Rattle.sdr_model.specs.declared.zco.Subject.TheVariants as subjects
 
 -- what names each address
 abbrev pub Notes : Type 0
@@ -55,3 +57,23 @@ coded_notebook = code_by (Notes × (Notes × List ℕ))
     (λ s. (s.begun, (s.now, s.touched)))
     (λ p. record { begun = p.0; now = p.1.0; touched = p.1.1 })
     (λ _. refl)
+
+-- whether this is the address, if there is one
+abbrev pub is_this : Option ℕ → ℕ → Bool
+is_this None addr = false
+is_this (Some one) addr = one == addr
+
+-- the note with another source
+abbrev pub with_source : Option ℕ → Note → Note
+with_source source note = record note { source = source }
+
+-- the raw object, if there is one, is noted to have this source, or none; other notes stay
+abbrev pub NameSource : Option ℕ → Option ℕ → Notes → Notes → Type 0
+NameSource raw source old new =
+    (addr : ℕ) → note_at new addr ≡ (if is_this raw addr then with_source source (note_at old addr) else note_at old addr)
+
+-- the raw object that a subject is, where it is one
+abbrev pub raw_of : Subject → Option ℕ
+raw_of (subjects.Heap raw) = Some raw
+raw_of (subjects.Obj raw) = Some raw
+raw_of subject = None

@@ -1,6 +1,7 @@
 -- What a world in the making knows of its sums, and what is sound in it.
 use Rattle.std.specs.Prelude.{◌≡◌, ◌≤◌, ◌<◌, ◌+◌, ℕ, Bool, true, false, length, sum_by, [], Option, None, Some, All}
 use Rattle.std.specs.FinMap as finite
+use Rattle.std.specs.Option.{option_and_then}
 use Rattle.sdr_base.specs.declared.account.Acct.{Acct}
 use Rattle.sdr_base.specs.declared.account.Acct.TheVariants as accts
 use Rattle.sdr_base.specs.declared.account.Amounts.{Amounts}
@@ -11,12 +12,14 @@ use Rattle.sdr_model.specs.Charged.{charged_to}
 use Rattle.sdr_model.specs.Charges.{occupancy, thing_charge}
 use Rattle.sdr_model.specs.Ledger.{Ledger}
 use Rattle.sdr_model.specs.Limits.{longest_capsule, longest_raw, longest_source}
-use Rattle.sdr_model.specs.Notes.{Notes, note_at, noted_count}
+use Rattle.sdr_model.specs.Notes.{Notes, note_at, noted_count, raw_of}
 use Rattle.sdr_model.specs.Owners.{AllOwnInside}
+use Rattle.sdr_model.specs.SourceSteps.{flagged}
+use Rattle.sdr_model.specs.Steps.{with_thing}
 use Rattle.sdr_model.specs.Store.{Store}
 use Rattle.sdr_model.specs.Things.{Owners, Things}
 use Rattle.sdr_model.specs.World.{World}
-use Rattle.sdr_model.specs.Zco.{count_of, extents_length, names_raw}
+use Rattle.sdr_model.specs.Zco.{count_of, extents_length, names_raw, source_at}
 use Rattle.sdr_model.specs.declared.accounts.Accounts.{Accounts}
 use Rattle.sdr_model.specs.declared.tally.Charged.{Charged}
 use Rattle.sdr_model.specs.declared.tally.Tally.{Tally}
@@ -25,6 +28,7 @@ use Rattle.sdr_model.specs.declared.things.Thing.TheVariants as things
 use Rattle.sdr_model.specs.declared.zco.Capsule.{Capsule}
 use Rattle.sdr_model.specs.declared.zco.Extent.{Extent}
 use Rattle.sdr_model.specs.declared.zco.ZcoObject.{ZcoObject}
+use Rattle.sdr_model.specs.declared.zco.ZcoSource.{ZcoSource}
 
 -- what the objects of a world charge an account of a space
 abbrev pub charged : World → Acct → Space → ℕ
@@ -40,6 +44,10 @@ is_plain thing = true
 abbrev pub names_at : ℕ → Option Thing → Bool
 names_at raw None = false
 names_at raw (Some thing) = names_raw raw thing
+
+-- the raw object of the source at an address
+abbrev pub raw_at : World → ℕ → Option ℕ
+raw_at w addr = option_and_then (λ s. raw_of s.subject) (source_at w addr)
 
 -- the extent ends where the longest source ends, or before
 abbrev pub EndsInTime : Extent → Type 0
@@ -91,3 +99,8 @@ pub record AllTallied (tally : Tally) (next : ℕ) (things : Store) (accounts : 
 pub record IsKept (owners : Owners) (tally : Tally) (next : ℕ) (things : Store) (accounts : Ledger) : Type 0 where
   pub own : AllOwnInside owners next things.begun things.now
   pub told : AllTallied tally next things accounts
+
+-- the source is there, it is flagged, and no bytes are shown
+abbrev pub FlagsSource : Option ZcoSource → ℕ → World → World → Type 0
+FlagsSource None addr w w' = ⊥
+FlagsSource (Some source) addr w w' = w' ≡ record (with_thing w addr (things.Source (flagged source))) { shown = [] }

@@ -183,12 +183,7 @@ impl Call {
     {
         !matches!(
             self,
-            Call::FileRef(_, _)
-                | Call::BulkRef(_, _)
-                | Call::ObjRef(_)
-                | Call::DestroyRef(_)
-                | Call::Count(_)
-                | Call::Create(_, _)
+            Call::Create(_, _)
                 | Call::AppendExtent(_, _, _, _, _)
                 | Call::PrependHeader(_, _, _)
                 | Call::AppendTrailer(_, _, _)

@@ -17,6 +17,7 @@ use crate::list_calls::{
 use crate::name_calls::{catlg, entry, find, uncatlg};
 use crate::ordered_calls::{insert_ordered, search};
 use crate::raw_calls::{free, length, malloc, read, stage, write};
+use crate::source_calls::{bulk_ref, count, destroy_ref, file_ref, obj_ref};
 use crate::table_calls::{dimensions, make_table, row, set_row, table_destroy, table_user};
 use crate::text_calls::{string, string_dup, string_length, string_read};
 use crate::{Call, Reply, World};
@@ -82,6 +83,11 @@ pub fn apply(alloc: Global, world: &mut World, call: &Call) -> Result<Reply, NoM
         Call::Find(name) => find(world, name),
         Call::Uncatlg(name) => uncatlg(world, name),
         Call::Entry(place) => entry(alloc, world, *place),
+        Call::FileRef(path, length) => file_ref(alloc, world, path, *length),
+        Call::BulkRef(item, length) => bulk_ref(world, *item, *length),
+        Call::ObjRef(addr) => obj_ref(world, *addr),
+        Call::DestroyRef(addr) => destroy_ref(world, *addr),
+        Call::Count(addr) => count(world, *addr),
         Call::Occupancy(acct, space) => occupancy(world, *acct, *space),
         Call::Maximum(acct, space) => maximum(world, *acct, *space),
         Call::SetMaximum(acct, space, value) => set_maximum(world, *acct, *space, *value),
@@ -100,12 +106,7 @@ pub fn apply(alloc: Global, world: &mut World, call: &Call) -> Result<Reply, NoM
         }
         Call::Awarded(ticket) => awarded(world, *ticket),
         Call::Shred(ticket) => shred(world, *ticket),
-        Call::FileRef(_, _)
-        | Call::BulkRef(_, _)
-        | Call::ObjRef(_)
-        | Call::DestroyRef(_)
-        | Call::Count(_)
-        | Call::Create(_, _)
+        Call::Create(_, _)
         | Call::AppendExtent(_, _, _, _, _)
         | Call::PrependHeader(_, _, _)
         | Call::AppendTrailer(_, _, _)

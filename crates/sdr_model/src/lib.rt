@@ -38,6 +38,7 @@ mod plain;
 mod queue;
 mod raw_calls;
 mod script;
+mod source_calls;
 mod store;
 mod table;
 mod table_calls;

@@ -21,3 +21,9 @@ pub const LONGEST_READ: u64 = 4_096;
 
 /// The key of a list's comparison.
 pub const LONGEST_SORT_KEY: usize = 64;
+
+/// The path of a file, which has at least one.
+pub const LONGEST_PATH: u64 = 255;
+
+/// A source.
+pub const LONGEST_SOURCE: u64 = 1 << 40;

@@ -92,6 +92,7 @@ impl Notes {
     pub fn put_back(&mut self)
         ensures now { SameNotes self.new.now self.old.begun }
         ensures begun { SameNotes self.new.begun self.old.begun }
+        ensures touched { self.new.touched ≡ [] }
     {
         while let Some((addr, note)) = self.log.pop() {
             self.inner.set(addr, note);

@@ -1,7 +1,8 @@
 // What calls on raw objects do to a world.
-ghost use Rattle.std.specs.Prelude.{◌≡◌, ◌<◌, ◌≤◌, ◌+◌, ◌^◌, OnErr, OnOk, length, nat_lt};
+ghost use Rattle.std.specs.Prelude.{◌≡◌, ◌<◌, ◌≤◌, ◌+◌, ◌^◌, IfSome, OnErr, OnOk, length, nat_lt};
 ghost use Rattle.std.specs.Option.{option_copied};
 ghost use Rattle.sdr_model.specs.Answers.{Answers, HasRoom, Overwrites};
+ghost use Rattle.sdr_model.specs.Limits.{longest_raw};
 ghost use Rattle.sdr_model.specs.World.{as_raw, misnamed, thing_at};
 ghost use Rattle.sdr_model.specs.Zco.{uses_of};
 
@@ -32,12 +33,10 @@ pub fn misnamed(world: &World, addr: Addr) -> Reply
 
 /// The bytes of the raw object at an address.
 pub fn raw(world: &World, addr: Addr) -> Option<&Bytes>
-    ensures { option_copied result ≡ as_raw (thing_at world.now.now addr) }
+    ensures value { option_copied result ≡ as_raw (thing_at world.now.now addr) }
+    ensures short { IfSome result (λ bytes. length bytes.now ≤ longest_raw) }
 {
-    match world.thing(addr) {
-        Some(Thing::Raw(bytes)) => Some(bytes),
-        _ => None,
-    }
+    world.raw(addr)
 }
 
 pub fn malloc(alloc: Global, world: &mut World, bytes: u64) -> Result<Reply, NoMemory>

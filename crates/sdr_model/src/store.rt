@@ -1,5 +1,5 @@
 // The things of a world in the making, which can be put back to what they were at the begin.
-ghost use Rattle.std.specs.Prelude.{◌≡◌, IfOk, OnOk, OnErr, IsSome, Some, None, Contains, [], ◌∷◌};
+ghost use Rattle.std.specs.Prelude.{◌≡◌, ℕ, IfOk, OnOk, OnErr, IsSome, Some, None, Contains, [], ◌∷◌};
 ghost use Rattle.std.specs.FinMap as map;
 ghost use Rattle.std.specs.Option.{option_copied};
 ghost use Rattle.sdr_model.specs.Store.{with_at, with_place};
@@ -70,11 +70,12 @@ impl Store {
         }
     }
 
-    // Takes note that an address is touched, and makes a place for it where there is none.
-    fn touch(&mut self, addr: Addr) -> Result<(), NoMemory>
+    /// Takes note that an address is touched, and makes a place for it where there is none.
+    pub fn touch(&mut self, addr: Addr) -> Result<(), NoMemory>
         ensures begun { self.new.begun ≡ self.old.begun }
         ensures now { self.new.now ≡ self.old.now }
         ensures touched { OnOk result (Contains self.new.touched addr) }
+        ensures others { (other : ℕ) → Contains self.old.touched other → Contains self.new.touched other }
     {
         make_place(&mut self.places, addr)?;
         self.touched.push(addr)?;
@@ -86,6 +87,7 @@ impl Store {
         requires touched { Contains self.old.touched addr }
         ensures now { self.new.now ≡ with_at self.old.now addr thing }
         ensures begun { self.new.begun ≡ self.old.begun }
+        ensures touched { self.new.touched ≡ self.old.touched }
     {
         let mut place = self.places.lift(addr);
         place.put(thing);

@@ -1,11 +1,11 @@
 // What a world keeps beside its things, so that no call sums over all of them.
-ghost use Rattle.std.specs.Prelude.{◌≡◌, []};
+ghost use Rattle.std.specs.Prelude.{◌≡◌, ℕ, Contains, IfSome, OnOk, []};
 ghost use Rattle.std.specs.FinMap as map;
 ghost use Rattle.sdr_model.specs.Charged.{charged_to, no_charges, with_charged};
-ghost use Rattle.sdr_model.specs.Notes.{SameNotes, noted_count};
+ghost use Rattle.sdr_model.specs.Notes.{NameSource, SameNotes, noted_count};
 
 use crate::notes::Notes;
-use sdr_base::{Acct, Addr, Amounts};
+use sdr_base::{Acct, Addr, Amounts, NoMemory};
 use std::alloc::Global;
 
 /// What names an address.
@@ -106,10 +106,43 @@ impl Tally {
     pub fn put_back(&mut self)
         ensures notes { SameNotes self.new.notes.now self.old.notes.begun }
         ensures begun_notes { SameNotes self.new.notes.begun self.old.notes.begun }
+        ensures touched { self.new.notes.touched ≡ [] }
         ensures now { self.new.now ≡ self.old.begun }
         ensures begun { self.new.begun ≡ self.old.begun }
     {
         self.notes.put_back();
         self.now = self.begun;
+    }
+
+    /// Takes note that what names an address is changed, if there is one. Want of memory leaves all as before.
+    pub fn touch(&mut self, addr: Option<Addr>) -> Result<(), NoMemory>
+        ensures now { SameNotes self.new.notes.now self.old.notes.now }
+        ensures begun { SameNotes self.new.notes.begun self.old.notes.begun }
+        ensures touched { OnOk result (IfSome addr (Contains self.new.notes.touched)) }
+        ensures others { (other : ℕ) → Contains self.old.notes.touched other
+            → Contains self.new.notes.touched other }
+        ensures sums_now { self.new.now ≡ self.old.now }
+        ensures sums_begun { self.new.begun ≡ self.old.begun }
+    {
+        match addr {
+            Some(addr) => self.notes.touch(addr),
+            None => Ok(()),
+        }
+    }
+
+    /// Sets the source of a raw object, if there is one, which was touched.
+    pub fn set_source(&mut self, raw: Option<Addr>, source: Option<Addr>)
+        requires touched { IfSome raw (Contains self.old.notes.touched) }
+        ensures now { NameSource raw source self.old.notes.now self.new.notes.now }
+        ensures begun { SameNotes self.new.notes.begun self.old.notes.begun }
+        ensures touched { self.new.notes.touched ≡ self.old.notes.touched }
+        ensures sums_now { self.new.now ≡ self.old.now }
+        ensures sums_begun { self.new.begun ≡ self.old.begun }
+    {
+        if let Some(raw) = raw {
+            let mut note = self.notes.get(raw);
+            note.source = source;
+            self.notes.set(raw, note);
+        }
     }
 }

@@ -128,7 +128,7 @@ fn close_of(event: &Event, modified: bool) -> Close
 pub fn close(holder: &Holder, world: &mut World, event: &Event) -> Close
     ensures close { (w : PlainWorld) → result ≡ closing (transaction_of holder.now w) event.now }
     ensures world { let left = left_by result world.old.begun world.old.now in
-        world.new ≡ record world.old { begun = left; now = left; touched = []; saved = false } }
+        world.new ≡ record world.old { begun = left; now = left; touched = []; noted = []; saved = false } }
 {
     let close = match holder.doom {
         None => close_of(event, holder.modified),

@@ -62,6 +62,7 @@ impl Model for World {
       now = record { things = s.things.now; names = s.catalogue.now; accounts = s.accounts.now; marks = s.marks; shown = s.shown; taken = s.taken };
       touched = s.things.touched;
       owners = s.owners;
+      noted = s.tally.notes.touched;
       saved = s.accounts.saved;
     } };
 
@@ -71,7 +72,7 @@ impl Model for World {
 impl World {
     /// A world without things, where no transaction is open. It takes no memory.
     pub fn new(alloc: Global) -> World
-        ensures { result ≡ record { begun = empty_world; now = empty_world; touched = []; owners = map.empty; saved = false } }
+        ensures { result ≡ record { begun = empty_world; now = empty_world; touched = []; owners = map.empty; noted = []; saved = false } }
     {
         World {
             alloc,
@@ -171,6 +172,8 @@ impl World {
         ensures unmarked { self.new.now ≡ record self.old.now { marks = take marks self.old.now.marks } }
         ensures begun { self.new.begun ≡ self.old.begun }
         ensures saved { self.new.saved ≡ self.old.saved }
+        ensures touched { self.new.touched ≡ self.old.touched }
+        ensures noted { self.new.noted ≡ self.old.noted }
     {
         self.marks.truncate(marks);
     }
@@ -182,6 +185,7 @@ impl World {
         ensures begun { self.new.begun ≡ self.old.begun }
         ensures saved { self.new.saved ≡ self.old.saved }
         ensures touched { self.new.touched ≡ self.old.touched }
+        ensures noted { self.new.noted ≡ self.old.noted }
         ensures owners { self.new.owners ≡ self.old.owners }
     {
         self.shown = Bytes::new(self.alloc);
@@ -197,6 +201,8 @@ impl World {
         ensures begun { self.new.begun ≡ self.old.begun }
         ensures saved { self.new.saved ≡ self.old.saved }
         ensures touched { self.new.touched ≡ self.old.touched }
+        ensures noted { self.new.noted ≡ self.old.noted }
+        ensures owners { self.new.owners ≡ self.old.owners }
         ensures same { OnErr result (self.new.now ≡ self.old.now) }
     {
         let addr = 8 * (self.taken + 1);
@@ -303,6 +309,8 @@ impl World {
         ensures hidden { self.new.now ≡ record self.old.now { shown = [] } }
         ensures begun { self.new.begun ≡ self.old.begun }
         ensures saved { self.new.saved ≡ self.old.saved }
+        ensures touched { self.new.touched ≡ self.old.touched }
+        ensures noted { self.new.noted ≡ self.old.noted }
     {
         self.shown = Bytes::new(self.alloc);
     }
@@ -375,7 +383,7 @@ impl World {
 
     /// Takes the world now as the one to begin from.
     pub fn keep(&mut self)
-        ensures { let kept = at_rest self.old.now in self.new ≡ record self.old { begun = kept; now = kept; touched = []; saved = false } }
+        ensures { let kept = at_rest self.old.now in self.new ≡ record self.old { begun = kept; now = kept; touched = []; noted = []; saved = false } }
     {
         self.things.keep();
         self.catalogue.keep();
@@ -389,7 +397,7 @@ impl World {
     /// Puts the world back to the begin. Blocks once taken stay counted.
     pub fn put_back(&mut self)
         ensures { let left = record self.old.begun { taken = self.old.now.taken } in
-            self.new ≡ record self.old { begun = left; now = left; touched = []; saved = false } }
+            self.new ≡ record self.old { begun = left; now = left; touched = []; noted = []; saved = false } }
     {
         self.things.put_back();
         self.catalogue.put_back();

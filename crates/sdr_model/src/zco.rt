@@ -1,5 +1,6 @@
 // Sources of bytes, and zero-copy objects.
 ghost use Rattle.std.specs.Prelude.{◌≡◌, ◌<◌, ◌^◌, IfOk, length, map};
+ghost use Rattle.sdr_model.specs.Notes.{raw_of};
 ghost use Rattle.sdr_model.specs.Things.{block_among, capsule_block, extent_block, object_blocks, own_block, path_length};
 ghost use Rattle.sdr_model.specs.declared.things.Thing.TheVariants as things;
 
@@ -80,6 +81,16 @@ fn copied(alloc: Global, capsules: &[Capsule]) -> Result<Items<Capsule>, NoMemor
 }
 
 impl Subject {
+    /// The raw object, where the bytes are those of one.
+    pub fn raw(&self) -> Option<Addr>
+        ensures { result ≡ raw_of self.now }
+    {
+        match self {
+            Subject::Heap(raw) | Subject::Obj(raw) => Some(*raw),
+            _ => None,
+        }
+    }
+
     fn copied(&self, alloc: Global) -> Result<Subject, NoMemory>
         ensures { IfOk result (λ copy. copy ≡ self.now) }
     {

@@ -1,18 +1,34 @@
 // The sources of a world in the making, what names them, and what is charged.
-ghost use Rattle.std.specs.Prelude.{◌≡◌, ◌≤◌, IfSome};
+ghost use Rattle.std.specs.Prelude.{◌≡◌, ◌≤◌, ◌<◌, ◌^◌, ℕ, IfSome, IsSome, OnOk, OnErr, None, Some, Contains, true, [], length};
 ghost use Rattle.std.specs.Option.{option_copied};
 ghost use Rattle.sdr_base.specs.declared.kind.Space.{Space};
 ghost use Rattle.sdr_model.specs.Accounts.{most_amount};
 ghost use Rattle.sdr_model.specs.Amounts.{amounts_by};
 ghost use Rattle.sdr_model.specs.Charges.{object_charge, occupancy};
 ghost use Rattle.sdr_model.specs.Dry.{next_addr};
-ghost use Rattle.sdr_model.specs.Tallies.{IsModest, charged};
+ghost use Rattle.sdr_model.specs.Limits.{longest_raw, longest_source};
+ghost use Rattle.sdr_model.specs.Notes.{raw_of};
+ghost use Rattle.sdr_model.specs.Steps.{with_thing, without_thing};
+ghost use Rattle.sdr_model.specs.Tallies.{FlagsSource, IsModest, charged, is_plain, raw_at};
+ghost use Rattle.sdr_model.specs.World.{as_raw, thing_at};
 ghost use Rattle.sdr_model.specs.Zco.{count_of, object_at, source_at, source_on, uses_of};
+ghost use Rattle.sdr_model.specs.declared.things.Thing.{Thing};
 
 use crate::{Thing, World, ZcoObject, ZcoSource};
-use sdr_base::{Acct, Addr, Amounts};
+use sdr_base::{Acct, Addr, Amounts, Bytes, NoMemory};
 
 impl World {
+    /// The bytes of the raw object at an address.
+    pub fn raw(&self, addr: Addr) -> Option<&Bytes>
+        ensures value { option_copied result ≡ as_raw (thing_at self.now.now addr) }
+        ensures short { IfSome result (λ bytes. length bytes.now ≤ longest_raw) }
+    {
+        match self.things.get(addr) {
+            Some(Thing::Raw(bytes)) => Some(bytes),
+            _ => None,
+        }
+    }
+
     /// The source at an address.
     pub fn source(&self, addr: Addr) -> Option<&ZcoSource>
         ensures { option_copied result ≡ source_at self.now.now addr }
@@ -21,6 +37,13 @@ impl World {
             Some(Thing::Source(source)) => Some(source),
             _ => None,
         }
+    }
+
+    /// The raw object of the source at an address.
+    pub fn raw_at(&self, addr: Addr) -> Option<Addr>
+        ensures { result ≡ raw_at self.now.now addr }
+    {
+        self.source(addr)?.subject.raw()
     }
 
     /// The object at an address. What may be summed of it fits a word.
@@ -65,5 +88,89 @@ impl World {
         ensures small { (space : Space) → occupancy self.now.now acct space ≤ most_amount }
     {
         self.tally.now.to(acct)
+    }
+
+    /// The address of the next block. Nothing is there, or behind it, and nothing is named there.
+    pub fn next(&self) -> Addr
+        requires taken { self.now.now.taken < 2 ^ 60 }
+        ensures value { result ≡ next_addr self.now.now.taken }
+        ensures fresh { (addr : ℕ) → result ≤ addr → thing_at self.now.now addr ≡ None }
+        ensures unused { (addr : ℕ) → result ≤ addr → uses_of self.now.now addr ≡ 0 }
+    {
+        8 * (self.taken + 1)
+    }
+
+    /// Takes note that the thing at an address, or what names it, may be changed. After it that needs no
+    /// memory. Want of memory leaves the world as before.
+    pub fn touch(&mut self, addr: Addr) -> Result<(), NoMemory>
+        ensures now { self.new.now ≡ self.old.now }
+        ensures begun { self.new.begun ≡ self.old.begun }
+        ensures owners { self.new.owners ≡ self.old.owners }
+        ensures touched { OnOk result (Contains self.new.touched addr) }
+        ensures noted { OnOk result (Contains self.new.noted addr) }
+        ensures others { OnOk result ((other : ℕ) →
+            Contains self.old.touched other → Contains self.new.touched other) }
+        ensures others_noted { OnOk result ((other : ℕ) →
+            Contains self.old.noted other → Contains self.new.noted other) }
+    {
+        self.tally.touch(Some(addr))?;
+        self.things.touch(addr)
+    }
+
+    /// Puts a source at an address that was touched, where neither a source nor an object is and which no
+    /// extent names. Its raw object, if it has one, was touched too, and has no source.
+    pub fn put_source(&mut self, addr: Addr, source: ZcoSource)
+        requires below { addr < next_addr self.old.now.taken }
+        requires touched { Contains self.old.touched addr }
+        requires plain { is_plain (thing_at self.old.now addr) ≡ true }
+        requires unused { uses_of self.old.now addr ≡ 0 }
+        requires length { source.length ≤ longest_source }
+        requires noted { IfSome (raw_of source.subject) (Contains self.old.noted) }
+        requires unnamed { IfSome (raw_of source.subject) (λ raw. source_on self.old.now raw ≡ None) }
+        ensures put { self.new.now ≡ with_thing self.old.now addr (Thing.Source source) }
+        ensures begun { self.new.begun ≡ self.old.begun }
+        ensures owners { self.new.owners ≡ self.old.owners }
+        ensures touched { self.new.touched ≡ self.old.touched }
+        ensures noted_stay { self.new.noted ≡ self.old.noted }
+    {
+        let raw = source.subject.raw();
+        self.things.put(addr, Some(Thing::Source(source)));
+        self.tally.set_source(raw, Some(addr));
+    }
+
+    /// Lets the source at an address that was touched go, which no extent names. Its raw object, if it has
+    /// one, was touched too.
+    pub fn drop_source(&mut self, addr: Addr)
+        requires touched { Contains self.old.touched addr }
+        requires unused { uses_of self.old.now addr ≡ 0 }
+        requires there { IsSome (source_at self.old.now addr) }
+        requires noted { IfSome (raw_at self.old.now addr) (Contains self.old.noted) }
+        ensures dropped { self.new.now ≡ without_thing self.old.now addr }
+        ensures begun { self.new.begun ≡ self.old.begun }
+        ensures owners { self.new.owners ≡ self.old.owners }
+        ensures touched { self.new.touched ≡ self.old.touched }
+        ensures noted_stay { self.new.noted ≡ self.old.noted }
+    {
+        let raw = self.raw_at(addr);
+        self.things.put(addr, None);
+        self.tally.set_source(raw, None);
+    }
+
+    /// Flags the source at an address. Want of memory leaves the world as before.
+    pub fn flag_source(&mut self, addr: Addr) -> Result<(), NoMemory>
+        requires there { IsSome (source_at self.old.now addr) }
+        ensures flagged { OnOk result (FlagsSource (source_at self.old.now addr) addr self.old.now self.new.now) }
+        ensures begun { self.new.begun ≡ self.old.begun }
+        ensures same { OnErr result (self.new.now ≡ self.old.now) }
+    {
+        match self.things.take(addr)? {
+            Thing::Source(mut source) => {
+                source.flagged = true;
+                self.things.put(addr, Some(Thing::Source(source)));
+                self.shown = Bytes::new(self.alloc);
+                Ok(())
+            }
+            _ => unreachable!(),
+        }
     }
 }

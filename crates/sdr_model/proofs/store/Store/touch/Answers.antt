@@ -1,4 +1,6 @@
 use Rattle.std.proofs.Common.{◌≡◌, ◌∷◌, [], ◌++◌, ap, sym, ◌∙◌, refl, subst, subst₂}
+use Rattle.std.proofs.lemmas.List.Elements.{Contains-append_left}
+use Rattle.std.specs.List.{Contains}
 use Rattle.sdr_model.specs.Store.{AreTouched, begun_at, now_at, things_at, with_place}
 use Rattle.sdr_model.proofs.StoreLemmas.{things_at-with_place, touched-with_place, touched-push, some-with_place}
 use Rattle.sdr_model.proofs.store.Store.touch.Goals as goal
@@ -34,3 +36,9 @@ pub returns-clause-now : goal.returns-clause-now
 returns-clause-now c =
     ap (things_at now_at) c.in_ok-make_place.ensures.made
     ∙ things_at-with_place now_at c.self.inside.places c.args.addr refl ∙ ap (λ s. s.now) c.self.view_is
+
+pub returns-clause-others : goal.returns-clause-others
+returns-clause-others c other has =
+    subst (λ xs. Contains xs other) (sym c.in_ok-push.ensures.items)
+    (Contains-append_left c.self.inside.touched.items (c.args.addr ∷ []) other
+    (subst (λ d. Contains d.touched other) (sym c.self.view_is) has))

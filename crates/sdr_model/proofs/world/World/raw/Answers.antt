@@ -1,0 +1,9 @@
+use Rattle.std.proofs.Common.{Some, ap, sym, ◌∙◌}
+use Rattle.std.specs.Option.{option_copied}
+use Rattle.sdr_model.specs.declared.things.Thing.TheVariants as things
+use Rattle.sdr_model.proofs.world.World.raw.Goals as goal
+
+pub returns-in-Some-Raw-clause-short : goal.returns-in-Some-Raw-clause-short
+returns-in-Some-Raw-clause-short c =
+    c.self.invariant.told.now.sound c.args.addr (things.Raw c.in-Some-Raw.bytes)
+    (sym c.get.ensures ∙ ap option_copied c.in-Some-Raw.is ∙ ap Some c.in-Some-Raw.field-0-is)
