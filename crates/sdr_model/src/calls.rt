@@ -3,9 +3,7 @@ ghost use Rattle.std.specs.Prelude.{◌≡◌, ◌<◌, ◌^◌, true};
 ghost use Rattle.sdr_model.specs.Answers.{Answers};
 ghost use Rattle.sdr_model.specs.Built.{is_built};
 
-use crate::account_calls::{
-    Asking, awarded, maximum, occupancy, request, set_maximum, shred,
-};
+use crate::account_calls::{Asking, awarded, maximum, occupancy, request, set_maximum, shred};
 use crate::element_calls::{datum, delete, next, prev, set_datum};
 use crate::hash_calls::{
     hash_count, hash_destroy, hash_insert, hash_remove, hash_retrieve, hash_revise, make_hash,
