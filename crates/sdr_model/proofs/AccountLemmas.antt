@@ -41,7 +41,8 @@ bound_less things accounts acct account bound less =
     bound_with things accounts acct account bound (λ space. omega (arith, bound acct space, less space))
 
 -- serving a queue leaves no more occupied
-pub bound_served : (things : Things) (accounts : Accounts) (acct : Acct) (occupied : Amounts) → AreBound things accounts → KeepGrants accounts
+pub bound_served : (things : Things) (accounts : Accounts) (acct : Acct) (occupied : Amounts)
+    → AreBound things accounts → KeepGrants accounts
     → ((space : Space) → amount occupied space ≡ occupancy (world_of things accounts) acct space)
     → AreBound things (with_tickets accounts acct (served (account_of accounts acct).maxima occupied (tickets_of accounts acct)))
 bound_served things accounts acct occupied bound keep is =
@@ -52,7 +53,8 @@ bound_served things accounts acct occupied bound keep is =
     (recursion_from_All WaitsEmpty (tickets_of accounts acct) keeps.waiting) (is space)
     (subst (λ n. n ≤ most_amount) (sym (is space)) (bound acct space)) (keeps.maxima space))
 
-left_in-removed : (space : Space) (ts : List Ticket) (place : ℕ) (d : Ticket) → place < length ts → left_in space (remove ts place) ≤ left_in space ts
+left_in-removed : (space : Space) (ts : List Ticket) (place : ℕ) (d : Ticket) → place < length ts
+    → left_in space (remove ts place) ≤ left_in space ts
 left_in-removed space ts place d inside =
     let f : Ticket → ℕ = λ t. amount t.left space in
     omega (
@@ -83,7 +85,8 @@ bound_removed things accounts p bound stands =
     bound_less things accounts p.acct _ bound (λ space. left_in-removed space (tickets_of accounts p.acct) p.place p.ticket stands.there)
 
 -- nor with one that waits
-pub bound_entered : (things : Things) (accounts : Accounts) (acct : Acct) (ticket : Ticket) (next : ℕ) → AreBound things accounts
+pub bound_entered : (things : Things) (accounts : Accounts) (acct : Acct) (ticket : Ticket) (next : ℕ)
+    → AreBound things accounts
     → ticket.left ≡ no_amounts
     → AreBound things (record (with_tickets accounts acct (enqueued (tickets_of accounts acct) ticket)) { next = next })
 bound_entered things accounts acct ticket next bound empty a space =
@@ -92,7 +95,8 @@ bound_entered things accounts acct ticket next bound empty a space =
     (bound_less things accounts acct (record (account_of accounts acct) { tickets = enqueued (tickets_of accounts acct) ticket }) bound
     (λ space. omega (arith, left_in-entered space (tickets_of accounts acct) place ticket empty))) a space
   where
-    unnumbered : (things : Things) (accounts : Accounts) (next : ℕ) → AreBound things accounts → AreBound things (record accounts { next = next })
+    unnumbered : (things : Things) (accounts : Accounts) (next : ℕ) → AreBound things accounts
+        → AreBound things (record accounts { next = next })
     unnumbered things accounts next bound accts.Inbound space = bound accts.Inbound space
     unnumbered things accounts next bound accts.Outbound space = bound accts.Outbound space
 
