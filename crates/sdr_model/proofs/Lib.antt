@@ -1,25 +1,32 @@
+mod HashExample
 pub mod AccountLemmas
 pub mod AmountLemmas
+pub mod BlocksLemmas
 pub mod BlocksTaken
+pub mod BoundsLemmas
 pub mod Cases
 pub mod ChargeLemmas
 pub mod CountLemmas
 pub mod DryLemmas
 pub mod FewLemmas
 pub mod FewSteps
-mod HashExample
+pub mod GoneLemmas
 pub mod HashLemmas
 pub mod MachineLemmas
 pub mod MapLemmas
 pub mod NamesLemmas
 pub mod NotesLemmas
+pub mod ObjectCallLemmas
+pub mod ObjectLemmas
 pub mod OrderLemmas
 pub mod OwnersLemmas
+pub mod PiecesLemmas
 pub mod QueueLemmas
 pub mod SourceLemmas
 pub mod SpotLemmas
 pub mod StoreLemmas
 pub mod SumLemmas
 pub mod TableLemmas
+pub mod TakenLemmas
 pub mod TallyBounds
 pub mod TallyLemmas

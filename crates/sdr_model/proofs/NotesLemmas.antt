@@ -1,15 +1,20 @@
 -- Notes by address, and a log of those before.
-use Rattle.std.proofs.Common.{◌≡◌, ◌==◌, ℕ, zero, suc, arith, Bool, true, false, List, [], ◌∷◌, ◌++◌, cond, Option, Some, None, ap, sym, ◌∙◌, refl, subst, unwrap_or, true≢false, ◌⊎◌, inl, inr}
+use Rattle.std.proofs.Common.{◌≡◌, ◌==◌, ◌+◌, ℕ, zero, suc, arith, Bool, true, false, List, [], ◌∷◌, ◌++◌, cond, Option, Some, None, ap, sym, ◌∙◌, refl, subst, unwrap_or, true≢false, ◌⊎◌, inl, inr}
 use Rattle.std.proofs.lemmas.Bool.{eqb-false, eqb-true}
 use Rattle.std.proofs.lemmas.List.Elements.{Contains-append_left, Contains-append_right, Contains-append_cases}
+use Rattle.std.proofs.lemmas.List.Sums.{sum_by_push}
 use Rattle.std.specs.BTreeMap.{is_at}
 use Rattle.std.specs.Cmp.{nat_cmp_total}
 use Rattle.std.specs.FinMap.{get, insert, get-insert}
 use Rattle.std.specs.List.{Contains}
 use Rattle.std.specs.Ordering.{nat_cmp}
 use Rattle.std.specs.Prelude.{IsSome}
-use Rattle.sdr_model.specs.Notes.{HaveNotes, NameSource, Notes, SameNotes, blank, is_this, logged, note_at, undone, with_source}
+use Rattle.sdr_base.specs.declared.account.Acct.{Acct}
+use Rattle.sdr_base.specs.declared.account.Acct.TheVariants as accts
+use Rattle.sdr_model.specs.Notes.{HaveNotes, more_uses, noted_count, NameSource, Notes, SameNotes, blank, is_this, logged, note_at, undone, with_source}
+use Rattle.sdr_model.specs.Zco.{naming}
 use Rattle.sdr_model.specs.declared.tally.Note.{Note}
+use Rattle.sdr_model.specs.declared.zco.Extent.{Extent}
 use Rattle.sdr_model.proofs.StoreLemmas.{at_itself, same_address}
 
 -- the note that was put at an address is there, and others stay
@@ -177,3 +182,66 @@ named-set raw source note old new is set q =
         → cond b note (note_at old q) ≡ cond b (with_source source (note_at old q)) (note_at old q)
     by true at = is ∙ ap (λ a. with_source source (note_at old a)) (sym (same_address q raw at))
     by false at = refl
+
+-- no more uses leave a note
+pub more_uses-none : (acct : Acct) (note : Note) → more_uses acct 0 note ≡ note
+more_uses-none accts.Inbound note = λ i. record note { inbound = same i }
+  where
+    same : note.inbound + 0 ≡ note.inbound
+    same = omega arith
+more_uses-none accts.Outbound note = λ i. record note { outbound = same i }
+  where
+    same : note.outbound + 0 ≡ note.outbound
+    same = omega arith
+
+-- uses are added together
+pub more_uses-twice : (acct : Acct) (a b : ℕ) (note : Note) → more_uses acct a (more_uses acct b note) ≡ more_uses acct (b + a) note
+more_uses-twice accts.Inbound a b note = λ i. record note { inbound = same i }
+  where
+    same : note.inbound + b + a ≡ note.inbound + (b + a)
+    same = omega arith
+more_uses-twice accts.Outbound a b note = λ i. record note { outbound = same i }
+  where
+    same : note.outbound + b + a ≡ note.outbound + (b + a)
+    same = omega arith
+
+-- and counted
+pub noted_count-more : (acct : Acct) (more : ℕ) (note : Note) → noted_count (more_uses acct more note) acct ≡ noted_count note acct + more
+noted_count-more accts.Inbound more note = refl
+noted_count-more accts.Outbound more note = refl
+
+-- one more use was noted at an address
+pub use_raised : (acct : Acct) (k : ℕ) (note : Note) (old new : Notes) → note ≡ more_uses acct 1 (note_at old k)
+    → new ≡ insert old k note → (q : ℕ) → note_at new q ≡ more_uses acct (cond (k == q) 1 0) (note_at old q)
+use_raised acct k note old new is put q =
+    ap (λ m. note_at m q) put ∙ note_at-insert old k note q ∙ by (is_at (nat_cmp q) k) refl
+  where
+    by : (b : Bool) → is_at (nat_cmp q) k ≡ b → cond b note (note_at old q) ≡ more_uses acct (cond (k == q) 1 0) (note_at old q)
+    by true at =
+        is ∙ ap (λ a. more_uses acct 1 (note_at old a)) (sym (same_address q k at))
+        ∙ ap (λ t. more_uses acct (cond t 1 0) (note_at old q)) (sym at ∙ is_at-same q k)
+    by false at =
+        sym (more_uses-none acct (note_at old q))
+        ∙ ap (λ t. more_uses acct (cond t 1 0) (note_at old q)) (sym at ∙ is_at-same q k)
+
+-- one use less was
+pub use_lowered : (acct : Acct) (k : ℕ) (note : Note) (old new : Notes) → note_at old k ≡ more_uses acct 1 note
+    → new ≡ insert old k note → (q : ℕ) → note_at old q ≡ more_uses acct (cond (k == q) 1 0) (note_at new q)
+use_lowered acct k note old new is put q =
+    by (is_at (nat_cmp q) k) refl
+    ∙ ap (more_uses acct (cond (k == q) 1 0)) (sym (ap (λ m. note_at m q) put ∙ note_at-insert old k note q))
+  where
+    by : (b : Bool) → is_at (nat_cmp q) k ≡ b
+        → note_at old q ≡ more_uses acct (cond (k == q) 1 0) (cond (is_at (nat_cmp q) k) note (note_at old q))
+    by true at =
+        ap (note_at old) (same_address q k at) ∙ is
+        ∙ ap (λ t. more_uses acct (cond t 1 0) note) (sym at ∙ is_at-same q k)
+        ∙ ap (λ t. more_uses acct (cond (k == q) 1 0) (cond t note (note_at old q))) (sym at)
+    by false at =
+        sym (more_uses-none acct (note_at old q))
+        ∙ ap (λ t. more_uses acct (cond t 1 0) (note_at old q)) (sym at ∙ is_at-same q k)
+        ∙ ap (λ t. more_uses acct (cond (k == q) 1 0) (cond t note (note_at old q))) (sym at)
+
+-- one more extent of those that are counted
+pub naming-push : (q : ℕ) (es : List Extent) (e : Extent) → naming q (es ++ e ∷ []) ≡ naming q es + cond (e.source == q) 1 0
+naming-push q es e = sum_by_push (λ (x : Extent). cond (x.source == q) 1 0) es e

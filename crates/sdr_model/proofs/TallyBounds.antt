@@ -82,7 +82,7 @@ counted_extent w source e = by (e.source == source)
     by false = omega arith
 
 -- so does a thing
-counted_thing : (w : World) (source : ℕ) (acct : Acct) (thing : Thing)
+pub counted_thing : (w : World) (source : ℕ) (acct : Acct) (thing : Thing)
     → uses_in source acct thing ≤ thing_charge w acct spaces.Heap thing
 counted_thing w source acct (things.Object z) = by (is_same_account acct z.account)
   where

@@ -17,13 +17,7 @@ is_built (calls.Bond addr ticket) = false
 is_built (calls.ClonePart addr ticket offset length) = false
 is_built (calls.Delimit addr offset length) = false
 is_built (calls.Strip addr) = false
-is_built (calls.ZcoLength addr) = false
-is_built (calls.SourceLength addr) = false
 is_built (calls.Destroy addr) = false
-is_built (calls.Transmit addr place count) = false
-is_built (calls.ReceiveHeaders addr place count) = false
-is_built (calls.ReceiveSource addr place count) = false
-is_built (calls.ReceiveTrailers addr place count) = false
 is_built call = true
 
 -- whether it serves the event

@@ -6,8 +6,8 @@ use Rattle.sdr_model.specs.Things.{Owners}
 use Rattle.sdr_model.specs.World.{World, coded_world}
 
 -- the world at the begin of the open transaction, the world now, where things were changed since, which thing each block
--- inside one belongs to, of which addresses it was noted since what names them, and whether the accounts were copied since,
--- so that they may be changed
+-- inside one belongs to, of which addresses it was noted since what names them, and whether the accounts were copied, so
+-- that they may be changed
 pub record Draft : Type 0 where
   pub begun : World
   pub now : World

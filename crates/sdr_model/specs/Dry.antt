@@ -1,5 +1,5 @@
 -- The rule for addresses where there is no heap: the k-th block that is taken has address 8 k, and never another.
-use Rattle.std.specs.Prelude.{◌≡◌, ℕ, true, zero, suc, ◌+◌, ◌*◌, List, [], ◌∷◌}
+use Rattle.std.specs.Prelude.{◌≡◌, ℕ, true, zero, suc, ◌+◌, ◌*◌, List, [], ◌∷◌, ◌++◌}
 use Rattle.sdr_base.specs.declared.moves.Move.{Move}
 use Rattle.sdr_base.specs.declared.moves.Move.TheVariants.{Took, Gave, Short}
 use Rattle.sdr_model.specs.Reading.{reads_media}
@@ -19,6 +19,15 @@ next_addr taken = 8 * (taken + 1)
 abbrev pub addr_after : ℕ → ℕ → ℕ
 addr_after taken zero = next_addr taken
 addr_after taken (suc more) = addr_after (taken + 1) more
+
+-- the addresses of the next so many blocks
+abbrev pub next_addrs : ℕ → ℕ → List ℕ
+next_addrs taken zero = []
+next_addrs taken (suc more) = next_addr taken ∷ next_addrs (taken + 1) more
+
+-- the world with the next so many blocks taken, which are marked, and no bytes shown
+abbrev pub with_blocks : World → ℕ → World
+with_blocks w count = record w { marks = w.marks ++ next_addrs w.taken count; shown = []; taken = w.taken + count }
 
 -- where so many blocks were taken before, each block taken has the next address, and there is always one
 abbrev pub AreInOrder : ℕ → List Move → Type 0

@@ -5,6 +5,7 @@ pub mod Amounts
 pub mod Answers
 pub mod Blocks
 pub mod BondSteps
+pub mod Bounds
 pub mod Built
 pub mod Catalogue
 pub mod Charged
@@ -30,6 +31,7 @@ pub mod Notes
 pub mod ObjectSteps
 pub mod Owners
 pub mod PartSteps
+pub mod Pieces
 pub mod Plain
 pub mod Queue
 pub mod RawSteps

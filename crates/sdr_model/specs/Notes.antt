@@ -1,5 +1,5 @@
 -- Notes of what names each address.
-use Rattle.std.specs.Prelude.{◌≡◌, ◌==◌, ℕ, Bool, true, false, if◌then◌else◌, List, [], ◌∷◌, map, Option, None, Some, unwrap_or, Contains, IsSome, refl}
+use Rattle.std.specs.Prelude.{◌≡◌, ◌==◌, ◌+◌, ℕ, Bool, true, false, if◌then◌else◌, List, [], ◌∷◌, map, Option, None, Some, unwrap_or, Contains, IsSome, refl}
 use Rattle.std.specs.Coded.{Coded, code_by, coded×, coded_ℕ, coded_list}
 use Rattle.std.specs.FinMap as finite
 use Rattle.std.specs.Ordering.{nat_cmp}
@@ -7,6 +7,8 @@ use Rattle.sdr_base.specs.declared.account.Acct.{Acct}
 use Rattle.sdr_base.specs.declared.account.Acct.TheVariants as accts
 use Rattle.sdr_model.specs.contracts.tally.Note as note
 use Rattle.sdr_model.specs.declared.tally.Note.{Note}
+use Rattle.sdr_model.specs.Zco.{naming}
+use Rattle.sdr_model.specs.declared.zco.Extent.{Extent}
 use Rattle.sdr_model.specs.declared.zco.Subject.{Subject}
 use Rattle.sdr_model.specs.declared.zco.Subject.TheVariants as subjects
 
@@ -77,3 +79,13 @@ abbrev pub raw_of : Subject → Option ℕ
 raw_of (subjects.Heap raw) = Some raw
 raw_of (subjects.Obj raw) = Some raw
 raw_of subject = None
+
+-- the note with so many more extents of an account
+abbrev pub more_uses : Acct → ℕ → Note → Note
+more_uses accts.Inbound more note = record note { inbound = note.inbound + more }
+more_uses accts.Outbound more note = record note { outbound = note.outbound + more }
+
+-- the notes have these extents of an account besides
+abbrev pub UsesMore : Acct → List Extent → Notes → Notes → Type 0
+UsesMore acct extents old new =
+    (addr : ℕ) → note_at new addr ≡ more_uses acct (naming addr extents) (note_at old addr)

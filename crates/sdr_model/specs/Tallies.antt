@@ -1,5 +1,5 @@
 -- What a world in the making knows of its sums, and what is sound in it.
-use Rattle.std.specs.Prelude.{◌≡◌, ◌≤◌, ◌<◌, ◌+◌, ℕ, Bool, true, false, length, sum_by, [], Option, None, Some, All}
+use Rattle.std.specs.Prelude.{◌≡◌, ◌≤◌, ◌<◌, ◌+◌, ℕ, Bool, true, false, length, sum_by, [], Option, None, Some, All, Contains}
 use Rattle.std.specs.FinMap as finite
 use Rattle.std.specs.Option.{option_and_then}
 use Rattle.sdr_base.specs.declared.account.Acct.{Acct}
@@ -7,19 +7,20 @@ use Rattle.sdr_base.specs.declared.account.Acct.TheVariants as accts
 use Rattle.sdr_base.specs.declared.account.Amounts.{Amounts}
 use Rattle.sdr_base.specs.declared.kind.Space.{Space}
 use Rattle.sdr_model.specs.Accounts.{most_amount}
-use Rattle.sdr_model.specs.Amounts.{amount}
-use Rattle.sdr_model.specs.Charged.{charged_to}
-use Rattle.sdr_model.specs.Charges.{occupancy, thing_charge}
+use Rattle.sdr_model.specs.Amounts.{amount, minus}
+use Rattle.sdr_model.specs.Charged.{charged_to, with_charged}
+use Rattle.sdr_model.specs.Charges.{object_charge, occupancy, thing_charge}
 use Rattle.sdr_model.specs.Ledger.{Ledger}
 use Rattle.sdr_model.specs.Limits.{longest_capsule, longest_raw, longest_source}
-use Rattle.sdr_model.specs.Notes.{Notes, note_at, noted_count, raw_of}
+use Rattle.sdr_model.specs.Notes.{Notes, UsesMore, note_at, noted_count, raw_of}
+use Rattle.sdr_model.specs.ObjectSteps.{with_extent}
 use Rattle.sdr_model.specs.Owners.{AllOwnInside}
 use Rattle.sdr_model.specs.SourceSteps.{flagged}
 use Rattle.sdr_model.specs.Steps.{with_thing}
-use Rattle.sdr_model.specs.Store.{Store}
+use Rattle.sdr_model.specs.Store.{Store, with_at}
 use Rattle.sdr_model.specs.Things.{Owners, Things}
 use Rattle.sdr_model.specs.World.{World}
-use Rattle.sdr_model.specs.Zco.{count_of, extents_length, names_raw, source_at}
+use Rattle.sdr_model.specs.Zco.{count_of, extents_length, names_raw, naming, source_at}
 use Rattle.sdr_model.specs.declared.accounts.Accounts.{Accounts}
 use Rattle.sdr_model.specs.declared.tally.Charged.{Charged}
 use Rattle.sdr_model.specs.declared.tally.Tally.{Tally}
@@ -104,3 +105,34 @@ pub record IsKept (owners : Owners) (tally : Tally) (next : ℕ) (things : Store
 abbrev pub FlagsSource : Option ZcoSource → ℕ → World → World → Type 0
 FlagsSource None addr w w' = ⊥
 FlagsSource (Some source) addr w w' = w' ≡ record (with_thing w addr (things.Source (flagged source))) { shown = [] }
+
+-- an object of the same account is there, and with the other one in its place no more is occupied than the greatest amount
+abbrev pub MayReplace : World → Option ZcoObject → ZcoObject → Type 0
+MayReplace w None object = ⊥
+MayReplace w (Some z) object =
+    (z.account ≡ object.account)
+    × ((space : Space) → occupancy w object.account space + object_charge w space object ≤ most_amount + object_charge w space z)
+
+-- the object is there, its extents are counted no more, and this isn't charged any more
+abbrev pub CountsOut : Option ZcoObject → Amounts → Tally → Tally → Type 0
+CountsOut None charge old new = ⊥
+CountsOut (Some z) charge old new =
+    UsesMore z.account z.extents new.notes.now old.notes.now
+    × (new.now ≡ with_charged old.now z.account (minus (charged_to old.now z.account) charge))
+
+-- the object is there, its extents are counted, and their sources were touched
+abbrev pub MayCountOut : Option ZcoObject → Tally → Type 0
+MayCountOut None tally = ⊥
+MayCountOut (Some z) tally =
+    All (λ e. Contains tally.notes.touched e.source) z.extents
+    × ((addr : ℕ) → naming addr z.extents ≤ noted_count (note_at tally.notes.now addr) z.account)
+
+-- the object is there, and has one more extent
+abbrev pub PushesExtent : Option ZcoObject → ℕ → Extent → Things → Things → Type 0
+PushesExtent None addr e old new = ⊥
+PushesExtent (Some z) addr e old new = new ≡ with_at old addr (Some (things.Object (with_extent z e)))
+
+-- the account is that of the object that is there
+abbrev pub IsAccountOf : Option ZcoObject → Acct → Type 0
+IsAccountOf None acct = ⊥
+IsAccountOf (Some z) acct = acct ≡ z.account

@@ -193,13 +193,7 @@ impl Call {
                 | Call::ClonePart(_, _, _, _)
                 | Call::Delimit(_, _, _)
                 | Call::Strip(_)
-                | Call::ZcoLength(_)
-                | Call::SourceLength(_)
                 | Call::Destroy(_)
-                | Call::Transmit(_, _, _)
-                | Call::ReceiveHeaders(_, _, _)
-                | Call::ReceiveSource(_, _, _)
-                | Call::ReceiveTrailers(_, _, _)
         )
     }
 }

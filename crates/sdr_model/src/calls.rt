@@ -14,11 +14,13 @@ use crate::list_calls::{
     first, last, list_destroy, list_length, list_user, make_list, set_list_user,
 };
 use crate::name_calls::{catlg, entry, find, uncatlg};
+use crate::object_calls::{source_length, zco_length};
 use crate::ordered_calls::{insert_ordered, search};
 use crate::raw_calls::{free, length, malloc, read, stage, write};
 use crate::source_calls::{bulk_ref, count, destroy_ref, file_ref, obj_ref};
 use crate::table_calls::{dimensions, make_table, row, set_row, table_destroy, table_user};
 use crate::text_calls::{string, string_dup, string_length, string_read};
+use crate::wire_calls::give;
 use crate::{Call, Reply, World};
 use sdr_base::{Amounts, NoMemory};
 use std::alloc::Global;
@@ -83,6 +85,12 @@ pub fn apply(alloc: Global, world: &mut World, call: &Call) -> Result<Reply, NoM
         Call::Find(name) => find(world, name),
         Call::Uncatlg(name) => uncatlg(world, name),
         Call::Entry(place) => entry(alloc, world, *place),
+        Call::ZcoLength(addr) => zco_length(world, *addr),
+        Call::SourceLength(addr) => source_length(world, *addr),
+        Call::Transmit(_, _, _)
+        | Call::ReceiveHeaders(_, _, _)
+        | Call::ReceiveSource(_, _, _)
+        | Call::ReceiveTrailers(_, _, _) => give(alloc, world, call),
         Call::FileRef(path, length) => file_ref(alloc, world, path, *length),
         Call::BulkRef(item, length) => bulk_ref(world, *item, *length),
         Call::ObjRef(addr) => obj_ref(world, *addr),
@@ -116,12 +124,6 @@ pub fn apply(alloc: Global, world: &mut World, call: &Call) -> Result<Reply, NoM
         | Call::ClonePart(_, _, _, _)
         | Call::Delimit(_, _, _)
         | Call::Strip(_)
-        | Call::ZcoLength(_)
-        | Call::SourceLength(_)
-        | Call::Destroy(_)
-        | Call::Transmit(_, _, _)
-        | Call::ReceiveHeaders(_, _, _)
-        | Call::ReceiveSource(_, _, _)
-        | Call::ReceiveTrailers(_, _, _) => unreachable!(),
+        | Call::Destroy(_) => unreachable!(),
     }
 }

@@ -1,9 +1,15 @@
 // What a world keeps beside its things, so that no call sums over all of them.
-ghost use Rattle.std.specs.Prelude.{◌≡◌, ℕ, Contains, IfSome, OnOk, []};
+ghost use Rattle.std.specs.Prelude.{◌≡◌, ◌==◌, ◌+◌, ◌<◌, ◌≤◌, ◌^◌, if◌then◌else◌, ℕ, Contains, IfSome, OnOk, []};
+ghost use Rattle.std.specs.List.{All};
 ghost use Rattle.std.specs.FinMap as map;
+ghost use Rattle.sdr_base.specs.declared.kind.Space.{Space as GhostSpace};
+ghost use Rattle.sdr_model.specs.Amounts.{amount, minus, plus};
 ghost use Rattle.sdr_model.specs.Charged.{charged_to, no_charges, with_charged};
-ghost use Rattle.sdr_model.specs.Notes.{NameSource, SameNotes, noted_count};
+ghost use Rattle.sdr_model.specs.Zco.{naming};
+ghost use Rattle.sdr_model.specs.Notes.{NameSource, SameNotes, UsesMore, more_uses, note_at, noted_count};
 
+use crate::Extent;
+use crate::amounts::{minus, plus};
 use crate::notes::Notes;
 use sdr_base::{Acct, Addr, Amounts, NoMemory};
 use std::alloc::Global;
@@ -27,6 +33,40 @@ impl Note {
         match acct {
             Acct::Inbound => self.inbound,
             Acct::Outbound => self.outbound,
+        }
+    }
+
+    // The note with one more extent of an account.
+    fn raised(self, acct: Acct) -> Note
+        requires small { noted_count self acct < 2 ^ 63 }
+        ensures { result ≡ more_uses acct 1 self }
+    {
+        match acct {
+            Acct::Inbound => Note {
+                inbound: self.inbound + 1,
+                ..self
+            },
+            Acct::Outbound => Note {
+                outbound: self.outbound + 1,
+                ..self
+            },
+        }
+    }
+
+    // The note with one extent of an account less.
+    fn lowered(self, acct: Acct) -> Note
+        requires some { 0 < noted_count self acct }
+        ensures { self ≡ more_uses acct 1 result }
+    {
+        match acct {
+            Acct::Inbound => Note {
+                inbound: self.inbound - 1,
+                ..self
+            },
+            Acct::Outbound => Note {
+                outbound: self.outbound - 1,
+                ..self
+            },
         }
     }
 }
@@ -144,5 +184,87 @@ impl Tally {
             note.source = source;
             self.notes.set(raw, note);
         }
+    }
+
+    /// Counts one more extent of an account at an address that was touched.
+    pub fn add_use(&mut self, acct: Acct, addr: Addr)
+        requires touched { Contains self.old.notes.touched addr }
+        requires small { noted_count (note_at self.old.notes.now addr) acct < 2 ^ 63 }
+        ensures now { (q : ℕ) → note_at self.new.notes.now q
+            ≡ more_uses acct (if addr == q then 1 else 0) (note_at self.old.notes.now q) }
+        ensures begun { SameNotes self.new.notes.begun self.old.notes.begun }
+        ensures touched { self.new.notes.touched ≡ self.old.notes.touched }
+        ensures sums_now { self.new.now ≡ self.old.now }
+        ensures sums_begun { self.new.begun ≡ self.old.begun }
+    {
+        let note = self.notes.get(addr);
+        self.notes.set(addr, note.raised(acct));
+    }
+
+    // Counts one extent of an account less at an address that was touched.
+    fn remove_use(&mut self, acct: Acct, addr: Addr)
+        requires touched { Contains self.old.notes.touched addr }
+        requires some { 0 < noted_count (note_at self.old.notes.now addr) acct }
+        ensures now { (q : ℕ) → note_at self.old.notes.now q
+            ≡ more_uses acct (if addr == q then 1 else 0) (note_at self.new.notes.now q) }
+        ensures begun { SameNotes self.new.notes.begun self.old.notes.begun }
+        ensures touched { self.new.notes.touched ≡ self.old.notes.touched }
+        ensures sums_now { self.new.now ≡ self.old.now }
+        ensures sums_begun { self.new.begun ≡ self.old.begun }
+    {
+        let note = self.notes.get(addr);
+        self.notes.set(addr, note.lowered(acct));
+    }
+
+    /// Counts these extents of an account's object, whose sources were touched.
+    pub fn add_uses(&mut self, acct: Acct, extents: &[Extent])
+        requires touched { All (λ e. Contains self.old.notes.touched e.source) extents.now }
+        requires small { (q : ℕ) → noted_count (note_at self.old.notes.now q) acct + naming q extents.now < 2 ^ 63 }
+        ensures now { UsesMore acct extents.now self.old.notes.now self.new.notes.now }
+        ensures begun { SameNotes self.new.notes.begun self.old.notes.begun }
+        ensures touched { self.new.notes.touched ≡ self.old.notes.touched }
+        ensures sums_now { self.new.now ≡ self.old.now }
+        ensures sums_begun { self.new.begun ≡ self.old.begun }
+    {
+        for extent in extents {
+            self.add_use(acct, extent.source);
+        }
+    }
+
+    /// Counts these extents of an account's object no more, whose sources were touched.
+    pub fn remove_uses(&mut self, acct: Acct, extents: &[Extent])
+        requires touched { All (λ e. Contains self.old.notes.touched e.source) extents.now }
+        requires some { (q : ℕ) → naming q extents.now ≤ noted_count (note_at self.old.notes.now q) acct }
+        ensures now { UsesMore acct extents.now self.new.notes.now self.old.notes.now }
+        ensures begun { SameNotes self.new.notes.begun self.old.notes.begun }
+        ensures touched { self.new.notes.touched ≡ self.old.notes.touched }
+        ensures sums_now { self.new.now ≡ self.old.now }
+        ensures sums_begun { self.new.begun ≡ self.old.begun }
+    {
+        for extent in extents {
+            self.remove_use(acct, extent.source);
+        }
+    }
+
+    /// Charges an account so much more.
+    pub fn charge(&mut self, acct: Acct, amounts: &Amounts)
+        requires small { (space : GhostSpace) →
+            amount (charged_to self.old.now acct) space + amount amounts.now space < 2 ^ 63 }
+        ensures now { self.new.now ≡ with_charged self.old.now acct (plus (charged_to self.old.now acct) amounts.now) }
+        ensures begun { self.new.begun ≡ self.old.begun }
+        ensures notes { self.new.notes ≡ self.old.notes }
+    {
+        let charged = plus(&self.now.to(acct), amounts);
+        self.now.set(acct, charged);
+    }
+
+    /// Charges an account so much less.
+    pub fn release(&mut self, acct: Acct, amounts: &Amounts)
+        ensures now { self.new.now ≡ with_charged self.old.now acct (minus (charged_to self.old.now acct) amounts.now) }
+        ensures begun { self.new.begun ≡ self.old.begun }
+        ensures notes { self.new.notes ≡ self.old.notes }
+    {
+        let charged = minus(&self.now.to(acct), amounts);
+        self.now.set(acct, charged);
     }
 }

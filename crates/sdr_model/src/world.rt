@@ -13,8 +13,13 @@ ghost use Rattle.sdr_model.specs.Things.{IsWithin, SpotIs, inner_among, inner_bl
 ghost use Rattle.sdr_model.specs.World.{block_at, empty_world, is_marked, spot_of, thing_at};
 ghost use Rattle.sdr_model.specs.declared.things.Thing.{Thing};
 
+mod blocks;
+mod charges;
 mod charging;
+mod objects;
+mod replacing;
 mod sources;
+mod taking;
 
 use crate::catalogue::Catalogue;
 use crate::owners::Owners;
@@ -62,8 +67,8 @@ impl Model for World {
       now = record { things = s.things.now; names = s.catalogue.now; accounts = s.accounts.now; marks = s.marks; shown = s.shown; taken = s.taken };
       touched = s.things.touched;
       owners = s.owners;
-      noted = s.tally.notes.touched;
       saved = s.accounts.saved;
+      noted = s.tally.notes.touched;
     } };
 
     ghost invariant = { λ s. IsKept s.owners s.tally (next_addr s.taken) s.things s.accounts };

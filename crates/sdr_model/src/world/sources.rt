@@ -112,6 +112,7 @@ impl World {
             Contains self.old.touched other → Contains self.new.touched other) }
         ensures others_noted { OnOk result ((other : ℕ) →
             Contains self.old.noted other → Contains self.new.noted other) }
+        ensures saved { self.new.saved ≡ self.old.saved }
     {
         self.tally.touch(Some(addr))?;
         self.things.touch(addr)
@@ -132,6 +133,7 @@ impl World {
         ensures owners { self.new.owners ≡ self.old.owners }
         ensures touched { self.new.touched ≡ self.old.touched }
         ensures noted_stay { self.new.noted ≡ self.old.noted }
+        ensures saved { self.new.saved ≡ self.old.saved }
     {
         let raw = source.subject.raw();
         self.things.put(addr, Some(Thing::Source(source)));
@@ -150,6 +152,7 @@ impl World {
         ensures owners { self.new.owners ≡ self.old.owners }
         ensures touched { self.new.touched ≡ self.old.touched }
         ensures noted_stay { self.new.noted ≡ self.old.noted }
+        ensures saved { self.new.saved ≡ self.old.saved }
     {
         let raw = self.raw_at(addr);
         self.things.put(addr, None);

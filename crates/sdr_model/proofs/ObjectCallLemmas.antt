@@ -1,0 +1,130 @@
+-- Objects that are put into a world in the making.
+use Rattle.std.proofs.Common.{◌≡◌, ◌≤◌, ◌+◌, ◌++◌, ◌∷◌, [], ℕ, List, Option, None, Some, Bool, true, false, cond, ap, sym, ◌∙◌, refl, subst, arith}
+use Rattle.std.specs.FinMap.{get}
+use Rattle.std.specs.List.{All}
+use Rattle.sdr_base.specs.declared.account.Acct.{Acct}
+use Rattle.sdr_base.specs.declared.account.Acct.TheVariants as accts
+use Rattle.sdr_base.specs.declared.account.Amounts.{Amounts}
+use Rattle.sdr_base.specs.declared.kind.Space.{Space}
+use Rattle.sdr_base.specs.declared.kind.Space.TheVariants as spaces
+use Rattle.sdr_base.specs.declared.moves.Move.{Move}
+use Rattle.sdr_base.specs.declared.moves.Move.TheVariants.{Took}
+use Rattle.sdr_model.specs.Accounts.{Pending, is_same_account, most_amount}
+use Rattle.sdr_model.specs.Allowed.{HasRoomFor, MayCharge}
+use Rattle.sdr_model.specs.Amounts.{amount, amounts_by, in_space}
+use Rattle.sdr_model.specs.Charges.{object_bytes, object_charge, occupancy, space_in, thing_charge}
+use Rattle.sdr_model.specs.Charging.{Charges, with_used}
+use Rattle.sdr_model.specs.Dry.{StepsDry, dry_moves, next_addr, with_blocks}
+use Rattle.sdr_model.specs.ObjectSteps.{with_object}
+use Rattle.sdr_model.specs.Steps.{Outcome, Takes, without_thing}
+use Rattle.sdr_model.specs.Tallies.{MayReplace}
+use Rattle.sdr_model.specs.World.{World, thing_at}
+use Rattle.sdr_model.specs.Zco.{as_object, as_source, empty_object, object_at}
+use Rattle.sdr_model.specs.declared.answer.Reply.{Reply}
+use Rattle.sdr_model.specs.declared.things.Thing.{Thing}
+use Rattle.sdr_model.specs.declared.things.Thing.TheVariants as things
+use Rattle.sdr_model.specs.declared.zco.ZcoObject.{ZcoObject}
+use Rattle.sdr_model.proofs.ChargeLemmas.{charge_allowed}
+use Rattle.sdr_model.proofs.SumLemmas.{counted_at}
+use Rattle.sdr_model.proofs.TallyLemmas.{All-each, SameSpace, charged-with_at, object_charge-same, same_spaces}
+
+-- the one block that is taken after a charge
+put_one : (w : World) (p : Option Pending) (amounts : Amounts) (k : ℕ) (z : ZcoObject)
+    → record (with_object (with_blocks (with_used w p amounts) 1) k z) { taken = w.taken }
+    ≡ record (with_object (with_used w p amounts) k z) { marks = w.marks ++ next_addr w.taken ∷ []; shown = [] }
+put_one w None amounts k z = refl
+put_one w (Some p) amounts k z = refl
+
+-- what a charged call that takes one block and puts an object comes to
+abbrev pub TakenOne : World → World → ℕ → Reply → Outcome
+TakenOne w after need reply =
+    record { moves = Took need (next_addr w.taken) ∷ []; after = record after { taken = w.taken }; reply = reply }
+
+pub charged_one : (w w' : World) (at : ℕ → ℕ) (object : ℕ → ZcoObject) (acct : Acct) (number need : ℕ) (charge : Space → ℕ)
+    (amounts : Amounts) (p : Option Pending) (reply : ℕ → Reply)
+    → amounts ≡ amounts_by charge → MayCharge w acct number amounts p
+    → w' ≡ with_object (with_blocks (with_used w p amounts) 1) (at (next_addr w.taken)) (object (next_addr w.taken))
+    → let o = TakenOne w w' need (reply (next_addr w.taken)) in
+    Charges w o acct number charge (λ used. Takes w o need (λ addr. with_object used (at addr) (object addr)) reply)
+charged_one w w' at object acct number need charge amounts p reply is may put =
+    let o = TakenOne w w' need (reply (next_addr w.taken)) in
+    charge_allowed w o acct number charge amounts p
+    (λ used. Takes w o need (λ addr. with_object used (at addr) (object addr)) reply) is may
+    ( refl
+    , ( ap (λ (v : World). record v { taken = w.taken }) put
+        ∙ put_one w p amounts (at (next_addr w.taken)) (object (next_addr w.taken))
+      , refl
+      )
+    )
+
+-- it counts one block
+pub taken_one : (w w' : World) (p : Option Pending) (amounts : Amounts) (k : ℕ) (z : ZcoObject)
+    → w' ≡ with_object (with_blocks (with_used w p amounts) 1) k z → w'.taken ≡ w.taken + 1
+taken_one w w' None amounts k z is = ap (λ (v : World). v.taken) is
+taken_one w w' (Some p) amounts k z is = ap (λ (v : World). v.taken) is
+
+-- a charge and blocks leave the things
+pub thing_at-blocks : (w : World) (p : Option Pending) (amounts : Amounts) (count k : ℕ)
+    → thing_at (with_blocks (with_used w p amounts) count) k ≡ thing_at w k
+thing_at-blocks w None amounts count k = refl
+thing_at-blocks w (Some p) amounts count k = refl
+
+-- an account that has room for an object with nothing in it has room after one is made
+pub room_made : (w : World) (z : ZcoObject) (acct : Acct) (amounts : Amounts) → z ≡ empty_object acct
+    → amounts ≡ amounts_by (in_space spaces.Heap object_bytes) → HasRoomFor w acct amounts
+    → (space : Space) → occupancy w z.account space + object_charge w space z ≤ most_amount
+room_made w z acct amounts empty charge room space =
+    subst (λ (z : ZcoObject). occupancy w z.account space + object_charge w space z ≤ most_amount) (sym empty)
+    (omega (arith, room space, ap (λ a. amount a space) charge, of_empty space))
+  where
+    of_empty : (space : Space)
+        → object_charge w space (empty_object acct) ≡ amount (amounts_by (in_space spaces.Heap object_bytes)) space
+    of_empty spaces.File = refl
+    of_empty spaces.Bulk = refl
+    of_empty spaces.Heap = refl
+
+-- the account of an object is itself
+same_account : (acct : Acct) → is_same_account acct acct ≡ true
+same_account accts.Inbound = refl
+same_account accts.Outbound = refl
+
+-- without an object
+module _ (w : World) (k : ℕ) (z : ZcoObject) (is : get w.things k ≡ Some (things.Object z)) where
+  no_source : space_in (as_source None) ≡ space_in (as_source (get w.things k))
+  no_source = ap (λ t. space_in (as_source t)) (sym is)
+
+  -- what another object charges is the same
+  pub object_charge-gone : (space : Space) (y : ZcoObject) → object_charge (without_thing w k) space y ≡ object_charge w space y
+  object_charge-gone space y =
+      object_charge-same w (without_thing w k) space y
+      (All-each (SameSpace w (without_thing w k)) (λ e. same_spaces w.things w.accounts k None no_source e.source) y.extents)
+
+  -- so much less is occupied
+  pub occupancy-gone : (space : Space)
+      → occupancy (without_thing w k) z.account space + object_charge w space z ≡ occupancy w z.account space
+  occupancy-gone space =
+      omega (arith, charged-with_at w.things w.accounts k None
+      (λ q y there. All-each (SameSpace w (without_thing w k)) (λ e. same_spaces w.things w.accounts k None no_source e.source) y.extents)
+      z.account space,
+      ap (λ t. counted_at (λ e. thing_charge w z.account space e.1) k t) is,
+      ap (λ b. cond b (object_charge w space z) 0) (same_account z.account))
+
+-- an object that may come in the place of another has room where that one is gone
+pub room_replaced : (w : World) (k : ℕ) (object : ZcoObject) → MayReplace w (object_at w k) object
+    → (space : Space) → occupancy (without_thing w k) object.account space + object_charge (without_thing w k) space object ≤ most_amount
+room_replaced w k object may space = of_thing (get w.things k) refl may
+  where
+    of_thing : (t : Option Thing) → get w.things k ≡ t → MayReplace w (as_object t) object
+        → occupancy (without_thing w k) object.account space + object_charge (without_thing w k) space object ≤ most_amount
+    of_thing (Some (things.Object z)) is may =
+        let gone : occupancy (without_thing w k) object.account space + object_charge w space z ≡ occupancy w object.account space =
+        subst (λ acct. occupancy (without_thing w k) acct space + object_charge w space z ≡ occupancy w acct space) may.0
+        (occupancy-gone w k z is space) in
+        omega (arith, gone, object_charge-gone w k z is space object, may.1 space)
+    of_thing (Some (things.Raw bytes)) is may = absurd may
+    of_thing (Some (things.Text text)) is may = absurd may
+    of_thing (Some (things.List l)) is may = absurd may
+    of_thing (Some (things.Table t)) is may = absurd may
+    of_thing (Some (things.Hash h)) is may = absurd may
+    of_thing (Some (things.Source s)) is may = absurd may
+    of_thing None is may = absurd may

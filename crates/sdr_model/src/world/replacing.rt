@@ -1,0 +1,51 @@
+// Objects in the place of others.
+ghost use Rattle.std.specs.Prelude.{◌≡◌, Contains, IfSome, OnOk};
+ghost use Rattle.std.specs.List.{All};
+ghost use Rattle.sdr_model.specs.Dry.{next_addr};
+ghost use Rattle.sdr_model.specs.ObjectSteps.{with_object};
+ghost use Rattle.sdr_model.specs.Owners.{MayPut};
+ghost use Rattle.sdr_model.specs.Tallies.{IsModest, MayReplace};
+ghost use Rattle.sdr_model.specs.Zco.{object_at};
+ghost use Rattle.sdr_model.specs.declared.things.Thing.{Thing};
+
+use crate::{World, ZcoObject};
+use sdr_base::{Addr, NoMemory};
+
+impl World {
+    /// Takes note that the object at an address, and what names its sources, may be changed. After it that
+    /// needs no memory. Want of memory leaves the world as before.
+    pub fn touch_object(&mut self, addr: Addr, object: &ZcoObject) -> Result<(), NoMemory>
+        ensures now { self.new.now ≡ self.old.now }
+        ensures begun { self.new.begun ≡ self.old.begun }
+        ensures owners { self.new.owners ≡ self.old.owners }
+        ensures touched { OnOk result (Contains self.new.touched addr) }
+        ensures noted { OnOk result (All (λ e. Contains self.new.noted e.source) object.now.extents) }
+    {
+        self.touch(addr)?;
+        for extent in object.extents.as_slice() {
+            self.touch(extent.source)?;
+        }
+        Ok(())
+    }
+
+    /// Puts an object in the place of the one at an address that was touched, of the same account. It is
+    /// linear in both, times the logarithm of the world.
+    pub fn replace_object(&mut self, addr: Addr, object: ZcoObject)
+        requires touched { Contains self.old.touched addr }
+        requires noted { All (λ e. Contains self.old.noted e.source) object.extents }
+        requires noted_there { IfSome (object_at self.old.now addr) (λ z.
+            All (λ e. Contains self.old.noted e.source) z.extents) }
+        requires modest { IsModest (next_addr self.old.now.taken) object }
+        requires may_put { MayPut self.old addr (Thing.Object object) }
+        requires room { MayReplace self.old.now (object_at self.old.now addr) object }
+        ensures put { self.new.now ≡ with_object self.old.now addr object }
+        ensures begun { self.new.begun ≡ self.old.begun }
+        ensures owners { self.new.owners ≡ self.old.owners }
+        ensures touched { self.new.touched ≡ self.old.touched }
+        ensures noted_stay { self.new.noted ≡ self.old.noted }
+        ensures saved { self.new.saved ≡ self.old.saved }
+    {
+        self.lose_object(addr);
+        self.add_object(addr, object);
+    }
+}
