@@ -10,35 +10,19 @@ use Rattle.sdr_base.specs.declared.kind.Space.{Space}
 use Rattle.sdr_model.specs.Accounts.{Pending, Stands, account_of, most_amount, tickets_of, with_account, with_tickets}
 use Rattle.sdr_model.specs.Amounts.{amount, no_amounts}
 use Rattle.sdr_model.specs.Charges.{left_in, occupancy}
-use Rattle.sdr_model.specs.Ledger.{KeepGrants, Ledger, WaitsEmpty}
+use Rattle.sdr_model.specs.Ledger.{KeepGrants, WaitsEmpty}
 use Rattle.sdr_model.specs.Queue.{enqueued, served, stands_before}
-use Rattle.sdr_model.specs.Store.{Store}
-use Rattle.sdr_model.specs.Tallies.{AllTallied, Tallied, charged, world_of}
+use Rattle.sdr_model.specs.Tallies.{charged, world_of}
 use Rattle.sdr_model.specs.Things.{Things}
 use Rattle.sdr_model.specs.declared.accounts.Account.{Account}
 use Rattle.sdr_model.specs.declared.accounts.Accounts.{Accounts}
 use Rattle.sdr_model.specs.declared.accounts.Ticket.{Ticket}
-use Rattle.sdr_model.specs.declared.tally.Tally.{Tally}
 use Rattle.sdr_model.proofs.AmountLemmas.{nothing_in}
 use Rattle.sdr_model.proofs.QueueLemmas.{keeps_of, occupied_served}
 
 -- no more than the greatest amount is occupied in either account
 abbrev pub AreBound : Things → Accounts → Type 0
 AreBound things accounts = (acct : Acct) (space : Space) → occupancy (world_of things accounts) acct space ≤ most_amount
-
--- the sums are told of other accounts too, in which no more is occupied than the greatest amount
-pub AllTallied-accounts : (tally : Tally) (next : ℕ) (store : Store) (old new' : Ledger) → new'.begun ≡ old.begun
-    → AreBound store.now new'.now → AllTallied tally next store old → AllTallied tally next store new'
-AllTallied-accounts tally next store old new' begun bound told = record {
-  begun = subst (λ a. Tallied tally.notes.begun tally.begun next (world_of store.begun a)) (sym begun) told.begun;
-  now = record {
-    counts = told.now.counts;
-    sources = told.now.sources;
-    charges = told.now.charges;
-    bound = bound;
-    sound = told.now.sound;
-  };
-}
 
 -- an account's tickets decide what is occupied in it, and not what is in the other
 pub bound_with : (things : Things) (accounts : Accounts) (acct : Acct) (account : Account) → AreBound things accounts
@@ -57,7 +41,8 @@ bound_less things accounts acct account bound less =
     bound_with things accounts acct account bound (λ space. omega (arith, bound acct space, less space))
 
 -- serving a queue leaves no more occupied
-pub bound_served : (things : Things) (accounts : Accounts) (acct : Acct) (occupied : Amounts) → AreBound things accounts → KeepGrants accounts
+pub bound_served : (things : Things) (accounts : Accounts) (acct : Acct) (occupied : Amounts)
+    → AreBound things accounts → KeepGrants accounts
     → ((space : Space) → amount occupied space ≡ occupancy (world_of things accounts) acct space)
     → AreBound things (with_tickets accounts acct (served (account_of accounts acct).maxima occupied (tickets_of accounts acct)))
 bound_served things accounts acct occupied bound keep is =
@@ -68,7 +53,8 @@ bound_served things accounts acct occupied bound keep is =
     (recursion_from_All WaitsEmpty (tickets_of accounts acct) keeps.waiting) (is space)
     (subst (λ n. n ≤ most_amount) (sym (is space)) (bound acct space)) (keeps.maxima space))
 
-left_in-removed : (space : Space) (ts : List Ticket) (place : ℕ) (d : Ticket) → place < length ts → left_in space (remove ts place) ≤ left_in space ts
+left_in-removed : (space : Space) (ts : List Ticket) (place : ℕ) (d : Ticket) → place < length ts
+    → left_in space (remove ts place) ≤ left_in space ts
 left_in-removed space ts place d inside =
     let f : Ticket → ℕ = λ t. amount t.left space in
     omega (
@@ -99,7 +85,8 @@ bound_removed things accounts p bound stands =
     bound_less things accounts p.acct _ bound (λ space. left_in-removed space (tickets_of accounts p.acct) p.place p.ticket stands.there)
 
 -- nor with one that waits
-pub bound_entered : (things : Things) (accounts : Accounts) (acct : Acct) (ticket : Ticket) (next : ℕ) → AreBound things accounts
+pub bound_entered : (things : Things) (accounts : Accounts) (acct : Acct) (ticket : Ticket) (next : ℕ)
+    → AreBound things accounts
     → ticket.left ≡ no_amounts
     → AreBound things (record (with_tickets accounts acct (enqueued (tickets_of accounts acct) ticket)) { next = next })
 bound_entered things accounts acct ticket next bound empty a space =
@@ -108,7 +95,8 @@ bound_entered things accounts acct ticket next bound empty a space =
     (bound_less things accounts acct (record (account_of accounts acct) { tickets = enqueued (tickets_of accounts acct) ticket }) bound
     (λ space. omega (arith, left_in-entered space (tickets_of accounts acct) place ticket empty))) a space
   where
-    unnumbered : (things : Things) (accounts : Accounts) (next : ℕ) → AreBound things accounts → AreBound things (record accounts { next = next })
+    unnumbered : (things : Things) (accounts : Accounts) (next : ℕ) → AreBound things accounts
+        → AreBound things (record accounts { next = next })
     unnumbered things accounts next bound accts.Inbound space = bound accts.Inbound space
     unnumbered things accounts next bound accts.Outbound space = bound accts.Outbound space
 

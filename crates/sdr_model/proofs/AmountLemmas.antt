@@ -48,7 +48,8 @@ cond_small true x y most p q = p
 cond_small false x y most p q = q
 
 -- amounts of which each is small, with another small one
-pub with_amount_small : (a : Amounts) (space : Space) (value most : ℕ) → value ≤ most → ((s : Space) → amount a s ≤ most)
+pub with_amount_small : (a : Amounts) (space : Space) (value most : ℕ) → value ≤ most → ((s : Space)
+    → amount a s ≤ most)
     → (other : Space) → amount (with_amount a space value) other ≤ most
 with_amount_small a space value most small all other =
     subst (λ n. n ≤ most) (sym (amount-by (λ other. if is_same_space space other then value else amount a other) other))

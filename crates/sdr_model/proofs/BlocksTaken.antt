@@ -24,12 +24,14 @@ use Rattle.sdr_model.proofs.DryLemmas.{blocks_taken-gave}
 use Rattle.sdr_model.proofs.FewLemmas.{few_of_object, length-cut_all}
 
 -- bonding takes three blocks for each header and trailer
-pub blocks_taken-bond_moves : (at : ℕ → ℕ) (k : ℕ) (cs : List Capsule) → blocks_taken (bond_moves at k cs) ≡ 3 * length cs
+pub blocks_taken-bond_moves : (at : ℕ → ℕ) (k : ℕ) (cs : List Capsule)
+    → blocks_taken (bond_moves at k cs) ≡ 3 * length cs
 blocks_taken-bond_moves at k [] = refl
 blocks_taken-bond_moves at k (c ∷ cs) = omega (arith, blocks_taken-bond_moves at (k + 3) cs)
 
 -- as many blocks are taken as there are needs
-pub blocks_taken-takes_from : (at : ℕ → ℕ) (k : ℕ) (needs : List ℕ) → blocks_taken (takes_from at k needs) ≡ length needs
+pub blocks_taken-takes_from : (at : ℕ → ℕ) (k : ℕ) (needs : List ℕ)
+    → blocks_taken (takes_from at k needs) ≡ length needs
 blocks_taken-takes_from at k [] = refl
 blocks_taken-takes_from at k (need ∷ needs) = omega (arith, blocks_taken-takes_from at (suc k) needs)
 
@@ -40,7 +42,8 @@ few_appended : (n : ℕ) (source : Option ZcoSource) (at : ℕ → ℕ) → bloc
 few_appended n None at = omega arith
 few_appended n (Some source) at = omega arith
 
-few_bonding : (most : ℕ) (object : Option ZcoObject) (at : ℕ → ℕ) → ((z : ZcoObject) → object ≡ Some z → pieces z ≤ most)
+few_bonding : (most : ℕ) (object : Option ZcoObject) (at : ℕ → ℕ) → ((z : ZcoObject) → object ≡ Some z
+    → pieces z ≤ most)
     → blocks_taken (bond_moves_of object at) ≤ 3 * most + 2
 few_bonding most None at few = omega arith
 few_bonding most (Some z) at few =
@@ -59,7 +62,8 @@ few_cloning most (Some z) offset bytes at few =
       few z refl,
     )
 
-few_answered : (most : ℕ) (w : World) (call : Call) → HasFewPieces most w.things → blocks_taken (answered_moves w call) ≤ 3 * most + 2
+few_answered : (most : ℕ) (w : World) (call : Call) → HasFewPieces most w.things
+    → blocks_taken (answered_moves w call) ≤ 3 * most + 2
 few_answered most w (calls.ListDestroy addr) few = few_given (3 * most) (elements_in (as_list (thing_at w addr)) ++ addr ∷ [])
 few_answered most w (calls.HashRemove addr key) few = few_given (3 * most) (keyed_in (as_hash (thing_at w addr)) key)
 few_answered most w (calls.HashDestroy addr) few = few_given (3 * most) (entries_in (as_hash (thing_at w addr)) ++ addr ∷ [])
@@ -79,6 +83,7 @@ few_answered most w (calls.Shred ticket) few = few_given (3 * most) (block_of_ti
 few_answered most w call few = omega arith
 
 -- where each object has few pieces, a call takes few blocks
-pub few_blocks : (most : ℕ) (w : World) (call : Call) (reply : Reply) → HasFewPieces most w.things → blocks_taken (dry_moves w call reply) ≤ 3 * most + 2
+pub few_blocks : (most : ℕ) (w : World) (call : Call) (reply : Reply) → HasFewPieces most w.things
+    → blocks_taken (dry_moves w call reply) ≤ 3 * most + 2
 few_blocks most w call (replies.Refused refusal) few = omega arith
 few_blocks most w call reply few = few_answered most w call few

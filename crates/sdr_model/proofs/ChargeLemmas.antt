@@ -29,7 +29,8 @@ use Rattle.sdr_model.proofs.AmountLemmas.{amount-by, amount-minus, first_above-n
 use Rattle.sdr_model.proofs.MachineLemmas.{on_false}
 use Rattle.sdr_model.proofs.QueueLemmas.{keeps_of}
 
-pub tickets_of-with_tickets : (accounts : Accounts) (acct : Acct) (ts : List Ticket) → tickets_of (with_tickets accounts acct ts) acct ≡ ts
+pub tickets_of-with_tickets : (accounts : Accounts) (acct : Acct) (ts : List Ticket)
+    → tickets_of (with_tickets accounts acct ts) acct ≡ ts
 tickets_of-with_tickets accounts accts.Inbound ts = refl
 tickets_of-with_tickets accounts accts.Outbound ts = refl
 
@@ -43,7 +44,8 @@ tickets_same accounts accts.Inbound = refl
 tickets_same accounts accts.Outbound = refl
 
 -- a ticket in the place of another leaves what is left of it in that of the other
-pub left_in-set : (space : Space) (ts : List Ticket) (place : ℕ) (old new' : Ticket) → place < length ts → slice_get ts place ≡ Some old
+pub left_in-set : (space : Space) (ts : List Ticket) (place : ℕ) (old new' : Ticket) → place < length ts
+    → slice_get ts place ≡ Some old
     → left_in space (set ts place new') + amount old.left space ≡ left_in space ts + amount new'.left space
 left_in-set space ts place old new' inside is =
     omega (
@@ -53,12 +55,14 @@ left_in-set space ts place old new' inside is =
     )
 
 -- a ticket that is put where it stood before
-pub set_back : (ts : List Ticket) (place : ℕ) (old between : Ticket) → slice_get ts place ≡ Some old → set (set ts place between) place old ≡ ts
+pub set_back : (ts : List Ticket) (place : ℕ) (old between : Ticket) → slice_get ts place ≡ Some old
+    → set (set ts place between) place old ≡ ts
 set_back ts place old between is =
     set-set ts place between old ∙ ap (set ts place) (sym (get_or_from_slice_get ts place old old is)) ∙ set-get_or ts place old
 
 -- what a charge used is given back
-pub with_back-used : (w : World) (p : Option Pending) (amounts : Amounts) → IfSome p (Stands w.accounts) → with_back (with_used w p amounts) p ≡ w
+pub with_back-used : (w : World) (p : Option Pending) (amounts : Amounts) → IfSome p (Stands w.accounts)
+    → with_back (with_used w p amounts) p ≡ w
 with_back-used w None amounts stands = refl
 with_back-used w (Some p) amounts stands =
     let used = record p.ticket { left = minus p.ticket.left amounts } in
@@ -70,7 +74,8 @@ with_back-used w (Some p) amounts stands =
     ∙ tickets_same w.accounts p.acct)
 
 -- a charge leaves no more occupied
-pub bound_used : (things : Things) (accounts : Accounts) (p : Pending) (amounts : Amounts) → AreBound things accounts → Stands accounts p
+pub bound_used : (things : Things) (accounts : Accounts) (p : Pending) (amounts : Amounts)
+    → AreBound things accounts → Stands accounts p
     → AreBound things (with_ticket accounts p (record p.ticket { left = minus p.ticket.left amounts }))
 bound_used things accounts p amounts bound stands =
     let used = record p.ticket { left = minus p.ticket.left amounts } in
@@ -113,12 +118,14 @@ of_place acct ticket None p is = cc
 of_place acct ticket (Some place) p is = cc
 
 -- a ticket in the queue of an account is the account's
-pub pending_acct : (accounts : Accounts) (acct : Acct) (number : ℕ) (p : Pending) → pending_in accounts acct number ≡ Some p → p.acct ≡ acct
+pub pending_acct : (accounts : Accounts) (acct : Acct) (number : ℕ) (p : Pending)
+    → pending_in accounts acct number ≡ Some p → p.acct ≡ acct
 pending_acct accounts acct number p is =
     of_place acct (ticket_at (tickets_of accounts acct)) (position (λ t. t.number == number) (tickets_of accounts acct)) p is
 
 -- where there is room for what no grant covers, there is room for all where the grant covered what it could
-pub room_used : (w : World) (acct : Acct) (number : ℕ) (p : Option Pending) (amounts : Amounts) → IsGrantOf w.accounts acct number p
+pub room_used : (w : World) (acct : Acct) (number : ℕ) (p : Option Pending) (amounts : Amounts)
+    → IsGrantOf w.accounts acct number p
     → IfSome p (Stands w.accounts) → IsBound w → HasRoomFor w acct (minus amounts (grant_left p)) → HasRoomFor (with_used w p amounts) acct amounts
 room_used w acct number None amounts granted stands bound room space =
     omega (arith, room space, amount-minus amounts no_amounts space, nothing_in space)
@@ -132,12 +139,14 @@ no_refusal : (f : Option Space) (g : Space → Refusal) → option_map g f ≡ N
 no_refusal None g is = refl
 no_refusal (Some space) g is = cc
 
-refusal_none : (b : Option Ticket) (f : Option Space) (g : Space → Refusal) → refusal_by b (option_map g f) ≡ None → (b ≡ None) × (f ≡ None)
+refusal_none : (b : Option Ticket) (f : Option Space) (g : Space → Refusal) → refusal_by b (option_map g f) ≡ None
+    → (b ≡ None) × (f ≡ None)
 refusal_none None f g is = (refl, no_refusal f g is)
 refusal_none (Some t) f g is = cc
 
 -- where an account refuses nothing, there is room
-pub room_allowed : (w : World) (acct : Acct) (uncovered : Amounts) → KeepGrants w.accounts → IsBound w → refusal_of w acct uncovered ≡ None
+pub room_allowed : (w : World) (acct : Acct) (uncovered : Amounts) → KeepGrants w.accounts → IsBound w
+    → refusal_of w acct uncovered ≡ None
     → HasRoomFor w acct uncovered
 room_allowed w acct uncovered keep bound is space =
     let none = refusal_none (barrier uncovered (tickets_of w.accounts acct)) (first_above uncovered (rooms w acct)) (space_refusal w acct uncovered) is in
@@ -158,13 +167,15 @@ on_some : {T : Type 0} (P : Type 0) (Q : T → Type 0) (o : Option T) (x : T) �
 on_some P Q o x is q = subst (λ o. MatchOption o P Q) (sym is) q
 
 -- a ticket that a charge names is granted
-pub granted_of : (accounts : Accounts) (acct : Acct) (number : ℕ) (p : Option Pending) → IsGrantOf accounts acct number p
+pub granted_of : (accounts : Accounts) (acct : Acct) (number : ℕ) (p : Option Pending)
+    → IsGrantOf accounts acct number p
     → IfSome p (λ p. p.ticket.granted ≡ true)
 granted_of accounts acct number None granted = tt
 granted_of accounts acct number (Some p) granted = granted.2
 
 -- a charge goes on with the ticket that it names
-pub on_grant : (w : World) (o : Outcome) (acct : Acct) (number : ℕ) (p : Option Pending) (goes : Option Pending → Type 0)
+pub on_grant : (w : World) (o : Outcome) (acct : Acct) (number : ℕ) (p : Option Pending) (goes : Option Pending
+    → Type 0)
     → IsGrantOf w.accounts acct number p → goes p → OnTicket w o acct number goes
 on_grant w o acct number None goes granted g = subst (λ n. OnTicket w o acct n goes) (sym granted) g
 on_grant w o acct number (Some p) goes granted g =
@@ -178,7 +189,8 @@ not_refused w o None (Some space) g P is p = cc
 not_refused w o (Some t) f g P is p = cc
 
 -- a charge that the account allows goes on
-pub charge_allowed : (w : World) (o : Outcome) (acct : Acct) (number : ℕ) (charge : Space → ℕ) (amounts : Amounts) (p : Option Pending)
+pub charge_allowed : (w : World) (o : Outcome) (acct : Acct) (number : ℕ) (charge : Space
+    → ℕ) (amounts : Amounts) (p : Option Pending)
     (goes : World → Type 0) → amounts ≡ amounts_by charge → MayCharge w acct number amounts p → goes (with_used w p amounts)
     → Charges w o acct number charge goes
 charge_allowed w o acct number charge amounts p goes is may g =
@@ -219,12 +231,14 @@ map_bool : {P Q P' Q' : Type 0} (b : Bool) → (P → P') → (Q → Q') → Mat
 map_bool true f g h = f h
 map_bool false f g h = g h
 
-map_option : {T P P' : Type 0} {Q Q' : T → Type 0} (o : Option T) → (P → P') → ((x : T) → Q x → Q' x) → MatchOption o P Q → MatchOption o P' Q'
+map_option : {T P P' : Type 0} {Q Q' : T → Type 0} (o : Option T) → (P → P') → ((x : T) → Q x → Q' x)
+    → MatchOption o P Q → MatchOption o P' Q'
 map_option None f g h = f h
 map_option (Some x) f g h = g x h
 
 -- a call that is refused as the account refuses its charge
-pub charge_refused : (w : World) (o : Outcome) (acct : Acct) (number : ℕ) (charge : Space → ℕ) (amounts : Amounts) (refusal : Refusal)
+pub charge_refused : (w : World) (o : Outcome) (acct : Acct) (number : ℕ) (charge : Space
+    → ℕ) (amounts : Amounts) (refusal : Refusal)
     (goes : World → Type 0) → amounts ≡ amounts_by charge → RefusesCharge w acct number amounts refusal → Refuses w o refusal
     → Charges w o acct number charge goes
 charge_refused w o acct number charge amounts refusal goes is refuses h =

@@ -1,5 +1,5 @@
 -- One event draws one number at most, adds one piece at most to an object, and takes few blocks.
-use Rattle.std.proofs.Common.{◌≡◌, ◌≤◌, ◌<◌, ◌+◌, ◌*◌, ◌^◌, ◌==◌, ◌&&◌, ◌++◌, ◌∷◌, [], ℕ, List, None, Some, find, nat_le, ap, refl, subst, sym, ◌∙◌, arith, ◌⊎◌, inl, inr}
+use Rattle.std.proofs.Common.{◌≡◌, ◌≤◌, ◌<◌, ◌+◌, ◌*◌, ◌==◌, ◌&&◌, [], ℕ, List, None, Some, find, nat_le, ap, refl, subst, sym, ◌∙◌, arith, ◌⊎◌, inl, inr}
 use Rattle.std.specs.FinMap.{empty, get-empty}
 use Rattle.std.specs.Ordering.{nat_cmp}
 use Rattle.sdr_model.specs.AccountSteps.{pending_of}
@@ -69,7 +69,8 @@ module _ (most : ℕ) (m m' : Machine) (few_world : HasFewPieces most m.world.th
   few_now = few_same m.current few_current
 
   -- the worlds stay
-  stays : (next : Machine) → m' ≡ next → next.drawn ≤ m.drawn + 1 → next.world ≡ m.world → next.current ≡ m.current → FewAfter most m m'
+  stays : (next : Machine) → m' ≡ next → next.drawn ≤ m.drawn + 1 → next.world ≡ m.world
+      → next.current ≡ m.current → FewAfter most m m'
   stays next is drawn world current =
       is_few next is drawn (subst (λ w. HasFewPieces (most + 1) w.things) (sym world) few_then) (subst (FewMore most m.current) (sym current) few_now)
 
@@ -99,13 +100,15 @@ module _ (most : ℕ) (m m' : Machine) (few_world : HasFewPieces most m.world.th
   few_transacts h t' events.Cancel answer s = kept t' _ s.2 refl
   few_transacts h t' event answer s = absurd s
 
-  few_closes : (h : Holder) (event : Event) (answer : Answer) → Closes m h event answer (event_moves m event answer) m' → FewAfter most m m'
+  few_closes : (h : Holder) (event : Event) (answer : Answer)
+      → Closes m h event answer (event_moves m event answer) m' → FewAfter most m m'
   few_closes h event answer s =
       let close = closing (transaction_of h m.current) event in
       is_few (with_next m h (left_by close m.world m.current)) s.2 (omega arith) (few_left close)
       (record { pieces = few_left close; taken = omega (arith, taken_left close) })
 
-  few_serves : (h : Holder) (event : Event) (answer : Answer) → Serves m h event answer (event_moves m event answer) m' → FewAfter most m m'
+  few_serves : (h : Holder) (event : Event) (answer : Answer)
+      → Serves m h event answer (event_moves m event answer) m' → FewAfter most m m'
   few_serves h event answer s =
       in_bool (is_opening (transaction_of h m.current) event) s
       (λ o. stays (with_transaction m h (record (transaction_of h m.current) { depth = 1 })) o.2 (omega arith) refl refl)
@@ -113,13 +116,15 @@ module _ (most : ℕ) (m m' : Machine) (few_world : HasFewPieces most m.world.th
       (λ works. is_few (with_transaction m h works.after) works.others (omega arith) few_then
       (few_transacts h works.after event answer works.transacts)))
 
-  few_waits : (h : Holder) (event : Event) (answer : Answer) → Waits m h event answer (event_moves m event answer) m' → FewAfter most m m'
+  few_waits : (h : Holder) (event : Event) (answer : Answer)
+      → Waits m h event answer (event_moves m event answer) m' → FewAfter most m m'
   few_waits h event answer s =
       in_bool (is_outside h event) s (λ g. unchanged g.2)
       (λ s. in_bool (served_number m.holders == h.number) s (few_serves h event answer) (λ g. unchanged g.2))
 
   -- a look from a machine of the same worlds
-  few_looks : (from : Machine) (daemon ticket : ℕ) (answer : Answer) → from.drawn ≤ m.drawn + 1 → from.world ≡ m.world → from.current ≡ m.current
+  few_looks : (from : Machine) (daemon ticket : ℕ) (answer : Answer) → from.drawn ≤ m.drawn + 1
+      → from.world ≡ m.world → from.current ≡ m.current
       → LooksAt from daemon ticket answer [] m' → FewAfter most m m'
   few_looks from daemon ticket answer drawn world current s =
       in_option (pending_of from.world ticket) s (λ g. stays from g.2 drawn world current)
@@ -127,11 +132,13 @@ module _ (most : ℕ) (m m' : Machine) (few_world : HasFewPieces most m.world.th
       (λ s. in_bool (waits_for from daemon ticket && is_stalled from) s (λ g. stays (with_entry from daemon) g.2 drawn world current)
       (λ g. stays (with_wait from daemon ticket) g.2 drawn world current)))
 
-  few_departs : (h : Holder) (event : Event) (answer : Answer) → Departs m h event answer (event_moves m event answer) m' → FewAfter most m m'
+  few_departs : (h : Holder) (event : Event) (answer : Answer)
+      → Departs m h event answer (event_moves m event answer) m' → FewAfter most m m'
   few_departs h event answer s =
       in_bool (h.depth == 0) s (λ g. stays (with_left (without_served m) h.daemon) g.2 (omega arith) refl refl) (few_closes h event answer)
 
-  few_holds : (h : Holder) (event : Event) (answer : Answer) → Holds m h event answer (event_moves m event answer) m' → FewAfter most m m'
+  few_holds : (h : Holder) (event : Event) (answer : Answer)
+      → Holds m h event answer (event_moves m event answer) m' → FewAfter most m m'
   few_holds h events.Request answer s = unchanged s.2
   few_holds h (events.Look ticket) answer s =
       in_bool (h.depth == 0) s
@@ -142,7 +149,8 @@ module _ (most : ℕ) (m m' : Machine) (few_world : HasFewPieces most m.world.th
       in_bool (served_number m.holders == h.number) s (few_departs h (events.Leaves leave) answer) (λ g. unchanged g.2)
   few_holds h event answer s = few_waits h event answer s
 
-  few_comes : (daemon : ℕ) (event : Event) (answer : Answer) → Comes m daemon event answer (event_moves m event answer) m' → FewAfter most m m'
+  few_comes : (daemon : ℕ) (event : Event) (answer : Answer)
+      → Comes m daemon event answer (event_moves m event answer) m' → FewAfter most m m'
   few_comes daemon events.Request answer s = stays _ s.2 (omega arith) refl refl
   few_comes daemon events.Begin answer s = stays _ s.2 (omega arith) refl refl
   few_comes daemon (events.Look ticket) answer s =
@@ -153,14 +161,16 @@ module _ (most : ℕ) (m m' : Machine) (few_world : HasFewPieces most m.world.th
       (λ g. stays (with_holder m daemon) g.2 (omega arith) refl refl)
   few_comes daemon event answer s = unchanged s.2
 
-  few : (daemon : ℕ) (event : Event) (answer : Answer) → MachineStep m daemon event answer (event_moves m event answer) m' → FewAfter most m m'
+  few : (daemon : ℕ) (event : Event) (answer : Answer)
+      → MachineStep m daemon event answer (event_moves m event answer) m' → FewAfter most m m'
   few daemon event answer s =
       in_bool (may_come m daemon) s
       (λ s. in_option (find (λ h. h.daemon == daemon) m.holders) s (few_comes daemon event answer) (λ h. few_holds h event answer))
       (λ g. unchanged g.2)
 
 -- after fewer than 2^21 events, one more keeps the bounds
-pub after_one_more : (events : ℕ) (m m' : Machine) (daemon : ℕ) (event : Event) (answer : Answer) → events < 2097152 → IsAfter events m
+pub after_one_more : (events : ℕ) (m m' : Machine) (daemon : ℕ) (event : Event) (answer : Answer)
+    → events < 2097152 → IsAfter events m
     → MachineStep m daemon event answer (event_moves m event answer) m' → IsAfter (events + 1) m'
 after_one_more events m m' daemon event answer below before s =
     let after = few events m m' before.world before.current daemon event answer s in record {

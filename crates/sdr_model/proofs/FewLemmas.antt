@@ -1,17 +1,14 @@
 -- A call adds one piece at most to an object.
-use Rattle.std.proofs.Common.{◌≡◌, ◌≤◌, ◌+◌, ◌-◌, ◌*◌, ◌==◌, ◌++◌, ◌∷◌, [], ℕ, suc, List, Bool, true, false, cond, Option, None, Some, drop, take, length, nat_lt, nat_le, min, position, map, slice_get, ap, sym, ◌∙◌, refl, subst, arith, MatchBool, MatchOption, length-append, length-drop}
+use Rattle.std.proofs.Common.{◌≡◌, ◌≤◌, ◌+◌, ◌-◌, ◌*◌, ◌++◌, ◌∷◌, [], ℕ, suc, List, Bool, true, false, cond, Option, None, Some, length, ap, sym, ◌∙◌, refl, subst, arith, length-append}
 use Rattle.std.specs.BTreeMap.{is_at}
 use Rattle.std.specs.Cmp.{nat_cmp_total}
 use Rattle.std.specs.FinMap as finite
 use Rattle.std.specs.FinMap.{get-insert, get-remove}
 use Rattle.std.specs.Ordering.{nat_cmp}
-use Rattle.sdr_base.specs.declared.account.Acct.{Acct}
-use Rattle.sdr_base.specs.declared.account.Amounts.{Amounts}
-use Rattle.sdr_base.specs.declared.kind.Space.{Space}
 use Rattle.sdr_base.specs.declared.moves.Move.{Move}
-use Rattle.sdr_base.specs.declared.moves.Move.TheVariants.{Took, Gave, Short}
+use Rattle.sdr_base.specs.declared.moves.Move.TheVariants.{Took}
 use Rattle.sdr_model.specs.BondSteps.{bonded, bonded_extents, with_bonded}
-use Rattle.sdr_model.specs.Cuts.{cut, cut_all, placed}
+use Rattle.sdr_model.specs.Cuts.{cut_all, placed}
 use Rattle.sdr_model.specs.Few.{HasFewPieces, pieces}
 use Rattle.sdr_model.specs.Gone.{without_things}
 use Rattle.sdr_model.specs.ObjectSteps.{with_extent}
@@ -66,7 +63,8 @@ few_remove most ts addr few = record {
 }
 
 -- things without some
-pub few_without : (most : ℕ) (w : World) (addrs : List ℕ) → HasFewPieces most w.things → HasFewPieces most (without_things w addrs).things
+pub few_without : (most : ℕ) (w : World) (addrs : List ℕ) → HasFewPieces most w.things
+    → HasFewPieces most (without_things w addrs).things
 few_without most w [] few = few
 few_without most w (addr ∷ addrs) few =
     few_without most (record w { things = finite.remove w.things addr }) addrs (few_remove most w.things addr few)
@@ -91,7 +89,8 @@ object_is (Some (things.Hash x)) z is = cc
 object_is (Some (things.Source x)) z is = cc
 
 -- an object of few pieces has few
-pub few_of_object : (most : ℕ) (w : World) (addr : ℕ) (z : ZcoObject) → HasFewPieces most w.things → object_at w addr ≡ Some z → pieces z ≤ most
+pub few_of_object : (most : ℕ) (w : World) (addr : ℕ) (z : ZcoObject) → HasFewPieces most w.things
+    → object_at w addr ≡ Some z → pieces z ≤ most
 few_of_object most w addr z few is = few.each addr z (object_is (thing_at w addr) z is)
 
 -- as many extents as headers or trailers that become some
@@ -112,7 +111,8 @@ pieces-bonded at z =
       length-append heads z.extents,
     )
 
-cut_few : (b : Bool) (e : Extent) (rest : List Extent) (n : ℕ) → length rest ≤ n → length (cond b rest (e ∷ rest)) ≤ suc n
+cut_few : (b : Bool) (e : Extent) (rest : List Extent) (n : ℕ) → length rest ≤ n
+    → length (cond b rest (e ∷ rest)) ≤ suc n
 cut_few true e rest n le = omega (arith, le)
 cut_few false e rest n le = omega (arith, le)
 
@@ -137,6 +137,7 @@ cloned z from to at small =
     omega (arith, small, length-placed at 1 (cut_all from to z.extents), length-cut_all from to z.extents)
 
 -- what follows from a move that takes one block
-pub in_takes_one : {R : Type 0} (moves : List Move) (need : ℕ) (P : ℕ → Type 0) → TakesOne moves need P → ((addr : ℕ) → P addr → R) → R
+pub in_takes_one : {R : Type 0} (moves : List Move) (need : ℕ) (P : ℕ → Type 0) → TakesOne moves need P
+    → ((addr : ℕ) → P addr → R) → R
 in_takes_one (Took n addr ∷ []) need P s f = f addr s.1
 in_takes_one moves need P s f = absurd s

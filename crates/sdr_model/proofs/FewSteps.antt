@@ -1,12 +1,11 @@
 -- What each row of the table of calls leaves has few pieces.
-use Rattle.std.proofs.Common.{◌≡◌, ◌≤◌, ◌<◌, ◌+◌, ◌-◌, ◌*◌, ◌==◌, ◌||◌, ◌++◌, ◌∷◌, [], ℕ, suc, List, Bool, true, false, not, find, is_some, Option, None, Some, drop, take, length, nat_lt, nat_le, map, position, slice_get, ap, sym, ◌∙◌, refl, subst, arith, MatchBool, MatchOption, length-append, length-drop}
+use Rattle.std.proofs.Common.{◌≡◌, ◌≤◌, ◌+◌, ◌-◌, ◌*◌, ◌==◌, ◌||◌, ◌∷◌, [], ℕ, List, is_some, Option, None, Some, length, nat_lt, nat_le, position, slice_get, sym, subst, arith, MatchOption, length-append, length-drop}
 use Rattle.std.proofs.lemmas.List.{length-take}
 use Rattle.std.specs.FinMap as finite
 use Rattle.sdr_base.specs.declared.account.Acct.{Acct}
 use Rattle.sdr_base.specs.declared.account.Amounts.{Amounts}
 use Rattle.sdr_base.specs.declared.kind.Space.{Space}
 use Rattle.sdr_base.specs.declared.kind.Space.TheVariants as spaces
-use Rattle.sdr_base.specs.declared.moves.Move.{Move}
 use Rattle.sdr_base.specs.declared.refusal.Refusal.{Refusal}
 use Rattle.sdr_base.specs.declared.refusal.Refusal.TheVariants as refusals
 use Rattle.sdr_model.specs.AccountSteps.{pending_of}
@@ -15,7 +14,7 @@ use Rattle.sdr_model.specs.Amounts.{amounts_by, first_above, in_space, minus}
 use Rattle.sdr_model.specs.BondSteps.{bond_charge, bond_moves, bonded, capsules_of, with_bonded}
 use Rattle.sdr_model.specs.Charges.{bytes_charge, capsule_bytes, object_bytes, object_charge, rooms}
 use Rattle.sdr_model.specs.Charging.{Charges, RefusesSpace, grant_left, with_used}
-use Rattle.sdr_model.specs.Cuts.{cut_all, placed}
+use Rattle.sdr_model.specs.Cuts.{placed}
 use Rattle.sdr_model.specs.Few.{HasFewPieces, pieces}
 use Rattle.sdr_model.specs.Gone.{gone_things, without_things}
 use Rattle.sdr_model.specs.HashSteps.{as_hash, has_key, is_no_count, is_no_key_length, OnHash, OnKey}
@@ -25,15 +24,14 @@ use Rattle.sdr_model.specs.ListSteps.{as_list}
 use Rattle.sdr_model.specs.NameSteps.{OnName}
 use Rattle.sdr_model.specs.Names.{name_of}
 use Rattle.sdr_model.specs.ObjectSteps.{AddsCapsule, InRange, last_capsule, raw_append_moves, with_extent, with_object, with_header, with_trailer}
-use Rattle.sdr_model.specs.PartSteps.{asked_extents, clone_moves, object_of, outside_part, part_end, stripped}
+use Rattle.sdr_model.specs.PartSteps.{asked_extents, clone_moves, object_of, outside_part, part_end}
 use Rattle.sdr_model.specs.Queue.{barrier}
-use Rattle.sdr_model.specs.RawSteps.{Frees, FreesThing}
+use Rattle.sdr_model.specs.RawSteps.{FreesThing}
 use Rattle.sdr_model.specs.Rows.{ByRow}
 use Rattle.sdr_model.specs.SourceSteps.{OnUnnamed, new_source}
 use Rattle.sdr_model.specs.Steps.{DoesWith, Outcome, Refuses, Takes, On, taken_at, with_thing}
-use Rattle.sdr_model.specs.TableSteps.{as_table, OnRow}
-use Rattle.sdr_model.specs.Tables.{Table}
-use Rattle.sdr_model.specs.Things.{Things, capsule_need, extent_need, object_need}
+use Rattle.sdr_model.specs.TableSteps.{as_table}
+use Rattle.sdr_model.specs.Things.{capsule_need, extent_need, object_need}
 use Rattle.sdr_model.specs.World.{World, as_raw, as_text, block_at, is_marked, misnamed, spot_of, thing_at}
 use Rattle.sdr_model.specs.Zco.{empty_object, extents_length, object_at, owned_raw, source_at, source_on, space_of, uses_of}
 use Rattle.sdr_model.specs.declared.answer.Reply.{Reply}
@@ -44,10 +42,8 @@ use Rattle.sdr_model.specs.declared.names.Name.{Name}
 use Rattle.sdr_model.specs.declared.things.Thing.{Thing}
 use Rattle.sdr_model.specs.declared.things.Thing.TheVariants as things
 use Rattle.sdr_model.specs.declared.zco.Capsule.{Capsule}
-use Rattle.sdr_model.specs.declared.zco.Extent.{Extent}
 use Rattle.sdr_model.specs.declared.zco.Subject.TheVariants as subjects
 use Rattle.sdr_model.specs.declared.zco.ZcoObject.{ZcoObject}
-use Rattle.sdr_model.specs.declared.zco.ZcoSource.{ZcoSource}
 use Rattle.sdr_model.proofs.Cases.{in_bool, in_option, in_option_is}
 use Rattle.sdr_model.proofs.FewLemmas.{IsSmall, few_bonded, few_insert, few_more, few_of_object, few_remove, few_without, cloned, extended, in_takes_one, length-cut_all, pieces-bonded}
 
@@ -63,7 +59,8 @@ module _ (most : ℕ) (w : World) (o : Outcome) (few : HasFewPieces most w.thing
   leaves : {next : World} → o.after ≡ next → HasFewPieces (most + 1) next.things → IsFew
   leaves is h = subst (λ v. HasFewPieces (most + 1) v.things) (sym is) h
 
-  put : (addr : ℕ) (thing : Thing) → IsSmall (most + 1) thing → HasFewPieces (most + 1) (finite.insert w.things addr thing)
+  put : (addr : ℕ) (thing : Thing) → IsSmall (most + 1) thing
+      → HasFewPieces (most + 1) (finite.insert w.things addr thing)
   put addr thing small = few_insert (most + 1) w.things addr thing same small
 
   lose : (addr : ℕ) → HasFewPieces (most + 1) (finite.remove w.things addr)
@@ -72,10 +69,12 @@ module _ (most : ℕ) (w : World) (o : Outcome) (few : HasFewPieces most w.thing
   refuses : (refusal : Refusal) → Refuses w o refusal → IsFew
   refuses refusal s = leaves s.1 same
 
-  on : {X : Type 0} {goes : X → Type 0} (addr : ℕ) (named : Option X) → On w o addr named goes → ((x : X) → goes x → IsFew) → IsFew
+  on : {X : Type 0} {goes : X → Type 0} (addr : ℕ) (named : Option X) → On w o addr named goes → ((x : X) → goes x
+      → IsFew) → IsFew
   on addr named s f = in_option named s (refuses (misnamed w addr)) f
 
-  takes : (need : ℕ) (next : ℕ → World) (reply : ℕ → Reply) → Takes w o need next reply → ((addr : ℕ) → HasFewPieces (most + 1) (next addr).things) → IsFew
+  takes : (need : ℕ) (next : ℕ → World) (reply : ℕ → Reply) → Takes w o need next reply → ((addr : ℕ)
+      → HasFewPieces (most + 1) (next addr).things) → IsFew
   takes need next reply s f = in_takes_one o.moves need _ s (λ addr p. leaves p.0 (f addr))
 
   used_few : (p : Option Pending) (amounts : Amounts) → HasFewPieces most (with_used w p amounts).things
@@ -94,7 +93,8 @@ module _ (most : ℕ) (w : World) (o : Outcome) (few : HasFewPieces most w.thing
       (f (with_used w p (amounts_by charge)) (used_few p (amounts_by charge))) (λ space s. leaves s.1 same))
       (λ t s. leaves s.1 same)
 
-  charges : (acct : Acct) (number : ℕ) (charge : Space → ℕ) (goes : World → Type 0) → Charges w o acct number charge goes
+  charges : (acct : Acct) (number : ℕ) (charge : Space → ℕ) (goes : World → Type 0)
+      → Charges w o acct number charge goes
       → ((used : World) → HasFewPieces most used.things → goes used → IsFew) → IsFew
   charges acct number charge goes s f =
       in_bool (number == 0) s (λ s. covered acct charge goes None s f)
@@ -114,7 +114,8 @@ module _ (most : ℕ) (w : World) (o : Outcome) (few : HasFewPieces most w.thing
   frees addr (Some bytes) text s = unnamed addr s (λ s. leaves s.1 (lose addr))
   frees addr None (Some text) s = leaves s.1 (lose addr)
 
-  on_hash : {goes : Hash → Type 0} (addr : ℕ) (key : List ℕ) → OnHash w o addr key goes → ((hash : Hash) → goes hash → IsFew) → IsFew
+  on_hash : {goes : Hash → Type 0} (addr : ℕ) (key : List ℕ) → OnHash w o addr key goes → ((hash : Hash)
+      → goes hash → IsFew) → IsFew
   on_hash addr key s f =
       on addr (as_hash (thing_at w addr)) s (λ hash s. in_bool (length key == hash.key_length) s (f hash) (λ s. leaves s.1 same))
 

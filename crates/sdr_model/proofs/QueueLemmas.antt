@@ -1,5 +1,5 @@
 -- What serving a queue keeps.
-use Rattle.std.proofs.Common.{◌≡◌, ◌≤◌, ◌+◌, ◌-◌, ◌++◌, ◌∷◌, [], ℕ, suc, List, Bool, true, false, cond, drop, take, insert, remove, sum_by, refl, arith, ap, sym, subst, ◌∙◌, nat_le, is_some, unwrap_or, Option, None, Some}
+use Rattle.std.proofs.Common.{◌≡◌, ◌≤◌, ◌+◌, ◌∷◌, [], ℕ, suc, List, Bool, true, false, cond, drop, take, insert, remove, refl, arith, ap, sym, subst, ◌∙◌, is_some, unwrap_or, Option, None, Some}
 use Rattle.std.proofs.lemmas.List.Elements.{All-append, All-cons, All-drop, All-from_recursion, All-take, recursion_from_All}
 use Rattle.std.proofs.lemmas.List.Sums.{sum_by-cons}
 use Rattle.std.specs.List.{All, AllByRecursion}
@@ -8,23 +8,25 @@ use Rattle.sdr_base.specs.declared.account.Acct.TheVariants as accts
 use Rattle.sdr_base.specs.declared.account.Amounts.{Amounts}
 use Rattle.sdr_base.specs.declared.kind.Space.{Space}
 use Rattle.sdr_model.specs.Accounts.{account_of, most_amount, with_account}
-use Rattle.sdr_model.specs.Amounts.{amount, are_within, minus, no_amounts, plus}
+use Rattle.sdr_model.specs.Amounts.{amount, are_within, minus, plus}
 use Rattle.sdr_model.specs.Charges.{left_in}
 use Rattle.sdr_model.specs.Ledger.{KeepGrants, KeepsGrants, WaitsEmpty}
-use Rattle.sdr_model.specs.Queue.{enqueued, granted, served}
+use Rattle.sdr_model.specs.Queue.{granted, served}
 use Rattle.sdr_model.specs.declared.accounts.Account.{Account}
 use Rattle.sdr_model.specs.declared.accounts.Accounts.{Accounts}
 use Rattle.sdr_model.specs.declared.accounts.Ticket.{Ticket}
 use Rattle.sdr_model.proofs.AmountLemmas.{amount-minus, amount-plus, nothing_in, within_in}
 
 -- what holds of each of three choices
-picks : (P : List Ticket → Type 0) (a b : Bool) {x y z : List Ticket} → (a ≡ true → P x) → (a ≡ false → b ≡ true → P y) → P z
+picks : (P : List Ticket → Type 0) (a b : Bool) {x y z : List Ticket} → (a ≡ true → P x) → (a ≡ false → b ≡ true
+    → P y) → P z
     → P (cond a x (cond b y z))
 picks P true b f g h = f refl
 picks P false true f g h = g refl refl
 picks P false false f g h = h
 
-served_wait : (m o : Amounts) (ts : List Ticket) → AllByRecursion WaitsEmpty ts → AllByRecursion WaitsEmpty (served m o ts)
+served_wait : (m o : Amounts) (ts : List Ticket) → AllByRecursion WaitsEmpty ts
+    → AllByRecursion WaitsEmpty (served m o ts)
 served_wait m o [] all = tt
 served_wait m o (t ∷ ts) all =
     picks (AllByRecursion WaitsEmpty) t.granted (are_within t.asked (minus m o))
@@ -34,7 +36,8 @@ served_wait m o (t ∷ ts) all =
 pub All-served : (m o : Amounts) (ts : List Ticket) → All WaitsEmpty ts → All WaitsEmpty (served m o ts)
 All-served m o ts all = All-from_recursion WaitsEmpty (served m o ts) (served_wait m o ts (recursion_from_All WaitsEmpty ts all))
 
-pub All-enqueued : (ts : List Ticket) (new : Ticket) (place : ℕ) → All WaitsEmpty ts → WaitsEmpty new → All WaitsEmpty (insert ts place new)
+pub All-enqueued : (ts : List Ticket) (new : Ticket) (place : ℕ) → All WaitsEmpty ts → WaitsEmpty new
+    → All WaitsEmpty (insert ts place new)
 All-enqueued ts new place all empty =
     All-append WaitsEmpty (take place ts) (new ∷ drop place ts) (All-take WaitsEmpty place ts all)
     (All-cons WaitsEmpty new (drop place ts) empty (All-drop WaitsEmpty place ts all))
@@ -54,7 +57,8 @@ pub keep_with : (accounts : Accounts) (acct : Acct) (account : Account) → Keep
 keep_with accounts accts.Inbound account keep keeps = record { inbound = keeps; outbound = keep.outbound; next = keep.next }
 keep_with accounts accts.Outbound account keep keeps = record { inbound = keep.inbound; outbound = keeps; next = keep.next }
 
-left_in-cons : (space : Space) (t : Ticket) (ts : List Ticket) → left_in space (t ∷ ts) ≡ amount t.left space + left_in space ts
+left_in-cons : (space : Space) (t : Ticket) (ts : List Ticket)
+    → left_in space (t ∷ ts) ≡ amount t.left space + left_in space ts
 left_in-cons space t ts = sum_by-cons (λ t. amount t.left space) t ts
 
 -- What is occupied stays at most what it was, or the maximum, where a queue is served: `other` is occupied beside these
@@ -83,7 +87,8 @@ occupied_served space m o (t ∷ ts) other most all is small bounded =
     (omega (arith, is, small))
 
 -- where both accounts were copied, one of them may be put
-pub keep_put : (before : Option Accounts) (old between new : Accounts) (acct : Acct) (account : Account) → is_some before ≡ true
+pub keep_put : (before : Option Accounts) (old between new : Accounts) (acct : Acct) (account : Account)
+    → is_some before ≡ true
     → KeepGrants (unwrap_or before old) × KeepGrants old → KeepsGrants account
     → ((x : Account) → with_account between acct x ≡ with_account old acct x) → new ≡ with_account between acct account
     → KeepGrants (unwrap_or before new) × KeepGrants new

@@ -1,9 +1,8 @@
 -- Accounts of space, and the tickets in their queues.
-use Rattle.std.specs.Prelude.{◌≡◌, ◌<◌, ℕ, ◌^◌, ◌==◌, List, [], ◌∷◌, ◌++◌, Bool, true, false, map, set, length, slice_get, unwrap_or, position, Option, Some}
+use Rattle.std.specs.Prelude.{◌≡◌, ◌<◌, ℕ, ◌^◌, ◌==◌, List, [], ◌++◌, Bool, true, false, map, set, length, slice_get, unwrap_or, position, Option, Some}
 use Rattle.std.specs.Option.{option_map, option_or}
 use Rattle.sdr_base.specs.declared.account.Acct.{Acct}
 use Rattle.sdr_base.specs.declared.account.Acct.TheVariants as accts
-use Rattle.sdr_base.specs.declared.account.Amounts.{Amounts}
 use Rattle.sdr_base.specs.declared.kind.Kind.TheVariants as kinds
 use Rattle.sdr_base.specs.declared.kind.Space.{Space}
 use Rattle.sdr_base.specs.declared.kind.Space.TheVariants as spaces

@@ -14,7 +14,12 @@ pieces z = length z.headers + length z.extents + length z.trailers
 pub record HasFewPieces (most : ℕ) (all : Things) : Type 0 where
   pub each : (addr : ℕ) (z : ZcoObject) → finite.get all addr ≡ Some (things.Object z) → pieces z ≤ most
 
--- After so many events the machine drew no more numbers, no object has more pieces, and each event took at most 2^24 blocks.
+-- where each object has at most so many pieces, a call can be made
+abbrev pub most_pieces : ℕ
+most_pieces = 2 ^ 22
+
+-- After so many events the machine drew no more numbers, no object has more pieces, and each event took at most 2^24
+-- blocks.
 pub record IsAfter (events : ℕ) (m : Machine) : Type 0 where
   pub drawn : m.drawn ≤ events
   pub taken : m.current.taken ≤ 2 ^ 24 * events

@@ -1,5 +1,5 @@
 -- The accounts of a world in the making.
-use Rattle.std.specs.Prelude.{◌≡◌, ◌≤◌, Bool, true, false, Option, is_some, All, refl}
+use Rattle.std.specs.Prelude.{◌≡◌, ◌≤◌, Bool, false, All, refl}
 use Rattle.std.specs.Coded.{Coded, code_by, coded×, coded_bool}
 use Rattle.sdr_base.specs.declared.kind.Space.{Space}
 use Rattle.sdr_model.specs.Accounts.{most_amount}

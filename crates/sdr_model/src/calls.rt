@@ -2,6 +2,7 @@
 ghost use Rattle.std.specs.Prelude.{◌≡◌, ◌<◌, ◌^◌, true};
 ghost use Rattle.sdr_model.specs.Answers.{Answers};
 ghost use Rattle.sdr_model.specs.Built.{is_built};
+ghost use Rattle.sdr_model.specs.Few.{HasFewPieces, most_pieces};
 
 use crate::account_calls::{Asking, awarded, maximum, occupancy, request, set_maximum, shred};
 use crate::capsule_calls::{append_trailer, prepend_header};
@@ -36,6 +37,7 @@ use std::alloc::Global;
 /// charge an account in its queue. All others take about the logarithm of the world.
 pub fn apply(alloc: Global, world: &mut World, call: &Call) -> Result<Reply, NoMemory>
     requires taken { world.old.now.taken < 2 ^ 60 }
+    requires few { HasFewPieces most_pieces world.old.now.things }
     requires built { is_built call.now ≡ true }
     ensures { Answers call.now world.old world.new result }
 {

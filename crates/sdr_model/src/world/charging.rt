@@ -164,11 +164,13 @@ impl World {
         };
         let uncovered = minus(amounts, &grant_left(&granted));
         match self.refusal(acct, &uncovered) {
-            Some(refusal) => return Ok(Err(refusal)),
-            None => self.save_accounts()?,
+            None => {
+                self.save_accounts()?;
+                self.use_grant(granted, amounts);
+                Ok(Ok(granted))
+            }
+            Some(refusal) => Ok(Err(refusal)),
         }
-        self.use_grant(granted, amounts);
-        Ok(Ok(granted))
     }
 
     /// What is occupied of a space in an account. It is linear in the account's queue.

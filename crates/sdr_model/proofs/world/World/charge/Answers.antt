@@ -13,8 +13,8 @@ returns-in-Some-clause-refused c =
     c.in-Ok.ensures.granted
     (ap (refusal_of c.args.self.now.now c.args.acct) (sym uncovered) ∙ sym c.refusal.ensures ∙ c.in-Some.is)
 
-pub returns-clause-room : goal.returns-clause-room
-returns-clause-room c =
+pub returns-in_ok-save_accounts-in-None-clause-room : goal.returns-in_ok-save_accounts-in-None-clause-room
+returns-in_ok-save_accounts-in-None-clause-room c =
     let w = c.args.self.now.now in
     let uncovered = c.minus-uncovered.ensures ∙ ap (minus c.args.amounts.now) c.grant_left.ensures in
     let now = ap (λ (d : Draft). d.now) c.use_grant.ensures
@@ -24,15 +24,15 @@ returns-clause-room c =
     (room_allowed w c.args.acct _ c.known.ensures.keep c.known.ensures.bound
     (ap (refusal_of w c.args.acct) (sym uncovered) ∙ sym c.refusal.ensures ∙ c.in-None.is)))
 
-pub returns-clause-back : goal.returns-clause-back
-returns-clause-back c =
+pub returns-in_ok-save_accounts-in-None-clause-back : goal.returns-in_ok-save_accounts-in-None-clause-back
+returns-in_ok-save_accounts-in-None-clause-back c =
     let now = ap (λ (d : Draft). d.now) c.use_grant.ensures
     ∙ ap (λ (d : Draft). with_used d.now c.in-Ok.granted c.args.amounts.now) c.in_ok-save_accounts-in-None.ensures.saved in
     ap (λ w. with_back w c.in-Ok.granted) now
     ∙ with_back-used c.args.self.now.now c.in-Ok.granted c.args.amounts.now c.in-Ok.ensures.stands
 
-pub returns-clause-may_take_back : goal.returns-clause-may_take_back
-returns-clause-may_take_back c =
+pub returns-in_ok-save_accounts-in-None-clause-may_take_back : goal.returns-in_ok-save_accounts-in-None-clause-may_take_back
+returns-in_ok-save_accounts-in-None-clause-may_take_back c =
     let now = ap (λ (d : Draft). d.now) c.use_grant.ensures
     ∙ ap (λ (d : Draft). with_used d.now c.in-Ok.granted c.args.amounts.now) c.in_ok-save_accounts-in-None.ensures.saved in
     subst (λ w. MayTakeBack w c.in-Ok.granted) (sym now)

@@ -1,21 +1,19 @@
 use Rattle.std.proofs.Common.{◌+◌, ap, subst, sym}
 use Rattle.sdr_model.specs.Dry.{next_addr}
 use Rattle.sdr_model.specs.Ledger.{Ledger}
-use Rattle.sdr_model.specs.Tallies.{AllTallied}
-use Rattle.sdr_model.proofs.AccountLemmas.{AllTallied-accounts, AreBound, bound_entered}
+use Rattle.sdr_model.specs.Tallies.{IsKept}
+use Rattle.sdr_model.proofs.AccountLemmas.{AreBound, bound_entered}
 use Rattle.sdr_model.proofs.Cases.{in_result}
+use Rattle.sdr_model.proofs.TallyLemmas.{IsKept-accounts}
 use Rattle.sdr_model.proofs.world.World.enter.Goals as goal
 
 pub invariant_of-self : goal.invariant_of-self
 invariant_of-self c =
     let inside = c.self.inside in
-    record {
-      own = c.self.invariant.own;
-      told = in_result c.enqueue.result c.enqueue.ensures.ok c.enqueue.ensures.same
-          (λ ok. AllTallied-accounts inside.tally _ inside.things inside.accounts c.enqueue.new.self (ap (λ (l : Ledger). l.begun) ok)
-          (subst (AreBound inside.things.now) (sym (ap (λ (l : Ledger). l.now) ok))
-          (bound_entered inside.things.now inside.accounts.now c.args.acct c.args.ticket (c.args.ticket.number + 1)
-          c.self.invariant.told.now.bound c.requires.empty))
-          c.self.invariant.told)
-          (λ same. subst (AllTallied inside.tally (next_addr inside.taken) inside.things) (sym same) c.self.invariant.told);
-    }
+    in_result c.enqueue.result c.enqueue.ensures.ok c.enqueue.ensures.same
+    (λ ok. IsKept-accounts inside.owners inside.tally _ inside.things inside.accounts c.enqueue.new.self (ap (λ (l : Ledger). l.begun) ok)
+    (subst (AreBound inside.things.now) (sym (ap (λ (l : Ledger). l.now) ok))
+    (bound_entered inside.things.now inside.accounts.now c.args.acct c.args.ticket (c.args.ticket.number + 1)
+    c.self.invariant.told.now.bound c.requires.empty))
+    c.self.invariant)
+    (λ same. subst (IsKept inside.owners inside.tally (next_addr inside.taken) inside.things) (sym same) c.self.invariant)

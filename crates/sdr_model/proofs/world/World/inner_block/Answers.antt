@@ -1,4 +1,4 @@
-use Rattle.std.proofs.Common.{◌≡◌, ℕ, Option, Some, ap, sym, ◌∙◌}
+use Rattle.std.proofs.Common.{ap, sym, ◌∙◌}
 use Rattle.std.specs.FinMap.{entries, get}
 use Rattle.std.specs.Option.{option_and_then, option_copied}
 use Rattle.sdr_model.specs.Things.{inner_among}

@@ -1,6 +1,6 @@
 use Rattle.std.proofs.Common.{◌+◌, ap, ap₂, sym, ◌∙◌}
 use Rattle.sdr_base.specs.declared.account.Amounts.{Amounts}
-use Rattle.sdr_model.specs.Amounts.{amount, amounts_by}
+use Rattle.sdr_model.specs.Amounts.{amount}
 use Rattle.sdr_model.specs.Accounts.{account_of}
 use Rattle.sdr_model.specs.Charges.{left_in, occupancies, occupancy}
 use Rattle.sdr_model.specs.Draft.{Draft}

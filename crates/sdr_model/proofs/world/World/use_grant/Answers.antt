@@ -2,8 +2,9 @@ use Rattle.std.proofs.Common.{Some, IfSome, ap, subst, sym, ◌∙◌}
 use Rattle.sdr_model.specs.Accounts.{Stands, with_ticket}
 use Rattle.sdr_model.specs.Draft.{Draft}
 use Rattle.sdr_model.specs.Ledger.{Ledger}
-use Rattle.sdr_model.proofs.AccountLemmas.{AllTallied-accounts, AreBound}
+use Rattle.sdr_model.proofs.AccountLemmas.{AreBound}
 use Rattle.sdr_model.proofs.ChargeLemmas.{bound_used, may_take_back, with_back-used}
+use Rattle.sdr_model.proofs.TallyLemmas.{IsKept-accounts}
 use Rattle.sdr_model.proofs.world.World.use_grant.Goals as goal
 
 pub invariant_of-self : goal.invariant_of-self
@@ -13,12 +14,9 @@ invariant_of-self c =
     let stands : Stands inside.accounts.now p
     = subst (λ (d : Draft). Stands d.now.accounts p) (sym c.self.view_is)
     (subst (λ g. IfSome g (Stands c.args.self.now.now.accounts)) c.in-Some.is c.requires.stands) in
-    record {
-      own = c.self.invariant.own;
-      told = AllTallied-accounts inside.tally _ inside.things inside.accounts c.put_ticket.new.self
-          (ap (λ (l : Ledger). l.begun) c.put_ticket.ensures)
-          (subst (AreBound inside.things.now) (sym (ap (λ (l : Ledger). l.now) c.put_ticket.ensures
-          ∙ ap (λ left. with_ticket inside.accounts.now p (record p.ticket { left = left })) c.minus-left.ensures))
-          (bound_used inside.things.now inside.accounts.now p c.args.amounts.now c.self.invariant.told.now.bound stands))
-          c.self.invariant.told;
-    }
+    IsKept-accounts inside.owners inside.tally _ inside.things inside.accounts c.put_ticket.new.self
+    (ap (λ (l : Ledger). l.begun) c.put_ticket.ensures)
+    (subst (AreBound inside.things.now) (sym (ap (λ (l : Ledger). l.now) c.put_ticket.ensures
+    ∙ ap (λ left. with_ticket inside.accounts.now p (record p.ticket { left = left })) c.minus-left.ensures))
+    (bound_used inside.things.now inside.accounts.now p c.args.amounts.now c.self.invariant.told.now.bound stands))
+    c.self.invariant
