@@ -7,6 +7,7 @@ pub mod BoundsLemmas
 pub mod Cases
 pub mod ChargeLemmas
 pub mod CountLemmas
+pub mod DiscardLemmas
 pub mod DryLemmas
 pub mod FewLemmas
 pub mod FewSteps
@@ -30,3 +31,4 @@ pub mod TableLemmas
 pub mod TakenLemmas
 pub mod TallyBounds
 pub mod TallyLemmas
+pub mod TrimLemmas

@@ -37,6 +37,7 @@ mod notes;
 mod object;
 mod object_calls;
 mod ordered_calls;
+mod part_calls;
 mod owners;
 mod place;
 mod places;
