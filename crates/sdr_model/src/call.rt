@@ -183,8 +183,7 @@ impl Call {
     {
         !matches!(
             self,
-            Call::Create(_, _)
-                | Call::AppendExtent(_, _, _, _, _)
+            Call::AppendExtent(_, _, _, _, _)
                 | Call::PrependHeader(_, _, _)
                 | Call::AppendTrailer(_, _, _)
                 | Call::Bond(_, _)

@@ -3,9 +3,7 @@ ghost use Rattle.std.specs.Prelude.{◌≡◌, ◌<◌, ◌^◌, true};
 ghost use Rattle.sdr_model.specs.Answers.{Answers};
 ghost use Rattle.sdr_model.specs.Built.{is_built};
 
-use crate::account_calls::{
-    Asking, awarded, maximum, occupancy, request, set_maximum, shred,
-};
+use crate::account_calls::{Asking, awarded, maximum, occupancy, request, set_maximum, shred};
 use crate::element_calls::{datum, delete, next, prev, set_datum};
 use crate::hash_calls::{
     hash_count, hash_destroy, hash_insert, hash_remove, hash_retrieve, hash_revise, make_hash,
@@ -15,9 +13,9 @@ use crate::list_calls::{
     first, last, list_destroy, list_length, list_user, make_list, set_list_user,
 };
 use crate::name_calls::{catlg, entry, find, uncatlg};
-use crate::object_calls::{source_length, zco_length};
+use crate::object_calls::{create, delimit, source_length, zco_length};
 use crate::ordered_calls::{insert_ordered, search};
-use crate::part_calls::{delimit, discard_first_header, discard_last_trailer};
+use crate::part_calls::{discard_first_header, discard_last_trailer};
 use crate::raw_calls::{free, length, malloc, read, stage, write};
 use crate::source_calls::{bulk_ref, count, destroy_ref, file_ref, obj_ref};
 use crate::table_calls::{dimensions, make_table, row, set_row, table_destroy, table_user};
@@ -33,8 +31,9 @@ use std::alloc::Global;
 /// Calls on lists and on their elements are at most linear in the list, `uncatlg` in the catalogue, and the
 /// first change of a thing in a transaction in that thing. A key is looked for in its bucket alone; a new or
 /// removed one moves the entries of its hash behind it. A call that is refused for an address at which no
-/// thing begins is linear in the list or hash that has or had a block there, and in the catalogue. All
-/// others take about the logarithm of the world.
+/// thing begins is linear in the list, hash or object that has or had a block there, and in the catalogue.
+/// Calls on objects are at most linear in what is in them, times the logarithm of the world, and calls that
+/// charge an account in its queue. All others take about the logarithm of the world.
 pub fn apply(alloc: Global, world: &mut World, call: &Call) -> Result<Reply, NoMemory>
     requires taken { world.old.now.taken < 2 ^ 60 }
     requires built { is_built call.now ≡ true }
@@ -115,11 +114,11 @@ pub fn apply(alloc: Global, world: &mut World, call: &Call) -> Result<Reply, NoM
         }
         Call::Awarded(ticket) => awarded(world, *ticket),
         Call::Shred(ticket) => shred(world, *ticket),
+        Call::Create(acct, ticket) => create(alloc, world, *acct, *ticket),
         Call::DiscardFirstHeader(addr) => discard_first_header(alloc, world, *addr),
         Call::DiscardLastTrailer(addr) => discard_last_trailer(alloc, world, *addr),
         Call::Delimit(addr, offset, length) => delimit(alloc, world, *addr, *offset, *length),
-        Call::Create(_, _)
-        | Call::AppendExtent(_, _, _, _, _)
+        Call::AppendExtent(_, _, _, _, _)
         | Call::PrependHeader(_, _, _)
         | Call::AppendTrailer(_, _, _)
         | Call::Bond(_, _)

@@ -1,4 +1,4 @@
-// What calls that set an object's part or take headers and trailers off do to a world.
+// What calls that take parts of objects off do to a world.
 ghost use Rattle.std.specs.Prelude.{◌≡◌, [], IfOk, OnErr, OnOk};
 ghost use Rattle.sdr_model.specs.Answers.{Answers};
 ghost use Rattle.sdr_model.specs.ObjectSteps.{with_object};
@@ -6,41 +6,11 @@ ghost use Rattle.sdr_model.specs.Queue.{with_served};
 ghost use Rattle.sdr_model.specs.Trims.{MayTrim};
 ghost use Rattle.sdr_model.specs.Zco.{object_at};
 
-use crate::cuts::extents_length;
 use crate::object_calls::object;
-use crate::raw_calls::{exceeds, misnamed};
-use crate::{Call, Part, Reply, World, ZcoObject};
+use crate::raw_calls::misnamed;
+use crate::{Call, Reply, World, ZcoObject};
 use sdr_base::{Addr, NoMemory, Refusal};
 use std::alloc::Global;
-
-/// Sets the part of an object. It is linear in the object, times the logarithm of the world.
-pub fn delimit(
-    alloc: Global,
-    world: &mut World,
-    addr: Addr,
-    offset: u64,
-    length: u64,
-) -> Result<Reply, NoMemory>
-    ensures { Answers (Call.Delimit addr offset length) world.old world.new result }
-{
-    let Some(there) = object(world, addr) else {
-        return Ok(misnamed(world, addr));
-    };
-    let have = extents_length(there.extents.as_slice());
-    if exceeds(offset, length, have) {
-        return Ok(Reply::Refused(Refusal::BadRange {
-            offset,
-            length,
-            have,
-        }));
-    }
-    let mut object = there.copied(alloc)?;
-    object.part = Part { offset, length };
-    world.touch_object(addr, &object)?;
-    world.trim_object(addr, object);
-    world.hide();
-    Ok(Reply::Done)
-}
 
 // Puts an object back without a header or trailer that goes, and serves the queue of its account.
 fn put_trimmed(world: &mut World, addr: Addr, object: ZcoObject) -> Result<Reply, NoMemory>

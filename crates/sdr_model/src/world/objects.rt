@@ -15,8 +15,6 @@ ghost use Rattle.sdr_model.specs.World.{thing_at};
 ghost use Rattle.sdr_model.specs.Zco.{as_object, object_at};
 ghost use Rattle.sdr_model.specs.declared.things.Thing.{Thing};
 
-
-
 use crate::amounts::NOTHING;
 use crate::tally::Tally;
 use crate::{Store, Thing, World, ZcoObject};
