@@ -8,6 +8,7 @@ pub mod CapsuleLemmas
 pub mod Cases
 pub mod ChargeLemmas
 pub mod CountLemmas
+pub mod DiscardLemmas
 pub mod DryLemmas
 pub mod FewLemmas
 pub mod FewSteps
@@ -32,3 +33,4 @@ pub mod TableLemmas
 pub mod TakenLemmas
 pub mod TallyBounds
 pub mod TallyLemmas
+pub mod TrimLemmas

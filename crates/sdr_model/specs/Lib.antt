@@ -49,6 +49,7 @@ pub mod Tables
 pub mod Tallies
 pub mod Things
 pub mod Transaction
+pub mod Trims
 pub mod Valid
 pub mod Wire
 pub mod World

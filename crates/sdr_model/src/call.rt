@@ -197,8 +197,6 @@ impl Call {
         !matches!(
             self,
             Call::AppendExtent(_, _, _, _, _)
-                | Call::DiscardFirstHeader(_)
-                | Call::DiscardLastTrailer(_)
                 | Call::Bond(_, _)
                 | Call::ClonePart(_, _, _, _)
                 | Call::Strip(_)

@@ -17,6 +17,7 @@ use crate::list_calls::{
 use crate::name_calls::{catlg, entry, find, uncatlg};
 use crate::object_calls::{create, delimit, source_length, zco_length};
 use crate::ordered_calls::{insert_ordered, search};
+use crate::part_calls::{discard_first_header, discard_last_trailer};
 use crate::raw_calls::{free, length, malloc, read, stage, write};
 use crate::source_calls::{bulk_ref, count, destroy_ref, file_ref, obj_ref};
 use crate::table_calls::{dimensions, make_table, row, set_row, table_destroy, table_user};
@@ -117,6 +118,8 @@ pub fn apply(alloc: Global, world: &mut World, call: &Call) -> Result<Reply, NoM
         Call::Awarded(ticket) => awarded(world, *ticket),
         Call::Shred(ticket) => shred(world, *ticket),
         Call::Create(acct, ticket) => create(alloc, world, *acct, *ticket),
+        Call::DiscardFirstHeader(addr) => discard_first_header(alloc, world, *addr),
+        Call::DiscardLastTrailer(addr) => discard_last_trailer(alloc, world, *addr),
         Call::Delimit(addr, offset, length) => delimit(alloc, world, *addr, *offset, *length),
         Call::PrependHeader(addr, ticket, text) => {
             prepend_header(alloc, world, *addr, *ticket, text)
@@ -125,8 +128,6 @@ pub fn apply(alloc: Global, world: &mut World, call: &Call) -> Result<Reply, NoM
             append_trailer(alloc, world, *addr, *ticket, text)
         }
         Call::AppendExtent(_, _, _, _, _)
-        | Call::DiscardFirstHeader(_)
-        | Call::DiscardLastTrailer(_)
         | Call::Bond(_, _)
         | Call::ClonePart(_, _, _, _)
         | Call::Strip(_)

@@ -39,6 +39,7 @@ mod object_calls;
 mod note_map;
 mod notes;
 mod ordered_calls;
+mod part_calls;
 mod owners;
 mod place;
 mod places;

@@ -91,8 +91,8 @@ pub fn length(world: &mut World, addr: Addr) -> Result<Reply, NoMemory>
     Ok(Reply::Value { value })
 }
 
-// Whether so many bytes from a place on exceed a length.
-fn exceeds(place: u64, count: u64, length: u64) -> bool
+/// Whether so many bytes from a place on exceed a length.
+pub fn exceeds(place: u64, count: u64, length: u64) -> bool
     ensures { result ≡ nat_lt length (place + count) }
 {
     match place.checked_add(count) {

@@ -20,6 +20,7 @@ mod objects;
 mod replacing;
 mod sources;
 mod taking;
+mod trimming;
 
 use crate::catalogue::Catalogue;
 use crate::owners::Owners;
