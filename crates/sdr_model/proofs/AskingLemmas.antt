@@ -329,7 +329,7 @@ said_agrees : (m : Machine) (daemon : ℕ) (call : Call) → makes_calls m daemo
 said_agrees m daemon call makes fails answer moves m' None bytes step = tt
 said_agrees m daemon call makes fails answer moves m' (Some media) bytes step =
     λ reads. served_nothing m daemon call reads (fails reads) (is_served_by m daemon makes) answer moves m' step
-        (Some media) m.current call bytes reads
+    (Some media) m.current call bytes reads
 
 -- an answer that is known, and tells of no gap
 whole_by : (answer given : Answer) → answer ≡ given → is_gap given ≡ false → IsUnstopped answer

@@ -51,8 +51,11 @@ naming-used w addr z is source = by z.account refl
   where
     counted : (acct : Acct) → counted_at (λ e. uses_in source acct e.1) addr (Some (things.Object z)) ≤ count_of w source acct
     counted acct =
-        omega (arith, sum_by-removed (λ e. uses_in source acct e.1) w.things addr,
-        ap (counted_at (λ e. uses_in source acct e.1) addr) is)
+        omega (
+          arith,
+          sum_by-removed (λ e. uses_in source acct e.1) w.things addr,
+          ap (counted_at (λ e. uses_in source acct e.1) addr) is,
+        )
 
     by : (acct : Acct) → z.account ≡ acct → naming source z.extents ≤ uses_of w source
     by accts.Inbound here =
@@ -116,8 +119,11 @@ IsModest-trimmed next headers trailers part z inside modest = record {
 charge-trimmed : (w : World) (space : Space) (headers trailers : ℕ) (part : Part) (z : ZcoObject)
     → object_charge w space (trimmed headers trailers part z) ≤ object_charge w space z
 charge-trimmed w space headers trailers part z =
-    omega (arith, sum_by-take-drop (capsule_charge space) z.headers headers,
-    sum_by-take-drop (capsule_charge space) z.trailers trailers)
+    omega (
+      arith,
+      sum_by-take-drop (capsule_charge space) z.headers headers,
+      sum_by-take-drop (capsule_charge space) z.trailers trailers,
+    )
 
 module _ (w : World) (bound : IsBound w) where
   replaces-trimmed : (headers trailers : ℕ) (part : Part) (z : ZcoObject)

@@ -13,7 +13,11 @@ use std::alloc::Global;
 
 /// The pieces of the bytes by which a call is answered, where it asks bytes of an object that is there, and
 /// nothing where it doesn't.
-pub fn pieces_of(alloc: Global, world: &World, call: &Call) -> Result<Option<Items<Piece>>, NoMemory>
+pub fn pieces_of(
+    alloc: Global,
+    world: &World,
+    call: &Call,
+) -> Result<Option<Items<Piece>>, NoMemory>
     ensures some { IfOk result (λ asked. IfSome asked (HasPieces world.now.now call.now)) }
     ensures none { result ≡ Ok None → reads_media call.now ≡ true → ¬ AsksBytes world.now.now call.now }
 {

@@ -32,11 +32,7 @@ fn put_trimmed(world: &mut World, addr: Addr, object: ZcoObject) -> Result<Reply
 
 /// Takes the first header of an object off. It is linear in the object, times the logarithm of the world.
 #[tactic(auto, using(crate::proofs::DryLemmas::gives))]
-pub fn discard_first_header(
-    alloc: Global,
-    world: &mut World,
-    addr: Addr,
-) -> Result<Reply, NoMemory>
+pub fn discard_first_header(alloc: Global, world: &mut World, addr: Addr) -> Result<Reply, NoMemory>
     ensures { Answers (Call.DiscardFirstHeader addr) world.old world.new result }
 {
     let Some(there) = object(world, addr) else {
@@ -53,11 +49,7 @@ pub fn discard_first_header(
 
 /// Takes the last trailer of an object off. It is linear in the object, times the logarithm of the world.
 #[tactic(auto, using(crate::proofs::DryLemmas::gives))]
-pub fn discard_last_trailer(
-    alloc: Global,
-    world: &mut World,
-    addr: Addr,
-) -> Result<Reply, NoMemory>
+pub fn discard_last_trailer(alloc: Global, world: &mut World, addr: Addr) -> Result<Reply, NoMemory>
     ensures { Answers (Call.DiscardLastTrailer addr) world.old world.new result }
 {
     let Some(there) = object(world, addr) else {

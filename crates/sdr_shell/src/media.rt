@@ -81,7 +81,12 @@ fn read_piece<M: Media>(media: &mut M, piece: &Piece, into: &mut [u8]) -> Result
 }
 
 // Reads a piece into a page, and adds its bytes to those gathered.
-fn add_piece<M: Media>(media: &mut M, piece: &Piece, page: &mut [u8], bytes: &mut Vec<u8>) -> Result<(), Gap>
+fn add_piece<M: Media>(
+    media: &mut M,
+    piece: &Piece,
+    page: &mut [u8],
+    bytes: &mut Vec<u8>,
+) -> Result<(), Gap>
     requires page { length page.old ≡ 4096 }
     requires fits { piece_length piece.now ≤ 4096 }
     ensures adds { OnOk result (AddsPiece (M.told media.old) piece.now bytes.old.items bytes.new.items) }

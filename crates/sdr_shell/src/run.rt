@@ -234,5 +234,12 @@ pub fn run<M: Media, K: Sink>(
 {
     let daemons = daemons_of(alloc, script)?;
     let mut plain = Plain::new(alloc, daemons.as_slice())?;
-    run_on(alloc, &mut plain, media, &mut Bindings::new(alloc), script, out)
+    run_on(
+        alloc,
+        &mut plain,
+        media,
+        &mut Bindings::new(alloc),
+        script,
+        out,
+    )
 }

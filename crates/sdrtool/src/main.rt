@@ -77,14 +77,7 @@ fn answer<
     M: Media + Send + Drop,
     S: Source,
     K: Sink,
->(
-    rt: &R,
-    form: &[RcStr],
-    disk: D,
-    media: M,
-    input: &mut S,
-    output: &mut K,
-) -> u8 {
+>(rt: &R, form: &[RcStr], disk: D, media: M, input: &mut S, output: &mut K) -> u8 {
     top(rt, rt.alloc(), form, disk, media, input, output, &NoGate).status
 }
 
@@ -117,13 +110,7 @@ fn answer_in_memory<
     M: Media + Send + Drop,
     S: Source,
     K: Sink,
->(
-    rt: &R,
-    form: &[RcStr],
-    media: M,
-    input: &mut S,
-    output: &mut K,
-) -> u8 {
+>(rt: &R, form: &[RcStr], media: M, input: &mut S, output: &mut K) -> u8 {
     let disk = MemoryDisk::new(Vec::new(rt.alloc()), Vec::new(rt.alloc()));
     answer(rt, form, disk, media, input, output)
 }
@@ -134,20 +121,16 @@ fn run<
     M: Media + Send + Drop,
     S: Source,
     K: Sink,
->(
-    rt: &R,
-    words: &[RcStr],
-    media: M,
-    input: &mut S,
-    output: &mut K,
-) -> u8 {
+>(rt: &R, words: &[RcStr], media: M, input: &mut S, output: &mut K) -> u8 {
     match words {
         [] => answer_in_memory(rt, words, media, input, output),
         [word] if word.as_str() == "--help" => print(output, HELP),
         [word] if word.as_str() == "--version" => print(output, VERSION),
         [disk, form @ ..] => match place_of(disk.as_str()) {
             Place::Memory => answer_in_memory(rt, form, media, input, output),
-            Place::File { path } => { answer_on_file(rt, form, open_disk(rt, path), media, input, output) }
+            Place::File { path } => {
+                answer_on_file(rt, form, open_disk(rt, path), media, input, output)
+            }
             Place::Sized { path, bytes } => {
                 answer_on_file(rt, form, make_disk(rt, path, bytes), media, input, output)
             }

@@ -26,9 +26,11 @@ returns-in-Some-Dry-clause-dry g c form =
       starved = e.starved;
       exact = λ bytes told refused. (λ is. not_run _ bytes _ _ _ told refused (e.done is).run, λ is. not_run _ bytes _ _ _ told refused (e.part is));
       complete = λ bytes told ok no_input no_output. dry_completes _ _ _ _ _ _ _ _ bytes e.known e.input e.output e.refused told ok no_input no_output;
-    } in
-    (c.outcome.ensures.disk, subst (λ s. AnswersDry s source source' media (seen_media g.M.Media.told g.M.Media.faults g.M.Media.short c.outcome.result.media) sink sink') (sym c.outcome.ensures.status)
-    (subst (λ m. AnswersDry c.dry-status.result source source' media (seen_media g.M.Media.told g.M.Media.faults g.M.Media.short m) sink sink') (sym c.outcome.ensures.media) answers))
+    } in (
+      c.outcome.ensures.disk,
+      subst (λ s. AnswersDry s source source' media (seen_media g.M.Media.told g.M.Media.faults g.M.Media.short c.outcome.result.media) sink sink') (sym c.outcome.ensures.status)
+          (subst (λ m. AnswersDry c.dry-status.result source source' media (seen_media g.M.Media.told g.M.Media.faults g.M.Media.short m) sink sink') (sym c.outcome.ensures.media) answers),
+    )
 
 pub returns-in-Some-Format-clause-format : goal.returns-in-Some-Format-clause-format
 returns-in-Some-Format-clause-format g c =
