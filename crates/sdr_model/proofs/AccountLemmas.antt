@@ -38,7 +38,6 @@ AllTallied-accounts tally next store old new' begun bound told = record {
     bound = bound;
     sound = told.now.sound;
     raws = told.now.raws;
-    raws = told.now.raws;
   };
 }
 
