@@ -72,15 +72,26 @@ bound_served things accounts acct occupied bound keep is =
 left_in-removed : (space : Space) (ts : List Ticket) (place : ℕ) (d : Ticket) → place < length ts → left_in space (remove ts place) ≤ left_in space ts
 left_in-removed space ts place d inside =
     let f : Ticket → ℕ = λ t. amount t.left space in
-    omega (arith, sum_by-append f (take place ts) (drop (suc place) ts), sum_by-take-drop f ts (place + 1), sum_by_more f ts place d inside,
-    ap (λ n. sum_by f (drop n ts)) (add-one place))
+    omega (
+      arith,
+      sum_by-append f (take place ts) (drop (suc place) ts),
+      sum_by-take-drop f ts (place + 1),
+      sum_by_more f ts place d inside,
+      ap (λ n. sum_by f (drop n ts)) (add-one place),
+    )
 
 left_in-entered : (space : Space) (ts : List Ticket) (place : ℕ) (new' : Ticket) → new'.left ≡ no_amounts
     → left_in space (insert ts place new') ≡ left_in space ts
 left_in-entered space ts place new' empty =
     let f : Ticket → ℕ = λ t. amount t.left space in
-    omega (arith, sum_by-append f (take place ts) (new' ∷ drop place ts), sum_by-cons f new' (drop place ts), sum_by-take-drop f ts place,
-    ap (λ a. amount a space) empty, nothing_in space)
+    omega (
+      arith,
+      sum_by-append f (take place ts) (new' ∷ drop place ts),
+      sum_by-cons f new' (drop place ts),
+      sum_by-take-drop f ts place,
+      ap (λ a. amount a space) empty,
+      nothing_in space,
+    )
 
 -- without a ticket no more is occupied
 pub bound_removed : (things : Things) (accounts : Accounts) (p : Pending) → AreBound things accounts → Stands accounts p

@@ -51,8 +51,13 @@ few_cloning : (most : ℕ) (object : Option ZcoObject) (offset bytes : ℕ) (at 
 few_cloning most None offset bytes at few = omega arith
 few_cloning most (Some z) offset bytes at few =
     let extents = asked_extents z offset bytes in
-    omega (arith, blocks_taken-takes_from at 1 (map (λ e. 32) extents), length-map {B = ℕ} extents (λ e. 32),
-    length-cut_all (z.part.offset + offset) (z.part.offset + offset + bytes) z.extents, few z refl)
+    omega (
+      arith,
+      blocks_taken-takes_from at 1 (map (λ e. 32) extents),
+      length-map {B = ℕ} extents (λ e. 32),
+      length-cut_all (z.part.offset + offset) (z.part.offset + offset + bytes) z.extents,
+      few z refl,
+    )
 
 few_answered : (most : ℕ) (w : World) (call : Call) → HasFewPieces most w.things → blocks_taken (answered_moves w call) ≤ 3 * most + 2
 few_answered most w (calls.ListDestroy addr) few = few_given (3 * most) (elements_in (as_list (thing_at w addr)) ++ addr ∷ [])

@@ -44,9 +44,15 @@ extents_length-charged : (w : World) (extents : List Extent) → extents_length 
     + sum_by (extent_charge w spaces.Heap) extents
 extents_length-charged w [] = omega arith
 extents_length-charged w (e ∷ es) =
-    omega (arith, extents_length-charged w es, bytes_charged (space_in (source_at w e.source)) e.length,
-    sum_by-cons (λ (e : Extent). e.length) e es, sum_by-cons (extent_charge w spaces.File) e es,
-    sum_by-cons (extent_charge w spaces.Bulk) e es, sum_by-cons (extent_charge w spaces.Heap) e es)
+    omega (
+      arith,
+      extents_length-charged w es,
+      bytes_charged (space_in (source_at w e.source)) e.length,
+      sum_by-cons (λ (e : Extent). e.length) e es,
+      sum_by-cons (extent_charge w spaces.File) e es,
+      sum_by-cons (extent_charge w spaces.Bulk) e es,
+      sum_by-cons (extent_charge w spaces.Heap) e es,
+    )
 
 -- an object whose charges are small is bounded
 pub IsModest-bounded : (w : World) (next : ℕ) (z : ZcoObject) → IsModest next z
@@ -64,8 +70,13 @@ pub rise-most : (capsules : List Capsule)
     → sum_by (bond_rise spaces.Heap) capsules ≤ 3 * sum_by (capsule_charge spaces.Heap) capsules
 rise-most [] = omega arith
 rise-most (c ∷ cs) =
-    omega (arith, rise-most cs, one (length c.text), sum_by-cons (bond_rise spaces.Heap) c cs,
-    sum_by-cons (capsule_charge spaces.Heap) c cs)
+    omega (
+      arith,
+      rise-most cs,
+      one (length c.text),
+      sum_by-cons (bond_rise spaces.Heap) c cs,
+      sum_by-cons (capsule_charge spaces.Heap) c cs,
+    )
   where
     one : (bytes : ℕ) → bytes + 32 - capsule_bytes bytes ≤ 3 * capsule_bytes bytes
     one bytes = omega arith

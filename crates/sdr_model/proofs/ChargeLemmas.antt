@@ -46,8 +46,11 @@ tickets_same accounts accts.Outbound = refl
 pub left_in-set : (space : Space) (ts : List Ticket) (place : ℕ) (old new' : Ticket) → place < length ts → slice_get ts place ≡ Some old
     → left_in space (set ts place new') + amount old.left space ≡ left_in space ts + amount new'.left space
 left_in-set space ts place old new' inside is =
-    omega (arith, sum_by-set (λ t. amount t.left space) ts place new' old inside,
-    ap (λ t. amount t.left space) (get_or_from_slice_get ts place old old is))
+    omega (
+      arith,
+      sum_by-set (λ t. amount t.left space) ts place new' old inside,
+      ap (λ t. amount t.left space) (get_or_from_slice_get ts place old old is),
+    )
 
 -- a ticket that is put where it stood before
 pub set_back : (ts : List Ticket) (place : ℕ) (old between : Ticket) → slice_get ts place ≡ Some old → set (set ts place between) place old ≡ ts
@@ -97,8 +100,12 @@ pub occupancy-used : (w : World) (p : Pending) (amounts : Amounts) (space : Spac
 occupancy-used w p amounts space stands =
     let used = record p.ticket { left = minus p.ticket.left amounts } in
     let ts = tickets_of w.accounts p.acct in
-    omega (arith, left_in-set space ts p.place p.ticket used stands.there stands.is, amount-minus p.ticket.left amounts space,
-    ap (left_in space) (tickets_of-with_tickets w.accounts p.acct (set ts p.place used)))
+    omega (
+      arith,
+      left_in-set space ts p.place p.ticket used stands.there stands.is,
+      amount-minus p.ticket.left amounts space,
+      ap (left_in space) (tickets_of-with_tickets w.accounts p.acct (set ts p.place used)),
+    )
 
 of_place : (acct : Acct) (ticket : ℕ → Ticket) (place : Option ℕ) (p : Pending)
     → option_map (λ place. record { acct = acct; place = place; ticket = ticket place }) place ≡ Some p → p.acct ≡ acct
@@ -134,9 +141,14 @@ pub room_allowed : (w : World) (acct : Acct) (uncovered : Amounts) → KeepGrant
     → HasRoomFor w acct uncovered
 room_allowed w acct uncovered keep bound is space =
     let none = refusal_none (barrier uncovered (tickets_of w.accounts acct)) (first_above uncovered (rooms w acct)) (space_refusal w acct uncovered) is in
-    omega (arith, first_above-none uncovered (rooms w acct) space none.1,
-    amount-minus (account_of w.accounts acct).maxima (occupancies w acct) space, amount-by (occupancy w acct) space,
-    bound acct space, (keeps_of w.accounts acct keep).maxima space)
+    omega (
+      arith,
+      first_above-none uncovered (rooms w acct) space none.1,
+      amount-minus (account_of w.accounts acct).maxima (occupancies w acct) space,
+      amount-by (occupancy w acct) space,
+      bound acct space,
+      (keeps_of w.accounts acct keep).maxima space,
+    )
 
 on_true : (P Q : Type 0) (b : Bool) → b ≡ true → P → MatchBool b P Q
 on_true P Q true e p = p

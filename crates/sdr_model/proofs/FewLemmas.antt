@@ -104,8 +104,13 @@ pub pieces-bonded : (at : ℕ → ℕ) (z : ZcoObject) → pieces (bonded at z) 
 pieces-bonded at z =
     let heads = bonded_extents at 0 z.headers in
     let tails = bonded_extents at (3 * length z.headers) z.trailers in
-    omega (arith, length-bonded_extents at 0 z.headers, length-bonded_extents at (3 * length z.headers) z.trailers,
-    length-append (heads ++ z.extents) tails, length-append heads z.extents)
+    omega (
+      arith,
+      length-bonded_extents at 0 z.headers,
+      length-bonded_extents at (3 * length z.headers) z.trailers,
+      length-append (heads ++ z.extents) tails,
+      length-append heads z.extents,
+    )
 
 cut_few : (b : Bool) (e : Extent) (rest : List Extent) (n : ℕ) → length rest ≤ n → length (cond b rest (e ∷ rest)) ≤ suc n
 cut_few true e rest n le = omega (arith, le)

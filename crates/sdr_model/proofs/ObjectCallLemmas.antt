@@ -1,7 +1,8 @@
--- Objects that are put into a world in the making.
+-- Calls that put objects into a world in the making.
 use Rattle.std.proofs.Common.{◌≡◌, ◌≤◌, ◌+◌, ◌++◌, ◌∷◌, [], ℕ, List, Option, None, Some, Bool, true, false, cond, ap, sym, ◌∙◌, refl, subst, arith}
 use Rattle.std.specs.FinMap.{get}
 use Rattle.std.specs.List.{All}
+use Rattle.std.specs.Prelude.{Contains, IfSome}
 use Rattle.sdr_base.specs.declared.account.Acct.{Acct}
 use Rattle.sdr_base.specs.declared.account.Acct.TheVariants as accts
 use Rattle.sdr_base.specs.declared.account.Amounts.{Amounts}
@@ -49,12 +50,13 @@ pub charged_one : (w w' : World) (at : ℕ → ℕ) (object : ℕ → ZcoObject)
 charged_one w w' at object acct number need charge amounts p reply is may put =
     let o = TakenOne w w' need (reply (next_addr w.taken)) in
     charge_allowed w o acct number charge amounts p
-    (λ used. Takes w o need (λ addr. with_object used (at addr) (object addr)) reply) is may
-    ( refl
-    , ( ap (λ (v : World). record v { taken = w.taken }) put
-        ∙ put_one w p amounts (at (next_addr w.taken)) (object (next_addr w.taken))
-      , refl
-      )
+    (λ used. Takes w o need (λ addr. with_object used (at addr) (object addr)) reply) is may (
+      refl,
+      (
+        ap (λ (v : World). record v { taken = w.taken }) put
+            ∙ put_one w p amounts (at (next_addr w.taken)) (object (next_addr w.taken)),
+        refl,
+      ),
     )
 
 -- it counts one block
@@ -103,11 +105,14 @@ module _ (w : World) (k : ℕ) (z : ZcoObject) (is : get w.things k ≡ Some (th
   pub occupancy-gone : (space : Space)
       → occupancy (without_thing w k) z.account space + object_charge w space z ≡ occupancy w z.account space
   occupancy-gone space =
-      omega (arith, charged-with_at w.things w.accounts k None
-      (λ q y there. All-each (SameSpace w (without_thing w k)) (λ e. same_spaces w.things w.accounts k None no_source e.source) y.extents)
-      z.account space,
-      ap (λ t. counted_at (λ e. thing_charge w z.account space e.1) k t) is,
-      ap (λ b. cond b (object_charge w space z) 0) (same_account z.account))
+      omega (
+        arith,
+        charged-with_at w.things w.accounts k None
+            (λ q y there. All-each (SameSpace w (without_thing w k)) (λ e. same_spaces w.things w.accounts k None no_source e.source) y.extents)
+            z.account space,
+        ap (λ t. counted_at (λ e. thing_charge w z.account space e.1) k t) is,
+        ap (λ b. cond b (object_charge w space z) 0) (same_account z.account),
+      )
 
 -- an object that may come in the place of another has room where that one is gone
 pub room_replaced : (w : World) (k : ℕ) (object : ZcoObject) → MayReplace w (object_at w k) object
@@ -128,3 +133,24 @@ room_replaced w k object may space = of_thing (get w.things k) refl may
     of_thing (Some (things.Hash h)) is may = absurd may
     of_thing (Some (things.Source s)) is may = absurd may
     of_thing None is may = absurd may
+
+-- the sources of the object that is there are noted where those of its copy are
+pub noted_there : (w w' : World) (k : ℕ) (z copy : ZcoObject) (noted : List ℕ) → w' ≡ w → Some z ≡ object_at w k → copy ≡ z
+    → All (λ e. Contains noted e.source) copy.extents → IfSome (object_at w' k) (λ z. All (λ e. Contains noted e.source) z.extents)
+noted_there w w' k z copy noted same there is all =
+    subst (λ o. IfSome o (λ z. All (λ e. Contains noted e.source) z.extents)) (there ∙ ap (λ v. object_at v k) (sym same))
+    (subst (λ (z : ZcoObject). All (λ e. Contains noted e.source) z.extents) is all)
+
+-- an object is there still after a charge for blocks
+pub there_after : (w wt wc : World) (p : Option Pending) (amounts : Amounts) (n k : ℕ) (z : ZcoObject) → wt ≡ w
+    → wc ≡ with_blocks (with_used wt p amounts) n → Some z ≡ object_at w k → object_at wc k ≡ Some z
+there_after w wt wc p amounts n k z same taken there =
+    ap (λ v. object_at v k) taken ∙ ap as_object (thing_at-blocks wt p amounts n k) ∙ ap (λ v. object_at v k) same ∙ sym there
+
+-- and so many more blocks are counted
+pub taken_after : (w wt wc : World) (p : Option Pending) (amounts : Amounts) (n : ℕ) → wt ≡ w
+    → wc ≡ with_blocks (with_used wt p amounts) n → wc.taken ≡ w.taken + n
+taken_after w wt wc None amounts n same taken =
+    ap (λ (v : World). v.taken) taken ∙ ap (λ (v : World). v.taken + n) same
+taken_after w wt wc (Some p) amounts n same taken =
+    ap (λ (v : World). v.taken) taken ∙ ap (λ (v : World). v.taken + n) same

@@ -247,7 +247,7 @@ module _ (notes noted : Notes) (sums summed : Charged) (next : ℕ) (m : Things)
         omega (
           arith,
           charge_of-own w_of k z acct space (occupancy w_of acct space) most_amount (told.bound acct space)
-          (λ same. subst (λ a. occupancy w_of a space + object_charge w_of space z ≤ most_amount) (sym same) (room space)),
+              (λ same. subst (λ a. occupancy w_of a space + object_charge w_of space z ≤ most_amount) (sym same) (room space)),
         );
     sound = modest;
     raws = raws-with_at next m k (Some (things.Object z))

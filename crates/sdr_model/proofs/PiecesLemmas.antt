@@ -286,9 +286,9 @@ Shows w bytes = record { moves = []; after = record w { shown = bytes }; reply =
 gives-page : (w : World) (addr count : ℕ) (named : Option ZcoObject) (z : ZcoObject) (of : ZcoObject → Told)
     (bytes : List ℕ) → named ≡ Some z → count ≤ longest_read → Spells (of z) bytes
     → On w (Shows w bytes) addr named (λ z.
-        MatchBool (nat_lt longest_read count)
-        (Refuses w (Shows w bytes) (refusals.BadLength count longest_read))
-        (Gives w (Shows w bytes) (of z)))
+    MatchBool (nat_lt longest_read count)
+    (Refuses w (Shows w bytes) (refusals.BadLength count longest_read))
+    (Gives w (Shows w bytes) (of z)))
 gives-page w addr count None z of bytes is most spells = cc
 gives-page w addr count (Some y) z of bytes is most spells =
     subst (λ b. MatchBool b (Refuses w (Shows w bytes) (refusals.BadLength count longest_read)) (Gives w (Shows w bytes) (of y)))

@@ -65,14 +65,21 @@ pub occupied_served : (space : Space) (m o : Amounts) (ts : List Ticket) (other 
 occupied_served space m o [] other most all is small bounded = omega (arith, is, small)
 occupied_served space m o (t ∷ ts) other most all is small bounded =
     picks (λ us. other + left_in space us ≤ most) t.granted (are_within t.asked (minus m o))
-    (λ granted. omega (arith, left_in-cons space t (served m o ts),
-    occupied_served space m o ts (other + amount t.left space) most all.1 (omega (arith, is, left_in-cons space t ts)) small bounded))
+    (λ granted. omega (
+      arith,
+      left_in-cons space t (served m o ts),
+      occupied_served space m o ts (other + amount t.left space) most all.1 (omega (arith, is, left_in-cons space t ts)) small bounded,
+    ))
     (λ waits fits.
-      let none : amount t.left space ≡ 0 = ap (λ a. amount a space) (all.0 waits) ∙ nothing_in space in
-      let inside = within_in t.asked (minus m o) space fits in
-      omega (arith, left_in-cons space (granted t) (served m (plus o t.asked) ts), occupied_served space m (plus o t.asked) ts (other + amount t.asked space) most all.1
-      (omega (arith, is, left_in-cons space t ts, none, amount-plus o t.asked space))
-      (omega (arith, inside, amount-minus m o space, amount-plus o t.asked space, small, bounded)) bounded))
+    let none : amount t.left space ≡ 0 = ap (λ a. amount a space) (all.0 waits) ∙ nothing_in space in
+    let inside = within_in t.asked (minus m o) space fits in
+    omega (
+      arith,
+      left_in-cons space (granted t) (served m (plus o t.asked) ts),
+      occupied_served space m (plus o t.asked) ts (other + amount t.asked space) most all.1
+          (omega (arith, is, left_in-cons space t ts, none, amount-plus o t.asked space))
+          (omega (arith, inside, amount-minus m o space, amount-plus o t.asked space, small, bounded)) bounded,
+    ))
     (omega (arith, is, small))
 
 -- where both accounts were copied, one of them may be put

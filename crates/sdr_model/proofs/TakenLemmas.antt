@@ -53,10 +53,10 @@ pub does-with : (w after : World) (n : ℕ) (at : ℕ → ℕ) (moves : (ℕ →
     → DoesWith w (record { moves = moves at; after = after; reply = reply at }) moves next reply
 does-with w after n at moves next reply taken same_moves same_next same_reply is =
     let to = taken_at (moves at) in
-    let agree = Agree-taken at (moves at) n taken in
-    ( same_moves to agree
-    , is ∙ ap₂ (λ (v : World) (marks : List ℕ). record v { marks = w.marks ++ marks; shown = [] }) (same_next to agree) (sym taken)
-    , same_reply to agree
+    let agree = Agree-taken at (moves at) n taken in (
+      same_moves to agree,
+      is ∙ ap₂ (λ (v : World) (marks : List ℕ). record v { marks = w.marks ++ marks; shown = [] }) (same_next to agree) (sym taken),
+      same_reply to agree,
     )
 
 -- moves that only take
@@ -74,10 +74,10 @@ takes-agree at to k end (need ∷ needs) most agree =
 pub in_order-takes : (taken k now : ℕ) (needs : List ℕ) → now ≡ taken + k
     → AreInOrder now (takes_from (addr_after taken) k needs)
 in_order-takes taken k now [] is = tt
-in_order-takes taken k now (need ∷ needs) is =
-    ( addr_after-next taken k ∙ ap next_addr (sym is)
-    , in_order-takes taken (suc k) (now + 1) needs (omega (arith, is))
-    )
+in_order-takes taken k now (need ∷ needs) is = (
+  addr_after-next taken k ∙ ap next_addr (sym is),
+  in_order-takes taken (suc k) (now + 1) needs (omega (arith, is)),
+)
 
 pub blocks-takes : (at : ℕ → ℕ) (k : ℕ) (needs : List ℕ) → blocks_taken (takes_from at k needs) ≡ length needs
 blocks-takes at k [] = refl
@@ -145,15 +145,17 @@ bond-agree at to k end (c ∷ cs) most agree =
 pub bond-in_order : (taken k now : ℕ) (capsules : List Capsule) → now ≡ taken + k
     → AreInOrder now (bond_moves (addr_after taken) k capsules)
 bond-in_order taken k now [] is = tt
-bond-in_order taken k now (c ∷ cs) is =
-    ( addr_after-next taken k ∙ ap next_addr (sym is)
-    , ( addr_after-next taken (k + 1) ∙ ap next_addr (let same : taken + (k + 1) ≡ now + 1 = omega (arith, is) in same)
-      , ( addr_after-next taken (k + 2)
-          ∙ ap next_addr (let same : taken + (k + 2) ≡ now + 1 + 1 = omega (arith, is) in same)
-        , bond-in_order taken (k + 3) (now + 1 + 1 + 1) cs (omega (arith, is))
-        )
-      )
-    )
+bond-in_order taken k now (c ∷ cs) is = (
+  addr_after-next taken k ∙ ap next_addr (sym is),
+  (
+    addr_after-next taken (k + 1) ∙ ap next_addr (let same : taken + (k + 1) ≡ now + 1 = omega (arith, is) in same),
+    (
+      addr_after-next taken (k + 2)
+          ∙ ap next_addr (let same : taken + (k + 2) ≡ now + 1 + 1 = omega (arith, is) in same),
+      bond-in_order taken (k + 3) (now + 1 + 1 + 1) cs (omega (arith, is)),
+    ),
+  ),
+)
 
 pub bond-blocks : (at : ℕ → ℕ) (k : ℕ) (capsules : List Capsule) → blocks_taken (bond_moves at k capsules) ≡ 3 * length capsules
 bond-blocks at k [] = refl

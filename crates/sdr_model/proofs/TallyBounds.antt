@@ -47,7 +47,7 @@ module _ (raw : ℕ) (known : Option ℕ) where
       (λ k thing is. each k thing (rest_there e es k thing sorted is)) (later away)) (names_raw raw e.1) refl
     where
       later : names_raw raw e.1 ≡ false → (k : ℕ) → known ≡ Some k → names_at raw (find nat_cmp k es) ≡ true
-      later away k is = at (nat_cmp k e.0 ) refl (there k is)
+      later away k is = at (nat_cmp k e.0) refl (there k is)
         where
           at : (o : Ordering) → nat_cmp k e.0 ≡ o
               → names_at raw (cond (is_eq o) (Some e.1) (find nat_cmp k es)) ≡ true

@@ -183,15 +183,11 @@ impl Call {
     {
         !matches!(
             self,
-            Call::Create(_, _)
-                | Call::AppendExtent(_, _, _, _, _)
-                | Call::PrependHeader(_, _, _)
-                | Call::AppendTrailer(_, _, _)
+            Call::AppendExtent(_, _, _, _, _)
                 | Call::DiscardFirstHeader(_)
                 | Call::DiscardLastTrailer(_)
                 | Call::Bond(_, _)
                 | Call::ClonePart(_, _, _, _)
-                | Call::Delimit(_, _, _)
                 | Call::Strip(_)
                 | Call::Destroy(_)
         )

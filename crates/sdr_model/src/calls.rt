@@ -3,9 +3,8 @@ ghost use Rattle.std.specs.Prelude.{◌≡◌, ◌<◌, ◌^◌, true};
 ghost use Rattle.sdr_model.specs.Answers.{Answers};
 ghost use Rattle.sdr_model.specs.Built.{is_built};
 
-use crate::account_calls::{
-    Asking, awarded, maximum, occupancy, request, set_maximum, shred,
-};
+use crate::account_calls::{Asking, awarded, maximum, occupancy, request, set_maximum, shred};
+use crate::capsule_calls::{append_trailer, prepend_header};
 use crate::element_calls::{datum, delete, next, prev, set_datum};
 use crate::hash_calls::{
     hash_count, hash_destroy, hash_insert, hash_remove, hash_retrieve, hash_revise, make_hash,
@@ -15,7 +14,7 @@ use crate::list_calls::{
     first, last, list_destroy, list_length, list_user, make_list, set_list_user,
 };
 use crate::name_calls::{catlg, entry, find, uncatlg};
-use crate::object_calls::{source_length, zco_length};
+use crate::object_calls::{create, delimit, source_length, zco_length};
 use crate::ordered_calls::{insert_ordered, search};
 use crate::raw_calls::{free, length, malloc, read, stage, write};
 use crate::source_calls::{bulk_ref, count, destroy_ref, file_ref, obj_ref};
@@ -32,8 +31,9 @@ use std::alloc::Global;
 /// Calls on lists and on their elements are at most linear in the list, `uncatlg` in the catalogue, and the
 /// first change of a thing in a transaction in that thing. A key is looked for in its bucket alone; a new or
 /// removed one moves the entries of its hash behind it. A call that is refused for an address at which no
-/// thing begins is linear in the list or hash that has or had a block there, and in the catalogue. All
-/// others take about the logarithm of the world.
+/// thing begins is linear in the list, hash or object that has or had a block there, and in the catalogue.
+/// Calls on objects are at most linear in what is in them, times the logarithm of the world, and calls that
+/// charge an account in its queue. All others take about the logarithm of the world.
 pub fn apply(alloc: Global, world: &mut World, call: &Call) -> Result<Reply, NoMemory>
     requires taken { world.old.now.taken < 2 ^ 60 }
     requires built { is_built call.now ≡ true }
@@ -114,15 +114,19 @@ pub fn apply(alloc: Global, world: &mut World, call: &Call) -> Result<Reply, NoM
         }
         Call::Awarded(ticket) => awarded(world, *ticket),
         Call::Shred(ticket) => shred(world, *ticket),
-        Call::Create(_, _)
-        | Call::AppendExtent(_, _, _, _, _)
-        | Call::PrependHeader(_, _, _)
-        | Call::AppendTrailer(_, _, _)
+        Call::Create(acct, ticket) => create(alloc, world, *acct, *ticket),
+        Call::Delimit(addr, offset, length) => delimit(alloc, world, *addr, *offset, *length),
+        Call::PrependHeader(addr, ticket, text) => {
+            prepend_header(alloc, world, *addr, *ticket, text)
+        }
+        Call::AppendTrailer(addr, ticket, text) => {
+            append_trailer(alloc, world, *addr, *ticket, text)
+        }
+        Call::AppendExtent(_, _, _, _, _)
         | Call::DiscardFirstHeader(_)
         | Call::DiscardLastTrailer(_)
         | Call::Bond(_, _)
         | Call::ClonePart(_, _, _, _)
-        | Call::Delimit(_, _, _)
         | Call::Strip(_)
         | Call::Destroy(_) => unreachable!(),
     }

@@ -89,9 +89,8 @@ fn are_stalled(daemons: &[u8], left: &[u8], waiting: &[Waiting], accounts: &Acco
         || list_any (λ x. x.daemon == daemon && not (is_granted (pending_among accounts.now x.ticket))) waiting.now)
         daemons.now }
 {
-    daemons
-        .iter()
-        .all(|daemon| is_among(left, *daemon) || waits_in_vain(waiting, accounts, *daemon))
+    daemons.iter().all(|daemon| is_among(left, *daemon)
+        || waits_in_vain(waiting, accounts, *daemon))
 }
 
 // Forgets what a daemon waits for.

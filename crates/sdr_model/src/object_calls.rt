@@ -1,20 +1,31 @@
 // What calls on objects do to a world.
-ghost use Rattle.std.specs.Prelude.{◌≡◌, ◌<◌, ◌^◌, IfSome};
+ghost use Rattle.std.specs.Prelude.{◌≡◌, ◌≤◌, ◌<◌, ◌+◌, ◌^◌, IfSome, nat_lt};
 ghost use Rattle.std.specs.Option.{option_copied};
 ghost use Rattle.sdr_model.specs.Answers.{Answers};
+ghost use Rattle.sdr_base.specs.declared.kind.Space.{Space};
+ghost use Rattle.sdr_model.specs.Accounts.{most_amount};
 ghost use Rattle.sdr_model.specs.Bounds.{IsBounded};
+ghost use Rattle.sdr_model.specs.Charges.{occupancy};
+ghost use Rattle.sdr_model.specs.Dry.{next_addr};
+ghost use Rattle.sdr_model.specs.Owners.{MayPut};
+ghost use Rattle.sdr_model.specs.Tallies.{IsModest};
+ghost use Rattle.sdr_model.specs.declared.things.Thing.{Thing};
 ghost use Rattle.sdr_model.specs.Zco.{object_at};
 
 use crate::charges::heap_charge;
+use crate::cuts::extents_length;
 use crate::raw_calls::misnamed;
-use crate::{Call, Reply, World, ZcoObject};
-use sdr_base::{Acct, Addr, NoMemory};
+use crate::{Call, Part, Reply, World, ZcoObject};
+use sdr_base::{Acct, Addr, NoMemory, Refusal};
 use std::alloc::Global;
 
 /// The object at an address.
 pub fn object(world: &World, addr: Addr) -> Option<&ZcoObject>
     ensures is { option_copied result ≡ object_at world.now.now addr }
     ensures bounded { IfSome result (λ z. IsBounded z.now) }
+    ensures modest { IfSome result (λ z. IsModest (next_addr world.now.now.taken) z.now) }
+    ensures owned { IfSome result (λ z. MayPut world.now addr (Thing.Object z.now)) }
+    ensures small { IfSome result (λ z. (space : Space) → occupancy world.now.now z.now.account space ≤ most_amount) }
 {
     let object = world.object(addr)?;
     Some(object)
@@ -43,12 +54,7 @@ pub fn source_length(world: &mut World, addr: Addr) -> Result<Reply, NoMemory>
 }
 
 /// Makes an object with nothing in it.
-pub fn create(
-    alloc: Global,
-    world: &mut World,
-    acct: Acct,
-    number: u64,
-) -> Result<Reply, NoMemory>
+pub fn create(alloc: Global, world: &mut World, acct: Acct, number: u64) -> Result<Reply, NoMemory>
     requires taken { world.old.now.taken < 2 ^ 60 }
     ensures { Answers (Call.Create acct number) world.old world.new result }
 {
@@ -60,4 +66,47 @@ pub fn create(
     };
     world.add_object(addr, ZcoObject::empty(alloc, acct));
     Ok(Reply::At { addr })
+}
+
+// Whether so many bytes from a place on exceed those that are there.
+fn exceeds(offset: u64, bytes: u64, have: u64) -> bool
+    ensures { result ≡ nat_lt have (offset + bytes) }
+{
+    match offset.checked_add(bytes) {
+        Some(end) => have < end,
+        None => true,
+    }
+}
+
+/// Sets the part of an object. It is linear in the object.
+pub fn delimit(
+    alloc: Global,
+    world: &mut World,
+    addr: Addr,
+    offset: u64,
+    bytes: u64,
+) -> Result<Reply, NoMemory>
+    ensures { Answers (Call.Delimit addr offset bytes) world.old world.new result }
+{
+    let Some(object) = object(world, addr) else {
+        return Ok(misnamed(world, addr));
+    };
+    let have = extents_length(object.extents.as_slice());
+    if exceeds(offset, bytes, have) {
+        let length = bytes;
+        return Ok(Reply::Refused(Refusal::BadRange {
+            offset,
+            length,
+            have,
+        }));
+    }
+    let mut changed = object.copied(alloc)?;
+    world.touch_object(addr, &changed)?;
+    changed.part = Part {
+        offset,
+        length: bytes,
+    };
+    world.replace_object(addr, changed);
+    world.hide();
+    Ok(Reply::Done)
 }

@@ -79,7 +79,12 @@ fn made(world: &mut World, subject: Subject, length: u64) -> Result<Reply, NoMem
     Ok(Reply::At { addr })
 }
 
-pub fn file_ref(alloc: Global, world: &mut World, path: &Bytes, length: u64) -> Result<Reply, NoMemory>
+pub fn file_ref(
+    alloc: Global,
+    world: &mut World,
+    path: &Bytes,
+    length: u64,
+) -> Result<Reply, NoMemory>
     requires taken { world.old.now.taken < 2 ^ 60 }
     ensures { Answers (Call.FileRef path.now length) world.old world.new result }
 {

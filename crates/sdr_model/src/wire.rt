@@ -24,7 +24,11 @@ pub enum Piece {
         length: u64,
     },
     /// Bytes of an item of bulk storage.
-    Bulk { item: u64, offset: u64, length: u64 },
+    Bulk {
+        item: u64,
+        offset: u64,
+        length: u64,
+    },
 }
 
 /// Pieces, gathered one after another.

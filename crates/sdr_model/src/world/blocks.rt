@@ -31,7 +31,8 @@ impl World {
     fn mark_blocks(&mut self, owner: Addr, count: u64) -> Result<(), NoMemory>
         requires taken { self.old.now.taken + count < 2 ^ 60 + 2 ^ 30 }
         ensures marked { OnOk result (self.new.now ≡ record self.old.now {
-            marks = self.old.now.marks ++ next_addrs self.old.now.taken count }) }
+          marks = self.old.now.marks ++ next_addrs self.old.now.taken count;
+        }) }
         ensures owned { OnOk result ((k : ℕ) → k < count
             → map.get self.new.owners (addr_after self.old.now.taken k) ≡ Some owner) }
         ensures others { (other of : ℕ) → other < next_addr self.old.now.taken
@@ -55,7 +56,8 @@ impl World {
     pub fn reserve_blocks(&mut self, owner: Addr, count: u64) -> Result<(), NoMemory>
         requires taken { self.old.now.taken + count < 2 ^ 60 + 2 ^ 30 }
         ensures marked { OnOk result (self.new.now ≡ record self.old.now {
-            marks = self.old.now.marks ++ next_addrs self.old.now.taken count }) }
+          marks = self.old.now.marks ++ next_addrs self.old.now.taken count;
+        }) }
         ensures owned { OnOk result ((k : ℕ) → k < count
             → map.get self.new.owners (addr_after self.old.now.taken k) ≡ Some owner) }
         ensures others { (other of : ℕ) → other < next_addr self.old.now.taken

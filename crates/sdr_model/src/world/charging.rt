@@ -246,7 +246,13 @@ impl World {
 
     /// A new ticket asks an account for space, and its queue is served. The ticket has the next number and
     /// address. Want of memory leaves the world as before.
-    pub fn request(&mut self, acct: Acct, asked: Amounts, coarse: u8, fine: u8) -> Result<(), NoMemory>
+    pub fn request(
+        &mut self,
+        acct: Acct,
+        asked: Amounts,
+        coarse: u8,
+        fine: u8,
+    ) -> Result<(), NoMemory>
         requires taken { self.old.now.taken < 2 ^ 60 }
         requires number { self.old.now.accounts.next < most_amount }
         ensures ok { OnOk result (let addr = next_addr self.old.now.taken in self.new.now

@@ -17,8 +17,6 @@ ghost use Rattle.sdr_model.specs.World.{thing_at};
 ghost use Rattle.sdr_model.specs.Zco.{as_object, object_at, source_on};
 ghost use Rattle.sdr_model.specs.declared.things.Thing.{Thing};
 
-
-
 use crate::amounts::NOTHING;
 use crate::charges::bytes_charge;
 use crate::tally::Tally;

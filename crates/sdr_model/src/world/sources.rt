@@ -1,6 +1,7 @@
 // The sources of a world in the making, what names them, and what is charged.
 ghost use Rattle.std.specs.Prelude.{◌≡◌, ◌≤◌, ◌<◌, ◌^◌, ℕ, IfSome, IsSome, OnOk, OnErr, None, Some, Contains, true, [], length};
 ghost use Rattle.std.specs.Option.{option_copied};
+ghost use Rattle.sdr_base.specs.declared.account.Acct.{Acct as GhostAcct};
 ghost use Rattle.sdr_base.specs.declared.kind.Space.{Space};
 ghost use Rattle.sdr_model.specs.Accounts.{most_amount};
 ghost use Rattle.sdr_model.specs.Amounts.{amounts_by};
@@ -9,6 +10,7 @@ ghost use Rattle.sdr_model.specs.Dry.{next_addr};
 ghost use Rattle.sdr_model.specs.Limits.{longest_raw, longest_source};
 ghost use Rattle.sdr_model.specs.Notes.{raw_of};
 ghost use Rattle.sdr_model.specs.Steps.{with_thing, without_thing};
+ghost use Rattle.sdr_model.specs.Owners.{MayPut};
 ghost use Rattle.sdr_model.specs.Tallies.{FlagsSource, IsModest, charged, is_plain, raw_at};
 ghost use Rattle.sdr_model.specs.World.{as_raw, thing_at};
 ghost use Rattle.sdr_model.specs.Zco.{count_of, object_at, source_at, source_on, uses_of};
@@ -57,6 +59,8 @@ impl World {
         ensures modest { IfSome result (λ z. IsModest (next_addr self.now.now.taken) z.now) }
         ensures charge { IfSome result (λ z.
             (space : Space) → object_charge self.now.now space z.now ≤ most_amount) }
+        ensures owned { IfSome result (λ z. MayPut self.now addr (Thing.Object z.now)) }
+        ensures small { (acct : GhostAcct) (space : Space) → occupancy self.now.now acct space ≤ most_amount }
     {
         match self.things.get(addr) {
             Some(Thing::Object(object)) => Some(object),

@@ -9,16 +9,26 @@ use Rattle.sdr_model.proofs.charges.rise.Goals as goal
 
 pub capsule_bytes-requires : goal.capsule_bytes-requires
 capsule_bytes-requires c = record {
-  small = omega (arith, c.requires.small, capsule_bytes-le (length c.as_slice.result.now),
-      ap length c.as_slice.ensures ∙ ap (λ (c : Capsule). length c.text) c.capsule-item.is,
-      sum_by_more_le (capsule_charge spaces.Heap) c.args.capsules.now c.loop-capsule.capsule-index c.capsule-item.result
-      c.loop-capsule-test.true);
+  small = omega (
+    arith,
+    c.requires.small,
+    capsule_bytes-le (length c.as_slice.result.now),
+    ap length c.as_slice.ensures ∙ ap (λ (c : Capsule). length c.text) c.capsule-item.is,
+    sum_by_more_le (capsule_charge spaces.Heap) c.args.capsules.now c.loop-capsule.capsule-index c.capsule-item.result
+        c.loop-capsule-test.true,
+  );
 }
 
 pub overflow_add-bytes-in-loop-capsule : goal.overflow_add-bytes-in-loop-capsule
 overflow_add-bytes-in-loop-capsule c =
     let text = ap length c.as_slice.ensures ∙ ap (λ (c : Capsule). length c.text) c.capsule-item.is in
-    omega (arith, c.requires.small, text, rise-most c.args.capsules.now,
-    ap capsule_bytes text, c.capsule_bytes.ensures,
-    sum_by_more_le (bond_rise spaces.Heap) c.args.capsules.now c.loop-capsule.capsule-index c.capsule-item.result
-    c.loop-capsule-test.true)
+    omega (
+      arith,
+      c.requires.small,
+      text,
+      rise-most c.args.capsules.now,
+      ap capsule_bytes text,
+      c.capsule_bytes.ensures,
+      sum_by_more_le (bond_rise spaces.Heap) c.args.capsules.now c.loop-capsule.capsule-index c.capsule-item.result
+          c.loop-capsule-test.true,
+    )

@@ -19,12 +19,11 @@ count_out-requires c =
     let there = object_there (get inside.things.now k) (subst (λ d. IsSome (object_at d.now k)) view c.requires.there) in
     let noted = subst (λ d. IfSome (object_at d.now k) (λ z. All (λ e. Contains d.noted e.source) z.extents)) view c.requires.noted in
     record {
-      there = subst (λ o. MayCountOut (as_object o) inside.tally) (sym there.1)
-          (
-            subst (λ o. IfSome (as_object o) (λ z. All (λ e. Contains inside.tally.notes.touched e.source) z.extents)) there.1 noted,
-            uses_there inside.tally.notes.now inside.tally.notes.now inside.tally.now inside.tally.now _ inside.things.now
-            inside.accounts.now k there.0 c.self.invariant.told.now there.1
-          );
+      there = subst (λ o. MayCountOut (as_object o) inside.tally) (sym there.1) (
+        subst (λ o. IfSome (as_object o) (λ z. All (λ e. Contains inside.tally.notes.touched e.source) z.extents)) there.1 noted,
+        uses_there inside.tally.notes.now inside.tally.notes.now inside.tally.now inside.tally.now _ inside.things.now
+            inside.accounts.now k there.0 c.self.invariant.told.now there.1,
+      );
     }
 
 pub invariant_of-self : goal.invariant_of-self

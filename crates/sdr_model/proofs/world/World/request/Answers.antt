@@ -20,8 +20,8 @@ returns-in-Ok-clause-ok c =
     let ticket = new_ticket c.accounts.result.now.next c.in_ok-block.block c.args.asked c.args.coarse c.args.fine in
     let old = c.args.self.now.now in
     let after : ℕ → ℕ → World = λ number block.
-      counted (with_served (entered (new_ticket number block c.args.asked c.args.coarse c.args.fine)
-      (record old { marks = old.marks ++ block ∷ [] })) acct) in
+    counted (with_served (entered (new_ticket number block c.args.asked c.args.coarse c.args.fine)
+    (record old { marks = old.marks ++ block ∷ [] })) acct) in
     let saved = ap (λ (d : Draft). d.now) c.in_ok-save_accounts.ensures.saved in
     c.count.ensures.counted
     ∙ ap (λ (d : Draft). counted d.now) c.serve.ensures

@@ -1,4 +1,4 @@
-use Rattle.std.proofs.Common.{◌≡◌, ◌<◌, ◌∙◌, ◌++◌, ◌∷◌, [], ℕ, ap, sym, subst, take, get_or, length}
+use Rattle.std.proofs.Common.{◌≡◌, ◌<◌, ◌∙◌, ◌++◌, ◌∷◌, [], ℕ, ap, sym, subst, take, get_or, length, arith}
 use Rattle.std.proofs.lemmas.List.{take_all, take_more}
 use Rattle.std.proofs.lemmas.List.Elements.{All-append, All-cons, All-nil, All-weaker}
 use Rattle.std.specs.List.{All}
@@ -22,10 +22,13 @@ loop-extent-preserved c =
           (All-append noted (take i all) (get_or all i d ∷ [])
           (All-weaker (λ e. Contains c.loop-extent.self.noted e.source) noted
           (λ e has. c.in_ok-touch-2.ensures.others_noted e.source has) (take i all) c.loop-extent.invariant.noted)
-          (All-cons noted (get_or all i d) [] ? (All-nil noted)));
+          (All-cons noted (get_or all i d) []
+          (subst (λ es. Contains c.touch-in-loop-extent.new.self.noted (get_or es i d).source) c.as_slice-extent-items.ensures
+          c.in_ok-touch-2.ensures.noted) (All-nil noted)));
     }
 
 pub returns-clause-noted : goal.returns-clause-noted
 returns-clause-noted c =
     subst (All (λ e. Contains c.loop-extent.self.noted e.source))
-    (take_all c.loop-extent.extent-index c.args.object.now.extents ?) c.loop-extent.invariant.noted
+    (take_all c.loop-extent.extent-index c.args.object.now.extents
+    (omega (arith, ap length c.as_slice-extent-items.ensures))) c.loop-extent.invariant.noted
