@@ -12,7 +12,7 @@ use Rattle.sdr_base.specs.declared.account.Amounts.{Amounts}
 use Rattle.sdr_laws.proofs.DistinctLemmas.{from_once, on_test, once, weight}
 use Rattle.sdr_laws.proofs.QueueLemmas.{IsQueue, later_queue, placed_queue, times, times_next, times_placed}
 use Rattle.sdr_laws.proofs.QueueOrder.{ordered, pairs, placed}
-use Rattle.sdr_laws.proofs.SumLemmas.{sum_by-map}
+use Rattle.sdr_model.proofs.SumLemmas.{sum_by-map}
 use Rattle.sdr_model.specs.AccountSteps.{pending_of}
 use Rattle.sdr_model.specs.Accounts.{account_of, most_amount, no_ticket, pending_in, ticket_at, tickets_of, with_account, with_tickets}
 use Rattle.sdr_model.specs.declared.accounts.Pending.{Pending}

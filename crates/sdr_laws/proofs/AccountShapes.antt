@@ -10,7 +10,7 @@ use Rattle.sdr_laws.proofs.AccountLemmas.{alike-served, pending_of_stands, sum_b
 use Rattle.sdr_laws.proofs.Alike.{Alike, alike-then}
 use Rattle.sdr_laws.proofs.Changes.{Changes, none_marked, one_marked, swaps_tickets}
 use Rattle.sdr_laws.proofs.Shapes.{Shape, does, on_failed, on_none, on_passed, on_some, reads, takes_one}
-use Rattle.sdr_laws.proofs.SumLemmas.{sum_by-map}
+use Rattle.sdr_model.proofs.SumLemmas.{sum_by-map}
 use Rattle.sdr_laws.proofs.ThingChanges.{in_takes}
 use Rattle.sdr_laws.specs.MovesBlocks.{given_addresses, taken_needs}
 use Rattle.sdr_model.specs.AccountSteps as account

@@ -10,7 +10,7 @@ use Rattle.sdr_laws.proofs.Changes.{blocks_at}
 use Rattle.sdr_laws.proofs.DistinctLemmas.{absent, count_by-cons, none_counted, on_test, once, others, others_counted, weight, weight_of}
 use Rattle.sdr_laws.proofs.EditLemmas.{count_by-map}
 use Rattle.sdr_laws.proofs.ObjectLemmas.{object_parts}
-use Rattle.sdr_laws.proofs.SumLemmas.{sum_by-map}
+use Rattle.sdr_model.proofs.SumLemmas.{sum_by-map}
 use Rattle.sdr_laws.proofs.ThingChanges.{own_addr}
 use Rattle.sdr_laws.proofs.WorldChanges.{swapped, swapped_sums, thing_at-apart}
 use Rattle.sdr_model.specs.Blocks.{addresses_of, blocks_of}

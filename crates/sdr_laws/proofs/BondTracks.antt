@@ -7,7 +7,7 @@ use Rattle.std.proofs.lemmas.List.Sums.{sum_by-append, sum_by-cons}
 use Rattle.sdr_laws.proofs.DistinctLemmas.{not_contained, once, weight, weight_of}
 use Rattle.sdr_laws.proofs.SourceViews.{apart_at, by_addr}
 use Rattle.sdr_laws.proofs.FreshLemmas.{none_there, own_at}
-use Rattle.sdr_laws.proofs.SumLemmas.{counted_at, sum_by-flat_map, sum_by-map, sum_by-removed}
+use Rattle.sdr_model.proofs.SumLemmas.{counted_at, sum_by-flat_map, sum_by-map, sum_by-removed}
 use Rattle.sdr_model.specs.Accounts.{ticket_blocks}
 use Rattle.sdr_model.specs.Blocks.{addresses_of, blocks_of, thing_blocks, things_blocks}
 use Rattle.sdr_model.specs.Things.{capsule_block, extent_block, inner_blocks, name_block, object_blocks, own_block}

@@ -7,7 +7,7 @@ use Rattle.std.specs.Ordering.{nat_cmp}
 use Rattle.std.specs.Prelude.{All, IfSome}
 use Rattle.std.proofs.lemmas.List.{append-nil}
 use Rattle.std.proofs.lemmas.List.Sums.{sum_by-append}
-use Rattle.sdr_laws.proofs.SumLemmas.{counted_at, sum_by-flat_map, sum_by-inserted, sum_by-removed}
+use Rattle.sdr_model.proofs.SumLemmas.{counted_at, sum_by-flat_map, sum_by-inserted, sum_by-removed}
 use Rattle.sdr_laws.specs.Fresh.{AreFresh}
 use Rattle.sdr_laws.specs.Marks.{MarksTaken}
 use Rattle.sdr_laws.specs.MovesBlocks.{MovesBlocks, taken_needs, given_addresses}

@@ -13,7 +13,7 @@ use Rattle.sdr_base.specs.declared.kind.Space.{Space}
 use Rattle.sdr_laws.proofs.DistinctLemmas.{on_test}
 use Rattle.sdr_laws.proofs.Effects.{IsNoZco}
 use Rattle.sdr_laws.proofs.SourceViews.{AllLie, Fits, apart_at, by_addr, here_at, names_apart, of, same_view, source_there, sum_by-with_at, uses_there}
-use Rattle.sdr_laws.proofs.SumLemmas.{counted_at, sum_by-removed}
+use Rattle.sdr_model.proofs.SumLemmas.{counted_at, sum_by-removed}
 use Rattle.sdr_model.proofs.StoreLemmas.{same_address}
 use Rattle.sdr_model.specs.Accounts.{is_same_account}
 use Rattle.sdr_model.specs.Charges.{bytes_charge, extent_charge, object_charge, space_in, thing_charge}

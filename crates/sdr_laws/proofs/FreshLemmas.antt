@@ -6,7 +6,7 @@ use Rattle.std.specs.List.{sum_by}
 use Rattle.std.specs.Prelude.{Contains}
 use Rattle.std.proofs.lemmas.List.Sums.{sum_by-append, sum_by-cons}
 use Rattle.sdr_laws.proofs.DistinctLemmas.{absent, weight, weight_of}
-use Rattle.sdr_laws.proofs.SumLemmas.{counted_at, sum_by-flat_map, sum_by-map, sum_by-removed}
+use Rattle.sdr_model.proofs.SumLemmas.{counted_at, sum_by-flat_map, sum_by-map, sum_by-removed}
 use Rattle.sdr_model.specs.Accounts.{ticket_blocks}
 use Rattle.sdr_model.specs.Blocks.{addresses_of, blocks_of, thing_blocks, things_blocks}
 use Rattle.sdr_model.specs.Things.{inner_blocks, name_block, own_block}

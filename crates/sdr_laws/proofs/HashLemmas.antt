@@ -10,7 +10,7 @@ use Rattle.std.proofs.lemmas.List.Quantifiers.{position-Some}
 use Rattle.std.proofs.lemmas.List.Sums.{prefix_len-le-length, sum_by-cons, sum_by-insert, sum_by-remove}
 use Rattle.std.proofs.lemmas.Option.{slice_get-get_or}
 use Rattle.sdr_laws.proofs.EditLemmas.{All-insert, All-remove, IsDistinct-insert, IsDistinct-remove, IsNonDecreasingBy-insert_behind, IsNonDecreasingBy-remove, count_by-map, map-insert, map-remove, no_position, prefix_len-map}
-use Rattle.sdr_laws.proofs.SumLemmas.{sum_by-map}
+use Rattle.sdr_model.proofs.SumLemmas.{sum_by-map}
 use Rattle.sdr_base.specs.declared.kind.Kind.TheVariants as kinds
 use Rattle.sdr_model.specs.HashSteps.{addr_of, bucket_of, bucket_place, entry_addr, has_key}
 use Rattle.sdr_model.specs.Hashes.{Hash}

@@ -67,7 +67,6 @@ pub mod SourceViews
 pub mod SpotPlaces
 pub mod SpotThere
 pub mod StepLemmas
-pub mod SumLemmas
 pub mod TableShapes
 pub mod ThingChanges
 pub mod ThingLemmas

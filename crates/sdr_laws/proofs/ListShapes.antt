@@ -11,7 +11,7 @@ use Rattle.sdr_base.specs.declared.kind.Kind.TheVariants as kinds
 use Rattle.sdr_laws.proofs.Alike.{itself}
 use Rattle.sdr_laws.proofs.Shapes.{Shape, on_addr, takes_one, does}
 use Rattle.sdr_laws.proofs.SpotPlaces.{stands_there}
-use Rattle.sdr_laws.proofs.SumLemmas.{sum_by-map}
+use Rattle.sdr_model.proofs.SumLemmas.{sum_by-map}
 use Rattle.sdr_laws.proofs.ThingChanges.{goes, stays, loses, gains, makes}
 use Rattle.sdr_laws.proofs.ThingLemmas.{list_is}
 use Rattle.sdr_laws.proofs.SpotThere.{spot_there}

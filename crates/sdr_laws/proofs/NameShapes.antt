@@ -12,7 +12,7 @@ use Rattle.sdr_laws.proofs.EditLemmas.{All-insert, All-remove, IsDistinct-insert
 use Rattle.sdr_laws.proofs.HashLemmas.{texts}
 use Rattle.sdr_laws.proofs.HashShapes.{between}
 use Rattle.sdr_laws.proofs.Shapes.{Shape, on_failed, on_some, on_none, reads, takes_one, does}
-use Rattle.sdr_laws.proofs.SumLemmas.{sum_by-map}
+use Rattle.sdr_model.proofs.SumLemmas.{sum_by-map}
 use Rattle.sdr_laws.proofs.ThingChanges.{in_takes}
 use Rattle.sdr_laws.specs.MovesBlocks.{taken_needs, given_addresses}
 use Rattle.sdr_model.specs.Steps.{taken_addresses, Outcome, gave}

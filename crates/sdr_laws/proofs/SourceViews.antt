@@ -11,7 +11,7 @@ use Rattle.std.proofs.lemmas.List.Sums.{sum_by-cons}
 use Rattle.sdr_base.specs.declared.account.Acct.{Acct}
 use Rattle.sdr_base.specs.declared.account.Acct.TheVariants as accts
 use Rattle.sdr_laws.proofs.DistinctLemmas.{on_test, weight}
-use Rattle.sdr_laws.proofs.SumLemmas.{counted_at, sum_by-inserted, sum_by-removed}
+use Rattle.sdr_model.proofs.SumLemmas.{counted_at, sum_by-inserted, sum_by-removed}
 use Rattle.sdr_laws.proofs.ThingLemmas.{object_is, source_is}
 use Rattle.sdr_model.proofs.StoreLemmas.{at_itself, get-with_at, same_address}
 use Rattle.sdr_model.specs.Accounts.{fresh_accounts, is_same_account}

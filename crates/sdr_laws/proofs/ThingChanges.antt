@@ -10,7 +10,7 @@ use Rattle.sdr_base.specs.declared.moves.Move.TheVariants.{Took, Gave, Short}
 use Rattle.sdr_laws.proofs.Alike.{Alike}
 use Rattle.sdr_laws.proofs.Changes.{Changes, KeepsLimits, swaps_thing, none_marked, one_marked, thing_limits, blocks_at, things_blocks-with_at, sum_by-blocks_of}
 use Rattle.sdr_laws.proofs.DistinctLemmas.{absent, weight, weight_of}
-use Rattle.sdr_laws.proofs.SumLemmas.{sum_by-map}
+use Rattle.sdr_model.proofs.SumLemmas.{sum_by-map}
 use Rattle.sdr_laws.specs.Fresh.{AreFresh}
 use Rattle.sdr_laws.specs.MovesBlocks.{taken_needs, given_addresses}
 use Rattle.sdr_model.specs.Steps.{taken_addresses, Outcome, Does, Takes, TakesOne, gave, with_thing, without_thing}
