@@ -11,6 +11,7 @@ mod account_calls;
 mod accounts;
 mod amounts;
 mod answer;
+mod append_calls;
 mod call;
 mod calls;
 mod capsule_calls;
