@@ -54,16 +54,24 @@ cut_all-charge w space from to (e ∷ es) =
         ≤ sum_by (extent_charge w space) (e ∷ es)
     kept true rest = omega (arith, rest, sum_by-cons (extent_charge w space) e es)
     kept false rest =
-        omega (arith, rest, sum_by-cons (extent_charge w space) e es,
-        sum_by-cons (extent_charge w space) (cut from to e) (cut_all (from - e.length) (to - e.length) es),
-        bytes_charge-less (space_in (source_at w e.source)) space (cut from to e).length e.length (omega arith))
+        omega (
+          arith,
+          rest,
+          sum_by-cons (extent_charge w space) e es,
+          sum_by-cons (extent_charge w space) (cut from to e) (cut_all (from - e.length) (to - e.length) es),
+          bytes_charge-less (space_in (source_at w e.source)) space (cut from to e).length e.length (omega arith),
+        )
 
 -- each extent charges 32 bytes of heap space or more
 pub length-charged : (w : World) (es : List Extent) → 32 * length es ≤ sum_by (extent_charge w spaces.Heap) es
 length-charged w [] = omega arith
 length-charged w (e ∷ es) =
-    omega (arith, length-charged w es, sum_by-cons (extent_charge w spaces.Heap) e es,
-    least (space_in (source_at w e.source)) e.length)
+    omega (
+      arith,
+      length-charged w es,
+      sum_by-cons (extent_charge w spaces.Heap) e es,
+      least (space_in (source_at w e.source)) e.length,
+    )
   where
     least : (of : Space) (bytes : ℕ) → 32 ≤ bytes_charge of bytes spaces.Heap
     least spaces.File bytes = omega arith

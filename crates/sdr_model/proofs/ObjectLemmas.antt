@@ -348,7 +348,7 @@ module _ (notes noted : Notes) (sums summed : Charged) (next : ℕ) (m : Things)
           arith,
           ap (λ n. noted_count n acct) (more addr),
           counted acct z.account (cond (e.source == addr) 1 0) (note_at notes addr) (naming addr z.extents)
-          (naming addr (z.extents ++ e ∷ [])) (naming-push addr z.extents e),
+              (naming addr (z.extents ++ e ∷ [])) (naming-push addr z.extents e),
           ap (uses_at k addr acct) there,
         );
     sources = λ addr. ap (λ n. n.source) (more addr) ∙ same_source z.account (cond (e.source == addr) 1 0) (note_at notes addr);

@@ -76,7 +76,13 @@ fn append_source(alloc: Global, world: &mut World, asked: &Append) -> Result<Rep
         length: asked.bytes,
     })?;
     world.touch_object(asked.object, &changed)?;
-    let _granted = match world.charge_blocks(changed.account, asked.ticket, &charge, asked.object, 1)? {
+    let _granted = match world.charge_blocks(
+        changed.account,
+        asked.ticket,
+        &charge,
+        asked.object,
+        1,
+    )? {
         Ok(granted) => granted,
         Err(refusal) => return Ok(Reply::Refused(refusal)),
     };
