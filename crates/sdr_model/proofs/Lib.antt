@@ -7,9 +7,11 @@ pub mod BoundsLemmas
 pub mod CapsuleLemmas
 pub mod Cases
 pub mod ChargeLemmas
+pub mod CloneLemmas
 pub mod CountLemmas
 pub mod DiscardLemmas
 pub mod DryLemmas
+pub mod ExtentLemmas
 pub mod FewLemmas
 pub mod FewSteps
 pub mod GoneLemmas

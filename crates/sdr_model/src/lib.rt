@@ -12,6 +12,7 @@ mod accounts;
 mod amounts;
 mod answer;
 mod asking;
+mod append_calls;
 mod call;
 mod calls;
 mod capsule_calls;

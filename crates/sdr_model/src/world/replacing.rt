@@ -1,17 +1,31 @@
 // Objects in the place of others.
-ghost use Rattle.std.specs.Prelude.{◌≡◌, Contains, IfSome, OnOk};
+ghost use Rattle.std.specs.Prelude.{◌≡◌, ◌≤◌, ◌<◌, Contains, IfSome, OnOk};
 ghost use Rattle.std.specs.List.{All};
+ghost use Rattle.std.specs.Option.{option_copied};
+ghost use Rattle.sdr_model.specs.Limits.{longest_source};
 ghost use Rattle.sdr_model.specs.Dry.{next_addr};
 ghost use Rattle.sdr_model.specs.ObjectSteps.{with_object};
 ghost use Rattle.sdr_model.specs.Owners.{MayPut};
 ghost use Rattle.sdr_model.specs.Tallies.{IsModest, MayReplace};
-ghost use Rattle.sdr_model.specs.Zco.{object_at};
+ghost use Rattle.sdr_model.specs.Zco.{object_at, source_at};
 ghost use Rattle.sdr_model.specs.declared.things.Thing.{Thing};
 
-use crate::{World, ZcoObject};
+use crate::{Thing, World, ZcoObject, ZcoSource};
 use sdr_base::{Addr, NoMemory};
 
 impl World {
+    /// The source at an address, which is below the next, and as long as a source may be.
+    pub fn sound_source(&self, addr: Addr) -> Option<&ZcoSource>
+        ensures value { option_copied result ≡ source_at self.now.now addr }
+        ensures small { IfSome result (λ s. s.now.length ≤ longest_source) }
+        ensures below { IfSome result (λ s. addr < next_addr self.now.now.taken) }
+    {
+        match self.things.get(addr) {
+            Some(Thing::Source(source)) => Some(source),
+            _ => None,
+        }
+    }
+
     /// Takes note that the object at an address, and what names its sources, may be changed. After it that
     /// needs no memory. Want of memory leaves the world as before.
     pub fn touch_object(&mut self, addr: Addr, object: &ZcoObject) -> Result<(), NoMemory>
