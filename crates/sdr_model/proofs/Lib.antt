@@ -8,6 +8,7 @@ pub mod Cases
 pub mod ChargeLemmas
 pub mod CountLemmas
 pub mod DiscardLemmas
+pub mod DropLemmas
 pub mod DryLemmas
 pub mod FewLemmas
 pub mod FewSteps

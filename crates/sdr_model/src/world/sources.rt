@@ -154,6 +154,7 @@ impl World {
         ensures owners { self.new.owners ≡ self.old.owners }
         ensures touched { self.new.touched ≡ self.old.touched }
         ensures noted_stay { self.new.noted ≡ self.old.noted }
+        ensures saved { self.new.saved ≡ self.old.saved }
     {
         let raw = self.raw_at(addr);
         self.things.put(addr, None);
