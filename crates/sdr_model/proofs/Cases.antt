@@ -31,3 +31,8 @@ by_test false f g = g refl
 pub in_option_is : {T P R : Type 0} {Q : T → Type 0} (o : Option T) → MatchOption o P Q → (P → R) → ((x : T) → o ≡ Some x → Q x → R) → R
 in_option_is None h f g = f h
 in_option_is (Some x) h f g = g x refl h
+
+-- a fact stands at an error too
+pub on_err_always : {T E P : Type 0} (r : Result T E) → P → OnErr r P
+on_err_always (Ok x) p = tt
+on_err_always (Err e) p = p

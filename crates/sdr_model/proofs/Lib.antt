@@ -4,6 +4,7 @@ pub mod AmountLemmas
 pub mod BlocksLemmas
 pub mod BlocksTaken
 pub mod BoundsLemmas
+pub mod CapsuleLemmas
 pub mod Cases
 pub mod ChargeLemmas
 pub mod CountLemmas

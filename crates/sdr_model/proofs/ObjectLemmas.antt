@@ -1,5 +1,6 @@
 -- Sums of a world where an object comes, goes or is changed.
-use Rattle.std.proofs.Common.{◌≡◌, ◌≤◌, ◌<◌, ◌+◌, ◌^◌, ◌==◌, ℕ, arith, Bool, true, false, List, cond, Option, Some, None, ap, sym, ◌∙◌, refl, subst, true≢false}
+use Rattle.std.proofs.Common.{◌≡◌, ◌≤◌, ◌<◌, ◌+◌, ◌^◌, ◌==◌, ℕ, arith, Bool, true, false, List, [], ◌∷◌, ◌++◌, cond, Option, Some, None, ap, sym, ◌∙◌, refl, subst, true≢false}
+use Rattle.std.proofs.lemmas.List.Sums.{sum_by_push}
 use Rattle.std.specs.FinMap.{get}
 use Rattle.std.specs.List.{All}
 use Rattle.std.specs.Prelude.{IfSome, IsSome}
@@ -11,9 +12,10 @@ use Rattle.sdr_base.specs.declared.kind.Space.TheVariants as spaces
 use Rattle.sdr_model.specs.Accounts.{is_same_account, most_amount}
 use Rattle.sdr_model.specs.Amounts.{amount, amounts_by, minus, plus}
 use Rattle.sdr_model.specs.Charged.{charged_to, with_charged}
-use Rattle.sdr_model.specs.Charges.{object_charge, occupancy, space_in, thing_charge}
+use Rattle.sdr_model.specs.Charges.{extent_charge, object_charge, occupancy, space_in, thing_charge}
 use Rattle.sdr_model.specs.Ledger.{Ledger}
 use Rattle.sdr_model.specs.Notes.{Notes, SameNotes, UsesMore, more_uses, note_at, noted_count}
+use Rattle.sdr_model.specs.ObjectSteps.{with_extent}
 use Rattle.sdr_model.specs.Owners.{OwnInside, OwnsInside}
 use Rattle.sdr_model.specs.Store.{Store, with_at}
 use Rattle.sdr_model.specs.Tallies.{IsKept, IsModest, IsSound, KnowSources, Tallied, charged, is_plain, names_at, world_of}
@@ -26,7 +28,9 @@ use Rattle.sdr_model.specs.declared.tally.Note.{Note}
 use Rattle.sdr_model.specs.declared.tally.Tally.{Tally}
 use Rattle.sdr_model.specs.declared.things.Thing.{Thing}
 use Rattle.sdr_model.specs.declared.things.Thing.TheVariants as things
+use Rattle.sdr_model.specs.declared.zco.Extent.{Extent}
 use Rattle.sdr_model.specs.declared.zco.ZcoObject.{ZcoObject}
+use Rattle.sdr_model.proofs.NotesLemmas.{naming-push}
 use Rattle.sdr_model.proofs.OwnersLemmas.{OwnInside-insert, OwnInside-remove}
 use Rattle.sdr_model.proofs.SumLemmas.{counted_at, sum_by-removed}
 use Rattle.sdr_model.proofs.TallyBounds.{counted_thing, count_of-charged}
@@ -319,3 +323,82 @@ pub object_there : (o : Option Thing) → IsSome (as_object o) → (z : ZcoObjec
 object_there None none = absurd (true≢false (sym none))
 object_there (Some (things.Object z)) some = (z, refl)
 object_there (Some thing) none = absurd (true≢false (sym none))
+
+-- an object with one more extent charges that extent besides
+object_charge-push : (w : World) (space : Space) (z : ZcoObject) (e : Extent)
+    → object_charge w space (with_extent z e) ≡ object_charge w space z + extent_charge w space e
+object_charge-push w space z e = omega (arith, sum_by_push (extent_charge w space) z.extents e)
+
+-- an extent is added to the object that is there
+module _ (notes noted : Notes) (sums summed : Charged) (next : ℕ) (m : Things) (accounts : Accounts) (k : ℕ) (z : ZcoObject) (e : Extent)
+    (told : Tallied notes sums next (world_of m accounts)) (there : get m k ≡ Some (things.Object z)) where
+  abbrev w_at : World
+  w_at = world_of m accounts
+
+  pub Changes-pushed : ((q : ℕ) → note_at noted q ≡ more_uses z.account (cond (e.source == q) 1 0) (note_at notes q))
+      → summed ≡ with_charged sums z.account (plus (charged_to sums z.account) (amounts_by (λ space. extent_charge w_at space e)))
+      → ((space : Space) → occupancy w_at z.account space + extent_charge w_at space e ≤ most_amount)
+      → IsModest next (with_extent z e)
+      → Changes notes noted sums summed next m accounts k (Some (things.Object (with_extent z e)))
+  Changes-pushed more charged room modest = record {
+    was = ap as_source there;
+    is = refl;
+    uses = λ addr acct.
+        omega (
+          arith,
+          ap (λ n. noted_count n acct) (more addr),
+          counted acct z.account (cond (e.source == addr) 1 0) (note_at notes addr) (naming addr z.extents)
+          (naming addr (z.extents ++ e ∷ [])) (naming-push addr z.extents e),
+          ap (uses_at k addr acct) there,
+        );
+    sources = λ addr. ap (λ n. n.source) (more addr) ∙ same_source z.account (cond (e.source == addr) 1 0) (note_at notes addr);
+    charges = λ acct space.
+        omega (
+          arith,
+          ap (λ s. amount (charged_to s acct) space) charged,
+          summed_by acct z.account space,
+          ap (charge_at w_at k acct space) there,
+        );
+    room = λ acct space.
+        omega (arith, rooms acct z.account space (told.bound acct space) (λ same. subst (λ a. occupancy w_at a space + extent_charge w_at space e ≤ most_amount) (sym same) (room space)), ap (charge_at w_at k acct space) there);
+    sound = modest;
+  }
+    where
+      counted : (a b : Acct) (one : ℕ) (n : Note) (old new' : ℕ) → new' ≡ old + one
+          → noted_count (more_uses b one n) a + cond (is_same_account a b) old 0 ≡ noted_count n a + cond (is_same_account a b) new' 0
+      counted accts.Inbound accts.Inbound one n old new' is = omega (arith, is)
+      counted accts.Outbound accts.Outbound one n old new' is = omega (arith, is)
+      counted accts.Inbound accts.Outbound one n old new' is = omega arith
+      counted accts.Outbound accts.Inbound one n old new' is = omega arith
+
+      same_source : (b : Acct) (one : ℕ) (n : Note) → (more_uses b one n).source ≡ n.source
+      same_source accts.Inbound one n = refl
+      same_source accts.Outbound one n = refl
+
+      more_by : (a : Acct) (space : Space)
+          → amount (plus (charged_to sums a) (amounts_by (λ s. extent_charge w_at s e))) space
+          ≡ amount (charged_to sums a) space + extent_charge w_at space e
+      more_by a space =
+          omega (
+            arith,
+            amount-plus (charged_to sums a) (amounts_by (λ s. extent_charge w_at s e)) space,
+            amount-by (λ s. extent_charge w_at s e) space,
+          )
+
+      summed_by : (a b : Acct) (space : Space)
+          → amount (charged_to (with_charged sums b (plus (charged_to sums b) (amounts_by (λ s. extent_charge w_at s e)))) a) space
+          + cond (is_same_account a b) (object_charge w_at space z) 0
+          ≡ amount (charged_to sums a) space + cond (is_same_account a b) (object_charge w_at space (with_extent z e)) 0
+      summed_by accts.Inbound accts.Inbound space = omega (arith, more_by accts.Inbound space, object_charge-push w_at space z e)
+      summed_by accts.Outbound accts.Outbound space = omega (arith, more_by accts.Outbound space, object_charge-push w_at space z e)
+      summed_by accts.Inbound accts.Outbound space = omega arith
+      summed_by accts.Outbound accts.Inbound space = omega arith
+
+      rooms : (a b : Acct) (space : Space) → occupancy w_at a space ≤ most_amount
+          → (a ≡ b → occupancy w_at a space + extent_charge w_at space e ≤ most_amount)
+          → occupancy w_at a space + cond (is_same_account a b) (object_charge w_at space (with_extent z e)) 0
+          ≤ most_amount + cond (is_same_account a b) (object_charge w_at space z) 0
+      rooms accts.Inbound accts.Inbound space below own = omega (arith, own refl, object_charge-push w_at space z e)
+      rooms accts.Outbound accts.Outbound space below own = omega (arith, own refl, object_charge-push w_at space z e)
+      rooms accts.Inbound accts.Outbound space below own = omega (arith, below)
+      rooms accts.Outbound accts.Inbound space below own = omega (arith, below)

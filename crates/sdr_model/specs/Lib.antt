@@ -39,6 +39,7 @@ pub mod RawSteps
 pub mod Reading
 pub mod RowMoves
 pub mod Rows
+pub mod Sides
 pub mod SourceSteps
 pub mod Step
 pub mod Steps

@@ -184,8 +184,6 @@ impl Call {
         !matches!(
             self,
             Call::AppendExtent(_, _, _, _, _)
-                | Call::PrependHeader(_, _, _)
-                | Call::AppendTrailer(_, _, _)
                 | Call::Bond(_, _)
                 | Call::ClonePart(_, _, _, _)
                 | Call::Strip(_)

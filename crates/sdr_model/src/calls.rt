@@ -4,6 +4,7 @@ ghost use Rattle.sdr_model.specs.Answers.{Answers};
 ghost use Rattle.sdr_model.specs.Built.{is_built};
 
 use crate::account_calls::{Asking, awarded, maximum, occupancy, request, set_maximum, shred};
+use crate::capsule_calls::{append_trailer, prepend_header};
 use crate::element_calls::{datum, delete, next, prev, set_datum};
 use crate::hash_calls::{
     hash_count, hash_destroy, hash_insert, hash_remove, hash_retrieve, hash_revise, make_hash,
@@ -118,9 +119,13 @@ pub fn apply(alloc: Global, world: &mut World, call: &Call) -> Result<Reply, NoM
         Call::DiscardFirstHeader(addr) => discard_first_header(alloc, world, *addr),
         Call::DiscardLastTrailer(addr) => discard_last_trailer(alloc, world, *addr),
         Call::Delimit(addr, offset, length) => delimit(alloc, world, *addr, *offset, *length),
+        Call::PrependHeader(addr, ticket, text) => {
+            prepend_header(alloc, world, *addr, *ticket, text)
+        }
+        Call::AppendTrailer(addr, ticket, text) => {
+            append_trailer(alloc, world, *addr, *ticket, text)
+        }
         Call::AppendExtent(_, _, _, _, _)
-        | Call::PrependHeader(_, _, _)
-        | Call::AppendTrailer(_, _, _)
         | Call::Bond(_, _)
         | Call::ClonePart(_, _, _, _)
         | Call::Strip(_)

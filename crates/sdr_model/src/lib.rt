@@ -13,6 +13,7 @@ mod amounts;
 mod answer;
 mod call;
 mod calls;
+mod capsule_calls;
 mod capsules;
 mod catalogue;
 mod charges;

@@ -27,3 +27,6 @@ pub const LONGEST_PATH: u64 = 255;
 
 /// A source.
 pub const LONGEST_SOURCE: u64 = 1 << 40;
+
+/// A header or trailer, which has at least one.
+pub const LONGEST_CAPSULE: u64 = 1_024;

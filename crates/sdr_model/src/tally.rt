@@ -186,8 +186,8 @@ impl Tally {
         }
     }
 
-    // Counts one more extent of an account at an address that was touched.
-    fn add_use(&mut self, acct: Acct, addr: Addr)
+    /// Counts one more extent of an account at an address that was touched.
+    pub fn add_use(&mut self, acct: Acct, addr: Addr)
         requires touched { Contains self.old.notes.touched addr }
         requires small { noted_count (note_at self.old.notes.now addr) acct < 2 ^ 63 }
         ensures now { (q : ℕ) → note_at self.new.notes.now q

@@ -1,5 +1,7 @@
 // Sources of bytes, and zero-copy objects.
-ghost use Rattle.std.specs.Prelude.{◌≡◌, ◌<◌, ◌^◌, IfOk, length, map};
+ghost use Rattle.std.specs.Prelude.{◌≡◌, ◌≤◌, ◌<◌, ◌^◌, IfOk, OnOk, OnErr, length, map};
+ghost use Rattle.sdr_model.specs.Bounds.{IsBounded};
+ghost use Rattle.sdr_model.specs.ObjectSteps.{with_extent};
 ghost use Rattle.sdr_model.specs.Notes.{raw_of};
 ghost use Rattle.sdr_model.specs.Things.{block_among, capsule_block, extent_block, object_blocks, own_block, path_length};
 ghost use Rattle.sdr_model.specs.declared.things.Thing.TheVariants as things;
@@ -218,5 +220,18 @@ impl ZcoObject {
             return Some(block);
         }
         capsule_among(self.trailers.as_slice(), addr)
+    }
+
+    /// Adds an extent, which is last. Want of memory leaves the object as before. It is linear in the extents.
+    pub fn push_extent(&mut self, extent: Extent) -> Result<(), NoMemory>
+        requires bounded { IsBounded self.old }
+        requires small { extent.length ≤ 2 ^ 40 }
+        ensures ok { OnOk result (self.new ≡ with_extent self.old extent) }
+        ensures same { OnErr result (self.new ≡ self.old) }
+    {
+        let part = self.grown_part(extent.length);
+        self.extents.push(extent)?;
+        self.part = part;
+        Ok(())
     }
 }

@@ -116,6 +116,7 @@ impl World {
             Contains self.old.touched other → Contains self.new.touched other) }
         ensures others_noted { OnOk result ((other : ℕ) →
             Contains self.old.noted other → Contains self.new.noted other) }
+        ensures saved { self.new.saved ≡ self.old.saved }
     {
         self.tally.touch(Some(addr))?;
         self.things.touch(addr)
@@ -136,6 +137,7 @@ impl World {
         ensures owners { self.new.owners ≡ self.old.owners }
         ensures touched { self.new.touched ≡ self.old.touched }
         ensures noted_stay { self.new.noted ≡ self.old.noted }
+        ensures saved { self.new.saved ≡ self.old.saved }
     {
         let raw = source.subject.raw();
         self.things.put(addr, Some(Thing::Source(source)));
