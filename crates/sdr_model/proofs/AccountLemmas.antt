@@ -37,6 +37,7 @@ AllTallied-accounts tally next store old new' begun bound told = record {
     charges = told.now.charges;
     bound = bound;
     sound = told.now.sound;
+    raws = told.now.raws;
   };
 }
 

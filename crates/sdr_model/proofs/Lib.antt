@@ -25,6 +25,7 @@ pub mod OrderLemmas
 pub mod OwnersLemmas
 pub mod PiecesLemmas
 pub mod QueueLemmas
+pub mod RawLemmas
 pub mod SourceLemmas
 pub mod SpotLemmas
 pub mod StoreLemmas

@@ -1,8 +1,10 @@
 -- Sums of a world where an object comes, goes or is changed.
 use Rattle.std.proofs.Common.{◌≡◌, ◌≤◌, ◌<◌, ◌+◌, ◌^◌, ◌==◌, ℕ, arith, Bool, true, false, List, [], ◌∷◌, ◌++◌, cond, Option, Some, None, ap, sym, ◌∙◌, refl, subst, true≢false}
 use Rattle.std.proofs.lemmas.List.Sums.{sum_by_push}
+use Rattle.std.specs.BTreeMap.{is_at}
 use Rattle.std.specs.FinMap.{get}
 use Rattle.std.specs.List.{All}
+use Rattle.std.specs.Ordering.{nat_cmp}
 use Rattle.std.specs.Prelude.{IfSome, IsSome}
 use Rattle.sdr_base.specs.declared.account.Acct.{Acct}
 use Rattle.sdr_base.specs.declared.account.Acct.TheVariants as accts
@@ -18,10 +20,10 @@ use Rattle.sdr_model.specs.Notes.{Notes, SameNotes, UsesMore, more_uses, note_at
 use Rattle.sdr_model.specs.ObjectSteps.{with_extent}
 use Rattle.sdr_model.specs.Owners.{OwnInside, OwnsInside}
 use Rattle.sdr_model.specs.Store.{Store, with_at}
-use Rattle.sdr_model.specs.Tallies.{IsKept, IsModest, IsSound, KnowSources, Tallied, charged, is_plain, names_at, world_of}
+use Rattle.sdr_model.specs.Tallies.{IsKept, IsModest, IsSound, KnowSources, RawsArePlain, Tallied, charged, is_plain, names_at, raw_of_thing, world_of}
 use Rattle.sdr_model.specs.Things.{Owners, Things}
 use Rattle.sdr_model.specs.World.{World}
-use Rattle.sdr_model.specs.Zco.{as_object, as_source, count_of, naming, uses_in}
+use Rattle.sdr_model.specs.Zco.{as_object, as_source, count_of, names_raw, naming, source_on, uses_in}
 use Rattle.sdr_model.specs.declared.accounts.Accounts.{Accounts}
 use Rattle.sdr_model.specs.declared.tally.Charged.{Charged}
 use Rattle.sdr_model.specs.declared.tally.Note.{Note}
@@ -32,8 +34,10 @@ use Rattle.sdr_model.specs.declared.zco.Extent.{Extent}
 use Rattle.sdr_model.specs.declared.zco.ZcoObject.{ZcoObject}
 use Rattle.sdr_model.proofs.NotesLemmas.{naming-push}
 use Rattle.sdr_model.proofs.OwnersLemmas.{OwnInside-insert, OwnInside-remove}
+use Rattle.sdr_model.proofs.RawLemmas.{own_named, raws-plain, raws-with_at, unnamed_raws}
+use Rattle.sdr_model.proofs.StoreLemmas.{get-with_at}
 use Rattle.sdr_model.proofs.SumLemmas.{counted_at, sum_by-removed}
-use Rattle.sdr_model.proofs.TallyBounds.{counted_thing, count_of-charged}
+use Rattle.sdr_model.proofs.TallyBounds.{counted_thing, count_of-charged, source_on-known, source_on-none}
 use Rattle.sdr_model.proofs.TallyLemmas.{All-each, KnowSources-same, Tallied-notes, Tallied-of, charged-with_at, count_of-with_at, plain_charge, plain_source, plain_uses, same_spaces, sound-with_at}
 
 -- what the thing at an address counts among the uses of a source, and charges
@@ -79,6 +83,7 @@ module _ (notes noted : Notes) (sums summed : Charged) (next : ℕ) (m : Things)
     pub room : (acct : Acct) (space : Space)
         → occupancy w acct space + charge_at w k acct space o ≤ most_amount + charge_at w k acct space (get m k)
     pub sound : IfSome o (IsSound next)
+    pub raws : RawsArePlain next (with_at m k o)
 
   pub Tallied-changed : Changes → Tallied notes sums next (world_of m accounts)
       → Tallied noted summed next (world_of (with_at m k o) accounts)
@@ -94,6 +99,7 @@ module _ (notes noted : Notes) (sums summed : Charged) (next : ℕ) (m : Things)
         charges = λ acct space. omega (arith, told.charges acct space, changes.charges acct space, goes_on acct space);
         bound = λ acct space. omega (arith, changes.room acct space, goes_on acct space);
         sound = sound-with_at m accounts k o next changes.sound told.sound;
+        raws = changes.raws;
       }
 
 -- what a world in the making keeps there
@@ -224,8 +230,8 @@ module _ (notes noted : Notes) (sums summed : Charged) (next : ℕ) (m : Things)
   pub Changes-added : is_plain (get m k) ≡ true → UsesMore z.account z.extents notes noted
       → summed ≡ with_charged sums z.account (plus (charged_to sums z.account) (of_object sums w_of k z))
       → ((space : Space) → occupancy w_of z.account space + object_charge w_of space z ≤ most_amount)
-      → IsModest next z → Changes notes noted sums summed next m accounts k (Some (things.Object z))
-  Changes-added plain more charged room modest = record {
+      → IsModest next z → source_on w_of k ≡ None → Changes notes noted sums summed next m accounts k (Some (things.Object z))
+  Changes-added plain more charged room modest unnamed = record {
     was = plain_source (get m k) plain;
     is = refl;
     uses = λ addr acct. omega (arith, uses-added k z notes noted more addr acct, plain_uses w_of k addr acct (get m k) plain);
@@ -244,6 +250,9 @@ module _ (notes noted : Notes) (sums summed : Charged) (next : ℕ) (m : Things)
               (λ same. subst (λ a. occupancy w_of a space + object_charge w_of space z ≤ most_amount) (sym same) (room space)),
         );
     sound = modest;
+    raws = raws-with_at next m k (Some (things.Object z))
+        (λ raw is. let none : None ≡ Some raw = is in absurd cc)
+        (λ addr is. absurd (unnamed_raws notes m k told.sources (source_on-known notes w_of k told.sources ∙ unnamed) addr is)) told.raws;
   }
 
   -- the object that is there goes
@@ -265,6 +274,7 @@ module _ (notes noted : Notes) (sums summed : Charged) (next : ℕ) (m : Things)
         );
     room = λ acct space. omega (arith, told.bound acct space);
     sound = tt;
+    raws = raws-plain next m k None refl told.raws;
   }
     where
       within : (space : Space) → object_charge w_of space z ≤ amount (charged_to sums z.account) space
@@ -362,6 +372,9 @@ module _ (notes noted : Notes) (sums summed : Charged) (next : ℕ) (m : Things)
     room = λ acct space.
         omega (arith, rooms acct z.account space (told.bound acct space) (λ same. subst (λ a. occupancy w_at a space + extent_charge w_at space e ≤ most_amount) (sym same) (room space)), ap (charge_at w_at k acct space) there);
     sound = modest;
+    raws = raws-with_at next m k (Some (things.Object (with_extent z e)))
+        (λ raw is. let none : None ≡ Some raw = is in absurd cc)
+        (λ addr is. absurd (true≢false (sym (told.raws.each addr k is).1 ∙ ap is_plain there))) told.raws;
   }
     where
       counted : (a b : Acct) (one : ℕ) (n : Note) (old new' : ℕ) → new' ≡ old + one
@@ -402,3 +415,15 @@ module _ (notes noted : Notes) (sums summed : Charged) (next : ℕ) (m : Things)
       rooms accts.Outbound accts.Outbound space below own = omega (arith, own refl, object_charge-push w_at space z e)
       rooms accts.Inbound accts.Outbound space below own = omega (arith, below)
       rooms accts.Outbound accts.Inbound space below own = omega (arith, below)
+
+-- where an object was, no source names a raw object
+pub unnamed_gone : (next : ℕ) (m gone : Things) (accounts : Accounts) (k : ℕ) (z : ZcoObject) → RawsArePlain next m
+    → get m k ≡ Some (things.Object z) → gone ≡ with_at m k None → source_on (world_of gone accounts) k ≡ None
+unnamed_gone next m gone accounts k z raws there is =
+    source_on-none (world_of gone accounts) k (λ addr thing here names.
+    by addr thing names (is_at (nat_cmp addr) k) (sym (ap (λ t. get t addr) is ∙ get-with_at m k None addr) ∙ here))
+  where
+    by : (addr : ℕ) (thing : Thing) → names_raw k thing ≡ true → (b : Bool) → cond b None (get m addr) ≡ Some thing → ⊥
+    by addr thing names true none = let no : None ≡ Some thing = none in absurd cc
+    by addr thing names false same =
+        true≢false (sym (raws.each addr k (ap raw_of_thing same ∙ own_named thing k names)).1 ∙ ap is_plain there)

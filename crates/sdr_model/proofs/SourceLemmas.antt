@@ -19,7 +19,7 @@ use Rattle.sdr_model.specs.Notes.{NameSource, Notes, SameNotes, is_this, note_at
 use Rattle.sdr_model.specs.Owners.{OwnInside}
 use Rattle.sdr_model.specs.SourceSteps.{flagged}
 use Rattle.sdr_model.specs.Store.{Store, with_at}
-use Rattle.sdr_model.specs.Tallies.{IsKept, IsSound, KnowSources, Tallied, is_plain, names_at, world_of}
+use Rattle.sdr_model.specs.Tallies.{IsKept, IsSound, KnowSources, RawsArePlain, Tallied, is_plain, names_at, raw_of_thing, world_of}
 use Rattle.sdr_model.specs.Things.{Owners, Things}
 use Rattle.sdr_model.specs.World.{World}
 use Rattle.sdr_model.specs.Zco.{as_object, as_source, count_of, is_of_raw, naming, names_raw, source_on, uses_in, uses_of}
@@ -34,6 +34,7 @@ use Rattle.sdr_model.specs.declared.zco.Subject.TheVariants as subjects
 use Rattle.sdr_model.specs.declared.zco.ZcoObject.{ZcoObject}
 use Rattle.sdr_model.specs.declared.zco.ZcoSource.{ZcoSource}
 use Rattle.sdr_model.proofs.OwnersLemmas.{OwnInside-insert, OwnInside-remove, owns_nothing}
+use Rattle.sdr_model.proofs.RawLemmas.{raws-plain, raws-with_at, unnamed_raws}
 use Rattle.sdr_model.proofs.StoreLemmas.{get-with_at, same_address, at_itself}
 use Rattle.sdr_model.proofs.SumLemmas.{counted_at, sum_by-removed}
 use Rattle.sdr_model.proofs.TallyBounds.{source_on-known}
@@ -66,9 +67,9 @@ pub Tallied-source : (notes noted : Notes) (sums : Charged) (next : ℕ) (m : Th
     → as_object (get m k) ≡ None → as_object o ≡ None → IfSome o (IsSound next)
     → ((q : ℕ) (z : ZcoObject) → get (with_at m k o) q ≡ Some (things.Object z)
     → All (SameSpace (world_of m accounts) (world_of (with_at m k o) accounts)) z.extents)
-    → SameCounts noted notes → KnowSources noted (with_at m k o)
+    → SameCounts noted notes → KnowSources noted (with_at m k o) → RawsArePlain next (with_at m k o)
     → Tallied notes sums next (world_of m accounts) → Tallied noted sums next (world_of (with_at m k o) accounts)
-Tallied-source notes noted sums next m accounts k o was is here spaces counts know told =
+Tallied-source notes noted sums next m accounts k o was is here spaces counts know raws told =
     let w = world_of m accounts in
     let stays = charged-with_at m accounts k o spaces in
     let same = λ (acct : Acct) (space : Space).
@@ -81,6 +82,7 @@ Tallied-source notes noted sums next m accounts k o was is here spaces counts kn
       charges = λ acct space. told.charges acct space ∙ sym (same acct space);
       bound = λ acct space. omega (arith, told.bound acct space, same acct space);
       sound = sound-with_at m accounts k o next here told.sound;
+      raws = raws;
     }
 
 -- where no extent names the address, all sources of objects stay in their spaces
@@ -263,8 +265,10 @@ module _ (owners : Owners) (tally noted : Tally) (next : ℕ) (store changed : S
       → k < next → is_plain (get store.now k) ≡ true → uses_of (world_of store.now ledger.now) k ≡ 0
       → s.length ≤ longest_source
       → IfSome (raw_of s.subject) (λ raw. source_on (world_of store.now ledger.now) raw ≡ None)
+      → source_on (world_of store.now ledger.now) k ≡ None
+      → IfSome (raw_of s.subject) (λ raw. (raw < k) × (is_plain (get store.now raw) ≡ true))
       → IsKept owners noted next changed ledger
-  IsKept-put now named below plain unused small unnamed = record {
+  IsKept-put now named below plain unused small unnamed unnamed_here raw_there = record {
     own = record {
       begun = subst (OwnInside owners next) (sym begun) kept.own.begun;
       now = subst (OwnInside owners next) (sym now)
@@ -281,10 +285,18 @@ module _ (owners : Owners) (tally noted : Tally) (next : ℕ) (store changed : S
           (named-counts (raw_of s.subject) (Some k) tally.notes.now noted.notes.now named)
           (KnowSources-made store.now k s (raw_of s.subject) tally.notes.now noted.notes.now (raw_of-is s) named
           free (λ q. plain_names q (get store.now k) plain) kept.told.now.sources)
+          (raws-with_at next store.now k (Some (things.Source s)) own (λ addr is. absurd (unnamed_raws tally.notes.now store.now k
+          kept.told.now.sources (source_on-known tally.notes.now (world_of store.now ledger.now) k kept.told.now.sources ∙ unnamed_here) addr is))
+          kept.told.now.raws)
           kept.told.now);
     };
   }
     where
+      own : (raw : ℕ) → raw_of s.subject ≡ Some raw → (raw < next) × ((raw ≡ k → ⊥) × (is_plain (get store.now raw) ≡ true))
+      own raw is =
+          let it = subst (λ r. IfSome r (λ q. (q < k) × (is_plain (get store.now q) ≡ true))) is raw_there in
+          (omega (arith, it.0, below), ((λ same. omega (arith, it.0, same)), it.1))
+
       free : (q : ℕ) → is_of_raw q s.subject ≡ true → (note_at tally.notes.now q).source ≡ None
       free q of = by (raw_of s.subject) unnamed (sym (raw_of-is s q) ∙ of)
         where
@@ -314,6 +326,7 @@ module _ (owners : Owners) (tally noted : Tally) (next : ℕ) (store changed : S
           (named-counts (raw_of s.subject) None tally.notes.now noted.notes.now named)
           (KnowSources-dropped store.now k s (raw_of s.subject) tally.notes.now noted.notes.now (raw_of-is s) named was
           kept.told.now.sources)
+          (raws-plain next store.now k None refl kept.told.now.raws)
           kept.told.now);
     };
   }
@@ -344,9 +357,21 @@ IsKept-flagged owners tally next store changed ledger k s begun now was kept =
             (λ q z is. All-each _ (λ e. spaces e.source) z.extents)
             (λ addr acct. refl)
             (KnowSources-same store.now ledger.now k o tally.notes.now (λ q. ap (names_at q) (sym was)) kept.told.now.sources)
+            (raws-with_at next store.now k o own (λ addr is. absurd (no_raw addr is)) raws)
             kept.told.now);
       };
     }
+  where
+    raws : RawsArePlain next store.now
+    raws = kept.told.now.raws
+
+    no_raw : (addr : ℕ) → raw_of_thing (get store.now addr) ≡ Some k → ⊥
+    no_raw addr is = true≢false (sym (raws.each addr k is).1 ∙ ap is_plain was)
+
+    own : (raw : ℕ) → raw_of s.subject ≡ Some raw → (raw < next) × ((raw ≡ k → ⊥) × (is_plain (get store.now raw) ≡ true))
+    own raw is =
+        let it = raws.each k raw (ap raw_of_thing was ∙ is) in
+        (it.0, ((λ same. true≢false (sym it.1 ∙ ap (λ a. is_plain (get store.now a)) same ∙ ap is_plain was)), it.1))
 
 -- no extent names an address that isn't below the next
 naming-fresh : (next k : ℕ) → next ≤ k → (extents : List Extent) → All (λ e. e.source < next) extents → naming k extents ≡ 0

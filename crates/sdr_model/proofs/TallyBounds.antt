@@ -125,3 +125,12 @@ module _ (notes : Notes) (sums : Charged) (next : ℕ) (w : World) (told : Talli
       whole : (acct : Acct) → cond (is_same_account acct acct) (object_charge w space z) 0 ≡ object_charge w space z
       whole accts.Inbound = refl
       whole accts.Outbound = refl
+
+-- a raw object that nothing names has no source
+pub source_on-none : (w : World) (raw : ℕ)
+    → ((addr : ℕ) (thing : Thing) → get w.things addr ≡ Some thing → names_raw raw thing ≡ true → ⊥)
+    → source_on w raw ≡ None
+source_on-none w raw none =
+    sym (found_source raw None (entries w.things) (entries_sorted w.things)
+    (λ k thing is names. absurd (none k thing (get-entries w.things k ∙ is) names))
+    (λ k is. let no : None ≡ Some k = is in absurd cc))

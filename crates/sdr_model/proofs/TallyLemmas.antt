@@ -32,6 +32,7 @@ use Rattle.sdr_model.specs.declared.things.Thing.TheVariants as things
 use Rattle.sdr_model.specs.declared.zco.Extent.{Extent}
 use Rattle.sdr_model.specs.declared.zco.ZcoObject.{ZcoObject}
 use Rattle.sdr_model.proofs.OwnersLemmas.{OwnInside-raised}
+use Rattle.sdr_model.proofs.RawLemmas.{raws-empty, raws-plain, raws-raised}
 use Rattle.sdr_model.proofs.SpotLemmas.{first_there, rest_there, right_of}
 use Rattle.sdr_model.proofs.StoreLemmas.{get-with_at, same_address, at_itself}
 use Rattle.sdr_model.proofs.SumLemmas.{counted_at, sum_by-inserted, sum_by-removed}
@@ -230,6 +231,7 @@ Tallied-plain notes sums next m accounts k o was plain here told =
       charges = λ acct space. told.charges acct space ∙ sym (same acct space);
       bound = λ acct space. omega (arith, told.bound acct space, same acct space);
       sound = sound-with_at m accounts k o next here told.sound;
+      raws = raws-plain next m k o plain told.raws;
     }
 
 -- a higher next address leaves what is told
@@ -253,6 +255,7 @@ Tallied-raised notes sums next more w higher told = record {
   charges = told.charges;
   bound = told.bound;
   sound = λ addr thing is. IsSound-raised next more higher thing (told.sound addr thing is);
+  raws = raws-raised next more w.things higher told.raws;
 }
 
 -- the same notes tell the same
@@ -270,6 +273,7 @@ Tallied-notes old new sums next w same told = record {
   charges = told.charges;
   bound = told.bound;
   sound = told.sound;
+  raws = told.raws;
 }
 
 -- the same for the world at the begin and the world now
@@ -325,6 +329,7 @@ Tallied-empty next heap = record {
   charges = λ acct space. nothing acct space ∙ sym (none_charged acct space);
   bound = λ acct space. omega (arith, none_charged acct space, none_left acct space);
   sound = λ addr thing is. let none : None ≡ Some thing = sym (get-empty nat_cmp addr) ∙ is in absurd cc;
+  raws = raws-empty next;
 }
   where
     bare : (addr : ℕ) → note_at empty addr ≡ blank
@@ -406,6 +411,7 @@ IsKept-accounts owners tally next store old changed begun small kept = record {
       charges = kept.told.now.charges;
       bound = small;
       sound = kept.told.now.sound;
+      raws = kept.told.now.raws;
     };
   };
 }

@@ -19,8 +19,8 @@ use Rattle.sdr_model.specs.SourceSteps.{flagged}
 use Rattle.sdr_model.specs.Steps.{with_thing}
 use Rattle.sdr_model.specs.Store.{Store, with_at}
 use Rattle.sdr_model.specs.Things.{Owners, Things}
-use Rattle.sdr_model.specs.World.{World}
-use Rattle.sdr_model.specs.Zco.{count_of, extents_length, names_raw, naming, source_at}
+use Rattle.sdr_model.specs.World.{World, thing_at}
+use Rattle.sdr_model.specs.Zco.{as_source, count_of, extents_length, names_raw, naming}
 use Rattle.sdr_model.specs.declared.accounts.Accounts.{Accounts}
 use Rattle.sdr_model.specs.declared.tally.Charged.{Charged}
 use Rattle.sdr_model.specs.declared.tally.Tally.{Tally}
@@ -46,9 +46,13 @@ abbrev pub names_at : ℕ → Option Thing → Bool
 names_at raw None = false
 names_at raw (Some thing) = names_raw raw thing
 
+-- the raw object of a source, where the thing is one
+abbrev pub raw_of_thing : Option Thing → Option ℕ
+raw_of_thing thing = option_and_then (λ s. raw_of s.subject) (as_source thing)
+
 -- the raw object of the source at an address
 abbrev pub raw_at : World → ℕ → Option ℕ
-raw_at w addr = option_and_then (λ s. raw_of s.subject) (source_at w addr)
+raw_at w addr = raw_of_thing (thing_at w addr)
 
 -- the extent ends where the longest source ends, or before
 abbrev pub EndsInTime : Extent → Type 0
@@ -79,6 +83,11 @@ pub record KnowSources (notes : Notes) (things : Things) : Type 0 where
       → (note_at notes raw).source ≡ Some addr
   pub there : (raw addr : ℕ) → (note_at notes raw).source ≡ Some addr → names_at raw (finite.get things addr) ≡ true
 
+-- the raw object of each source lies below the next address, and neither a source nor an object is there
+pub record RawsArePlain (next : ℕ) (things : Things) : Type 0 where
+  pub each : (addr raw : ℕ) → raw_of_thing (finite.get things addr) ≡ Some raw
+      → (raw < next) × (is_plain (finite.get things raw) ≡ true)
+
 -- a world of these things and accounts, and of nothing else
 abbrev pub world_of : Things → Accounts → World
 world_of things accounts = record { things = things; names = []; accounts = accounts; marks = []; shown = []; taken = 0 }
@@ -90,6 +99,7 @@ pub record Tallied (notes : Notes) (sums : Charged) (next : ℕ) (w : World) : T
   pub charges : (acct : Acct) (space : Space) → amount (charged_to sums acct) space ≡ charged w acct space
   pub bound : (acct : Acct) (space : Space) → occupancy w acct space ≤ most_amount
   pub sound : (addr : ℕ) (thing : Thing) → finite.get w.things addr ≡ Some thing → IsSound next thing
+  pub raws : RawsArePlain next w.things
 
 -- at the begin of the open transaction and now
 pub record AllTallied (tally : Tally) (next : ℕ) (things : Store) (accounts : Ledger) : Type 0 where

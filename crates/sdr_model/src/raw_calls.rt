@@ -2,6 +2,7 @@
 ghost use Rattle.std.specs.Prelude.{◌≡◌, ◌<◌, ◌≤◌, ◌+◌, ◌^◌, IfSome, OnErr, OnOk, length, nat_lt};
 ghost use Rattle.std.specs.Option.{option_copied};
 ghost use Rattle.sdr_model.specs.Answers.{Answers, HasRoom, Overwrites};
+ghost use Rattle.sdr_model.specs.Dry.{next_addr};
 ghost use Rattle.sdr_model.specs.Limits.{longest_raw};
 ghost use Rattle.sdr_model.specs.World.{as_raw, misnamed, thing_at};
 ghost use Rattle.sdr_model.specs.Zco.{uses_of};
@@ -35,6 +36,7 @@ pub fn misnamed(world: &World, addr: Addr) -> Reply
 pub fn raw(world: &World, addr: Addr) -> Option<&Bytes>
     ensures value { option_copied result ≡ as_raw (thing_at world.now.now addr) }
     ensures short { IfSome result (λ bytes. length bytes.now ≤ longest_raw) }
+    ensures below { IfSome result (λ bytes. addr < next_addr world.now.now.taken) }
 {
     world.raw(addr)
 }

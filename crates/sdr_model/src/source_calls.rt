@@ -1,5 +1,5 @@
 // What calls on sources do to a world.
-ghost use Rattle.std.specs.Prelude.{◌≡◌, ◌≤◌, ◌<◌, ◌^◌, ◌++◌, ◌∷◌, [], ℕ, IfOk, IfSome, IsSome, Contains, OnErr, OnOk, None};
+ghost use Rattle.std.specs.Prelude.{◌≡◌, ◌≤◌, ◌<◌, ◌^◌, ◌++◌, ◌∷◌, [], ℕ, IfOk, IfSome, IsSome, Contains, OnErr, OnOk, None, true};
 ghost use Rattle.sdr_model.specs.Answers.{Answers};
 ghost use Rattle.sdr_model.specs.Draft.{with_taken};
 ghost use Rattle.sdr_model.specs.Dry.{next_addr};
@@ -7,6 +7,8 @@ ghost use Rattle.sdr_model.specs.Limits.{longest_source};
 ghost use Rattle.sdr_model.specs.Notes.{raw_of};
 ghost use Rattle.sdr_model.specs.SourceSteps.{new_source};
 ghost use Rattle.sdr_model.specs.Steps.{with_thing, without_thing};
+ghost use Rattle.sdr_model.specs.Tallies.{is_plain};
+ghost use Rattle.sdr_model.specs.World.{thing_at};
 ghost use Rattle.sdr_model.specs.Zco.{source_at, source_on, uses_of};
 ghost use Rattle.sdr_model.specs.declared.things.Thing.TheVariants as things;
 
@@ -36,6 +38,8 @@ fn make_source(world: &mut World, subject: Subject, length: u64) -> Result<Addr,
     requires taken { world.old.now.taken < 2 ^ 60 }
     requires length { length ≤ longest_source }
     requires unnamed { IfSome (raw_of subject) (λ raw. source_on world.old.now raw ≡ None) }
+    requires there { IfSome (raw_of subject) (λ raw.
+        (raw < next_addr world.old.now.taken) × (is_plain (thing_at world.old.now raw) ≡ true)) }
     ensures addr { IfOk result (λ addr. addr ≡ next_addr world.old.now.taken) }
     ensures made { IfOk result (λ addr. world.new.now
         ≡ with_taken (with_thing world.old.now addr (things.Source (new_source subject length))) addr) }
@@ -63,6 +67,8 @@ fn made(world: &mut World, subject: Subject, length: u64) -> Result<Reply, NoMem
     requires taken { world.old.now.taken < 2 ^ 60 }
     requires length { length ≤ longest_source }
     requires unnamed { IfSome (raw_of subject) (λ raw. source_on world.old.now raw ≡ None) }
+    requires there { IfSome (raw_of subject) (λ raw.
+        (raw < next_addr world.old.now.taken) × (is_plain (thing_at world.old.now raw) ≡ true)) }
     ensures reply { IfOk result (λ reply. reply ≡ Reply.At (next_addr world.old.now.taken)) }
     ensures made { OnOk result (let addr = next_addr world.old.now.taken in world.new.now
         ≡ with_taken (with_thing world.old.now addr (things.Source (new_source subject length))) addr) }

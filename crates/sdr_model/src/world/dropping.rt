@@ -1,27 +1,48 @@
 // What goes from a world in the making, without memory.
-ghost use Rattle.std.specs.Prelude.{◌≡◌, Contains, true};
+ghost use Rattle.std.specs.Prelude.{◌≡◌, ℕ, Contains, IfSome, OnOk};
 ghost use Rattle.std.specs.List.{All};
-ghost use Rattle.sdr_model.specs.Drops.{MayGo};
+ghost use Rattle.sdr_model.specs.Drops.{IsNoted, MayGo};
 ghost use Rattle.sdr_model.specs.Gone.{without_things};
 ghost use Rattle.sdr_model.specs.Steps.{without_thing};
-ghost use Rattle.sdr_model.specs.Tallies.{is_plain};
-ghost use Rattle.sdr_model.specs.World.{thing_at};
+ghost use Rattle.sdr_model.specs.Tallies.{raw_at};
 
 use crate::World;
-use sdr_base::Addr;
+use sdr_base::{Addr, NoMemory};
 
 impl World {
-    /// Lets what is at an address that was touched go, which is neither a source nor an object.
-    pub fn drop_plain(&mut self, addr: Addr)
-        requires touched { Contains self.old.touched addr }
-        requires plain { is_plain (thing_at self.old.now addr) ≡ true }
-        ensures dropped { self.new.now ≡ without_thing self.old.now addr }
+    // Takes note that what is at an address may go.
+    fn touch_going(&mut self, addr: Addr) -> Result<(), NoMemory>
+        ensures now { self.new.now ≡ self.old.now }
         ensures begun { self.new.begun ≡ self.old.begun }
-        ensures touched { self.new.touched ≡ self.old.touched }
-        ensures noted_stay { self.new.noted ≡ self.old.noted }
-        ensures saved { self.new.saved ≡ self.old.saved }
+        ensures touched { OnOk result (Contains self.new.touched addr) }
+        ensures noted { OnOk result (IfSome (raw_at self.old.now addr) (Contains self.new.noted)) }
+        ensures others { OnOk result ((other : ℕ) →
+            Contains self.old.touched other → Contains self.new.touched other) }
+        ensures others_noted { OnOk result ((other : ℕ) →
+            Contains self.old.noted other → Contains self.new.noted other) }
     {
-        self.things.put(addr, None);
+        self.touch(addr)?;
+        match self.raw_at(addr) {
+            Some(raw) => self.touch(raw),
+            None => Ok(()),
+        }
+    }
+
+    /// Takes note that what is at these addresses may go. After it that needs no memory. Want of memory
+    /// leaves the world as before.
+    pub fn touch_all(&mut self, addrs: &[Addr]) -> Result<(), NoMemory>
+        ensures now { self.new.now ≡ self.old.now }
+        ensures begun { self.new.begun ≡ self.old.begun }
+        ensures going { OnOk result (All (IsNoted self.new) addrs.now) }
+        ensures others { OnOk result ((other : ℕ) →
+            Contains self.old.touched other → Contains self.new.touched other) }
+        ensures others_noted { OnOk result ((other : ℕ) →
+            Contains self.old.noted other → Contains self.new.noted other) }
+    {
+        for addr in addrs {
+            self.touch_going(*addr)?;
+        }
+        Ok(())
     }
 
     // Lets what is at an address go, where it may.

@@ -1,5 +1,5 @@
 // The objects of a world in the making.
-ghost use Rattle.std.specs.Prelude.{◌≡◌, ◌≤◌, ◌+◌, ◌^◌, true, IfOk, OnOk, OnErr, IfSome, IsSome, Some, Contains};
+ghost use Rattle.std.specs.Prelude.{◌≡◌, ◌≤◌, ◌+◌, ◌^◌, true, None, IfOk, OnOk, OnErr, IfSome, IsSome, Some, Contains};
 ghost use Rattle.std.specs.FinMap as map;
 ghost use Rattle.std.specs.List.{All};
 ghost use Rattle.sdr_base.specs.declared.kind.Space.{Space as GhostSpace};
@@ -14,7 +14,7 @@ ghost use Rattle.sdr_model.specs.Steps.{with_thing, without_thing};
 ghost use Rattle.sdr_model.specs.Notes.{SameNotes};
 ghost use Rattle.sdr_model.specs.Tallies.{CountsOut, IsAccountOf, IsModest, MayCountOut, PushesExtent, is_plain};
 ghost use Rattle.sdr_model.specs.World.{thing_at};
-ghost use Rattle.sdr_model.specs.Zco.{as_object, object_at};
+ghost use Rattle.sdr_model.specs.Zco.{as_object, object_at, source_on};
 ghost use Rattle.sdr_model.specs.declared.things.Thing.{Thing};
 
 use crate::amounts::NOTHING;
@@ -78,6 +78,7 @@ impl World {
         requires noted { IfSome (object_at self.old.now addr) (λ z.
             All (λ e. Contains self.old.noted e.source) z.extents) }
         ensures lost { self.new.now ≡ without_thing self.old.now addr }
+        ensures unnamed { source_on self.new.now addr ≡ None }
         ensures begun { self.new.begun ≡ self.old.begun }
         ensures owners { self.new.owners ≡ self.old.owners }
         ensures touched { self.new.touched ≡ self.old.touched }
@@ -96,6 +97,7 @@ impl World {
         requires plain { is_plain (thing_at self.old.now addr) ≡ true }
         requires noted { All (λ e. Contains self.old.noted e.source) object.extents }
         requires modest { IsModest (next_addr self.old.now.taken) object }
+        requires unnamed { source_on self.old.now addr ≡ None }
         requires room { (space : GhostSpace) → occupancy self.old.now object.account space
             + object_charge self.old.now space object ≤ most_amount }
         ensures put { self.new.now ≡ with_thing self.old.now addr (Thing.Object object) }

@@ -24,6 +24,7 @@ impl World {
     pub fn raw(&self, addr: Addr) -> Option<&Bytes>
         ensures value { option_copied result ≡ as_raw (thing_at self.now.now addr) }
         ensures short { IfSome result (λ bytes. length bytes.now ≤ longest_raw) }
+        ensures below { IfSome result (λ bytes. addr < next_addr self.now.now.taken) }
     {
         match self.things.get(addr) {
             Some(Thing::Raw(bytes)) => Some(bytes),
@@ -41,11 +42,15 @@ impl World {
         }
     }
 
-    /// The raw object of the source at an address.
+    /// The raw object of the source at an address. Neither a source nor an object is there.
     pub fn raw_at(&self, addr: Addr) -> Option<Addr>
-        ensures { result ≡ raw_at self.now.now addr }
+        ensures value { result ≡ raw_at self.now.now addr }
+        ensures plain { IfSome result (λ raw. is_plain (thing_at self.now.now raw) ≡ true) }
     {
-        self.source(addr)?.subject.raw()
+        match self.things.get(addr) {
+            Some(Thing::Source(source)) => source.subject.raw(),
+            _ => None,
+        }
     }
 
     /// The object at an address. What may be summed of it fits a word.
@@ -100,6 +105,7 @@ impl World {
         ensures value { result ≡ next_addr self.now.now.taken }
         ensures fresh { (addr : ℕ) → result ≤ addr → thing_at self.now.now addr ≡ None }
         ensures unused { (addr : ℕ) → result ≤ addr → uses_of self.now.now addr ≡ 0 }
+        ensures unnamed { (addr : ℕ) → result ≤ addr → source_on self.now.now addr ≡ None }
     {
         8 * (self.taken + 1)
     }
@@ -132,6 +138,9 @@ impl World {
         requires length { source.length ≤ longest_source }
         requires noted { IfSome (raw_of source.subject) (Contains self.old.noted) }
         requires unnamed { IfSome (raw_of source.subject) (λ raw. source_on self.old.now raw ≡ None) }
+        requires unnamed_here { source_on self.old.now addr ≡ None }
+        requires raw_there { IfSome (raw_of source.subject) (λ raw.
+            (raw < addr) × (is_plain (thing_at self.old.now raw) ≡ true)) }
         ensures put { self.new.now ≡ with_thing self.old.now addr (Thing.Source source) }
         ensures begun { self.new.begun ≡ self.old.begun }
         ensures owners { self.new.owners ≡ self.old.owners }
@@ -161,6 +170,20 @@ impl World {
         let raw = self.raw_at(addr);
         self.things.put(addr, None);
         self.tally.set_source(raw, None);
+    }
+
+    /// Lets the thing at an address that was touched go, which is neither a source nor an object.
+    pub fn drop_plain(&mut self, addr: Addr)
+        requires touched { Contains self.old.touched addr }
+        requires plain { is_plain (thing_at self.old.now addr) ≡ true }
+        ensures dropped { self.new.now ≡ without_thing self.old.now addr }
+        ensures begun { self.new.begun ≡ self.old.begun }
+        ensures owners { self.new.owners ≡ self.old.owners }
+        ensures touched { self.new.touched ≡ self.old.touched }
+        ensures noted_stay { self.new.noted ≡ self.old.noted }
+        ensures saved { self.new.saved ≡ self.old.saved }
+    {
+        self.things.put(addr, None);
     }
 
     /// Flags the source at an address. Want of memory leaves the world as before.

@@ -1,4 +1,4 @@
-use Rattle.std.proofs.Common.{◌≡◌, true, Some, ap, sym, subst, subst₂, ◌∙◌}
+use Rattle.std.proofs.Common.{◌≡◌, true, None, Some, ap, sym, subst, subst₂, ◌∙◌}
 use Rattle.std.specs.List.{All, Contains}
 use Rattle.std.specs.Prelude.{◌≤◌, ◌<◌, ◌+◌, ◌^◌}
 use Rattle.sdr_base.specs.declared.kind.Space.{Space}
@@ -11,7 +11,7 @@ use Rattle.sdr_model.specs.Notes.{UsesMore, note_at, noted_count}
 use Rattle.sdr_model.specs.Owners.{MayPut}
 use Rattle.sdr_model.specs.Tallies.{IsModest, is_plain}
 use Rattle.sdr_model.specs.World.{thing_at}
-use Rattle.sdr_model.specs.Zco.{naming}
+use Rattle.sdr_model.specs.Zco.{naming, source_on}
 use Rattle.sdr_model.specs.declared.things.Thing.TheVariants as things
 use Rattle.sdr_model.proofs.ObjectLemmas.{Changes-added, IsKept-changed, uses_small}
 use Rattle.sdr_model.proofs.world.World.add_object.Goals as goal
@@ -51,5 +51,6 @@ invariant_of-self c =
     ∙ ap (λ a. with_charged inside.tally.now z.account (plus (charged_to inside.tally.now z.account) a))
     (c.object_charge-charge.ensures ∙ ap (λ d. amounts_by (λ space. object_charge d.now space z)) view))
     (λ space. subst (λ d. occupancy d.now z.account space + object_charge d.now space z ≤ most_amount) view (c.requires.room space))
-    (subst (λ d. IsModest (next_addr d.now.taken) z) view c.requires.modest))
+    (subst (λ d. IsModest (next_addr d.now.taken) z) view c.requires.modest)
+    (subst (λ d. source_on d.now k ≡ None) view c.requires.unnamed))
     c.self.invariant

@@ -15,7 +15,7 @@ invariant_of-self c =
     let view = sym c.self.view_is in
     let there = source_there (get inside.things.now k) (subst (λ d. IsSome (source_at d.now k)) view c.requires.there) in
     let raw : c.raw_at-raw.result ≡ raw_of there.0.subject =
-    c.raw_at-raw.ensures ∙ ap (λ d. raw_at d.now k) view
+    c.raw_at-raw.ensures.value ∙ ap (λ d. raw_at d.now k) view
     ∙ ap (λ o. option_and_then (λ s. raw_of s.subject) (as_source o)) there.1 in
     IsKept-dropped inside.owners inside.tally c.set_source.new.self _ inside.things c.put.new.self inside.accounts k there.0
     c.put.ensures.begun c.set_source.ensures.begun c.set_source.ensures.sums_begun c.set_source.ensures.sums_now c.self.invariant

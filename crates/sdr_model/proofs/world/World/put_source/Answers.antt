@@ -22,3 +22,5 @@ invariant_of-self c =
     (subst (λ d. uses_of d.now k ≡ 0) view c.requires.unused)
     c.requires.length
     (subst (λ d. IfSome (raw_of c.args.source.subject) (λ raw. source_on d.now raw ≡ None)) view c.requires.unnamed)
+    (subst (λ d. source_on d.now k ≡ None) view c.requires.unnamed_here)
+    (subst (λ d. IfSome (raw_of c.args.source.subject) (λ raw. (raw < k) × (is_plain (thing_at d.now raw) ≡ true))) view c.requires.raw_there)
