@@ -2,10 +2,11 @@
 use Rattle.std.proofs.Common.{◌≡◌, ◌≤◌, ◌<◌, ◌+◌, ◌-◌, ℕ, zero, suc, List, [], ◌∷◌, Option, None, Some, ap, sym, ◌∙◌, refl, subst, arith, length}
 use Rattle.std.specs.Prelude.{slice_get}
 use Rattle.sdr_model.specs.Dry.{AreInOrder, StepsDry, blocks_taken}
-use Rattle.sdr_model.specs.ObjectSteps.{Discards, last_capsule, with_object, without_header, without_trailer}
+use Rattle.sdr_model.specs.Gone.{gone_things, without_things}
+use Rattle.sdr_model.specs.ObjectSteps.{Discards, destroy_blocks, last_capsule, with_object, without_header, without_trailer}
 use Rattle.sdr_model.specs.Queue.{with_served}
-use Rattle.sdr_model.specs.RowMoves.{block_of_capsule, first_header, last_trailer}
-use Rattle.sdr_model.specs.Steps.{On, Outcome, gave}
+use Rattle.sdr_model.specs.RowMoves.{block_of_capsule, destroyed_blocks, first_header, last_trailer}
+use Rattle.sdr_model.specs.Steps.{Does, On, Outcome, gave, without_thing}
 use Rattle.sdr_model.specs.Trims.{IsTrimmed, MayTrim}
 use Rattle.sdr_model.specs.World.{World}
 use Rattle.sdr_model.specs.Zco.{object_at}
@@ -73,3 +74,30 @@ discards_last w w' addr z is some put =
       in_order = AreInOrder-gave w.taken (last_trailer (object_at w addr));
       counted = counted w w' addr z (without_trailer z) (last_trailer (object_at w addr)) put;
     }
+
+-- the world after an object is destroyed
+abbrev pub IsDestroyed : World → World → ℕ → ZcoObject → Type 0
+IsDestroyed w w' addr z =
+    w' ≡ record (with_served (without_thing (without_things w (gone_things w z.extents z.extents)) addr) z.account) { shown = [] }
+
+-- things that go leave the count of blocks
+taken_left : (w : World) (addrs : List ℕ) → (without_things w addrs).taken ≡ w.taken
+taken_left w [] = refl
+taken_left w (addr ∷ addrs) = taken_left (without_thing w addr) addrs
+
+pub destroys : (w w' : World) (addr : ℕ) (z : ZcoObject) → Some z ≡ object_at w addr → IsDestroyed w w' addr z
+    → StepsDry w (calls.Destroy addr) (gave (destroyed_blocks w addr (object_at w addr))) w' replies.Done
+destroys w w' addr z is put = record {
+  step =
+      subst (λ o. let out = Discarded w w' (destroyed_blocks w addr o) in On w out addr o (λ z. Does out (gave (destroy_blocks w addr z))
+      (with_served (without_thing (without_things w (gone_things w z.extents z.extents)) addr) z.account) replies.Done)) is
+      (refl, ap (λ (v : World). record v { taken = w.taken }) put ∙ same, refl);
+  in_order = AreInOrder-gave w.taken (destroyed_blocks w addr (object_at w addr));
+  counted = omega (arith, ap (λ (v : World). v.taken) put, taken_left w (gone_things w z.extents z.extents), blocks_taken-gave (destroyed_blocks w addr (object_at w addr)));
+}
+  where
+    next : World
+    next = with_served (without_thing (without_things w (gone_things w z.extents z.extents)) addr) z.account
+
+    same : record next { shown = []; taken = w.taken } ≡ record next { shown = [] }
+    same = ap (λ n. record next { shown = []; taken = n }) (sym (taken_left w (gone_things w z.extents z.extents)))

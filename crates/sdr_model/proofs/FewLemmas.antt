@@ -78,7 +78,8 @@ few_bonded most w at k (c ∷ cs) few =
     (with_thing (with_thing w (at k) (things.Raw c.text)) (at (k + 1)) (things.Source (new_source (subjects.Heap (at k)) (length c.text))))
     at (k + 3) cs (few_insert most _ (at (k + 1)) _ (few_insert most w.things (at k) (things.Raw c.text) few tt) tt)
 
-object_is : (t : Option Thing) (z : ZcoObject) → as_object t ≡ Some z → t ≡ Some (things.Object z)
+-- an object that is there
+pub object_is : (t : Option Thing) (z : ZcoObject) → as_object t ≡ Some z → t ≡ Some (things.Object z)
 object_is None z is = cc
 object_is (Some (things.Object x)) z is = ap (λ o. (elim o as (λ _. Option Thing) [ None ↦ None | Some x ↦ Some (things.Object x) ])) is
 object_is (Some (things.Raw x)) z is = cc

@@ -10,6 +10,7 @@ pub mod ChargeLemmas
 pub mod CloneLemmas
 pub mod CountLemmas
 pub mod DiscardLemmas
+pub mod DropLemmas
 pub mod DryLemmas
 pub mod ExtentLemmas
 pub mod FewLemmas

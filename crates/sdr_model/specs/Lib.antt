@@ -15,6 +15,7 @@ pub mod Charging
 pub mod Core
 pub mod Cuts
 pub mod Draft
+pub mod Drops
 pub mod Dry
 pub mod Few
 pub mod Fields

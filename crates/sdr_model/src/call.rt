@@ -200,7 +200,6 @@ impl Call {
                 | Call::Bond(_, _)
                 | Call::ClonePart(_, _, _, _)
                 | Call::Strip(_)
-                | Call::Destroy(_)
         )
     }
 }

@@ -6,6 +6,7 @@ ghost use Rattle.sdr_model.specs.Few.{HasFewPieces, most_pieces};
 
 use crate::account_calls::{Asking, awarded, maximum, occupancy, request, set_maximum, shred};
 use crate::capsule_calls::{append_trailer, prepend_header};
+use crate::destroy_calls::destroy;
 use crate::element_calls::{datum, delete, next, prev, set_datum};
 use crate::hash_calls::{
     hash_count, hash_destroy, hash_insert, hash_remove, hash_retrieve, hash_revise, make_hash,
@@ -118,6 +119,7 @@ pub fn apply(alloc: Global, world: &mut World, call: &Call) -> Result<Reply, NoM
         Call::Awarded(ticket) => awarded(world, *ticket),
         Call::Shred(ticket) => shred(world, *ticket),
         Call::Create(acct, ticket) => create(alloc, world, *acct, *ticket),
+        Call::Destroy(addr) => destroy(alloc, world, *addr),
         Call::DiscardFirstHeader(addr) => discard_first_header(alloc, world, *addr),
         Call::DiscardLastTrailer(addr) => discard_last_trailer(alloc, world, *addr),
         Call::Delimit(addr, offset, length) => delimit(alloc, world, *addr, *offset, *length),
@@ -130,7 +132,6 @@ pub fn apply(alloc: Global, world: &mut World, call: &Call) -> Result<Reply, NoM
         Call::AppendExtent(_, _, _, _, _)
         | Call::Bond(_, _)
         | Call::ClonePart(_, _, _, _)
-        | Call::Strip(_)
-        | Call::Destroy(_) => unreachable!(),
+        | Call::Strip(_) => unreachable!(),
     }
 }

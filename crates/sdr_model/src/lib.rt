@@ -20,6 +20,7 @@ mod capsules;
 mod catalogue;
 mod charges;
 mod cuts;
+mod destroy_calls;
 mod element_calls;
 mod event;
 mod gone;

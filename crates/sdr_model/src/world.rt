@@ -16,6 +16,7 @@ ghost use Rattle.sdr_model.specs.declared.things.Thing.{Thing};
 mod blocks;
 mod charges;
 mod charging;
+mod dropping;
 mod objects;
 mod replacing;
 mod sources;

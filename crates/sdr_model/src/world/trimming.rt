@@ -1,12 +1,13 @@
 // Objects that lose headers or trailers, or get another part, in a world in the making.
-ghost use Rattle.std.specs.Prelude.{◌≡◌, ◌≤◌, ℕ, Contains, IfSome};
+ghost use Rattle.std.specs.Prelude.{◌≡◌, ◌≤◌, ℕ, Contains, IfSome, Some, true};
 ghost use Rattle.std.specs.List.{All};
 ghost use Rattle.sdr_model.specs.Allowed.{IsBound};
 ghost use Rattle.sdr_model.specs.Dry.{next_addr};
 ghost use Rattle.sdr_model.specs.ObjectSteps.{with_object};
 ghost use Rattle.sdr_model.specs.Owners.{MayPut};
-ghost use Rattle.sdr_model.specs.Tallies.{IsModest};
+ghost use Rattle.sdr_model.specs.Tallies.{IsModest, is_plain, raw_at};
 ghost use Rattle.sdr_model.specs.Trims.{MayTrim};
+ghost use Rattle.sdr_model.specs.World.{thing_at};
 ghost use Rattle.sdr_model.specs.Zco.{naming, object_at, uses_of};
 ghost use Rattle.sdr_model.specs.declared.things.Thing.{Thing};
 
@@ -22,6 +23,8 @@ impl World {
         ensures used { IfSome (object_at self.now.now addr) (λ z.
             (source : ℕ) → naming source z.extents ≤ uses_of self.now.now source) }
         ensures bound { IsBound self.now.now }
+        ensures plain { (source raw : ℕ) → raw_at self.now.now source ≡ Some raw
+            → is_plain (thing_at self.now.now raw) ≡ true }
     {
         let _ = self.things.get(addr);
     }

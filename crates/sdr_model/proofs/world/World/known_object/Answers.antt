@@ -1,10 +1,10 @@
-use Rattle.std.proofs.Common.{◌≤◌, ℕ, subst}
+use Rattle.std.proofs.Common.{◌≡◌, ◌≤◌, ℕ, Some, true, subst}
 use Rattle.std.specs.Prelude.{IfSome}
 use Rattle.sdr_model.specs.Allowed.{IsBound}
 use Rattle.sdr_model.specs.Draft.{Draft}
 use Rattle.sdr_model.specs.Dry.{next_addr}
 use Rattle.sdr_model.specs.Owners.{MayPut}
-use Rattle.sdr_model.specs.Tallies.{IsModest}
+use Rattle.sdr_model.specs.Tallies.{IsModest, is_plain, raw_at}
 use Rattle.sdr_model.specs.World.{thing_at}
 use Rattle.sdr_model.specs.Zco.{naming, object_at, uses_of}
 use Rattle.sdr_model.specs.declared.things.Thing.TheVariants as things
@@ -29,3 +29,8 @@ returns-clause-used c =
 
 pub returns-clause-bound : goal.returns-clause-bound
 returns-clause-bound c = subst (λ (d : Draft). IsBound d.now) c.self.view_is (λ acct space. c.self.invariant.told.now.bound acct space)
+
+pub returns-clause-plain : goal.returns-clause-plain
+returns-clause-plain c =
+    subst (λ (d : Draft). (source raw : ℕ) → raw_at d.now source ≡ Some raw → is_plain (thing_at d.now raw) ≡ true) c.self.view_is
+    (λ source raw is. (c.self.invariant.told.now.raws.each source raw is).1)
