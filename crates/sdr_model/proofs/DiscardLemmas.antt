@@ -2,10 +2,11 @@
 use Rattle.std.proofs.Common.{◌≡◌, ◌≤◌, ◌<◌, ◌+◌, ◌-◌, ℕ, zero, suc, List, [], ◌∷◌, Option, None, Some, ap, sym, ◌∙◌, refl, subst, arith, length}
 use Rattle.std.specs.Prelude.{slice_get}
 use Rattle.sdr_model.specs.Dry.{AreInOrder, StepsDry, blocks_taken}
-use Rattle.sdr_model.specs.Gone.{gone_things, without_things}
+use Rattle.sdr_model.specs.Gone.{gone_blocks, gone_things, without_things}
 use Rattle.sdr_model.specs.ObjectSteps.{Discards, destroy_blocks, last_capsule, with_object, without_header, without_trailer}
+use Rattle.sdr_model.specs.PartSteps.{outside_part, stripped}
 use Rattle.sdr_model.specs.Queue.{with_served}
-use Rattle.sdr_model.specs.RowMoves.{block_of_capsule, destroyed_blocks, first_header, last_trailer}
+use Rattle.sdr_model.specs.RowMoves.{block_of_capsule, destroyed_blocks, first_header, last_trailer, stripped_blocks}
 use Rattle.sdr_model.specs.Steps.{Does, On, Outcome, gave, without_thing}
 use Rattle.sdr_model.specs.Trims.{IsTrimmed, MayTrim}
 use Rattle.sdr_model.specs.World.{World}
@@ -101,3 +102,28 @@ destroys w w' addr z is put = record {
 
     same : record next { shown = []; taken = w.taken } ≡ record next { shown = [] }
     same = ap (λ n. record next { shown = []; taken = n }) (sym (taken_left w (gone_things w z.extents z.extents)))
+
+-- the world after an object is stripped
+abbrev pub IsStripped : World → World → ℕ → ZcoObject → Type 0
+IsStripped w w' addr z =
+    let out = outside_part z in
+    w' ≡ record (with_served (with_object (without_things w (gone_things w out out)) addr (stripped z)) z.account) { shown = [] }
+
+pub strips : (w w' : World) (addr : ℕ) (z : ZcoObject) → Some z ≡ object_at w addr → IsStripped w w' addr z
+    → StepsDry w (calls.Strip addr) (gave (stripped_blocks w (object_at w addr))) w' replies.Done
+strips w w' addr z is put = record {
+  step =
+      subst (λ o. let moves = Discarded w w' (stripped_blocks w o) in On w moves addr o (λ z. let out = outside_part z in
+      Does moves (gave (gone_blocks w out out))
+      (with_served (with_object (without_things w (gone_things w out out)) addr (stripped z)) z.account) replies.Done)) is
+      (refl, ap (λ (v : World). record v { taken = w.taken }) put ∙ same, refl);
+  in_order = AreInOrder-gave w.taken (stripped_blocks w (object_at w addr));
+  counted = omega (arith, ap (λ (v : World). v.taken) put, taken_left w (gone_things w (outside_part z) (outside_part z)),
+      blocks_taken-gave (stripped_blocks w (object_at w addr)));
+}
+  where
+    next : World
+    next = with_served (with_object (without_things w (gone_things w (outside_part z) (outside_part z))) addr (stripped z)) z.account
+
+    same : record next { shown = []; taken = w.taken } ≡ record next { shown = [] }
+    same = ap (λ n. record next { shown = []; taken = n }) (sym (taken_left w (gone_things w (outside_part z) (outside_part z))))

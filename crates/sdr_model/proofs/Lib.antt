@@ -32,6 +32,7 @@ pub mod RawLemmas
 pub mod SourceLemmas
 pub mod SpotLemmas
 pub mod StoreLemmas
+pub mod StripLemmas
 pub mod SumLemmas
 pub mod TableLemmas
 pub mod TakenLemmas

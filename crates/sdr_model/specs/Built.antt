@@ -10,7 +10,6 @@ abbrev pub is_built : Call → Bool
 is_built (calls.AppendExtent addr ticket source offset length) = false
 is_built (calls.Bond addr ticket) = false
 is_built (calls.ClonePart addr ticket offset length) = false
-is_built (calls.Strip addr) = false
 is_built call = true
 
 -- whether it serves the event

@@ -199,7 +199,6 @@ impl Call {
             Call::AppendExtent(_, _, _, _, _)
                 | Call::Bond(_, _)
                 | Call::ClonePart(_, _, _, _)
-                | Call::Strip(_)
         )
     }
 }

@@ -21,6 +21,7 @@ use crate::ordered_calls::{insert_ordered, search};
 use crate::part_calls::{discard_first_header, discard_last_trailer};
 use crate::raw_calls::{free, length, malloc, read, stage, write};
 use crate::source_calls::{bulk_ref, count, destroy_ref, file_ref, obj_ref};
+use crate::strip_calls::strip;
 use crate::table_calls::{dimensions, make_table, row, set_row, table_destroy, table_user};
 use crate::text_calls::{string, string_dup, string_length, string_read};
 use crate::wire_calls::give;
@@ -120,6 +121,7 @@ pub fn apply(alloc: Global, world: &mut World, call: &Call) -> Result<Reply, NoM
         Call::Shred(ticket) => shred(world, *ticket),
         Call::Create(acct, ticket) => create(alloc, world, *acct, *ticket),
         Call::Destroy(addr) => destroy(alloc, world, *addr),
+        Call::Strip(addr) => strip(alloc, world, *addr),
         Call::DiscardFirstHeader(addr) => discard_first_header(alloc, world, *addr),
         Call::DiscardLastTrailer(addr) => discard_last_trailer(alloc, world, *addr),
         Call::Delimit(addr, offset, length) => delimit(alloc, world, *addr, *offset, *length),
@@ -131,7 +133,6 @@ pub fn apply(alloc: Global, world: &mut World, call: &Call) -> Result<Reply, NoM
         }
         Call::AppendExtent(_, _, _, _, _)
         | Call::Bond(_, _)
-        | Call::ClonePart(_, _, _, _)
-        | Call::Strip(_) => unreachable!(),
+        | Call::ClonePart(_, _, _, _) => unreachable!(),
     }
 }

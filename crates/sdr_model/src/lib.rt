@@ -51,6 +51,7 @@ mod raw_calls;
 mod script;
 mod source_calls;
 mod store;
+mod strip_calls;
 mod table;
 mod table_calls;
 mod tally;

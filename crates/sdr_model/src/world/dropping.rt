@@ -14,6 +14,7 @@ impl World {
     fn touch_going(&mut self, addr: Addr) -> Result<(), NoMemory>
         ensures now { self.new.now ≡ self.old.now }
         ensures begun { self.new.begun ≡ self.old.begun }
+        ensures owners { self.new.owners ≡ self.old.owners }
         ensures touched { OnOk result (Contains self.new.touched addr) }
         ensures noted { OnOk result (IfSome (raw_at self.old.now addr) (Contains self.new.noted)) }
         ensures others { OnOk result ((other : ℕ) →
@@ -33,6 +34,7 @@ impl World {
     pub fn touch_all(&mut self, addrs: &[Addr]) -> Result<(), NoMemory>
         ensures now { self.new.now ≡ self.old.now }
         ensures begun { self.new.begun ≡ self.old.begun }
+        ensures owners { self.new.owners ≡ self.old.owners }
         ensures going { OnOk result (All (IsNoted self.new) addrs.now) }
         ensures others { OnOk result ((other : ℕ) →
             Contains self.old.touched other → Contains self.new.touched other) }

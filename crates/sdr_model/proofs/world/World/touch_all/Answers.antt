@@ -28,6 +28,7 @@ loop-addr-preserved c =
     record {
       now = c.touch_going.ensures.now ∙ c.loop-addr.invariant.now;
       begun = c.touch_going.ensures.begun ∙ c.loop-addr.invariant.begun;
+      owners = c.touch_going.ensures.owners ∙ c.loop-addr.invariant.owners;
       going = subst (All P) (sym (take_more all i 0 c.loop-addr-test.true)) (All-append P (take i all) (a ∷ []) before (All-cons P a [] here (All-nil P)));
       others = λ other was. c.in_ok-touch_going.ensures.others other (c.loop-addr.invariant.others other was);
       others_noted = λ other was. c.in_ok-touch_going.ensures.others_noted other (c.loop-addr.invariant.others_noted other was);

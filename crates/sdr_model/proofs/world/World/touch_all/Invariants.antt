@@ -8,6 +8,7 @@ abbrev pub invariant-loop-addr : goal.invariant-loop-addr
 invariant-loop-addr l = record {
   now : l.self.now ≡ l.initial.self.now;
   begun : l.self.begun ≡ l.initial.self.begun;
+  owners : l.self.owners ≡ l.initial.self.owners;
   going : All (IsNoted l.self) (take l.addr-index l.addrs);
   others : (other : ℕ) → Contains l.initial.self.touched other → Contains l.self.touched other;
   others_noted : (other : ℕ) → Contains l.initial.self.noted other → Contains l.self.noted other;
