@@ -118,8 +118,12 @@ strips w w' addr z is put = record {
       (with_served (with_object (without_things w (gone_things w out out)) addr (stripped z)) z.account) replies.Done)) is
       (refl, ap (λ (v : World). record v { taken = w.taken }) put ∙ same, refl);
   in_order = AreInOrder-gave w.taken (stripped_blocks w (object_at w addr));
-  counted = omega (arith, ap (λ (v : World). v.taken) put, taken_left w (gone_things w (outside_part z) (outside_part z)),
-      blocks_taken-gave (stripped_blocks w (object_at w addr)));
+  counted = omega (
+    arith,
+    ap (λ (v : World). v.taken) put,
+    taken_left w (gone_things w (outside_part z) (outside_part z)),
+    blocks_taken-gave (stripped_blocks w (object_at w addr)),
+  );
 }
   where
     next : World

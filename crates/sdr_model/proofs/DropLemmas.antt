@@ -43,8 +43,11 @@ plain_of (Some thing) object source = refl
 -- no more extents name a source where a thing is gone
 pub fewer_uses : (w : World) (k source : ℕ) → uses_of (without_thing w k) source ≤ uses_of w source
 fewer_uses w k source =
-    omega (arith, sum_by-removed (λ e. uses_in source accts.Inbound e.1) w.things k,
-    sum_by-removed (λ e. uses_in source accts.Outbound e.1) w.things k)
+    omega (
+      arith,
+      sum_by-removed (λ e. uses_in source accts.Inbound e.1) w.things k,
+      sum_by-removed (λ e. uses_in source accts.Outbound e.1) w.things k,
+    )
 
 -- what is at an address where a thing is gone: nothing, or what was there
 thing_at-without : (w : World) (k addr : ℕ) → thing_at (without_thing w k) addr ≡ cond (is_at (nat_cmp addr) k) None (thing_at w addr)
@@ -126,10 +129,15 @@ IsNoted-more d d' addr now touched noted was = record {
 unused_after : (w : World) (k source : ℕ) (z : ZcoObject) → get w.things k ≡ Some (things.Object z)
     → uses_of w source ≡ naming source z.extents → uses_of (without_thing w k) source ≡ 0
 unused_after w k source z is all =
-    omega (arith, sum_by-removed (λ e. uses_in source accts.Inbound e.1) w.things k,
-    sum_by-removed (λ e. uses_in source accts.Outbound e.1) w.things k,
-    ap (counted_at (λ e. uses_in source accts.Inbound e.1) k) is, ap (counted_at (λ e. uses_in source accts.Outbound e.1) k) is,
-    both z.account, all)
+    omega (
+      arith,
+      sum_by-removed (λ e. uses_in source accts.Inbound e.1) w.things k,
+      sum_by-removed (λ e. uses_in source accts.Outbound e.1) w.things k,
+      ap (counted_at (λ e. uses_in source accts.Inbound e.1) k) is,
+      ap (counted_at (λ e. uses_in source accts.Outbound e.1) k) is,
+      both z.account,
+      all,
+    )
   where
     both : (a : Acct) → cond (is_same_account accts.Inbound a) (naming source z.extents) 0
         + cond (is_same_account accts.Outbound a) (naming source z.extents) 0 ≡ naming source z.extents

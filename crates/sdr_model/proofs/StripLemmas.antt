@@ -59,13 +59,19 @@ naming-cut source from to (e ∷ es) =
         → (b : Bool) → naming source (cond b (cut_all (from - e.length) (to - e.length) es) (cut from to e ∷ cut_all (from - e.length) (to - e.length) es))
         + naming source (cond b (e ∷ left_out (from - e.length) (to - e.length) es) (left_out (from - e.length) (to - e.length) es)) ≡ naming source (e ∷ es)
     by rest true =
-        omega (arith, rest,
-        sum_by-cons (λ (x : Extent). cond (x.source == source) 1 0) e (left_out (from - e.length) (to - e.length) es),
-        sum_by-cons (λ (x : Extent). cond (x.source == source) 1 0) e es)
+        omega (
+          arith,
+          rest,
+          sum_by-cons (λ (x : Extent). cond (x.source == source) 1 0) e (left_out (from - e.length) (to - e.length) es),
+          sum_by-cons (λ (x : Extent). cond (x.source == source) 1 0) e es,
+        )
     by rest false =
-        omega (arith, rest,
-        sum_by-cons (λ (x : Extent). cond (x.source == source) 1 0) (cut from to e) (cut_all (from - e.length) (to - e.length) es),
-        sum_by-cons (λ (x : Extent). cond (x.source == source) 1 0) e es)
+        omega (
+          arith,
+          rest,
+          sum_by-cons (λ (x : Extent). cond (x.source == source) 1 0) (cut from to e) (cut_all (from - e.length) (to - e.length) es),
+          sum_by-cons (λ (x : Extent). cond (x.source == source) 1 0) e es,
+        )
 
 -- an extent, cut, charges no more
 charge-cut_one : (of space : Space) (from to bytes : ℕ)
@@ -94,9 +100,13 @@ charge-cut w space from to (e ∷ es) =
     by rest true =
         omega (arith, rest, sum_by-cons (extent_charge w space) e es)
     by rest false =
-        omega (arith, rest, sum_by-cons (extent_charge w space) e es,
-        sum_by-cons (extent_charge w space) (cut from to e) (cut_all (from - e.length) (to - e.length) es),
-        charge-cut_one (space_in (source_at w e.source)) space from to e.length)
+        omega (
+          arith,
+          rest,
+          sum_by-cons (extent_charge w space) e es,
+          sum_by-cons (extent_charge w space) (cut from to e) (cut_all (from - e.length) (to - e.length) es),
+          charge-cut_one (space_in (source_at w e.source)) space from to e.length,
+        )
 
 -- a stripped object has no blocks inside that the object hadn't
 pub OwnsInside-stripped : (owners : Owners) (next owner : ℕ) (z : ZcoObject) → OwnsInside owners next owner (things.Object z)
@@ -130,10 +140,15 @@ replaces-stripped w bound o z is =
 uses_replaced : (w : World) (k source : ℕ) (z y : ZcoObject) → get w.things k ≡ Some (things.Object z) → y.account ≡ z.account
     → uses_of (with_object w k y) source + naming source z.extents ≡ uses_of w source + naming source y.extents
 uses_replaced w k source z y is same =
-    omega (arith, sum_by-inserted (λ e. uses_in source accts.Inbound e.1) w.things k (things.Object y),
-    sum_by-inserted (λ e. uses_in source accts.Outbound e.1) w.things k (things.Object y),
-    ap (counted_at (λ e. uses_in source accts.Inbound e.1) k) is, ap (counted_at (λ e. uses_in source accts.Outbound e.1) k) is,
-    both z.account (naming source z.extents), both y.account (naming source y.extents))
+    omega (
+      arith,
+      sum_by-inserted (λ e. uses_in source accts.Inbound e.1) w.things k (things.Object y),
+      sum_by-inserted (λ e. uses_in source accts.Outbound e.1) w.things k (things.Object y),
+      ap (counted_at (λ e. uses_in source accts.Inbound e.1) k) is,
+      ap (counted_at (λ e. uses_in source accts.Outbound e.1) k) is,
+      both z.account (naming source z.extents),
+      both y.account (naming source y.extents),
+    )
   where
     both : (a : Acct) (n : ℕ) → cond (is_same_account accts.Inbound a) n 0 + cond (is_same_account accts.Outbound a) n 0 ≡ n
     both accts.Inbound n = omega arith
@@ -166,8 +181,13 @@ MayGo-replaced d d' k addr z y out there same names now touched noted is goes = 
 
     none : uses_of d.now addr ≡ naming addr out → uses_of d'.now addr ≡ 0
     none used =
-        omega (arith, ap (λ (w : World). uses_of w addr) now,
-        uses_replaced d.now k addr z y (object_is (thing_at d.now k) z there) same, names, used)
+        omega (
+          arith,
+          ap (λ (w : World). uses_of w addr) now,
+          uses_replaced d.now k addr z y (object_is (thing_at d.now k) z there) same,
+          names,
+          used,
+        )
 
     weaker : {X : Type 0} (P Q : Type 0) (o : Option X) → (P → Q) → IfSome o (λ x. P) → IfSome o (λ x. Q)
     weaker P Q None f p = tt
@@ -213,5 +233,9 @@ length-cut from to (e ∷ es) =
         ≤ extents_length (e ∷ es)
     by rest true = omega (arith, rest, sum_by-cons (λ (x : Extent). x.length) e es)
     by rest false =
-        omega (arith, rest, sum_by-cons (λ (x : Extent). x.length) e es,
-        sum_by-cons (λ (x : Extent). x.length) (cut from to e) (cut_all (from - e.length) (to - e.length) es))
+        omega (
+          arith,
+          rest,
+          sum_by-cons (λ (x : Extent). x.length) e es,
+          sum_by-cons (λ (x : Extent). x.length) (cut from to e) (cut_all (from - e.length) (to - e.length) es),
+        )

@@ -131,8 +131,7 @@ pub fn apply(alloc: Global, world: &mut World, call: &Call) -> Result<Reply, NoM
         Call::AppendTrailer(addr, ticket, text) => {
             append_trailer(alloc, world, *addr, *ticket, text)
         }
-        Call::AppendExtent(_, _, _, _, _)
-        | Call::Bond(_, _)
-        | Call::ClonePart(_, _, _, _) => unreachable!(),
+        Call::AppendExtent(_, _, _, _, _) | Call::Bond(_, _) | Call::ClonePart(_, _, _, _) =>
+            unreachable!(),
     }
 }

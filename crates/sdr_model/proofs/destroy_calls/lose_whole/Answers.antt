@@ -54,7 +54,7 @@ drop_all-requires c =
     subst (λ v. All (Goes v all) (gone_things w all all)) (sym now) (gone_go w all c.known_object.ensures.plain all) in
     let may : All (MayGo new) (gone_things w all all) =
     λ k x inside. MayGo-lost d new addr (get_or (gone_things w all all) k x) c.args.object.now there c.lose_object.ensures.lost
-        c.lose_object.ensures.touched c.lose_object.ensures.noted_stay (going k x inside) (goes k x inside) in
+    c.lose_object.ensures.touched c.lose_object.ensures.noted_stay (going k x inside) (goes k x inside) in
     record { may = subst (All (MayGo new)) (sym (c.as_slice-3.ensures ∙ gone)) may }
 
 pub returns-clause-lost : goal.returns-clause-lost

@@ -118,8 +118,8 @@ drop_all-requires c =
     c.replace_object.ensures.put ∙ ap (with_object d.now addr) c.requires.cut in
     let may : All (MayGo new) (gone_things w out out) =
     λ k x inside. let a = get_or (gone_things w out out) k x in
-        MayGo-replaced d new addr a z (stripped z) out there refl (naming-cut a z.part.offset (part_end z) z.extents) put
-        c.replace_object.ensures.touched c.replace_object.ensures.noted_stay (going k x inside) (goes k x inside) in
+    MayGo-replaced d new addr a z (stripped z) out there refl (naming-cut a z.part.offset (part_end z) z.extents) put
+    c.replace_object.ensures.touched c.replace_object.ensures.noted_stay (going k x inside) (goes k x inside) in
     record { may = subst (All (MayGo new)) (sym (c.as_slice-3.ensures ∙ gone)) may }
 
 pub returns-clause-put : goal.returns-clause-put

@@ -9,6 +9,10 @@ pub whole_of-part-requires : goal.whole_of-part-requires
 whole_of-part-requires c =
     let z = c.args.object.now in
     let few : AreFewBytes (cut_all z.part.offset c.part_end.result c.as_slice.result.now) =
-    omega (arith, length-cut z.part.offset c.part_end.result c.as_slice.result.now, ap extents_length c.as_slice.ensures,
-    c.requires.bounded.extents) in
+    omega (
+      arith,
+      length-cut z.part.offset c.part_end.result c.as_slice.result.now,
+      ap extents_length c.as_slice.ensures,
+      c.requires.bounded.extents,
+    ) in
     record { few = subst AreFewBytes (sym (c.as_slice-2.ensures ∙ c.in_ok-extents.ensures)) few }
