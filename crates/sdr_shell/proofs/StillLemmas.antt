@@ -79,3 +79,12 @@ format_completes status size need disk disk' before now known small fault output
       | inr (inr (inl is)) ↦ absurd (no_disk (fault is))
       | inr (inr (inr is)) ↦ let short = small.0 is in absurd (omega (arith, short, enough))
     ]
+
+-- the script that was read is the one that ran
+pub had_run : (left : Option (List ℕ)) (media media' : SeenMedia) (script ran : List Step) (P : List Step → List ℕ → Type 0)
+    → HadScript left script → ran ≡ script → SomeRun media media' ran P → HadRun left media media' P
+had_run left media media' script ran P had same run = record {
+  script = script;
+  input = had;
+  run = subst (λ s. SomeRun media media' s P) same run;
+}
