@@ -28,6 +28,7 @@ pub mod OrderLemmas
 pub mod OwnersLemmas
 pub mod PiecesLemmas
 pub mod QueueLemmas
+pub mod RawExtentLemmas
 pub mod RawLemmas
 pub mod SourceLemmas
 pub mod SpotLemmas

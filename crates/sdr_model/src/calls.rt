@@ -5,6 +5,7 @@ ghost use Rattle.sdr_model.specs.Built.{is_built};
 ghost use Rattle.sdr_model.specs.Few.{HasFewPieces, most_pieces};
 
 use crate::account_calls::{Asking, awarded, maximum, occupancy, request, set_maximum, shred};
+use crate::append_calls::{Append, append_extent};
 use crate::capsule_calls::{append_trailer, prepend_header};
 use crate::destroy_calls::destroy;
 use crate::element_calls::{datum, delete, next, prev, set_datum};
@@ -131,7 +132,16 @@ pub fn apply(alloc: Global, world: &mut World, call: &Call) -> Result<Reply, NoM
         Call::AppendTrailer(addr, ticket, text) => {
             append_trailer(alloc, world, *addr, *ticket, text)
         }
-        Call::AppendExtent(_, _, _, _, _) | Call::Bond(_, _) | Call::ClonePart(_, _, _, _) =>
-            unreachable!(),
+        Call::AppendExtent(object, ticket, named, offset, bytes) => {
+            let asked = Append {
+                object: *object,
+                ticket: *ticket,
+                named: *named,
+                offset: *offset,
+                bytes: *bytes,
+            };
+            append_extent(alloc, world, &asked)
+        }
+        Call::Bond(_, _) | Call::ClonePart(_, _, _, _) => unreachable!(),
     }
 }
