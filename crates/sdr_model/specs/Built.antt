@@ -9,7 +9,6 @@ use Rattle.sdr_model.specs.declared.event.Event.TheVariants as events
 abbrev pub is_built : Call → Bool
 is_built (calls.AppendExtent addr ticket source offset length) = false
 is_built (calls.Bond addr ticket) = false
-is_built (calls.ClonePart addr ticket offset length) = false
 is_built call = true
 
 -- whether it serves the event

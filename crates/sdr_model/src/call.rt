@@ -196,7 +196,7 @@ impl Call {
     {
         !matches!(
             self,
-            Call::AppendExtent(_, _, _, _, _) | Call::Bond(_, _) | Call::ClonePart(_, _, _, _)
+            Call::AppendExtent(_, _, _, _, _) | Call::Bond(_, _)
         )
     }
 }
