@@ -7,6 +7,7 @@ pub mod BoundsLemmas
 pub mod CapsuleLemmas
 pub mod Cases
 pub mod ChargeLemmas
+pub mod CloneCallLemmas
 pub mod CloneLemmas
 pub mod CountLemmas
 pub mod DiscardLemmas

@@ -134,7 +134,8 @@ raw_appends-charged w o k number raw offset bytes z text unnamed inside charges 
 put_two : (w : World) (p : Option Pending) (amounts : Amounts) (k raw have offset bytes src block : ℕ) (z : ZcoObject)
     → record (raw_appended (with_blocks (with_used w p amounts) 2) k z raw have offset bytes src block) { taken = w.taken }
     ≡ record (raw_appended (with_used w p amounts) k z raw have offset bytes src block) {
-      marks = w.marks ++ run (addr_after w.taken) 0 2; shown = [];
+      marks = w.marks ++ run (addr_after w.taken) 0 2;
+      shown = [];
     }
 put_two w None amounts k raw have offset bytes src block z = refl
 put_two w (Some p) amounts k raw have offset bytes src block z = refl

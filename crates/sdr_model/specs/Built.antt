@@ -8,7 +8,6 @@ use Rattle.sdr_model.specs.declared.event.Event.TheVariants as events
 -- whether it serves the call
 abbrev pub is_built : Call → Bool
 is_built (calls.Bond addr ticket) = false
-is_built (calls.ClonePart addr ticket offset length) = false
 is_built call = true
 
 -- whether it serves the event

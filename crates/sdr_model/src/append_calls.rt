@@ -26,7 +26,7 @@ pub struct Append {
 }
 
 // Whether a range has no byte, or isn't within the bytes that are there.
-fn is_outside(offset: u64, bytes: u64, have: u64) -> bool
+pub fn is_outside(offset: u64, bytes: u64, have: u64) -> bool
     ensures { result ≡ (bytes == 0 || nat_lt have (offset + bytes)) }
 {
     if bytes == 0 {

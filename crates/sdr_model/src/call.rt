@@ -194,6 +194,6 @@ impl Call {
     pub fn is_built(&self) -> bool
         ensures { result ≡ is_built self.now }
     {
-        !matches!(self, Call::Bond(_, _) | Call::ClonePart(_, _, _, _))
+        !matches!(self, Call::Bond(_, _))
     }
 }

@@ -7,6 +7,7 @@ ghost use Rattle.sdr_model.specs.Few.{HasFewPieces, most_pieces};
 use crate::account_calls::{Asking, awarded, maximum, occupancy, request, set_maximum, shred};
 use crate::append_calls::{Append, append_extent};
 use crate::capsule_calls::{append_trailer, prepend_header};
+use crate::clone_calls::clone_part;
 use crate::destroy_calls::destroy;
 use crate::element_calls::{datum, delete, next, prev, set_datum};
 use crate::hash_calls::{
@@ -142,6 +143,9 @@ pub fn apply(alloc: Global, world: &mut World, call: &Call) -> Result<Reply, NoM
             };
             append_extent(alloc, world, &asked)
         }
-        Call::Bond(_, _) | Call::ClonePart(_, _, _, _) => unreachable!(),
+        Call::ClonePart(addr, ticket, offset, bytes) => {
+            clone_part(alloc, world, *addr, *ticket, *offset, *bytes)
+        }
+        Call::Bond(_, _) => unreachable!(),
     }
 }

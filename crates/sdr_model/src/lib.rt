@@ -19,6 +19,7 @@ mod capsule_calls;
 mod capsules;
 mod catalogue;
 mod charges;
+mod clone_calls;
 mod cuts;
 mod destroy_calls;
 mod element_calls;

@@ -5,7 +5,7 @@ ghost use Rattle.sdr_model.specs.Answers.{Answers};
 ghost use Rattle.sdr_base.specs.declared.kind.Space.{Space};
 ghost use Rattle.sdr_model.specs.Accounts.{most_amount};
 ghost use Rattle.sdr_model.specs.Bounds.{IsBounded};
-ghost use Rattle.sdr_model.specs.Charges.{occupancy};
+ghost use Rattle.sdr_model.specs.Charges.{object_charge, occupancy};
 ghost use Rattle.sdr_model.specs.Dry.{next_addr};
 ghost use Rattle.sdr_model.specs.Owners.{MayPut};
 ghost use Rattle.sdr_model.specs.Tallies.{IsModest};
@@ -25,6 +25,7 @@ pub fn object(world: &World, addr: Addr) -> Option<&ZcoObject>
     ensures bounded { IfSome result (λ z. IsBounded z.now) }
     ensures modest { IfSome result (λ z. IsModest (next_addr world.now.now.taken) z.now) }
     ensures owned { IfSome result (λ z. MayPut world.now addr (Thing.Object z.now)) }
+    ensures charge { IfSome result (λ z. (space : Space) → object_charge world.now.now space z.now ≤ most_amount) }
     ensures small { IfSome result (λ z. (space : Space) → occupancy world.now.now z.now.account space ≤ most_amount) }
 {
     let object = world.object(addr)?;
