@@ -26,7 +26,7 @@ pub capsule_bytes-le : (bytes : ℕ) → bytes ≤ capsule_bytes bytes
 capsule_bytes-le bytes = omega arith
 
 -- headers or trailers charge at least their bytes
-capsules_length-charged : (capsules : List Capsule) → capsules_length capsules ≤ sum_by (capsule_charge spaces.Heap) capsules
+pub capsules_length-charged : (capsules : List Capsule) → capsules_length capsules ≤ sum_by (capsule_charge spaces.Heap) capsules
 capsules_length-charged capsules =
     sum_by-le-sum_by (λ (c : Capsule). length c.text) (capsule_charge spaces.Heap) capsules
     (λ c. capsule_bytes-le (length c.text))
@@ -39,7 +39,7 @@ bytes_charged spaces.Bulk bytes = omega arith
 bytes_charged spaces.Heap bytes = omega arith
 
 -- extents charge at least their bytes
-extents_length-charged : (w : World) (extents : List Extent) → extents_length extents
+pub extents_length-charged : (w : World) (extents : List Extent) → extents_length extents
     ≤ sum_by (extent_charge w spaces.File) extents + sum_by (extent_charge w spaces.Bulk) extents
     + sum_by (extent_charge w spaces.Heap) extents
 extents_length-charged w [] = omega arith

@@ -3,6 +3,7 @@ pub mod AmountLemmas
 pub mod AskingLemmas
 pub mod BlocksLemmas
 pub mod BlocksTaken
+pub mod BondLemmas
 pub mod BoundsLemmas
 pub mod CapsuleLemmas
 pub mod Cases

@@ -59,8 +59,8 @@ pub fn capsules_charge(capsules: &[Capsule]) -> u64
     bytes
 }
 
-// What these headers or trailers charge more of heap space as extents.
-fn rise(capsules: &[Capsule]) -> u64
+/// What these headers or trailers charge more of heap space as extents.
+pub fn rise(capsules: &[Capsule]) -> u64
     requires small { sum_by (capsule_charge Space.Heap) capsules.now ≤ 2 ^ 41 }
     ensures { result ≡ sum_by (bond_rise Space.Heap) capsules.now }
 {

@@ -13,6 +13,7 @@ mod amounts;
 mod answer;
 mod append_calls;
 mod asking;
+mod bond_calls;
 mod call;
 mod calls;
 mod capsule_calls;

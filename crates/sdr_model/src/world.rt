@@ -14,6 +14,7 @@ ghost use Rattle.sdr_model.specs.World.{block_at, empty_world, is_marked, spot_o
 ghost use Rattle.sdr_model.specs.declared.things.Thing.{Thing};
 
 mod blocks;
+mod bonding;
 mod charges;
 mod charging;
 mod dropping;
@@ -307,6 +308,9 @@ impl World {
         ensures put { self.new.now ≡ with_thing self.old.now addr thing }
         ensures begun { self.new.begun ≡ self.old.begun }
         ensures saved { self.new.saved ≡ self.old.saved }
+        ensures owners { self.new.owners ≡ self.old.owners }
+        ensures touched { self.new.touched ≡ self.old.touched }
+        ensures noted { self.new.noted ≡ self.old.noted }
     {
         self.things.put(addr, Some(thing));
     }
@@ -314,6 +318,7 @@ impl World {
     /// Shows no bytes.
     pub fn hide(&mut self)
         ensures hidden { self.new.now ≡ record self.old.now { shown = [] } }
+        ensures owners { self.new.owners ≡ self.old.owners }
         ensures begun { self.new.begun ≡ self.old.begun }
         ensures saved { self.new.saved ≡ self.old.saved }
         ensures touched { self.new.touched ≡ self.old.touched }

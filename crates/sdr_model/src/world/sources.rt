@@ -1,5 +1,5 @@
 // The sources of a world in the making, what names them, and what is charged.
-ghost use Rattle.std.specs.Prelude.{◌≡◌, ◌≤◌, ◌<◌, ◌^◌, ℕ, IfSome, IsSome, OnOk, OnErr, None, Some, Contains, true, [], length};
+ghost use Rattle.std.specs.Prelude.{◌≡◌, ◌≤◌, ◌<◌, ◌+◌, ◌^◌, ℕ, IfSome, IsSome, OnOk, OnErr, None, Some, Contains, true, [], length};
 ghost use Rattle.std.specs.Option.{option_copied};
 ghost use Rattle.sdr_base.specs.declared.account.Acct.{Acct as GhostAcct};
 ghost use Rattle.sdr_base.specs.declared.kind.Space.{Space};
@@ -101,7 +101,7 @@ impl World {
 
     /// The address of the next block. Nothing is there, or behind it, and nothing is named there.
     pub fn next(&self) -> Addr
-        requires taken { self.now.now.taken < 2 ^ 60 }
+        requires taken { self.now.now.taken < 2 ^ 60 + 2 ^ 30 }
         ensures value { result ≡ next_addr self.now.now.taken }
         ensures fresh { (addr : ℕ) → result ≤ addr → thing_at self.now.now addr ≡ None }
         ensures unused { (addr : ℕ) → result ≤ addr → uses_of self.now.now addr ≡ 0 }

@@ -1,0 +1,71 @@
+// Objects whose headers and trailers become extents.
+ghost use Rattle.std.specs.Prelude.{◌≡◌, ◌≤◌, ◌<◌, ◌+◌, ◌*◌, ◌^◌, ◌++◌, [], ℕ, IfOk, OnOk, length};
+ghost use Rattle.sdr_model.specs.BondSteps.{bonded, bonded_extents, capsules_of};
+ghost use Rattle.sdr_model.specs.Few.{pieces};
+ghost use Rattle.sdr_model.specs.ObjectSteps.{wire_length};
+
+use crate::{Capsule, Extent, ZcoObject};
+use sdr_base::{Addr, Items, NoMemory};
+use std::alloc::Global;
+
+// Adds copies of headers or trailers.
+fn add_copies(alloc: Global, copies: &mut Vec<Capsule>, capsules: &[Capsule]) -> Result<(), NoMemory>
+    ensures { OnOk result (copies.new.items ≡ copies.old.items ++ capsules.now) }
+{
+    for capsule in capsules {
+        copies.push(capsule.copied(alloc)?)?;
+    }
+    Ok(())
+}
+
+// Copies of the headers and trailers of an object, in order.
+fn capsules_of(alloc: Global, object: &ZcoObject) -> Result<Vec<Capsule>, NoMemory>
+    ensures { IfOk result (λ copies. copies.items ≡ capsules_of object.now) }
+{
+    let mut copies = Vec::new(alloc);
+    add_copies(alloc, &mut copies, object.headers.as_slice())?;
+    add_copies(alloc, &mut copies, object.trailers.as_slice())?;
+    Ok(copies)
+}
+
+// Adds the extents that these headers or trailers become, where the first of their blocks is at an address.
+fn add_bonded(extents: &mut Items<Extent>, first: Addr, capsules: &[Capsule]) -> Result<(), NoMemory>
+    requires first { first + 24 * length capsules.now < 2 ^ 63 + 2 ^ 62 }
+    ensures { OnOk result (extents.new ≡ extents.old ++ bonded_extents (λ k. first + 8 * k) 0 capsules.now) }
+{
+    let mut next = first;
+    for capsule in capsules {
+        extents.push(Extent {
+            block: next + 16,
+            source: next + 8,
+            offset: 0,
+            length: capsule.text.len() as u64,
+        })?;
+        next += 24;
+    }
+    Ok(())
+}
+
+// Adds these extents.
+fn add_extents(extents: &mut Items<Extent>, more: &[Extent]) -> Result<(), NoMemory>
+    ensures { OnOk result (extents.new ≡ extents.old ++ more.now) }
+{
+    for extent in more {
+        extents.push(*extent)?;
+    }
+    Ok(())
+}
+
+// The object with its headers and trailers as extents, where the first of their blocks is at an address.
+fn bonded(alloc: Global, object: &ZcoObject, first: Addr) -> Result<ZcoObject, NoMemory>
+    requires first { first + 24 * pieces object.now < 2 ^ 63 + 2 ^ 62 }
+    requires small { wire_length object.now ≤ 2 ^ 42 }
+    ensures { IfOk result (λ after. after ≡ bonded (λ k. first + 8 * k) object.now) }
+{
+    let mut extents = Items::new(alloc);
+    add_bonded(&mut extents, first, object.headers.as_slice())?;
+    add_extents(&mut extents, object.extents.as_slice())?;
+    let behind = first + 24 * object.headers.len() as u64;
+    add_bonded(&mut extents, behind, object.trailers.as_slice())?;
+    Ok(ZcoObject::of(alloc, object.account, extents))
+}
