@@ -9,7 +9,11 @@ use sdr_base::{Addr, Items, NoMemory};
 use std::alloc::Global;
 
 // Adds copies of headers or trailers.
-fn add_copies(alloc: Global, copies: &mut Vec<Capsule>, capsules: &[Capsule]) -> Result<(), NoMemory>
+fn add_copies(
+    alloc: Global,
+    copies: &mut Vec<Capsule>,
+    capsules: &[Capsule],
+) -> Result<(), NoMemory>
     ensures { OnOk result (copies.new.items ≡ copies.old.items ++ capsules.now) }
 {
     for capsule in capsules {
@@ -29,7 +33,11 @@ fn capsules_of(alloc: Global, object: &ZcoObject) -> Result<Vec<Capsule>, NoMemo
 }
 
 // Adds the extents that these headers or trailers become, where the first of their blocks is at an address.
-fn add_bonded(extents: &mut Items<Extent>, first: Addr, capsules: &[Capsule]) -> Result<(), NoMemory>
+fn add_bonded(
+    extents: &mut Items<Extent>,
+    first: Addr,
+    capsules: &[Capsule],
+) -> Result<(), NoMemory>
     requires first { first + 24 * length capsules.now < 2 ^ 63 + 2 ^ 62 }
     ensures { OnOk result (extents.new ≡ extents.old ++ bonded_extents (λ k. first + 8 * k) 0 capsules.now) }
 {

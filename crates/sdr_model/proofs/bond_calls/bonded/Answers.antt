@@ -22,7 +22,7 @@ of-requires c =
     ∙ ap₂ (λ (a : List Extent) (t : List Capsule). a ++ bonded_extents (λ k. behind + 8 * k) 0 t) two c.as_slice-3.ensures
     ∙ ap (λ (l : List Extent). bonded_extents at 0 z.headers ++ z.extents ++ l)
     (extents-shift (λ k. behind + 8 * k) at z.trailers 0 (3 * length z.headers) (λ k. omega (arith, c.len.ensures))) in
-    record { few = subst AreFewBytes (sym all) (omega (arith, extents_length-bond at z, c.requires.small)); }
+    record { few = subst AreFewBytes (sym all) (omega (arith, extents_length-bond at z, c.requires.small)) }
 
 pub returns : goal.returns
 returns c =
