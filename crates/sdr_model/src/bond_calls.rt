@@ -1,10 +1,14 @@
 // Objects whose headers and trailers become extents.
 ghost use Rattle.std.specs.Prelude.{◌≡◌, ◌≤◌, ◌<◌, ◌+◌, ◌*◌, ◌^◌, ◌++◌, [], ℕ, IfOk, OnOk, length};
+ghost use Rattle.sdr_model.specs.Answers.{Answers};
 ghost use Rattle.sdr_model.specs.BondSteps.{bonded, bonded_extents, capsules_of};
-ghost use Rattle.sdr_model.specs.Few.{pieces};
+ghost use Rattle.sdr_model.specs.Few.{HasFewPieces, most_pieces, pieces};
 ghost use Rattle.sdr_model.specs.ObjectSteps.{wire_length};
 
-use crate::{Capsule, Extent, ZcoObject};
+use crate::charges::{heap_charge, rise};
+use crate::object_calls::object;
+use crate::raw_calls::misnamed;
+use crate::{Call, Capsule, Extent, Reply, World, ZcoObject};
 use sdr_base::{Addr, Items, NoMemory};
 use std::alloc::Global;
 
@@ -76,4 +80,30 @@ fn bonded(alloc: Global, object: &ZcoObject, first: Addr) -> Result<ZcoObject, N
     let behind = first + 24 * object.headers.len() as u64;
     add_bonded(&mut extents, behind, object.trailers.as_slice())?;
     Ok(ZcoObject::of(alloc, object.account, extents))
+}
+
+/// Makes an extent of each header and trailer of an object: its text becomes a raw object with a source of
+/// its own. The part is then the whole. It is linear in the object, times the logarithm of the world.
+pub fn bond(alloc: Global, world: &mut World, addr: Addr, number: u64) -> Result<Reply, NoMemory>
+    requires taken { world.old.now.taken < 2 ^ 60 }
+    requires few { HasFewPieces most_pieces world.old.now.things }
+    ensures { Answers (Call.Bond addr number) world.old world.new result }
+{
+    let Some(object) = object(world, addr) else {
+        return Ok(misnamed(world, addr));
+    };
+    let acct = object.account;
+    let capsules = capsules_of(alloc, object)?;
+    let blocks = 3 * capsules.len() as u64;
+    let changed = bonded(alloc, object, world.next())?;
+    let charge = heap_charge(rise(capsules.as_slice()));
+    world.touch_object(addr, &changed)?;
+    world.touch_next(blocks)?;
+    let _granted = match world.charge_marks(acct, number, &charge, addr, blocks)? {
+        Ok(granted) => granted,
+        Err(refusal) => return Ok(Reply::Refused(refusal)),
+    };
+    world.put_texts(capsules);
+    world.replace_object(addr, changed);
+    Ok(Reply::Done)
 }

@@ -6,6 +6,7 @@ ghost use Rattle.sdr_model.specs.Few.{HasFewPieces, most_pieces};
 
 use crate::account_calls::{Asking, awarded, maximum, occupancy, request, set_maximum, shred};
 use crate::append_calls::{Append, append_extent};
+use crate::bond_calls::bond;
 use crate::capsule_calls::{append_trailer, prepend_header};
 use crate::clone_calls::clone_part;
 use crate::destroy_calls::destroy;
@@ -146,6 +147,6 @@ pub fn apply(alloc: Global, world: &mut World, call: &Call) -> Result<Reply, NoM
         Call::ClonePart(addr, ticket, offset, bytes) => {
             clone_part(alloc, world, *addr, *ticket, *offset, *bytes)
         }
-        Call::Bond(_, _) => unreachable!(),
+        Call::Bond(addr, ticket) => bond(alloc, world, *addr, *ticket),
     }
 }
