@@ -14,6 +14,7 @@ pub mod CountLemmas
 pub mod DiscardLemmas
 pub mod DropLemmas
 pub mod DryLemmas
+pub mod EditLemmas
 pub mod ExtentLemmas
 pub mod FewLemmas
 pub mod FewSteps

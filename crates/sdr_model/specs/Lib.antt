@@ -17,6 +17,7 @@ pub mod Cuts
 pub mod Draft
 pub mod Drops
 pub mod Dry
+pub mod Edits
 pub mod Few
 pub mod Fields
 pub mod Gone
