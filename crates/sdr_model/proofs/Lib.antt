@@ -11,6 +11,7 @@ pub mod ChargeLemmas
 pub mod CloneCallLemmas
 pub mod CloneLemmas
 pub mod CountLemmas
+pub mod CutLemmas
 pub mod DiscardLemmas
 pub mod DropLemmas
 pub mod DryLemmas

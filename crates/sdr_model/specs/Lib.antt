@@ -46,6 +46,7 @@ pub mod SourceSteps
 pub mod Step
 pub mod Steps
 pub mod Store
+pub mod Strips
 pub mod TableSteps
 pub mod Tables
 pub mod Tallies
