@@ -23,6 +23,7 @@ pub mod HashLemmas
 pub mod MachineLemmas
 pub mod MapLemmas
 pub mod NamesLemmas
+pub mod LogLemmas
 pub mod NotesLemmas
 pub mod ObjectCallLemmas
 pub mod ObjectLemmas
