@@ -19,6 +19,7 @@ pub mod FewLemmas
 pub mod FewSteps
 pub mod GoneLemmas
 mod HashExample
+pub mod GrowLemmas
 pub mod HashLemmas
 pub mod MachineLemmas
 pub mod MapLemmas
