@@ -13,7 +13,6 @@ use Rattle.sdr_model.specs.Charges.{object_charge, occupancy, thing_charge}
 use Rattle.sdr_model.specs.Ledger.{Ledger}
 use Rattle.sdr_model.specs.Limits.{longest_capsule, longest_raw, longest_source}
 use Rattle.sdr_model.specs.Notes.{Notes, UsesMore, note_at, noted_count, raw_of}
-use Rattle.sdr_model.specs.ObjectSteps.{with_extent}
 use Rattle.sdr_model.specs.Owners.{AllOwnInside}
 use Rattle.sdr_model.specs.SourceSteps.{flagged}
 use Rattle.sdr_model.specs.Steps.{with_thing}
@@ -136,11 +135,6 @@ MayCountOut None tally = ⊥
 MayCountOut (Some z) tally =
     All (λ e. Contains tally.notes.touched e.source) z.extents
     × ((addr : ℕ) → naming addr z.extents ≤ noted_count (note_at tally.notes.now addr) z.account)
-
--- the object is there, and has one more extent
-abbrev pub PushesExtent : Option ZcoObject → ℕ → Extent → Things → Things → Type 0
-PushesExtent None addr e old new = ⊥
-PushesExtent (Some z) addr e old new = new ≡ with_at old addr (Some (things.Object (with_extent z e)))
 
 -- the account is that of the object that is there
 abbrev pub IsAccountOf : Option ZcoObject → Acct → Type 0

@@ -19,6 +19,7 @@ mod charges;
 mod charging;
 mod dropping;
 mod editing;
+mod growing;
 mod objects;
 mod replacing;
 mod sources;

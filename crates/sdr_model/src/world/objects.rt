@@ -37,28 +37,6 @@ fn count_out(things: &Store, tally: &mut Tally, addr: Addr, charge: &Amounts)
     }
 }
 
-// Adds an extent to the object at an address, and answers its account. Want of memory leaves all as before.
-fn push_at(things: &mut Store, addr: Addr, extent: Extent) -> Result<Acct, NoMemory>
-    requires there { IsSome (as_object (map.get things.old.now addr)) }
-    requires bounded { IfSome (as_object (map.get things.old.now addr)) IsBounded }
-    requires small { extent.length ≤ 2 ^ 40 }
-    ensures pushed { OnOk result (PushesExtent (as_object (map.get things.old.now addr)) addr extent things.old.now things.new.now) }
-    ensures account { IfOk result (IsAccountOf (as_object (map.get things.old.now addr))) }
-    ensures begun { things.new.begun ≡ things.old.begun }
-    ensures same { OnErr result (things.new.now ≡ things.old.now) }
-{
-    match things.take(addr)? {
-        Thing::Object(mut object) => {
-            let acct = object.account;
-            let pushed = object.push_extent(extent);
-            things.put(addr, Some(Thing::Object(object)));
-            pushed?;
-            Ok(acct)
-        }
-        _ => unreachable!(),
-    }
-}
-
 impl World {
     /// What the object at an address charges, nothing where there is none.
     pub fn charge_at(&self, addr: Addr) -> Amounts
@@ -89,6 +67,7 @@ impl World {
         count_out(&self.things, &mut self.tally, addr, &charge);
         self.things.put(addr, None);
     }
+
     /// Puts an object at an address that was touched, where neither a source nor an object is. The sources
     /// of its extents were touched too. It is linear in the object, times the logarithm of the world.
     pub fn add_object(&mut self, addr: Addr, object: ZcoObject)
@@ -112,33 +91,5 @@ impl World {
         self.tally.add_uses(acct, object.extents.as_slice());
         self.tally.charge(acct, &charge);
         self.things.put(addr, Some(Thing::Object(object)));
-    }
-
-    /// Adds an extent to the object at an address, whose source was touched. Want of memory leaves the world
-    /// as before. It is linear in the object.
-    pub fn push_extent(&mut self, addr: Addr, extent: Extent) -> Result<(), NoMemory>
-        requires there { IsSome (object_at self.old.now addr) }
-        requires noted { Contains self.old.noted extent.source }
-        requires may_put { IfSome (object_at self.old.now addr) (λ z.
-            MayPut self.old addr (Thing.Object (with_extent z extent))) }
-        requires modest { IfSome (object_at self.old.now addr) (λ z.
-            IsModest (next_addr self.old.now.taken) (with_extent z extent)) }
-        requires small { extent.length ≤ 2 ^ 40 }
-        requires room { IfSome (object_at self.old.now addr) (λ z. (space : GhostSpace) →
-            occupancy self.old.now z.account space + extent_charge self.old.now space extent ≤ most_amount) }
-        ensures pushed { OnOk result (PushesExtent (object_at self.old.now addr) addr extent
-            self.old.now.things self.new.now.things) }
-        ensures others { OnOk result (self.new.now ≡ record self.old.now { things = self.new.now.things }) }
-        ensures begun { self.new.begun ≡ self.old.begun }
-        ensures owners { self.new.owners ≡ self.old.owners }
-        ensures noted_stay { self.new.noted ≡ self.old.noted }
-        ensures saved { self.new.saved ≡ self.old.saved }
-        ensures same { OnErr result (self.new.now ≡ self.old.now) }
-    {
-        let charge = bytes_charge(self.space_of(extent.source), extent.length);
-        let acct = push_at(&mut self.things, addr, extent)?;
-        self.tally.add_use(acct, extent.source);
-        self.tally.charge(acct, &charge);
-        Ok(())
     }
 }
