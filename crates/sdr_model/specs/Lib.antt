@@ -7,7 +7,6 @@ pub mod Asking
 pub mod Blocks
 pub mod BondSteps
 pub mod Bounds
-pub mod Built
 pub mod Catalogue
 pub mod Charged
 pub mod Charges

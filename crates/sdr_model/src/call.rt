@@ -1,6 +1,5 @@
 // What a daemon may ask of the heap.
 ghost use Rattle.std.specs.Prelude.{◌≡◌};
-ghost use Rattle.sdr_model.specs.Built.{is_built};
 ghost use Rattle.sdr_model.specs.Reading.{is_reading, reads_media};
 
 use crate::Keys;
@@ -188,12 +187,5 @@ impl Call {
                 | Call::ReceiveSource(_, _, _)
                 | Call::ReceiveTrailers(_, _, _)
         )
-    }
-
-    /// Whether the plain machine serves this call yet.
-    pub fn is_built(&self) -> bool
-        ensures { result ≡ is_built self.now }
-    {
-        !matches!(self, Call::Bond(_, _))
     }
 }

@@ -1,7 +1,6 @@
 // What a call does to a world.
-ghost use Rattle.std.specs.Prelude.{◌≡◌, ◌<◌, ◌^◌, true};
+ghost use Rattle.std.specs.Prelude.{◌≡◌, ◌<◌, ◌^◌};
 ghost use Rattle.sdr_model.specs.Answers.{Answers};
-ghost use Rattle.sdr_model.specs.Built.{is_built};
 ghost use Rattle.sdr_model.specs.Few.{HasFewPieces, most_pieces};
 
 use crate::account_calls::{Asking, awarded, maximum, occupancy, request, set_maximum, shred};
@@ -44,7 +43,6 @@ use std::alloc::Global;
 pub fn apply(alloc: Global, world: &mut World, call: &Call) -> Result<Reply, NoMemory>
     requires taken { world.old.now.taken < 2 ^ 60 }
     requires few { HasFewPieces most_pieces world.old.now.things }
-    requires built { is_built call.now ≡ true }
     ensures { Answers call.now world.old world.new result }
 {
     match call {

@@ -1,6 +1,4 @@
 // What a daemon may do.
-ghost use Rattle.std.specs.Prelude.{◌≡◌};
-ghost use Rattle.sdr_model.specs.Built.{is_built_event};
 
 use crate::Call;
 
@@ -35,16 +33,4 @@ pub enum Event {
     /// Looks at a ticket, outside a transaction.
     Look(u64),
     Leaves(Leave),
-}
-
-impl Event {
-    /// Whether the plain machine serves this event yet.
-    pub fn is_built(&self) -> bool
-        ensures { result ≡ is_built_event self.now }
-    {
-        match self {
-            Event::Say(call) => call.is_built(),
-            _ => true,
-        }
-    }
 }

@@ -4,7 +4,6 @@ ghost use Rattle.std.specs.List.{list_all, list_any};
 ghost use Rattle.sdr_model.specs.AccountSteps.{is_granted};
 ghost use Rattle.sdr_model.specs.Accounts.{pending_among};
 ghost use Rattle.sdr_model.specs.Asking.{Asks, AsksNothing, makes_calls, settled};
-ghost use Rattle.sdr_model.specs.Built.{is_built, is_built_event};
 ghost use Rattle.sdr_model.specs.Few.{HasFewPieces, most_pieces};
 ghost use Rattle.sdr_model.specs.Leaving.{holding, staying};
 ghost use Rattle.sdr_model.specs.Transaction.{refused};
@@ -34,7 +33,6 @@ pub struct Lock {
 }
 
 impl Model for Lock {
-    ghost use Rattle.sdr_model.specs.Built.{is_built, is_built_event};
     ghost use Rattle.sdr_model.specs.Machine.{Machine, coded_machine};
 
     ghost Value = { Machine };
@@ -373,7 +371,6 @@ impl Lock {
         requires some { 0 < length self.old.holders }
         requires taken { self.old.current.taken < 2 ^ 60 }
         requires few { HasFewPieces most_pieces self.old.current.things }
-        requires built { is_built call.now ≡ true }
         ensures serves { IfOk result (λ answer.
             Serves self.old holder (Event.Say call.now) answer (says_moves self.old.current call.now answer) self.new) }
         ensures err { OnErr result (self.new ≡ self.old) }
@@ -465,7 +462,6 @@ impl Lock {
         requires some { 0 < length self.old.holders }
         requires taken { self.old.current.taken < 2 ^ 60 }
         requires few { HasFewPieces most_pieces self.old.current.things }
-        requires built { is_built_event event.now ≡ true }
         ensures holds { IfOk result (λ answer.
             Holds self.old holder event.now answer (event_moves self.old event.now answer) self.new) }
         ensures err { OnErr result (self.new ≡ self.old) }
@@ -510,7 +506,6 @@ impl Lock {
         requires drawn { self.old.drawn < 2 ^ 60 }
         requires taken { self.old.current.taken < 2 ^ 60 }
         requires few { HasFewPieces most_pieces self.old.current.things }
-        requires built { is_built_event event.now ≡ true }
         ensures step { IfOk result (λ answer.
             MachineStep self.old daemon event.now answer (event_moves self.old event.now answer) self.new) }
         ensures err { OnErr result (self.new ≡ self.old) }

@@ -1,7 +1,6 @@
 // The machine on a plain world.
-ghost use Rattle.std.specs.Prelude.{◌≡◌, ◌<◌, ◌≤◌, ◌+◌, ◌*◌, IfOk, IfSome, None, Ok, OnOk, OnErr, length, true};
+ghost use Rattle.std.specs.Prelude.{◌≡◌, ◌<◌, ◌≤◌, ◌+◌, ◌*◌, IfOk, IfSome, None, Ok, OnOk, OnErr, length};
 ghost use Rattle.sdr_model.specs.Asking.{Asks, AsksNothing, settled};
-ghost use Rattle.sdr_model.specs.Built.{is_built_event};
 ghost use Rattle.sdr_model.specs.Leaving.{AllLeave, LeaveInTurn};
 ghost use Rattle.sdr_model.specs.Machine.{MachineStep, event_moves, first_machine};
 
@@ -48,10 +47,15 @@ impl Plain {
         self.lock.shown()
     }
 
+<<<<<<< HEAD
     // Makes an event of a daemon. Want of memory leaves all as before.
     fn make(&mut self, daemon: u8, event: &Event) -> Result<Answer, NoMemory>
         requires events { self.old.events < 4_194_304 }
-        requires built { is_built_event event.now ≡ true }
+=======
+    /// Makes an event of a daemon, of a statement on this line. Want of memory leaves all as before.
+    pub fn event(&mut self, daemon: u8, _line: u64, event: &Event) -> Result<Answer, NoMemory>
+        requires events { self.old.events < 2_097_152 }
+>>>>>>> 4c30a2674dcb57cd0dfeb214bba450ba6f972fda
         ensures step { IfOk result (λ answer. MachineStep self.old.machine daemon event.now answer
             (event_moves self.old.machine event.now answer) self.new.machine) }
         ensures events { OnOk result (self.new.events ≡ self.old.events + 1) }
@@ -65,7 +69,6 @@ impl Plain {
     /// Makes an event of a daemon, of a statement on this line. Want of memory leaves all as before.
     pub fn event(&mut self, daemon: u8, _line: u64, event: &Event) -> Result<Answer, NoMemory>
         requires events { self.old.events < 2_097_152 }
-        requires built { is_built_event event.now ≡ true }
         ensures step { IfOk result (λ answer. MachineStep self.old.machine daemon event.now answer
             (event_moves self.old.machine event.now answer) self.new.machine) }
         ensures events { OnOk result (self.new.events ≡ self.old.events + 1) }

@@ -1,6 +1,5 @@
 // The events of an open transaction.
 ghost use Rattle.std.specs.Prelude.{◌≡◌, ◌<◌, ◌≤◌, ◌^◌, IfOk, OnErr, None, Some, unwrap_or, [], true, false};
-ghost use Rattle.sdr_model.specs.Built.{is_built};
 ghost use Rattle.sdr_model.specs.Few.{HasFewPieces, most_pieces};
 ghost use Rattle.sdr_model.specs.Transaction.{transaction_of, Deepens, Rises, Retreats, Says, after_reply, refused, close_of, closing, left_by};
 ghost use Rattle.sdr_model.specs.Machine.{says_moves};
@@ -96,7 +95,6 @@ pub fn say(
 ) -> Result<Answer, NoMemory>
     requires taken { world.old.now.taken < 2 ^ 60 }
     requires few { HasFewPieces most_pieces world.old.now.things }
-    requires built { is_built call.now ≡ true }
     ensures says { IfOk result (λ answer. Says (transaction_of holder.old world.old.now) call.now answer
         (says_moves world.old.now call.now answer) (transaction_of holder.new world.new.now)) }
     ensures begun { world.new.begun ≡ world.old.begun }

@@ -7,7 +7,6 @@ use Rattle.std.proofs.lemmas.List.Sums.{count_by-le-length}
 use Rattle.std.specs.Io.KnownBytes.{Consumes, IsAtEnd}
 use Rattle.sdr_words.specs.Reading.{ReadsScript, RefusesLine, NamesLine}
 use Rattle.sdr_words.specs.Script.{Reading, ◌>>=◌, nothing_read, lines_of, longest_input, line_says, read_line, read_lines, script_of}
-use Rattle.sdr_shell.specs.Served.{accepted_script, first_unserved, script_unless, served}
 use Rattle.sdr_shell.specs.Still.{Had, HadScript, HadBadLine, NamesBadLine}
 use Rattle.sdr_words.specs.declared.error.ScriptError.{ScriptError}
 use Rattle.sdr_words.specs.declared.error.ScriptError.TheVariants as errors
@@ -24,32 +23,20 @@ had_all (Some xs) None bytes taken end = absurd taken
 had_all (Some xs) (Some ys) bytes taken end = taken ∙ ap (λ l. bytes ++ l) end ∙ append-nil bytes
 
 -- what was read as a script is one
-spelled : (old new : Option (List ℕ)) (steps : List Step) (reads : ReadsScript old new steps) → accepted_script reads.bytes ≡ served steps
-spelled old new steps reads =
-    elim (leb_tells (length reads.bytes) longest_input) [
-      | inl within ↦ ap (λ r. r >>= served) (cond-true _ _ _ within.0 ∙ reads.script)
-      | inr beyond ↦ absurd (omega (arith, beyond.1, reads.within))
-    ]
-
--- a script of which each statement is served
-pub had_script : (old new : Option (List ℕ)) (steps : List Step) → ReadsScript old new steps → first_unserved steps ≡ None → HadScript old steps
-had_script old new steps reads none = record {
+pub had_script : (old new : Option (List ℕ)) (steps : List Step) → ReadsScript old new steps → HadScript old steps
+had_script old new steps reads = record {
   input = reads.bytes;
   had = had_all old new reads.bytes reads.taken reads.at_end;
-  spells = spelled old new steps reads ∙ ap (script_unless steps) none;
-}
-
--- a script of which this line is not served
-pub had_unserved : (old new : Option (List ℕ)) (steps : List Step) (line : ℕ) → ReadsScript old new steps → first_unserved steps ≡ Some line → HadBadLine old line
-had_unserved old new steps line reads is = record {
-  input = reads.bytes;
-  had = had_all old new reads.bytes reads.taken reads.at_end;
-  refused = spelled old new steps reads ∙ ap (script_unless steps) is;
+  spells =
+      elim (leb_tells (length reads.bytes) longest_input) [
+        | inl within ↦ cond-true _ _ _ within.0 ∙ reads.script
+        | inr beyond ↦ absurd (omega (arith, beyond.1, reads.within))
+      ];
 }
 
 had_bad_line : (old new : Option (List ℕ)) (line : ℕ) → RefusesLine old new line → HadBadLine old line
-had_bad_line None new line reads = record { input = reads.bytes; had = tt; refused = ap (λ r. r >>= served) reads.refused }
-had_bad_line (Some input) new line reads = record { input = input; had = refl; refused = ap (λ r. r >>= served) reads.whole }
+had_bad_line None new line reads = record { input = reads.bytes; had = tt; refused = reads.refused }
+had_bad_line (Some input) new line reads = record { input = input; had = refl; refused = reads.whole }
 
 -- a named line was refused
 pub bad_line_of : (old new : Option (List ℕ)) (error : ScriptError) → NamesLine old new error → NamesBadLine old error
@@ -93,4 +80,4 @@ read_steps_are_few old new steps reads = omega (arith, few_steps reads.bytes ste
 pub read_to_the_end : (old new : Option (List ℕ)) (steps : List Step) → ReadsScript old new steps → IsAtEnd new
 read_to_the_end old new steps reads = reads.at_end
 
-pub ruleset read_scripts = (had_script, had_unserved, bad_line_of, read_steps_are_few, read_to_the_end)
+pub ruleset read_scripts = (had_script, bad_line_of, read_steps_are_few, read_to_the_end)

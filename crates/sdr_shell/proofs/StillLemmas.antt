@@ -6,8 +6,8 @@ use Rattle.sdr_base.specs.Causes.{Rose}
 use Rattle.sdr_base.proofs.WrittenLemmas.{rose_later}
 use Rattle.sdr_shell.specs.Schedule.{SeenMedia, SomeRun}
 use Rattle.sdr_shell.specs.Formatting.{IsFormatStatus}
-use Rattle.sdr_shell.specs.Served.{accepted_script}
 use Rattle.sdr_shell.specs.Still.{Writes, HadScript, HadBadLine, HadRun, IsDryStatus, IsRefused, NamesBadLine, Tells}
+use Rattle.sdr_words.specs.Script.{input_script}
 use Rattle.sdr_words.specs.declared.error.ScriptError.{ScriptError}
 use Rattle.sdr_words.specs.declared.error.ScriptError.TheVariants as errors
 use Rattle.sdr_shell.specs.declared.status.TheConstants.{DONE, INPUT_FAULT, OUTPUT_FAULT, DISK_FAULT, REFUSED_LINE, NO_MEMORY, TOO_SMALL}
@@ -35,13 +35,13 @@ some_behind media media' script old mid new before between now line r later w = 
 }
 
 -- what a told input spells
-told_script : (left : Option (List ℕ)) (bytes : List ℕ) (script : List Step) → left ≡ Some bytes → HadScript left script → accepted_script bytes ≡ Ok script
+told_script : (left : Option (List ℕ)) (bytes : List ℕ) (script : List Step) → left ≡ Some bytes → HadScript left script → input_script bytes ≡ Ok script
 told_script None bytes script told h = cc
 told_script (Some input) bytes script told h = cc (told, h.had, h.spells)
 
 -- an input that is refused was not run
 pub not_run : (left : Option (List ℕ)) (bytes : List ℕ) (media media' : SeenMedia) (P : List Step → List ℕ → Type 0)
-    → left ≡ Some bytes → IsErr (accepted_script bytes) → HadRun left media media' P → ⊥
+    → left ≡ Some bytes → IsErr (input_script bytes) → HadRun left media media' P → ⊥
 not_run left bytes media media' P told refused run = absurd (true≢false (sym (subst IsErr (told_script left bytes run.script told run.input) refused)))
 
 -- a status that tells of a refused line stands for one
@@ -52,14 +52,14 @@ tells_refused errors.Input status left old new before now t is bad = absurd (ome
 tells_refused (errors.Line line) status left old new before now t is bad = record { line = line; input = bad; written = t.1 }
 tells_refused errors.NoMemory status left old new before now t is bad = absurd (omega (arith, t.0, is))
 
-told_line : (left : Option (List ℕ)) (bytes : List ℕ) (line : ℕ) → left ≡ Some bytes → HadBadLine left line → accepted_script bytes ≡ Err line
+told_line : (left : Option (List ℕ)) (bytes : List ℕ) (line : ℕ) → left ≡ Some bytes → HadBadLine left line → input_script bytes ≡ Err line
 told_line None bytes line told h = cc
 told_line (Some input) bytes line told h = cc (told, h.had, h.refused)
 
 -- a dry run of an accepted script ends well, unless there is a fault or no memory
 pub dry_completes : (status : ℕ) (left old new : Option (List ℕ)) (source source' before now : ℕ) (bytes : List ℕ) → IsDryStatus status
     → (status ≡ INPUT_FAULT → Rose source source') → (status ≡ OUTPUT_FAULT → Rose before now) → (status ≡ REFUSED_LINE → IsRefused left old new before now)
-    → left ≡ Some bytes → IsOk (accepted_script bytes) → ¬ Rose source source' → ¬ Rose before now → (status ≡ DONE) ⊎ (status ≡ NO_MEMORY)
+    → left ≡ Some bytes → IsOk (input_script bytes) → ¬ Rose source source' → ¬ Rose before now → (status ≡ DONE) ⊎ (status ≡ NO_MEMORY)
 dry_completes status left old new source source' before now bytes known input output refused told ok no_input no_output =
     elim known [
       | inl done ↦ inl done

@@ -7,8 +7,8 @@ use Rattle.sdr_log.specs.Frame.{disk_bytes}
 use Rattle.sdr_log.specs.declared.frame.Frame.{Frame}
 use Rattle.sdr_shell.specs.Formatting.{line_formatted, line_too_small, IsFormatted, HasFormatted, IsFormatStatus}
 use Rattle.sdr_shell.specs.Schedule.{SeenMedia}
-use Rattle.sdr_shell.specs.Served.{accepted_script}
 use Rattle.sdr_shell.specs.Still.{Writes, HadRun, IsDone, IsDryStatus, IsRefused, IsStarved}
+use Rattle.sdr_words.specs.Script.{input_script}
 use Rattle.sdr_shell.specs.declared.status.TheConstants.{DONE, INPUT_FAULT, OUTPUT_FAULT, DISK_FAULT, REFUSED_LINE, NO_MEMORY, TOO_SMALL}
 
 -- what a source, a sink or a disk shows: its bytes, where it tells them, and how often it has failed
@@ -35,8 +35,8 @@ pub record AnswersDry (status : ℕ) (source source' : Seen) (media media' : See
   pub part : status ≡ OUTPUT_FAULT → HadRun source.bytes media media' (λ rest text. AppendsPart sink.bytes sink'.bytes text)
   pub refused : status ≡ REFUSED_LINE → IsRefused source.bytes sink.bytes sink'.bytes sink.faults sink'.faults
   pub starved : status ≡ NO_MEMORY → IsStarved source.bytes media media' sink.bytes sink'.bytes sink.faults sink'.faults
-  pub exact : (bytes : List ℕ) → source.bytes ≡ Some bytes → IsErr (accepted_script bytes) → (status ≢ DONE) × (status ≢ OUTPUT_FAULT)
-  pub complete : (bytes : List ℕ) → source.bytes ≡ Some bytes → IsOk (accepted_script bytes) → ¬ Rose source.faults source'.faults
+  pub exact : (bytes : List ℕ) → source.bytes ≡ Some bytes → IsErr (input_script bytes) → (status ≢ DONE) × (status ≢ OUTPUT_FAULT)
+  pub complete : (bytes : List ℕ) → source.bytes ≡ Some bytes → IsOk (input_script bytes) → ¬ Rose source.faults source'.faults
       → ¬ Rose sink.faults sink'.faults → (status ≡ DONE) ⊎ (status ≡ NO_MEMORY)
 
 -- What formatting a disk of this size answers. One that is long enough is formatted, unless there is a fault.

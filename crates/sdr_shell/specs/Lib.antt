@@ -3,5 +3,4 @@ pub mod Form
 pub mod Formatting
 pub mod Gathering
 pub mod Schedule
-pub mod Served
 pub mod Still

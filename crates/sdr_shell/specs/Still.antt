@@ -4,7 +4,7 @@ use Rattle.std.specs.Io.KnownBytes.{Appends, IsAtEnd}
 use Rattle.sdr_base.specs.Causes.{Rose}
 use Rattle.sdr_base.specs.Written.{AppendsPart}
 use Rattle.sdr_shell.specs.Schedule.{SeenMedia, SomeRun}
-use Rattle.sdr_shell.specs.Served.{accepted_script}
+use Rattle.sdr_words.specs.Script.{input_script}
 use Rattle.sdr_words.specs.declared.error.ScriptError.{ScriptError}
 use Rattle.sdr_words.specs.declared.error.ScriptError.TheVariants as errors
 use Rattle.sdr_model.specs.declared.script.Step.{Step}
@@ -23,13 +23,13 @@ Had (Some left) input = left ≡ input
 pub record HadScript (left : Option (List ℕ)) (script : List Step) : Type 0 where
   pub input : List ℕ
   pub had : Had left input
-  pub spells : accepted_script input ≡ Ok script
+  pub spells : input_script input ≡ Ok script
 
 -- the first refused line of the source's input is this one
 pub record HadBadLine (left : Option (List ℕ)) (line : ℕ) : Type 0 where
   pub input : List ℕ
   pub had : Had left input
-  pub refused : accepted_script input ≡ Err line
+  pub refused : input_script input ≡ Err line
 
 -- where an error names a line, that line of the source's input is the first that is refused
 abbrev pub NamesBadLine : Option (List ℕ) → ScriptError → Type 0

@@ -1,16 +1,15 @@
 // The calls that wait for nobody.
-ghost use Rattle.std.specs.Prelude.{◌≡◌, ◌≢◌, ◌≤◌, ◌<◌, ◌+◌, ◌↔◌, ◌⊎◌, ◌++◌, List, ℕ, codes};
-ghost use Rattle.std.specs.Prelude.{None, Some, [], IfErr, IfOk, IsErrOf, IsOk, IsErr, OnOk, length, is_some};
-ghost use Rattle.std.specs.Io.KnownBytes.{Appends, IsAtEnd};
+ghost use Rattle.std.specs.Prelude.{◌≡◌, ◌≢◌, ◌≤◌, ◌<◌, ◌+◌, ◌↔◌, ◌⊎◌, ◌++◌, codes};
+ghost use Rattle.std.specs.Prelude.{None, Some, [], length, is_some};
+ghost use Rattle.std.specs.Io.KnownBytes.{Appends};
 ghost use Rattle.sdr_base.specs.Causes.{Rose};
 ghost use Rattle.sdr_log.specs.Frame.{disk_bytes};
 ghost use Rattle.sdr_shell.specs.Answers.{AnswersDry, AnswersFormat, Wrote, seen};
 ghost use Rattle.sdr_shell.specs.Form.{form_of, OnFormat};
 ghost use Rattle.sdr_shell.specs.Formatting.{line_formatted, line_too_small, IsFormatted};
 ghost use Rattle.sdr_shell.specs.Formatting.{HasFormatted, IsFormatStatus, LeavesDisk};
-ghost use Rattle.sdr_shell.specs.Served.{accepted_script, first_unserved};
 ghost use Rattle.sdr_shell.specs.Schedule.{HaveFailed, SomeRun, seen_media};
-ghost use Rattle.sdr_shell.specs.Still.{Writes, HadRun, HadScript, NamesBadLine, IsDone, IsRefused, IsDryStatus, IsStarved, Tells, line_refused};
+ghost use Rattle.sdr_shell.specs.Still.{Writes, HadRun, IsDone, IsRefused, IsDryStatus, IsStarved, Tells, line_refused};
 ghost use Rattle.sdr_base.specs.Written.{AppendsPart};
 
 use crate::Outcome;
@@ -21,11 +20,11 @@ use crate::run::{RunError, run};
 use crate::status::{
     DISK_FAULT, DONE, INPUT_FAULT, NO_MEMORY, OUTPUT_FAULT, REFUSED_LINE, TOO_SMALL, USAGE,
 };
-use sdr_base::{Media, NoMemory, Sink, Source};
+use sdr_base::{Media, Sink, Source};
 use sdr_disk::Disk;
-use sdr_model::{Journal, Script, Step};
+use sdr_model::{Journal, Step};
 use sdr_text::Line;
-use sdr_words::{Bindings, ScriptError, read_script};
+use sdr_words::{ScriptError, read_script};
 use std::alloc::Global;
 use std::rc::RcStr;
 
@@ -50,7 +49,6 @@ fn run_script<M: Media, K: Sink>(
     output: &mut K,
 ) -> u8
     requires few { length script.now ≤ 1048577 }
-    requires served { first_unserved script.now ≡ None }
     ensures known { (result ≡ DONE) ⊎ (result ≡ OUTPUT_FAULT) ⊎ (result ≡ NO_MEMORY) }
     ensures media { HaveFailed 0 0 (seen_media M.told M.faults M.short media.old) (seen_media M.told M.faults M.short media.new) }
     ensures later { K.faults output.old ≤ K.faults output.new }
@@ -94,41 +92,8 @@ fn tell<K: Sink>(error: &ScriptError, output: &mut K) -> u8
     }
 }
 
-// The line of the first statement that isn't served yet.
-fn first_unserved(alloc: Global, script: &[Step]) -> Result<Option<u64>, NoMemory>
-    ensures { IfOk result (λ line. line ≡ first_unserved script.now) }
-{
-    let nothing = Bindings::new(alloc);
-    let mut rest = script;
-    while let Some((step, after)) = rest.split_first() {
-        if !nothing.event(alloc, step)?.is_built() {
-            return Ok(Some(step.line));
-        }
-        rest = after;
-    }
-    Ok(None)
-}
-
-// Reads a script of statements that are all served.
-#[tactic(auto, using(crate::proofs::ScriptRead::read_scripts))]
-fn read_served<S: Source>(alloc: Global, input: &mut S) -> Result<Script, ScriptError>
-    ensures had { IfOk result (HadScript (S.left input.old)) }
-    ensures few { IfOk result (λ script. length script ≤ 1048577) }
-    ensures served { IfOk result (λ script. first_unserved script ≡ None) }
-    ensures at_end { OnOk result (IsAtEnd (S.left input.new)) }
-    ensures line { IfErr result (NamesBadLine (S.left input.old)) }
-    ensures later { S.faults input.old ≤ S.faults input.new }
-    ensures reads { S.reads input.new ≤ S.reads input.old + 1048577 }
-    ensures input { IsErrOf result ScriptError.Input → Rose (S.faults input.old) (S.faults input.new) }
-{
-    let script = read_script(alloc, input)?;
-    match first_unserved(alloc, script.as_slice())? {
-        Some(line) => Err(ScriptError::Line { line }),
-        None => Ok(script),
-    }
-}
-
 // A dry run of the input's script.
+#[tactic(auto, using(crate::proofs::ScriptRead::read_scripts))]
 fn dry<M: Media, S: Source, K: Sink>(
     alloc: Global,
     media: &mut M,
@@ -153,7 +118,7 @@ fn dry<M: Media, S: Source, K: Sink>(
     ensures starved { result ≡ NO_MEMORY → IsStarved (S.left input.old) (seen_media M.told M.faults M.short media.old) (seen_media M.told M.faults M.short media.new)
         (K.taken output.old) (K.taken output.new) (K.faults output.old) (K.faults output.new) }
 {
-    match read_served(alloc, input) {
+    match read_script(alloc, input) {
         Ok(script) => run_script(alloc, script.as_slice(), media, output),
         Err(error) => tell(&error, output),
     }

@@ -1,13 +1,10 @@
 // A dry run.
-ghost use Rattle.std.specs.Prelude.{◌≡◌, ◌≤◌, ◌<◌, ◌+◌, IfOk, OnOk, ◌==◌, ◌⊎◌, length, None, true, [], filter};
+ghost use Rattle.std.specs.Prelude.{◌≡◌, ◌≤◌, ◌<◌, ◌+◌, IfOk, OnOk, ◌==◌, ◌⊎◌, length, [], filter};
 ghost use Rattle.std.specs.List.{list_any, range_with_len};
 ghost use Rattle.std.specs.Io.KnownBytes.{Appends, Keeps};
 ghost use Rattle.sdr_base.specs.Causes.{Rose};
 ghost use Rattle.sdr_base.specs.Written.{AppendsPart};
-ghost use Rattle.sdr_model.specs.Built.{is_built_event};
 ghost use Rattle.sdr_model.specs.Machine.{first_machine};
-ghost use Rattle.sdr_shell.specs.Served.{first_unserved};
-ghost use Rattle.sdr_words.specs.Bindings.{event_of};
 ghost use Rattle.sdr_model.specs.Asking.{Asks};
 ghost use Rattle.sdr_model.specs.Pieces.{pieces_told};
 ghost use Rattle.sdr_model.specs.declared.event.Event.{Event};
@@ -92,7 +89,6 @@ fn respond<M: Media>(
     event: &Event,
 ) -> Result<Answer, NoMemory>
     requires few { plain.old.events < 2_097_152 }
-    requires built { is_built_event event.now ≡ true }
     ensures answers { IfOk result (λ given.
         Responds (M.told media.old) plain.old.machine step.now.daemon event.now given plain.new.machine) }
     ensures caused { IfOk result (λ given. IsCaused given (seen_media M.told M.faults M.short media.old) (seen_media M.told M.faults M.short media.new)) }
@@ -115,7 +111,6 @@ fn answer<M: Media, K: Sink>(
     out: &mut K,
 ) -> Result<Answer, RunError>
     requires few { plain.old.events < 2_097_152 }
-    requires built { is_built_event event.now ≡ true }
     ensures answers { IfOk result (λ given.
         Responds (M.told media.old) plain.old.machine step.now.daemon event.now given plain.new.machine) }
     ensures caused { IfOk result (λ given. IsCaused given (seen_media M.told M.faults M.short media.old) (seen_media M.told M.faults M.short media.new)) }
@@ -136,7 +131,6 @@ fn answer<M: Media, K: Sink>(
 }
 
 // Makes one step: its event, its printed answer, and what its name holds from then on.
-#[tactic(auto, using(crate::proofs::ServedLemmas::built_now))]
 fn make<M: Media, K: Sink>(
     alloc: Global,
     plain: &mut Plain,
@@ -146,7 +140,6 @@ fn make<M: Media, K: Sink>(
     out: &mut K,
 ) -> Result<(), RunError>
     requires few { plain.old.events < 2_097_152 }
-    requires served { is_built_event (event_of [] step.now) ≡ true }
     ensures ok { OnOk result (SomeStep (seen_media M.told M.faults M.short media.old) (seen_media M.told M.faults M.short media.new)
         plain.old.machine bindings.old step.now plain.new.machine bindings.new
         (Appends (K.taken out.old) (K.taken out.new))) }
@@ -183,7 +176,6 @@ fn daemons_of(alloc: Global, script: &[Step]) -> Result<Vec<u8>, NoMemory>
 }
 
 // Makes the steps of a script in order, on a machine before any event.
-#[tactic(auto, using(crate::proofs::ServedLemmas::serving))]
 fn run_on<M: Media, K: Sink>(
     alloc: Global,
     plain: &mut Plain,
@@ -195,7 +187,6 @@ fn run_on<M: Media, K: Sink>(
     requires few { length script.now < 2_097_152 }
     requires plain { plain.old ≡ record { machine = first_machine (daemons_of script.now); events = 0 } }
     requires bindings { bindings.old ≡ [] }
-    requires served { first_unserved script.now ≡ None }
     ensures ok { OnOk result (SomeRun (seen_media M.told M.faults M.short media.old) (seen_media M.told M.faults M.short media.new) script.now (λ rest text.
         (rest ≡ []) × Appends (K.taken out.old) (K.taken out.new) text)) }
     ensures memory { result ≡ Err RunError.NoMemory → SomeRun (seen_media M.told M.faults M.short media.old) (seen_media M.told M.faults M.short media.new) script.now (λ rest text.
@@ -222,7 +213,6 @@ pub fn run<M: Media, K: Sink>(
     out: &mut K,
 ) -> Result<(), RunError>
     requires few { length script.now < 2_097_152 }
-    requires served { first_unserved script.now ≡ None }
     ensures ok { OnOk result (SomeRun (seen_media M.told M.faults M.short media.old) (seen_media M.told M.faults M.short media.new) script.now (λ rest text.
         (rest ≡ []) × Appends (K.taken out.old) (K.taken out.new) text)) }
     ensures memory { result ≡ Err RunError.NoMemory → SomeRun (seen_media M.told M.faults M.short media.old) (seen_media M.told M.faults M.short media.new) script.now (λ rest text.

@@ -2,29 +2,30 @@ use Rattle.std.proofs.Common.{◌≡◌, ◌++◌, [], inr, subst}
 use Rattle.std.specs.Io.KnownBytes.{Appends}
 use Rattle.std.specs.Prelude.{codes}
 use Rattle.sdr_base.specs.Written.{AppendsPart}
+use Rattle.sdr_shell.proofs.ScriptRead.{bad_line_of, had_script, read_to_the_end}
 use Rattle.sdr_shell.proofs.StillLemmas.{had_run, tells_refused}
 use Rattle.sdr_shell.specs.Still.{Writes}
 use Rattle.sdr_shell.proofs.commands.dry.Goals as goal
 
 pub returns-in-Ok-clause-done : goal.returns-in-Ok-clause-done
 returns-in-Ok-clause-done g c is = record {
-  read = c.in-Ok.ensures.at_end;
+  read = read_to_the_end _ _ _ c.in-Ok.ensures.script;
   run = had_run _ _ _ c.in-Ok.script _ (λ rest text. (rest ≡ []) × Appends (g.K.Sink.taken c.args.output.now) (g.K.Sink.taken c.run_script.new.output) text)
-      c.in-Ok.ensures.had c.as_slice.ensures (c.run_script.ensures.done is);
+      (had_script _ _ _ c.in-Ok.ensures.script) c.as_slice.ensures (c.run_script.ensures.done is);
 }
 
 pub returns-in-Ok-clause-part : goal.returns-in-Ok-clause-part
 returns-in-Ok-clause-part g c is =
     had_run _ _ _ c.in-Ok.script _ (λ rest text. AppendsPart (g.K.Sink.taken c.args.output.now) (g.K.Sink.taken c.run_script.new.output) text)
-    c.in-Ok.ensures.had c.as_slice.ensures (c.run_script.ensures.part is)
+    (had_script _ _ _ c.in-Ok.ensures.script) c.as_slice.ensures (c.run_script.ensures.part is)
 
 pub returns-in-Ok-clause-starved : goal.returns-in-Ok-clause-starved
 returns-in-Ok-clause-starved g c is =
     inr (had_run _ _ _ c.in-Ok.script _
     (λ rest text. Writes (g.K.Sink.taken c.args.output.now) (g.K.Sink.taken c.run_script.new.output)
     (g.K.Sink.faults c.args.output.now) (g.K.Sink.faults c.run_script.new.output) (text ++ codes "no memory\n"))
-    c.in-Ok.ensures.had c.as_slice.ensures (c.run_script.ensures.starved is))
+    (had_script _ _ _ c.in-Ok.ensures.script) c.as_slice.ensures (c.run_script.ensures.starved is))
 
 pub returns-in-Err-clause-refused : goal.returns-in-Err-clause-refused
 returns-in-Err-clause-refused g c is =
-    tells_refused c.in-Err.error _ _ _ _ _ _ c.tell.ensures.told is c.in-Err.ensures.line
+    tells_refused c.in-Err.error _ _ _ _ _ _ c.tell.ensures.told is (bad_line_of _ _ _ c.in-Err.ensures.line)

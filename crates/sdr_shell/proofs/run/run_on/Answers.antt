@@ -1,11 +1,9 @@
-use Rattle.std.proofs.Common.{◌≡◌, Err, None, ◌∷◌, ap, sym, subst, arith, length}
+use Rattle.std.proofs.Common.{◌≡◌, Err, ◌∷◌, ap, sym, subst, arith, length}
 use Rattle.std.proofs.lemmas.List.{nil_from_length}
 use Rattle.std.proofs.lemmas.Result.{err_from_is_err_and}
 use Rattle.sdr_shell.specs.declared.run.RunError.TheVariants.{NoMemory, Output}
 use Rattle.sdr_shell.proofs.ScheduleLemmas.{Running, running_start, running_next, running_kept, running_cut, running_done}
-use Rattle.sdr_shell.proofs.ServedLemmas.{served_rest}
 use Rattle.sdr_shell.specs.Schedule.{seen_media}
-use Rattle.sdr_shell.specs.Served.{first_unserved}
 use Rattle.sdr_shell.proofs.run.run_on.Goals as goal
 
 pub loop-step-init : goal.loop-step-init
@@ -13,7 +11,6 @@ loop-step-init g c = record {
   running = subst (λ b. Running (seen_media g.M.Media.told g.M.Media.faults g.M.Media.short c.args.media.now) (seen_media g.M.Media.told g.M.Media.faults g.M.Media.short c.args.media.now) c.args.script.now c.args.script.now b c.args.plain.now.machine (g.K.Sink.taken c.args.out.now) (g.K.Sink.taken c.args.out.now)) (sym c.requires.bindings)
       (running_start (seen_media g.M.Media.told g.M.Media.faults g.M.Media.short c.args.media.now) c.args.script.now c.args.plain.now.machine (g.K.Sink.taken c.args.out.now) (sym (ap (λ p. p.machine) c.requires.plain)));
   later = omega arith;
-  served = c.requires.served;
   few = omega (arith, ap (λ p. p.events) c.requires.plain, c.requires.few);
 }
 
@@ -45,7 +42,6 @@ loop-step-preserved g c =
           (subst (λ r. Running (seen_media g.M.Media.told g.M.Media.faults g.M.Media.short c.args.media.now) (seen_media g.M.Media.told g.M.Media.faults g.M.Media.short c.loop-step.media) c.args.script.now r c.loop-step.bindings c.loop-step.plain.machine (g.K.Sink.taken c.args.out.now) (g.K.Sink.taken c.loop-step.out)) e c.loop-step.invariant.running)
           made.line.answer made.line.answers made.line.caused made.line.printed);
       later = omega (arith, c.loop-step.invariant.later, c.make.ensures.later);
-      served = served_rest c.in-Some.step.now c.in-Some.after.now (subst (λ l. first_unserved l ≡ None) e c.loop-step.invariant.served);
       few = omega (arith, c.loop-step.invariant.few, c.in_ok-make.ensures.events, ap length e);
     }
 
