@@ -47,15 +47,9 @@ impl Plain {
         self.lock.shown()
     }
 
-<<<<<<< HEAD
     // Makes an event of a daemon. Want of memory leaves all as before.
     fn make(&mut self, daemon: u8, event: &Event) -> Result<Answer, NoMemory>
         requires events { self.old.events < 4_194_304 }
-=======
-    /// Makes an event of a daemon, of a statement on this line. Want of memory leaves all as before.
-    pub fn event(&mut self, daemon: u8, _line: u64, event: &Event) -> Result<Answer, NoMemory>
-        requires events { self.old.events < 2_097_152 }
->>>>>>> 4c30a2674dcb57cd0dfeb214bba450ba6f972fda
         ensures step { IfOk result (λ answer. MachineStep self.old.machine daemon event.now answer
             (event_moves self.old.machine event.now answer) self.new.machine) }
         ensures events { OnOk result (self.new.events ≡ self.old.events + 1) }
