@@ -1,5 +1,5 @@
 -- The call that bonds an object.
-use Rattle.std.proofs.Common.{◌≡◌, ◌≤◌, ◌<◌, ◌+◌, ◌*◌, ◌^◌, ◌++◌, ◌∷◌, [], ℕ, List, Option, None, Some, ap, sym, ◌∙◌, refl, subst, arith, length, length-append, map}
+use Rattle.std.proofs.Common.{◌≡◌, ◌≤◌, ◌<◌, ◌+◌, ◌*◌, ◌^◌, ◌==◌, ◌++◌, ◌∷◌, [], ℕ, List, Option, None, Some, ap, cond, sym, ◌∙◌, refl, subst, arith, length, length-append, map}
 use Rattle.std.proofs.lemmas.List.{map-append}
 use Rattle.std.proofs.lemmas.List.Elements.{All-append, All-cons, All-head, All-nil, All-tail}
 use Rattle.std.proofs.lemmas.List.Sums.{sum_by-append, sum_by-cons}
@@ -11,21 +11,25 @@ use Rattle.sdr_base.specs.declared.kind.Space.{Space}
 use Rattle.sdr_base.specs.declared.kind.Space.TheVariants as spaces
 use Rattle.sdr_model.specs.Accounts.{Pending, most_amount}
 use Rattle.sdr_model.specs.Allowed.{HasRoomFor}
-use Rattle.sdr_model.specs.Amounts.{amounts_by, in_space}
+use Rattle.sdr_model.specs.Amounts.{amount, amounts_by, in_space, no_amounts}
 use Rattle.sdr_model.specs.BondSteps.{bond_charge, bond_extents, bond_rise, bonded, bonded_extents, capsules_of}
 use Rattle.sdr_model.specs.Charges.{bytes_charge, capsule_charge, extent_charge, object_charge, occupancy, space_in}
 use Rattle.sdr_model.specs.Charging.{with_used}
 use Rattle.sdr_model.specs.Dry.{addr_after, next_addr, next_addrs}
+use Rattle.sdr_model.specs.Edits.{Differ}
 use Rattle.sdr_model.specs.ObjectSteps.{wire_length}
 use Rattle.sdr_model.specs.Owners.{IsOwned, Owns, OwnsInside}
-use Rattle.sdr_model.specs.Tallies.{EndsInTime, IsModest, IsShort, MayReplace}
+use Rattle.sdr_model.specs.Tallies.{EndsInTime, IsModest, IsShort}
 use Rattle.sdr_model.specs.Things.{Owners, capsule_block, extent_block}
 use Rattle.sdr_model.specs.World.{World, thing_at}
-use Rattle.sdr_model.specs.Zco.{as_object, as_source, object_at, source_at}
+use Rattle.sdr_model.specs.Zco.{as_object, as_source, naming, object_at, source_at}
+use Rattle.sdr_model.specs.declared.edits.Change.{Change}
 use Rattle.sdr_model.specs.declared.things.Thing.TheVariants as things
 use Rattle.sdr_model.specs.declared.zco.Capsule.{Capsule}
 use Rattle.sdr_model.specs.declared.zco.Extent.{Extent}
 use Rattle.sdr_model.specs.declared.zco.ZcoObject.{ZcoObject}
+use Rattle.sdr_model.proofs.AmountLemmas.{nothing_in}
+use Rattle.sdr_model.proofs.BondLemmas.{extents-shift}
 use Rattle.sdr_model.proofs.BoundsLemmas.{amounts_of, capsules_length-charged, extents_length-charged}
 use Rattle.sdr_model.proofs.CapsuleLemmas.{owned-kept}
 use Rattle.sdr_model.proofs.ExtentLemmas.{All-back, All-front, amount_of}
@@ -83,10 +87,16 @@ wire-most w z charges =
       charges spaces.Heap,
     )
 
--- as extents, headers or trailers charge at most so much more
+-- a header or trailer charges so much more as an extent
+bond_more : (space : Space) (c : Capsule)
+    → bytes_charge spaces.Heap (length c.text) space ≡ capsule_charge space c + bond_rise space c
+bond_more spaces.File c = refl
+bond_more spaces.Bulk c = refl
+bond_more spaces.Heap c = omega arith
+
 charge-bonded_extents : (w : World) (space : Space) (at : ℕ → ℕ) (k : ℕ) (cs : List Capsule)
     → ((i : ℕ) → space_in (source_at w (at i)) ≡ spaces.Heap)
-    → sum_by (extent_charge w space) (bonded_extents at k cs) ≤ sum_by (capsule_charge space) cs + bond_charge cs space
+    → sum_by (extent_charge w space) (bonded_extents at k cs) ≡ sum_by (capsule_charge space) cs + bond_charge cs space
 charge-bonded_extents w space at k [] heap = omega arith
 charge-bonded_extents w space at k (c ∷ cs) heap =
     omega (
@@ -97,10 +107,11 @@ charge-bonded_extents w space at k (c ∷ cs) heap =
       sum_by-cons (extent_charge w space) (record { block = at (k + 2); source = at (k + 1); offset = 0; length = length c.text })
           (bonded_extents at (k + 3) cs),
       ap (λ s. bytes_charge s (length c.text) space) (heap (k + 1)),
+      bond_more space c,
     )
 
 charge-bonded : (w : World) (space : Space) (at : ℕ → ℕ) (z : ZcoObject) → ((i : ℕ) → space_in (source_at w (at i)) ≡ spaces.Heap)
-    → object_charge w space (bonded at z) ≤ object_charge w space z + bond_charge (capsules_of z) space
+    → object_charge w space (bonded at z) ≡ object_charge w space z + bond_charge (capsules_of z) space
 charge-bonded w space at z heap =
     let front = bonded_extents at 0 z.headers in
     let back = bonded_extents at (3 * length z.headers) z.trailers in
@@ -113,24 +124,66 @@ charge-bonded w space at z heap =
       charge-bonded_extents w space at (3 * length z.headers) z.trailers heap,
     )
 
--- an account that has room for it may have the bonded object
-pub replace-bonded : (w wc : World) (k : ℕ) (at : ℕ → ℕ) (z object : ZcoObject) (amounts : Amounts) → object_at w k ≡ Some z
-    → object ≡ bonded at z → amounts ≡ amounts_by (bond_charge (capsules_of z))
+-- the extents of headers come before those of trailers
+bonded_extents-append : (at : ℕ → ℕ) (k : ℕ) (xs ys : List Capsule)
+    → bonded_extents at k (xs ++ ys) ≡ bonded_extents at k xs ++ bonded_extents at (k + 3 * length xs) ys
+bonded_extents-append at k [] ys = ap (λ i. bonded_extents at i ys) (let same : k ≡ k + 3 * 0 = omega arith in same)
+bonded_extents-append at k (c ∷ cs) ys =
+    ap (λ (es : List Extent). record { block = at (k + 2); source = at (k + 1); offset = 0; length = length c.text } ∷ es)
+    (bonded_extents-append at (k + 3) cs ys
+    ∙ ap (λ i. bonded_extents at (k + 3) cs ++ bonded_extents at i ys)
+    (let same : k + 3 + 3 * length cs ≡ k + 3 * length (c ∷ cs) = omega arith in same))
+
+-- a bonded object names sources in its own extents and in those that came
+naming-bonded : (q : ℕ) (at : ℕ → ℕ) (z : ZcoObject)
+    → naming q (bond_extents at z) ≡ naming q z.extents + naming q (bonded_extents at 0 (capsules_of z))
+naming-bonded q at z =
+    let one : Extent → ℕ = λ e. cond (e.source == q) 1 0 in
+    let front = bonded_extents at 0 z.headers in
+    let back = bonded_extents at (3 * length z.headers) z.trailers in
+    omega (
+      arith,
+      sum_by-append one (front ++ z.extents) back,
+      sum_by-append one front z.extents,
+      sum_by-append one front back,
+      ap (naming q) (bonded_extents-append at 0 z.headers z.trailers
+          ∙ ap (λ i. front ++ bonded_extents at i z.trailers) (let same : 0 + 3 * length z.headers ≡ 3 * length z.headers = omega arith in same)),
+    )
+
+-- what an object and itself bonded differ by
+pub Differ-bonded : (w wc : World) (at : ℕ → ℕ) (z object : ZcoObject) (by : Change) → object ≡ bonded at z → by.lost ≡ []
+    → by.gained ≡ bonded_extents at 0 (capsules_of z) → by.released ≡ no_amounts
+    → by.charged ≡ amounts_by (bond_charge (capsules_of z))
     → ((i : ℕ) → space_in (source_at w (at i)) ≡ spaces.Heap)
     → ((space : Space) → occupancy w z.account space ≡ occupancy wc z.account space)
-    → HasRoomFor wc z.account amounts → MayReplace w (object_at w k) object
-replace-bonded w wc k at z object amounts there is charge heap occupied room =
-    subst (λ o. MayReplace w o object) (sym there)
-    (subst (MayReplace w (Some z)) (sym is) (
-      refl,
-      λ space. omega (
-        arith,
-        room space,
-        occupied space,
-        amount_of amounts (bond_charge (capsules_of z)) space charge,
-        charge-bonded w space at z heap,
-      ),
-    ))
+    → HasRoomFor wc z.account by.charged → Differ w by z object
+Differ-bonded w wc at z object by is lost gained released charged heap occupied room =
+    subst (Differ w by z) (sym is) (record {
+      account = refl;
+      uses = λ q. omega (arith, naming-bonded q at z, ap (naming q) lost, ap (naming q) gained);
+      gained = λ q. omega (arith, naming-bonded q at z, ap (naming q) gained);
+      charges = λ space.
+          omega (
+            arith,
+            charge-bonded w space at z heap,
+            amount_of by.charged (bond_charge (capsules_of z)) space charged,
+            none space,
+          );
+      small = λ space. omega (arith, room space);
+      room = λ space. omega (arith, room space, occupied space, none space);
+    })
+  where
+    none : (space : Space) → amount by.released space ≡ 0
+    none space = ap (λ a. amount a space) released ∙ nothing_in space
+
+-- the extents lie at the next addresses
+pub gained-next : (taken next : ℕ) (es : List Extent) (cs of : List Capsule) → next ≡ next_addr taken → cs ≡ of
+    → es ≡ bonded_extents (λ k. next + 8 * k) 0 cs → es ≡ bonded_extents (addr_after taken) 0 of
+gained-next taken next es cs of is same made =
+    made ∙ ap (bonded_extents (λ k. next + 8 * k) 0) same
+    ∙ extents-shift (λ k. next + 8 * k) (addr_after taken) of 0 0
+    (λ n. (let here : next + 8 * (0 + n) ≡ next_addr (taken + (0 + n)) = omega (arith, is) in here)
+    ∙ sym (addr_after-next taken (0 + n)))
 
 -- more is charged of heap space alone
 no_file : (cs : List Capsule) → bond_charge cs spaces.File ≡ 0
@@ -157,7 +210,7 @@ ends-bonded at k (c ∷ cs) short =
     (ends-bonded at (k + 3) cs (All-tail IsShort c cs short))
 
 -- what holds of the addresses holds of their sources
-sources-bonded : (P : ℕ → Type 0) (at : ℕ → ℕ) (k end : ℕ) (cs : List Capsule) → k + 3 * length cs ≤ end
+pub sources-bonded : (P : ℕ → Type 0) (at : ℕ → ℕ) (k end : ℕ) (cs : List Capsule) → k + 3 * length cs ≤ end
     → ((i : ℕ) → i < end → P (at i)) → All (λ e. P e.source) (bonded_extents at k cs)
 sources-bonded P at k end [] most holds = All-nil (λ (e : Extent). P e.source)
 sources-bonded P at k end (c ∷ cs) most holds =
@@ -171,12 +224,6 @@ All-bonded : (P : Extent → Type 0) (at : ℕ → ℕ) (z : ZcoObject) → All 
 All-bonded P at z front own back =
     All-append P (bonded_extents at 0 z.headers ++ z.extents) (bonded_extents at (3 * length z.headers) z.trailers)
     (All-append P (bonded_extents at 0 z.headers) z.extents front own) back
-
--- and what holds of all of them holds of those that it has
-pub own-bonded : (P : Extent → Type 0) (at : ℕ → ℕ) (z : ZcoObject) → All P (bond_extents at z) → All P z.extents
-own-bonded P at z all =
-    All-back P (bonded_extents at 0 z.headers) z.extents
-    (All-front P (bonded_extents at 0 z.headers ++ z.extents) (bonded_extents at (3 * length z.headers) z.trailers) all)
 
 -- a bonded object is as modest
 pub modest-bonded : (at : ℕ → ℕ) (z : ZcoObject) (next more : ℕ) → next ≤ more → IsModest next z

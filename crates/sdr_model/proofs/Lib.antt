@@ -13,9 +13,11 @@ pub mod ChargeLemmas
 pub mod CloneCallLemmas
 pub mod CloneLemmas
 pub mod CountLemmas
+pub mod CutLemmas
 pub mod DiscardLemmas
 pub mod DropLemmas
 pub mod DryLemmas
+pub mod EditLemmas
 pub mod ExtentLemmas
 pub mod FewLemmas
 pub mod FewSteps

@@ -134,13 +134,6 @@ room_replaced w k object may space = of_thing (get w.things k) refl may
     of_thing (Some (things.Source s)) is may = absurd may
     of_thing None is may = absurd may
 
--- the sources of the object that is there are noted where those of its copy are
-pub noted_there : (w w' : World) (k : ℕ) (z copy : ZcoObject) (noted : List ℕ) → w' ≡ w → Some z ≡ object_at w k → copy ≡ z
-    → All (λ e. Contains noted e.source) copy.extents → IfSome (object_at w' k) (λ z. All (λ e. Contains noted e.source) z.extents)
-noted_there w w' k z copy noted same there is all =
-    subst (λ o. IfSome o (λ z. All (λ e. Contains noted e.source) z.extents)) (there ∙ ap (λ v. object_at v k) (sym same))
-    (subst (λ (z : ZcoObject). All (λ e. Contains noted e.source) z.extents) is all)
-
 -- an object is there still after a charge for blocks
 pub there_after : (w wt wc : World) (p : Option Pending) (amounts : Amounts) (n k : ℕ) (z : ZcoObject) → wt ≡ w
     → wc ≡ with_blocks (with_used wt p amounts) n → Some z ≡ object_at w k → object_at wc k ≡ Some z

@@ -13,7 +13,6 @@ use Rattle.sdr_base.specs.declared.account.Acct.TheVariants as accts
 use Rattle.sdr_base.specs.declared.kind.Space.{Space}
 use Rattle.sdr_base.specs.declared.kind.Space.TheVariants as spaces
 use Rattle.sdr_model.specs.Accounts.{is_same_account}
-use Rattle.sdr_model.specs.Allowed.{IsBound}
 use Rattle.sdr_model.specs.Charges.{bytes_charge, extent_charge, space_in}
 use Rattle.sdr_model.specs.Cuts.{cut, cut_all, left_out}
 use Rattle.sdr_model.specs.Draft.{Draft}
@@ -23,7 +22,7 @@ use Rattle.sdr_model.specs.ObjectSteps.{with_object}
 use Rattle.sdr_model.specs.Owners.{Owns, OwnsInside}
 use Rattle.sdr_model.specs.PartSteps.{part_end, stripped}
 use Rattle.sdr_model.specs.Steps.{without_thing}
-use Rattle.sdr_model.specs.Tallies.{EndsInTime, IsModest, MayReplace, raw_of_thing}
+use Rattle.sdr_model.specs.Tallies.{EndsInTime, IsModest, raw_of_thing}
 use Rattle.sdr_model.specs.Things.{Owners, extent_block}
 use Rattle.sdr_model.specs.World.{World, thing_at}
 use Rattle.sdr_model.specs.Zco.{as_object, as_source, extents_length, naming, object_at, source_at, uses_in, uses_of}
@@ -130,12 +129,6 @@ IsModest-stripped next z modest = record {
   part = omega arith;
 }
 
--- it charges no more, so it may stand where the object stood
-pub replaces-stripped : (w : World) → IsBound w → (o : Option ZcoObject) (z : ZcoObject) → o ≡ Some z → MayReplace w o (stripped z)
-replaces-stripped w bound o z is =
-    subst (λ o. MayReplace w o (stripped z)) (sym is)
-    (refl, λ space. omega (arith, bound z.account space, charge-cut w space z.part.offset (part_end z) z.extents))
-
 -- an object in the place of another of its account takes the uses of that one along, and brings its own
 uses_replaced : (w : World) (k source : ℕ) (z y : ZcoObject) → get w.things k ≡ Some (things.Object z) → y.account ≡ z.account
     → uses_of (with_object w k y) source + naming source z.extents ≡ uses_of w source + naming source y.extents
@@ -165,9 +158,10 @@ apart w k addr z there none = by (is_at (nat_cmp addr) k) refl
 -- what goes with an object's extents may go once it has others in place of them
 pub MayGo-replaced : (d d' : Draft) (k addr : ℕ) (z y : ZcoObject) (out : List Extent) → object_at d.now k ≡ Some z
     → y.account ≡ z.account → naming addr y.extents + naming addr out ≡ naming addr z.extents → d'.now ≡ with_object d.now k y
-    → d'.touched ≡ d.touched → d'.noted ≡ d.noted → IsNoted d addr → Goes d.now out addr → MayGo d' addr
+    → ((other : ℕ) → Contains d.touched other → Contains d'.touched other) → d'.noted ≡ d.noted → IsNoted d addr
+    → Goes d.now out addr → MayGo d' addr
 MayGo-replaced d d' k addr z y out there same names now touched noted is goes = record {
-  touched = subst (λ ts. Contains ts addr) (sym touched) is.touched;
+  touched = touched addr is.touched;
   noted = subst₂ (λ t ns. IfSome (raw_of_thing t) (Contains ns)) (sym at) (sym noted) is.noted;
   no_object = ap as_object at ∙ goes.no_object;
   unused = subst (λ t. IfSome (as_source t) (λ s. uses_of d'.now addr ≡ 0)) (sym at)

@@ -1,28 +1,37 @@
 -- What holds of an object holds of it trimmed.
-use Rattle.std.proofs.Common.{◌≡◌, ◌≤◌, ◌+◌, ◌++◌, ◌∷◌, [], ℕ, List, Option, None, Some, cond, map, drop, take, ap, sym, ◌∙◌, refl, subst, arith}
+use Rattle.std.proofs.Common.{◌≡◌, ◌≤◌, ◌+◌, ◌-◌, ◌++◌, ◌∷◌, [], ℕ, zero, suc, List, Option, None, Some, cond, map, drop, take, length, ap, sym, ◌∙◌, refl, subst, arith}
 use Rattle.std.proofs.lemmas.List.Elements.{All-append, All-cons, All-drop, All-head, All-map, All-nil, All-tail, All-take}
-use Rattle.std.proofs.lemmas.List.Sums.{sum_by-take-drop}
+use Rattle.std.proofs.lemmas.List.Sums.{sum_by-cons}
 use Rattle.std.specs.FinMap.{entries, get}
-use Rattle.std.specs.List.{All}
-use Rattle.std.specs.Prelude.{IfSome}
+use Rattle.std.specs.List.{All, sum_by}
+use Rattle.std.specs.Prelude.{Contains, IfSome, slice_get}
 use Rattle.sdr_base.specs.declared.account.Acct.{Acct}
 use Rattle.sdr_base.specs.declared.account.Acct.TheVariants as accts
 use Rattle.sdr_base.specs.declared.kind.Space.{Space}
-use Rattle.sdr_model.specs.Accounts.{is_same_account, most_amount}
+use Rattle.sdr_base.specs.declared.kind.Space.TheVariants as spaces
+use Rattle.sdr_model.specs.Accounts.{is_same_account}
 use Rattle.sdr_model.specs.Allowed.{IsBound}
-use Rattle.sdr_model.specs.Charges.{capsule_charge, object_charge, occupancy}
-use Rattle.sdr_model.specs.Owners.{Owns, OwnsInside}
-use Rattle.sdr_model.specs.Tallies.{IsModest, IsShort, MayReplace}
+use Rattle.sdr_model.specs.Amounts.{amount, amounts_by, in_space, no_amounts}
+use Rattle.sdr_model.specs.Charges.{capsule_charge, object_charge}
+use Rattle.sdr_model.specs.Draft.{Draft}
+use Rattle.sdr_model.specs.Dry.{next_addr}
+use Rattle.sdr_model.specs.Edits.{Differ, MayChange, MayFollow}
+use Rattle.sdr_model.specs.ObjectSteps.{last_capsule}
+use Rattle.sdr_model.specs.Owners.{MayPut, Owns, OwnsInside}
+use Rattle.sdr_model.specs.Tallies.{IsModest, IsShort}
 use Rattle.sdr_model.specs.Things.{Owners, capsule_block, extent_block, object_blocks}
-use Rattle.sdr_model.specs.Trims.{IsTrimmed, MayTrim, trimmed}
+use Rattle.sdr_model.specs.Trims.{KeepsInside, MayTrim, capsule_bytes_of, trim_charge, trimmed}
 use Rattle.sdr_model.specs.World.{World}
-use Rattle.sdr_model.specs.Zco.{as_object, count_of, extents_length, naming, uses_in, uses_of}
+use Rattle.sdr_model.specs.Zco.{as_object, count_of, naming, uses_in, uses_of}
+use Rattle.sdr_model.specs.declared.edits.Change.{Change}
+use Rattle.sdr_model.specs.declared.edits.Trim.{Trim}
+use Rattle.sdr_model.specs.declared.edits.Trim.TheVariants as trims
 use Rattle.sdr_model.specs.declared.things.Block.{Block}
 use Rattle.sdr_model.specs.declared.things.Thing.{Thing}
 use Rattle.sdr_model.specs.declared.things.Thing.TheVariants as things
 use Rattle.sdr_model.specs.declared.zco.Capsule.{Capsule}
-use Rattle.sdr_model.specs.declared.zco.Part.{Part}
 use Rattle.sdr_model.specs.declared.zco.ZcoObject.{ZcoObject}
+use Rattle.sdr_model.proofs.AmountLemmas.{amount-by}
 use Rattle.sdr_model.proofs.OwnersLemmas.{All-from_map}
 use Rattle.sdr_model.proofs.SumLemmas.{counted_at, sum_by-removed}
 
@@ -91,61 +100,137 @@ all_blocks P z headers extents trailers =
     (All-map P capsule_block z.trailers trailers)
 
 -- a trimmed object has no blocks inside that the object hadn't
-pub OwnsInside-trimmed : (owners : Owners) (next owner headers trailers : ℕ) (part : Part) (z : ZcoObject)
-    → OwnsInside owners next owner (things.Object z) → OwnsInside owners next owner (things.Object (trimmed headers trailers part z))
-OwnsInside-trimmed owners next owner headers trailers part z owns =
+pub OwnsInside-trimmed : (owners : Owners) (next owner : ℕ) (trim : Trim) (z : ZcoObject)
+    → OwnsInside owners next owner (things.Object z) → OwnsInside owners next owner (things.Object (trimmed trim z))
+OwnsInside-trimmed owners next owner (trims.Part part) z owns = record { below = owns.below; inside = owns.inside }
+OwnsInside-trimmed owners next owner trims.FirstHeader z owns =
     let P = Owns owners next owner in
     record {
       below = owns.below;
-      inside =
-          all_blocks P (trimmed headers trailers part z)
-          (All-drop (λ c. P (capsule_block c)) headers z.headers (headers_of P z owns.inside))
-          (extents_of P z owns.inside)
-          (All-take (λ c. P (capsule_block c)) trailers z.trailers (trailers_of P z owns.inside));
+      inside = all_blocks P (trimmed trims.FirstHeader z) (All-drop (λ c. P (capsule_block c)) 1 z.headers (headers_of P z owns.inside))
+          (extents_of P z owns.inside) (trailers_of P z owns.inside);
+    }
+OwnsInside-trimmed owners next owner trims.LastTrailer z owns =
+    let P = Owns owners next owner in
+    record {
+      below = owns.below;
+      inside = all_blocks P (trimmed trims.LastTrailer z) (headers_of P z owns.inside) (extents_of P z owns.inside)
+          (All-take (λ c. P (capsule_block c)) (length z.trailers - 1) z.trailers (trailers_of P z owns.inside));
     }
 
 -- it keeps to the limits
-pub IsModest-trimmed : (next headers trailers : ℕ) (part : Part) (z : ZcoObject)
-    → part.offset + part.length ≤ extents_length z.extents → IsModest next z → IsModest next (trimmed headers trailers part z)
-IsModest-trimmed next headers trailers part z inside modest = record {
-  headers = All-drop IsShort headers z.headers modest.headers;
+pub IsModest-trimmed : (next : ℕ) (trim : Trim) (z : ZcoObject) → KeepsInside trim z → IsModest next z
+    → IsModest next (trimmed trim z)
+IsModest-trimmed next (trims.Part part) z inside modest = record {
+  headers = modest.headers;
   extents = modest.extents;
-  trailers = All-take IsShort trailers z.trailers modest.trailers;
+  trailers = modest.trailers;
   sources = modest.sources;
   part = inside;
 }
+IsModest-trimmed next trims.FirstHeader z inside modest = record {
+  headers = All-drop IsShort 1 z.headers modest.headers;
+  extents = modest.extents;
+  trailers = modest.trailers;
+  sources = modest.sources;
+  part = modest.part;
+}
+IsModest-trimmed next trims.LastTrailer z inside modest = record {
+  headers = modest.headers;
+  extents = modest.extents;
+  trailers = All-take IsShort (length z.trailers - 1) z.trailers modest.trailers;
+  sources = modest.sources;
+  part = modest.part;
+}
 
--- it charges no more
-charge-trimmed : (w : World) (space : Space) (headers trailers : ℕ) (part : Part) (z : ZcoObject)
-    → object_charge w space (trimmed headers trailers part z) ≤ object_charge w space z
-charge-trimmed w space headers trailers part z =
+nothing_in : (space : Space) → in_space spaces.Heap 0 space ≡ 0
+nothing_in spaces.File = refl
+nothing_in spaces.Bulk = refl
+nothing_in spaces.Heap = refl
+
+-- what a first header charges, and a last trailer
+charge-first : (space : Space) (cs : List Capsule)
+    → sum_by (capsule_charge space) (drop 1 cs) + in_space spaces.Heap (capsule_bytes_of (slice_get cs 0)) space
+    ≡ sum_by (capsule_charge space) cs
+charge-first space [] = omega (arith, nothing_in space)
+charge-first space (c ∷ cs) = omega (arith, sum_by-cons (capsule_charge space) c cs)
+
+charge-at : (space : Space) (cs : List Capsule) (i : ℕ) → i + 1 ≡ length cs
+    → sum_by (capsule_charge space) (take i cs) + in_space spaces.Heap (capsule_bytes_of (slice_get cs i)) space
+    ≡ sum_by (capsule_charge space) cs
+charge-at space [] i is = absurd (omega (arith, is))
+charge-at space (c ∷ []) zero is = omega (arith, sum_by-cons (capsule_charge space) c [])
+charge-at space (c ∷ (d ∷ cs)) zero is = absurd (omega (arith, is))
+charge-at space (c ∷ cs) (suc i) is =
     omega (
       arith,
-      sum_by-take-drop (capsule_charge space) z.headers headers,
-      sum_by-take-drop (capsule_charge space) z.trailers trailers,
+      charge-at space cs i (omega (arith, is)),
+      sum_by-cons (capsule_charge space) c (take i cs),
+      sum_by-cons (capsule_charge space) c cs,
     )
 
-module _ (w : World) (bound : IsBound w) where
-  replaces-trimmed : (headers trailers : ℕ) (part : Part) (z : ZcoObject)
-      → MayReplace w (Some z) (trimmed headers trailers part z)
-  replaces-trimmed headers trailers part z =
-      (refl, λ space. omega (arith, bound z.account space, charge-trimmed w space headers trailers part z))
+charge-last : (space : Space) (cs : List Capsule)
+    → sum_by (capsule_charge space) (take (length cs - 1) cs) + in_space spaces.Heap (capsule_bytes_of (last_capsule cs)) space
+    ≡ sum_by (capsule_charge space) cs
+charge-last space [] = omega (arith, nothing_in space)
+charge-last space (c ∷ cs) = charge-at space (c ∷ cs) (length (c ∷ cs) - 1) (omega arith)
 
-  -- so it may stand where the object stood
-  pub MayReplace-trimmed : (o : Option ZcoObject) (object : ZcoObject) → MayTrim o object → MayReplace w o object
-  MayReplace-trimmed None object may = may
-  MayReplace-trimmed (Some z) object is =
-      subst (MayReplace w (Some z)) (sym is.is) (replaces-trimmed is.headers is.trailers object.part z)
+-- what a trimmed object charges less
+charge-trimmed : (w : World) (space : Space) (trim : Trim) (z : ZcoObject)
+    → object_charge w space (trimmed trim z) + in_space spaces.Heap (trim_charge trim z) space ≡ object_charge w space z
+charge-trimmed w space (trims.Part part) z = omega (arith, nothing_in space)
+charge-trimmed w space trims.FirstHeader z = omega (arith, charge-first space z.headers)
+charge-trimmed w space trims.LastTrailer z = omega (arith, charge-last space z.trailers)
 
--- what follows of a trimmed object from what holds of the object that is there
-pub of_trimmed : (P Q : ZcoObject → Type 0) (o : Option ZcoObject) (object : ZcoObject) → MayTrim o object → IfSome o P
-    → ((z : ZcoObject) → IsTrimmed z object → P z → Q object) → Q object
-of_trimmed P Q None object may known each = absurd may
-of_trimmed P Q (Some z) object may known each = each z may known
+-- it has the same extents and account
+extents-trimmed : (trim : Trim) (z : ZcoObject) → (trimmed trim z).extents ≡ z.extents
+extents-trimmed (trims.Part part) z = refl
+extents-trimmed trims.FirstHeader z = refl
+extents-trimmed trims.LastTrailer z = refl
 
--- what holds of the sources of a trimmed object holds of those of the object that is there
-pub of_sources : (P : ℕ → Type 0) (o : Option ZcoObject) (object : ZcoObject) → MayTrim o object
-    → All (λ e. P e.source) object.extents → IfSome o (λ z. All (λ e. P e.source) z.extents)
-of_sources P None object may all = tt
-of_sources P (Some z) object may all =
-    subst (λ (y : ZcoObject). All (λ e. P e.source) y.extents) may.is all
+account-trimmed : (trim : Trim) (z : ZcoObject) → (trimmed trim z).account ≡ z.account
+account-trimmed (trims.Part part) z = refl
+account-trimmed trims.FirstHeader z = refl
+account-trimmed trims.LastTrailer z = refl
+
+-- what an object and itself trimmed differ by
+abbrev pub trim_change : ℕ → Change
+trim_change bytes =
+    record { lost = []; gained = []; released = amounts_by (in_space spaces.Heap bytes); charged = no_amounts }
+
+Differ-trimmed : (w : World) (trim : Trim) (z : ZcoObject) → IsBound w → Differ w (trim_change (trim_charge trim z)) z (trimmed trim z)
+Differ-trimmed w trim z bound = record {
+  account = account-trimmed trim z;
+  uses = λ source. omega (arith, ap (naming source) (extents-trimmed trim z));
+  gained = λ source. omega arith;
+  charges = λ space.
+      omega (
+        arith,
+        charge-trimmed w space trim z,
+        amount-by (in_space spaces.Heap (trim_charge trim z)) space,
+        none space,
+      );
+  small = λ space. omega (arith, none space);
+  room = λ space. omega (arith, none space, bound z.account space);
+}
+  where
+    none : (space : Space) → amount no_amounts space ≡ 0
+    none spaces.File = refl
+    none spaces.Bulk = refl
+    none spaces.Heap = refl
+
+-- so it may come in the place of the object
+pub MayChange-trimmed : (d : Draft) (addr : ℕ) (trim : Trim) (by : Change) (bytes : ℕ) (o : Option ZcoObject)
+    → by ≡ trim_change bytes → IsBound d.now
+    → IfSome o (IsModest (next_addr d.now.taken)) → IfSome o (λ z. MayPut d addr (things.Object z))
+    → IfSome o (λ z. bytes ≡ trim_charge trim z) → MayTrim trim o → MayChange d addr by (trimmed trim) o
+MayChange-trimmed d addr trim by bytes None is bound modest owned charge may = absurd may
+MayChange-trimmed d addr trim by bytes (Some z) is bound modest owned charge may =
+    subst (λ by. MayFollow d addr by z (trimmed trim z)) (sym (is ∙ ap trim_change charge))
+    (record {
+      differ = Differ-trimmed d.now trim z bound;
+      modest = IsModest-trimmed (next_addr d.now.taken) trim z may modest;
+      may_put = OwnsInside-trimmed d.owners (next_addr d.now.taken) addr trim z owned;
+      lost = All-nil (λ e. Contains d.noted e.source);
+      gained = All-nil (λ e. Contains d.noted e.source);
+    })

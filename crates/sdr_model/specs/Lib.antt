@@ -16,6 +16,7 @@ pub mod Cuts
 pub mod Draft
 pub mod Drops
 pub mod Dry
+pub mod Edits
 pub mod Few
 pub mod Fields
 pub mod Gone
@@ -45,6 +46,7 @@ pub mod SourceSteps
 pub mod Step
 pub mod Steps
 pub mod Store
+pub mod Strips
 pub mod TableSteps
 pub mod Tables
 pub mod Tallies

@@ -1,22 +1,36 @@
 -- Objects that lose headers or trailers, or get another part.
-use Rattle.std.specs.Prelude.{◌≡◌, ◌≤◌, ◌+◌, ℕ, List, drop, take, Option, None, Some}
+use Rattle.std.specs.Prelude.{◌≤◌, ◌+◌, ℕ, length, slice_get, Option, None, Some}
+use Rattle.sdr_model.specs.Charges.{capsule_bytes}
+use Rattle.sdr_model.specs.ObjectSteps.{last_capsule, without_header, without_trailer}
 use Rattle.sdr_model.specs.Zco.{extents_length}
-use Rattle.sdr_model.specs.declared.zco.Part.{Part}
+use Rattle.sdr_model.specs.declared.edits.Trim.{Trim}
+use Rattle.sdr_model.specs.declared.edits.Trim.TheVariants as trims
+use Rattle.sdr_model.specs.declared.zco.Capsule.{Capsule}
 use Rattle.sdr_model.specs.declared.zco.ZcoObject.{ZcoObject}
 
--- an object without its first so many headers, with its first so many trailers alone, and with another part
-abbrev pub trimmed : ℕ → ℕ → Part → ZcoObject → ZcoObject
-trimmed headers trailers part z =
-    record z { headers = drop headers z.headers; trailers = take trailers z.trailers; part = part }
+-- an object, trimmed
+abbrev pub trimmed : Trim → ZcoObject → ZcoObject
+trimmed (trims.Part part) z = record z { part = part }
+trimmed trims.FirstHeader z = without_header z
+trimmed trims.LastTrailer z = without_trailer z
 
--- the object is another so trimmed, and its part lies inside its extents
-pub record IsTrimmed (z object : ZcoObject) : Type 0 where
-  pub headers : ℕ
-  pub trailers : ℕ
-  pub is : object ≡ trimmed headers trailers object.part z
-  pub part : object.part.offset + object.part.length ≤ extents_length z.extents
+-- the heap space that a header or trailer charges, 0 where there is none
+abbrev pub capsule_bytes_of : Option Capsule → ℕ
+capsule_bytes_of None = 0
+capsule_bytes_of (Some c) = capsule_bytes (length c.text)
 
--- an object is there, and the other is it, trimmed
-abbrev pub MayTrim : Option ZcoObject → ZcoObject → Type 0
-MayTrim None object = ⊥
-MayTrim (Some z) object = IsTrimmed z object
+-- the heap space that an object charges less once it is trimmed
+abbrev pub trim_charge : Trim → ZcoObject → ℕ
+trim_charge (trims.Part part) z = 0
+trim_charge trims.FirstHeader z = capsule_bytes_of (slice_get z.headers 0)
+trim_charge trims.LastTrailer z = capsule_bytes_of (last_capsule z.trailers)
+
+-- the part that an object gets lies inside its extents
+abbrev pub KeepsInside : Trim → ZcoObject → Type 0
+KeepsInside (trims.Part part) z = part.offset + part.length ≤ extents_length z.extents
+KeepsInside trim z = Unit {0}
+
+-- an object is there, and may be trimmed
+abbrev pub MayTrim : Trim → Option ZcoObject → Type 0
+MayTrim trim None = ⊥
+MayTrim trim (Some z) = KeepsInside trim z

@@ -123,9 +123,9 @@ pub fn apply(alloc: Global, world: &mut World, call: &Call) -> Result<Reply, NoM
         Call::Create(acct, ticket) => create(alloc, world, *acct, *ticket),
         Call::Destroy(addr) => destroy(alloc, world, *addr),
         Call::Strip(addr) => strip(alloc, world, *addr),
-        Call::DiscardFirstHeader(addr) => discard_first_header(alloc, world, *addr),
-        Call::DiscardLastTrailer(addr) => discard_last_trailer(alloc, world, *addr),
-        Call::Delimit(addr, offset, length) => delimit(alloc, world, *addr, *offset, *length),
+        Call::DiscardFirstHeader(addr) => discard_first_header(world, *addr),
+        Call::DiscardLastTrailer(addr) => discard_last_trailer(world, *addr),
+        Call::Delimit(addr, offset, length) => delimit(world, *addr, *offset, *length),
         Call::PrependHeader(addr, ticket, text) => {
             prepend_header(alloc, world, *addr, *ticket, text)
         }

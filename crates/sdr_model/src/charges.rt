@@ -5,6 +5,7 @@ ghost use Rattle.sdr_model.specs.BondSteps.{bond_rise};
 ghost use Rattle.sdr_model.specs.Charges.{bytes_charge, capsule_charge};
 ghost use Rattle.sdr_model.specs.Zco.{space_of};
 
+use crate::amounts::NOTHING;
 use crate::capsules::capsule_bytes;
 use crate::{Capsule, Subject};
 use sdr_base::{Amounts, Space};
@@ -30,6 +31,23 @@ pub fn heap_charge(bytes: u64) -> Amounts
         file: 0,
         bulk: 0,
         heap: bytes,
+    }
+}
+
+/// So many bytes of a space.
+pub fn space_charge(of: Space, bytes: u64) -> Amounts
+    ensures { result ≡ amounts_by (in_space of bytes) }
+{
+    match of {
+        Space::File => Amounts {
+            file: bytes,
+            ..NOTHING
+        },
+        Space::Bulk => Amounts {
+            bulk: bytes,
+            ..NOTHING
+        },
+        Space::Heap => heap_charge(bytes),
     }
 }
 

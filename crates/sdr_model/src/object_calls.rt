@@ -15,7 +15,7 @@ ghost use Rattle.sdr_model.specs.Zco.{object_at};
 use crate::charges::heap_charge;
 use crate::cuts::extents_length;
 use crate::raw_calls::misnamed;
-use crate::{Call, Part, Reply, World, ZcoObject};
+use crate::{Call, Part, Reply, Trim, World, ZcoObject};
 use sdr_base::{Acct, Addr, NoMemory, Refusal};
 use std::alloc::Global;
 
@@ -79,14 +79,9 @@ fn exceeds(offset: u64, bytes: u64, have: u64) -> bool
     }
 }
 
-/// Sets the part of an object. It is linear in the object.
-pub fn delimit(
-    alloc: Global,
-    world: &mut World,
-    addr: Addr,
-    offset: u64,
-    bytes: u64,
-) -> Result<Reply, NoMemory>
+/// Sets the part of an object. It looks at the lengths of the extents; all else takes about the logarithm of
+/// the world.
+pub fn delimit(world: &mut World, addr: Addr, offset: u64, bytes: u64) -> Result<Reply, NoMemory>
     ensures { Answers (Call.Delimit addr offset bytes) world.old world.new result }
 {
     let Some(object) = object(world, addr) else {
@@ -101,13 +96,8 @@ pub fn delimit(
             have,
         }));
     }
-    let mut changed = object.copied(alloc)?;
-    world.touch_object(addr, &changed)?;
-    changed.part = Part {
-        offset,
-        length: bytes,
-    };
-    world.replace_object(addr, changed);
+    let length = bytes;
+    world.trim_object(addr, Trim::Part(Part { offset, length }))?;
     world.hide();
     Ok(Reply::Done)
 }

@@ -111,6 +111,7 @@ impl Store {
         ensures taken { IfOk result (λ thing. map.get self.old.now addr ≡ Some thing) }
         ensures without { OnOk result (self.new.now ≡ map.remove self.old.now addr) }
         ensures touched { OnOk result (Contains self.new.touched addr) }
+        ensures others { (other : ℕ) → Contains self.old.touched other → Contains self.new.touched other }
         ensures begun { self.new.begun ≡ self.old.begun }
         ensures same { OnErr result (self.new.now ≡ self.old.now) }
     {

@@ -8,9 +8,9 @@ ghost use Rattle.sdr_model.specs.Charged.{charged_to, no_charges, with_charged};
 ghost use Rattle.sdr_model.specs.Zco.{naming};
 ghost use Rattle.sdr_model.specs.Notes.{NameSource, SameNotes, UsesMore, more_uses, note_at, noted_count};
 
-use crate::Extent;
 use crate::amounts::{minus, plus};
 use crate::notes::Notes;
+use crate::{Change, Extent};
 use sdr_base::{Acct, Addr, Amounts, NoMemory};
 use std::alloc::Global;
 
@@ -266,5 +266,30 @@ impl Tally {
     {
         let charged = minus(&self.now.to(acct), amounts);
         self.now.set(acct, charged);
+    }
+
+    /// Counts and charges a change of an account's object. The sources of the extents that come or go were
+    /// touched. It takes the logarithm of the world for each of these.
+    pub fn change(&mut self, acct: Acct, by: &Change)
+        requires lost_touched { All (λ e. Contains self.old.notes.touched e.source) by.now.lost }
+        requires gained_touched { All (λ e. Contains self.old.notes.touched e.source) by.now.gained }
+        requires lost { (q : ℕ) →
+            naming q by.now.lost ≤ noted_count (note_at self.old.notes.now q) acct + naming q by.now.gained }
+        requires gained { (q : ℕ) →
+            noted_count (note_at self.old.notes.now q) acct + naming q by.now.gained < 2 ^ 63 }
+        requires small { (space : GhostSpace) →
+            amount (charged_to self.old.now acct) space + amount by.now.charged space < 2 ^ 63 }
+        ensures uses { (q : ℕ) → more_uses acct (naming q by.now.lost) (note_at self.new.notes.now q)
+            ≡ more_uses acct (naming q by.now.gained) (note_at self.old.notes.now q) }
+        ensures begun { SameNotes self.new.notes.begun self.old.notes.begun }
+        ensures touched { self.new.notes.touched ≡ self.old.notes.touched }
+        ensures now { self.new.now ≡ with_charged self.old.now acct
+            (minus (plus (charged_to self.old.now acct) by.now.charged) by.now.released) }
+        ensures sums_begun { self.new.begun ≡ self.old.begun }
+    {
+        self.add_uses(acct, by.gained.as_slice());
+        self.remove_uses(acct, by.lost.as_slice());
+        self.charge(acct, &by.charged);
+        self.release(acct, &by.released);
     }
 }

@@ -18,6 +18,7 @@ mod bonding;
 mod charges;
 mod charging;
 mod dropping;
+mod editing;
 mod objects;
 mod replacing;
 mod sources;

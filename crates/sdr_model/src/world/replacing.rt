@@ -1,5 +1,5 @@
 // Objects in the place of others.
-ghost use Rattle.std.specs.Prelude.{◌≡◌, ◌≤◌, ◌<◌, Contains, IfSome, OnOk};
+ghost use Rattle.std.specs.Prelude.{◌≡◌, ◌≤◌, ◌<◌, ℕ, Contains, IfSome, OnOk};
 ghost use Rattle.std.specs.List.{All};
 ghost use Rattle.std.specs.Option.{option_copied};
 ghost use Rattle.sdr_model.specs.Limits.{longest_source};
@@ -10,7 +10,7 @@ ghost use Rattle.sdr_model.specs.Tallies.{IsModest, MayReplace};
 ghost use Rattle.sdr_model.specs.Zco.{object_at, source_at};
 ghost use Rattle.sdr_model.specs.declared.things.Thing.{Thing};
 
-use crate::{Thing, World, ZcoObject, ZcoSource};
+use crate::{Extent, Thing, World, ZcoObject, ZcoSource};
 use sdr_base::{Addr, NoMemory};
 
 impl World {
@@ -26,6 +26,25 @@ impl World {
         }
     }
 
+    /// Takes note that what names the sources of these extents may be changed. After it that needs no memory.
+    /// Want of memory leaves the world as before.
+    pub fn touch_sources(&mut self, extents: &[Extent]) -> Result<(), NoMemory>
+        ensures now { self.new.now ≡ self.old.now }
+        ensures begun { self.new.begun ≡ self.old.begun }
+        ensures owners { self.new.owners ≡ self.old.owners }
+        ensures noted { OnOk result (All (λ e. Contains self.new.noted e.source) extents.now) }
+        ensures others { OnOk result ((other : ℕ) →
+            Contains self.old.touched other → Contains self.new.touched other) }
+        ensures others_noted { OnOk result ((other : ℕ) →
+            Contains self.old.noted other → Contains self.new.noted other) }
+        ensures saved { self.new.saved ≡ self.old.saved }
+    {
+        for extent in extents {
+            self.touch(extent.source)?;
+        }
+        Ok(())
+    }
+
     /// Takes note that the object at an address, and what names its sources, may be changed. After it that
     /// needs no memory. Want of memory leaves the world as before.
     pub fn touch_object(&mut self, addr: Addr, object: &ZcoObject) -> Result<(), NoMemory>
@@ -36,10 +55,7 @@ impl World {
         ensures noted { OnOk result (All (λ e. Contains self.new.noted e.source) object.now.extents) }
     {
         self.touch(addr)?;
-        for extent in object.extents.as_slice() {
-            self.touch(extent.source)?;
-        }
-        Ok(())
+        self.touch_sources(object.extents.as_slice())
     }
 
     /// Puts an object in the place of the one at an address that was touched, of the same account. It is

@@ -1,18 +1,18 @@
 // Objects that lose headers or trailers, or get another part, in a world in the making.
-ghost use Rattle.std.specs.Prelude.{◌≡◌, ◌≤◌, ℕ, Contains, IfSome, Some, true};
-ghost use Rattle.std.specs.List.{All};
+ghost use Rattle.std.specs.Prelude.{◌≡◌, ◌≤◌, ℕ, IfSome, OnErr, OnOk, Some, true};
 ghost use Rattle.sdr_model.specs.Allowed.{IsBound};
 ghost use Rattle.sdr_model.specs.Dry.{next_addr};
 ghost use Rattle.sdr_model.specs.ObjectSteps.{with_object};
 ghost use Rattle.sdr_model.specs.Owners.{MayPut};
 ghost use Rattle.sdr_model.specs.Tallies.{IsModest, is_plain, raw_at};
-ghost use Rattle.sdr_model.specs.Trims.{MayTrim};
+ghost use Rattle.sdr_model.specs.Trims.{MayTrim, trim_charge, trimmed};
 ghost use Rattle.sdr_model.specs.World.{thing_at};
 ghost use Rattle.sdr_model.specs.Zco.{naming, object_at, uses_of};
 ghost use Rattle.sdr_model.specs.declared.things.Thing.{Thing};
 
-use crate::{World, ZcoObject};
-use sdr_base::Addr;
+use crate::charges::heap_charge;
+use crate::{Change, Edit, Trim, World};
+use sdr_base::{Addr, NoMemory};
 
 impl World {
     /// What is always known of the object at an address: it keeps to the limits, may be put there again,
@@ -29,18 +29,30 @@ impl World {
         let _ = self.things.get(addr);
     }
 
-    /// Puts the object at an address that was touched back with fewer headers or trailers, or with another
-    /// part. The sources of its extents were touched too. It is linear in the object, times the logarithm of
-    /// the world.
-    pub fn trim_object(&mut self, addr: Addr, object: ZcoObject)
-        requires touched { Contains self.old.touched addr }
-        requires noted { All (λ e. Contains self.old.noted e.source) object.extents }
-        requires there { MayTrim (object_at self.old.now addr) object }
-        ensures put { self.new.now ≡ with_object self.old.now addr object }
+    // The heap space that the object at an address charges less once it is trimmed, 0 where there is none.
+    fn trim_charge(&self, addr: Addr, trim: Trim) -> u64
+        ensures { IfSome (object_at self.now.now addr) (λ z. result ≡ trim_charge trim z) }
+    {
+        match self.object(addr) {
+            Some(object) => object.trim_charge(trim),
+            None => 0,
+        }
+    }
+
+    /// Trims the object at an address in place. Want of memory leaves the world as before. The first change
+    /// of the object in a transaction copies it; else a header that goes moves the others, and all else takes
+    /// the logarithm of the world.
+    pub fn trim_object(&mut self, addr: Addr, trim: Trim) -> Result<(), NoMemory>
+        requires may { MayTrim trim (object_at self.old.now addr) }
+        ensures trimmed { OnOk result (IfSome (object_at self.old.now addr) (λ z.
+            self.new.now ≡ with_object self.old.now addr (trimmed trim z))) }
         ensures begun { self.new.begun ≡ self.old.begun }
         ensures saved { self.new.saved ≡ self.old.saved }
+        ensures same { OnErr result (self.new.now ≡ self.old.now) }
     {
         self.known_object(addr);
-        self.replace_object(addr, object);
+        let released = heap_charge(self.trim_charge(addr, trim));
+        let by = Change::releasing(self.alloc, released);
+        self.edit_object(addr, Edit::Trim(trim), &by)
     }
 }

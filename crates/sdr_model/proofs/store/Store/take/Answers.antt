@@ -60,3 +60,7 @@ returns-clause-same c =
     ∙ things_at-same now_at c.self.inside.places c.args.addr c.lift-place.result c.take-taken.new.self c.lift-place.ensures.lifted (ap now_at same)
     ∙ ap (λ s. s.now) c.self.view_is ∙ c.in_ok-touch.ensures.now)
     c.take-taken.ensures.same
+
+pub returns-clause-others : goal.returns-clause-others
+returns-clause-others c = λ other was.
+    subst (λ s. Contains s.touched other) (sym c.self.view_is) (c.touch.ensures.others other was)

@@ -3,16 +3,16 @@ use Rattle.sdr_model.specs.Bounds.{AreFewBytes}
 use Rattle.sdr_model.specs.Cuts.{cut_all}
 use Rattle.sdr_model.specs.Zco.{extents_length}
 use Rattle.sdr_model.proofs.StripLemmas.{length-cut}
-use Rattle.sdr_model.proofs.strip_calls.stripped.Goals as goal
+use Rattle.sdr_model.proofs.strip_calls.cut_to_part.Goals as goal
 
 pub whole_of-part-requires : goal.whole_of-part-requires
 whole_of-part-requires c =
     let z = c.args.object.now in
-    let few : AreFewBytes (cut_all z.part.offset c.part_end.result c.as_slice.result.now) =
+    let few : AreFewBytes (cut_all z.part.offset c.part_end-to.result c.as_slice.result.now) =
     omega (
       arith,
-      length-cut z.part.offset c.part_end.result c.as_slice.result.now,
+      length-cut z.part.offset c.part_end-to.result c.as_slice.result.now,
       ap extents_length c.as_slice.ensures,
       c.requires.bounded.extents,
     ) in
-    record { few = subst AreFewBytes (sym (c.as_slice-2.ensures ∙ c.in_ok-extents.ensures)) few }
+    record { few = subst AreFewBytes (sym (c.as_slice-2.ensures ∙ c.in_ok-cuts.ensures)) few }

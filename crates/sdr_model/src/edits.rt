@@ -1,0 +1,115 @@
+// Objects that are changed in place, and what then changes of their uses of sources and of their charges.
+ghost use Rattle.std.specs.Prelude.{◌≡◌, ◌≤◌, ◌^◌, IfSome, [], length};
+ghost use Rattle.std.specs.Option.{option_copied};
+ghost use Rattle.sdr_model.specs.Amounts.{no_amounts};
+ghost use Rattle.sdr_model.specs.Edits.{edited};
+ghost use Rattle.sdr_model.specs.Bounds.{IsBounded};
+ghost use Rattle.sdr_model.specs.Trims.{capsule_bytes_of, trim_charge, trimmed};
+
+use crate::amounts::NOTHING;
+use crate::capsules::capsule_bytes;
+use crate::{Capsule, Extent, Part, ZcoObject};
+use sdr_base::{Amounts, Items};
+use std::alloc::Global;
+
+/// How an object is changed, whose extents all stay.
+#[derive(Clone, Copy, Debug)]
+pub enum Trim {
+    /// It gets another part.
+    Part(Part),
+    /// Its first header goes, if it has one.
+    FirstHeader,
+    /// Its last trailer goes, if it has one.
+    LastTrailer,
+}
+
+/// How an object is changed in place.
+#[derive(Drop, Debug)]
+pub enum Edit {
+    Trim(Trim),
+    /// It gets other extents, and this part of them.
+    Extents(Items<Extent>, Part),
+}
+
+/// By what the uses of sources and the charges of two objects differ.
+#[derive(Drop, Debug)]
+pub struct Change {
+    /// Extents that the object had.
+    pub lost: Items<Extent>,
+    /// Extents that it has instead.
+    pub gained: Items<Extent>,
+    /// What it charges less.
+    pub released: Amounts,
+    /// What it charges more.
+    pub charged: Amounts,
+}
+
+impl Change {
+    /// The extents name the same sources, and so much less is charged.
+    pub fn releasing(alloc: Global, released: Amounts) -> Change
+        ensures { result ≡ record { lost = []; gained = []; released = released; charged = no_amounts } }
+    {
+        Change {
+            lost: Items::new(alloc),
+            gained: Items::new(alloc),
+            released,
+            charged: NOTHING,
+        }
+    }
+}
+
+// The heap space that a header or trailer charges, 0 where there is none.
+fn capsule_bytes_of(capsule: Option<&Capsule>) -> u64
+    requires small { IfSome capsule (λ c. length c.now.text ≤ 2 ^ 62) }
+    ensures { result ≡ capsule_bytes_of (option_copied capsule.entry) }
+{
+    match capsule {
+        Some(capsule) => capsule_bytes(capsule.text.as_slice().len() as u64),
+        None => 0,
+    }
+}
+
+impl ZcoObject {
+    /// The heap space that the object charges less once it is trimmed.
+    pub fn trim_charge(&self, trim: Trim) -> u64
+        requires bounded { IsBounded self.now }
+        ensures { result ≡ trim_charge trim self.now }
+    {
+        match trim {
+            Trim::Part(_) => 0,
+            Trim::FirstHeader => capsule_bytes_of(self.headers.as_slice().first()),
+            Trim::LastTrailer => capsule_bytes_of(self.trailers.as_slice().last()),
+        }
+    }
+
+    // Trims the object. A header that goes moves the others.
+    fn trim(&mut self, trim: Trim)
+        ensures { self.new ≡ trimmed trim self.old }
+    {
+        match trim {
+            Trim::Part(part) => self.part = part,
+            Trim::FirstHeader => {
+                if self.headers.len() > 0 {
+                    self.headers.remove(0);
+                }
+            }
+            Trim::LastTrailer => {
+                let left = self.trailers.len().saturating_sub(1);
+                self.trailers.truncate(left);
+            }
+        }
+    }
+
+    /// Changes the object. Its headers and trailers aren't copied.
+    pub fn edit(&mut self, edit: Edit)
+        ensures { self.new ≡ edited edit self.old }
+    {
+        match edit {
+            Edit::Trim(trim) => self.trim(trim),
+            Edit::Extents(extents, part) => {
+                self.extents = extents;
+                self.part = part;
+            }
+        }
+    }
+}
