@@ -1,5 +1,5 @@
 -- Calls that read media, as steps of the machine.
-use Rattle.std.proofs.Common.{◌≡◌, ◌<◌, ◌≤◌, ◌==◌, ◌&&◌, ℕ, List, [], ◌∷◌, Bool, true, false, not, cond, ◌+◌, unwrap_or, Result, Ok, Err, IfOk, IfSome, Option, None, Some, ◌⊎◌, inl, inr, length, refl, sym, ap, ◌∙◌, subst, arith, MatchBool, MatchOption, true≢false}
+use Rattle.std.proofs.Common.{◌≡◌, ◌<◌, ◌≤◌, ◌==◌, ◌&&◌, ℕ, List, [], ◌∷◌, Bool, true, false, not, cond, ◌+◌, unwrap_or, Result, Ok, Err, IfOk, IfSome, Option, None, Some, ◌⊎◌, inl, inr, length, refl, sym, ap, ◌∙◌, subst, arith, drop, length-drop, MatchBool, MatchOption, true≢false}
 use Rattle.std.proofs.lemmas.Bool.{ltb-false}
 use Rattle.std.specs.Option.{option_map_or}
 use Rattle.std.specs.Prelude.{find, is_none, nat_le, nat_lt, ⊤}
@@ -506,12 +506,14 @@ after_settled events m daemon given after = settled_at (find (λ h. h.daemon == 
         (transaction_of h (record m.current { shown = unwrap_or given m.current.shown }))) o m)
     settled_at None = record {
       drawn = omega (arith, after.drawn);
+      held = omega (arith, after.held);
       taken = omega (arith, after.taken);
       world = few_more events (events + 1) m.world.things (omega arith) after.world;
       current = few_more events (events + 1) m.current.things (omega arith) after.current;
     }
     settled_at (Some h) = record {
       drawn = omega (arith, after.drawn);
+      held = omega (arith, after.held, length-drop 1 m.holders);
       taken = omega (arith, after.taken);
       world = few_more events (events + 1) m.world.things (omega arith) after.world;
       current = few_more events (events + 1) m.current.things (omega arith) after.current;

@@ -18,10 +18,11 @@ pub record HasFewPieces (most : ℕ) (all : Things) : Type 0 where
 abbrev pub most_pieces : ℕ
 most_pieces = 2 ^ 22
 
--- After so many events the machine drew no more numbers, no object has more pieces, and each event took at most 2^24
--- blocks.
+-- After so many events the machine drew no more numbers, no more are held, no object has more pieces, and each event took
+-- at most 2^24 blocks.
 pub record IsAfter (events : ℕ) (m : Machine) : Type 0 where
   pub drawn : m.drawn ≤ events
+  pub held : length m.holders ≤ events
   pub taken : m.current.taken ≤ 2 ^ 24 * events
   pub world : HasFewPieces events m.world.things
   pub current : HasFewPieces events m.current.things

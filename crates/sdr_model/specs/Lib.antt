@@ -24,6 +24,7 @@ pub mod Gone
 pub mod HashChanges
 pub mod HashSteps
 pub mod Hashes
+pub mod Leaving
 pub mod Ledger
 pub mod Limits
 pub mod ListSteps

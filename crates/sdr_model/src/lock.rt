@@ -5,6 +5,7 @@ ghost use Rattle.sdr_model.specs.AccountSteps.{is_granted};
 ghost use Rattle.sdr_model.specs.Accounts.{pending_among};
 ghost use Rattle.sdr_model.specs.Asking.{Asks, AsksNothing, makes_calls, settled};
 ghost use Rattle.sdr_model.specs.Few.{HasFewPieces, most_pieces};
+ghost use Rattle.sdr_model.specs.Leaving.{holding, staying};
 ghost use Rattle.sdr_model.specs.Transaction.{refused};
 ghost use Rattle.sdr_model.specs.Machine.{MachineStep, Goes, Draws, Comes, ComesLooking, ComesLeaving, LooksAt, Leaving, Looks, Opens, Serves, Closes, Waits, Holds, event_moves, says_moves, first_machine, served_number, is_outside, is_stalled, may_come, with_entry, with_wait, with_left, with_holder};
 
@@ -161,6 +162,34 @@ impl Lock {
         ensures { result.now ≡ self.now.current.shown }
     {
         self.world.shown()
+    }
+
+    /// The daemons.
+    pub fn daemons(&self) -> Result<Vec<u8>, NoMemory>
+        ensures { IfOk result (λ daemons. daemons.items ≡ self.now.daemons) }
+    {
+        Vec::from_slice(self.alloc, &self.daemons)
+    }
+
+    /// The daemons that hold a number, in lock order.
+    pub fn holding(&self) -> Result<Vec<u8>, NoMemory>
+        ensures { IfOk result (λ daemons. daemons.items ≡ holding self.now) }
+    {
+        self.holders
+            .iter()
+            .map(|holder| holder.daemon)
+            .collect(self.alloc)
+    }
+
+    /// Those of these daemons that haven't left.
+    pub fn staying(&self, daemons: &[u8]) -> Result<Vec<u8>, NoMemory>
+        ensures { IfOk result (λ staying. staying.items ≡ staying self.now daemons.now) }
+    {
+        daemons
+            .iter()
+            .copied()
+            .filter(|daemon| !is_among(&self.left, *daemon))
+            .collect(self.alloc)
     }
 
     fn draw(&mut self, daemon: u8, depth: u64) -> Result<Answer, NoMemory>

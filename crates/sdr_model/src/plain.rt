@@ -1,9 +1,10 @@
 // The machine on a plain world.
-ghost use Rattle.std.specs.Prelude.{◌≡◌, ◌<◌, ◌+◌, IfOk, IfSome, None, Ok, OnOk, OnErr};
+ghost use Rattle.std.specs.Prelude.{◌≡◌, ◌<◌, ◌≤◌, ◌+◌, ◌*◌, IfOk, IfSome, None, Ok, OnOk, OnErr, length};
 ghost use Rattle.sdr_model.specs.Asking.{Asks, AsksNothing, settled};
+ghost use Rattle.sdr_model.specs.Leaving.{AllLeave, LeaveInTurn};
 ghost use Rattle.sdr_model.specs.Machine.{MachineStep, event_moves, first_machine};
 
-use crate::{Answer, Event, Lock, Piece};
+use crate::{Answer, Event, Leave, Lock, Piece};
 use sdr_base::{Bytes, Items, NoMemory};
 use std::alloc::Global;
 use std::marker::Model;
@@ -46,9 +47,9 @@ impl Plain {
         self.lock.shown()
     }
 
-    /// Makes an event of a daemon, of a statement on this line. Want of memory leaves all as before.
-    pub fn event(&mut self, daemon: u8, _line: u64, event: &Event) -> Result<Answer, NoMemory>
-        requires events { self.old.events < 2_097_152 }
+    // Makes an event of a daemon. Want of memory leaves all as before.
+    fn make(&mut self, daemon: u8, event: &Event) -> Result<Answer, NoMemory>
+        requires events { self.old.events < 4_194_304 }
         ensures step { IfOk result (λ answer. MachineStep self.old.machine daemon event.now answer
             (event_moves self.old.machine event.now answer) self.new.machine) }
         ensures events { OnOk result (self.new.events ≡ self.old.events + 1) }
@@ -57,6 +58,17 @@ impl Plain {
         let answer = self.lock.event(daemon, event)?;
         self.events += 1;
         Ok(answer)
+    }
+
+    /// Makes an event of a daemon, of a statement on this line. Want of memory leaves all as before.
+    pub fn event(&mut self, daemon: u8, _line: u64, event: &Event) -> Result<Answer, NoMemory>
+        requires events { self.old.events < 2_097_152 }
+        ensures step { IfOk result (λ answer. MachineStep self.old.machine daemon event.now answer
+            (event_moves self.old.machine event.now answer) self.new.machine) }
+        ensures events { OnOk result (self.new.events ≡ self.old.events + 1) }
+        ensures err { OnErr result (self.new ≡ self.old) }
+    {
+        self.make(daemon, event)
     }
 
     /// The pieces that are asked of media before an event is answered: those of the bytes that its call gives. It
@@ -76,5 +88,30 @@ impl Plain {
     {
         self.lock.settle(daemon, given);
         self.events += 1;
+    }
+
+    // These daemons make a leave each, in this order.
+    fn leave_in_turn(&mut self, daemons: &[u8], leave: Leave) -> Result<(), NoMemory>
+        requires events { self.old.events + length daemons.now ≤ 4_194_304 }
+        ensures left { OnOk result (LeaveInTurn leave daemons.now self.old.machine self.new.machine) }
+        ensures events { OnOk result (self.new.events ≡ self.old.events + length daemons.now) }
+    {
+        for daemon in daemons {
+            self.make(*daemon, &Event::Leaves(leave))?;
+        }
+        Ok(())
+    }
+
+    /// Makes the leaves at the end of the input: each daemon that holds a number makes one, in lock order, and then
+    /// those that haven't left yet do, in their order.
+    pub fn leave_all(&mut self, leave: Leave) -> Result<(), NoMemory>
+        requires events { 2 * self.old.events + length self.old.machine.daemons ≤ 4_194_304 }
+        ensures { OnOk result (AllLeave leave self.old.machine self.new.machine) }
+    {
+        let daemons = self.lock.daemons()?;
+        let holding = self.lock.holding()?;
+        self.leave_in_turn(&holding, leave)?;
+        let staying = self.lock.staying(&daemons)?;
+        self.leave_in_turn(&staying, leave)
     }
 }
