@@ -64,6 +64,7 @@ first_ticket = record {
   granted = true;
 }
 
+-- the ticket behind it, which waits
 abbrev pub second_ticket : Ticket
 second_ticket = record {
   block = 72;

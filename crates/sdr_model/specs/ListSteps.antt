@@ -34,6 +34,7 @@ abbrev pub bytes_of : Option (List ℕ) → List ℕ
 bytes_of None = []
 bytes_of (Some bytes) = take longest_sort_key bytes
 
+-- the key that a datum is compared by
 abbrev pub sort_key : World → ℕ → List ℕ
 sort_key w datum = bytes_of (as_raw (thing_at w datum))
 

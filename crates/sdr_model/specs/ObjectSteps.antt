@@ -105,9 +105,11 @@ with_header z c = record z { headers = c ∷ z.headers }
 abbrev pub with_trailer : ZcoObject → Capsule → ZcoObject
 with_trailer z c = record z { trailers = z.trailers ++ c ∷ [] }
 
+-- an object gets a header in front of its others
 abbrev pub PrependHeader : World → Outcome → ℕ → ℕ → List ℕ → Type 0
 PrependHeader w o addr number text = AddsCapsule w o addr number text with_header
 
+-- an object gets a trailer behind its others
 abbrev pub AppendTrailer : World → Outcome → ℕ → ℕ → List ℕ → Type 0
 AppendTrailer w o addr number text = AddsCapsule w o addr number text with_trailer
 

@@ -44,6 +44,7 @@ abbrev pub keyed_at : Hash → Option ℕ → List ℕ
 keyed_at hash None = []
 keyed_at hash (Some place) = entry_addr hash.entries place ∷ []
 
+-- the entry of a key, where there is a hash that has it
 abbrev pub keyed_in : Option Hash → List ℕ → List ℕ
 keyed_in None key = []
 keyed_in (Some hash) key = keyed_at hash (position (has_key key) hash.entries)

@@ -34,10 +34,11 @@ raw_need bytes = 8 + bytes
 abbrev pub text_need : ℕ → ℕ
 text_need bytes = 1 + bytes
 
--- what a list fills, and what an element fills
+-- what a list fills
 abbrev pub list_need : ℕ
 list_need = 32
 
+-- what an element of a list fills
 abbrev pub element_need : ℕ
 element_need = 32
 

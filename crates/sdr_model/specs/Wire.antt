@@ -106,14 +106,18 @@ source_part w place count z = some_of (max place z.part.offset) count (take (par
 abbrev pub trailers_part : World → ℕ → ℕ → ZcoObject → Told
 trailers_part w place count z = some_of (max place (part_end z)) count (extents_told w z.extents)
 
+-- a transmit gives so many of the bytes on the wire, from a place on
 abbrev pub Transmit : World → Outcome → ℕ → ℕ → ℕ → Type 0
 Transmit w o addr place count = GivesOf w o addr count (wire_part w place count)
 
+-- a receive gives so many of the extents' bytes in front of the part, from a place on
 abbrev pub ReceiveHeaders : World → Outcome → ℕ → ℕ → ℕ → Type 0
 ReceiveHeaders w o addr place count = GivesOf w o addr count (headers_part w place count)
 
+-- a receive gives so many of the part's bytes, from a place among all extents' bytes on
 abbrev pub ReceiveSource : World → Outcome → ℕ → ℕ → ℕ → Type 0
 ReceiveSource w o addr place count = GivesOf w o addr count (source_part w place count)
 
+-- a receive gives so many of the extents' bytes behind the part, from a place among all on
 abbrev pub ReceiveTrailers : World → Outcome → ℕ → ℕ → ℕ → Type 0
 ReceiveTrailers w o addr place count = GivesOf w o addr count (trailers_part w place count)
