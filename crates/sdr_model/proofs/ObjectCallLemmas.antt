@@ -141,13 +141,7 @@ noted_there w w' k z copy noted same there is all =
     subst (λ o. IfSome o (λ z. All (λ e. Contains noted e.source) z.extents)) (there ∙ ap (λ v. object_at v k) (sym same))
     (subst (λ (z : ZcoObject). All (λ e. Contains noted e.source) z.extents) is all)
 
--- an object is there still after a charge for blocks
-pub there_after : (w wt wc : World) (p : Option Pending) (amounts : Amounts) (n k : ℕ) (z : ZcoObject) → wt ≡ w
-    → wc ≡ with_blocks (with_used wt p amounts) n → Some z ≡ object_at w k → object_at wc k ≡ Some z
-there_after w wt wc p amounts n k z same taken there =
-    ap (λ v. object_at v k) taken ∙ ap as_object (thing_at-blocks wt p amounts n k) ∙ ap (λ v. object_at v k) same ∙ sym there
-
--- and so many more blocks are counted
+-- so many more blocks are counted after a charge for them
 pub taken_after : (w wt wc : World) (p : Option Pending) (amounts : Amounts) (n : ℕ) → wt ≡ w
     → wc ≡ with_blocks (with_used wt p amounts) n → wc.taken ≡ w.taken + n
 taken_after w wt wc None amounts n same taken =

@@ -16,7 +16,7 @@ use Rattle.sdr_model.specs.Notes.{Notes, UsesMore, note_at, noted_count, raw_of}
 use Rattle.sdr_model.specs.Owners.{AllOwnInside}
 use Rattle.sdr_model.specs.SourceSteps.{flagged}
 use Rattle.sdr_model.specs.Steps.{with_thing}
-use Rattle.sdr_model.specs.Store.{Store, with_at}
+use Rattle.sdr_model.specs.Store.{Store}
 use Rattle.sdr_model.specs.Things.{Owners, Things}
 use Rattle.sdr_model.specs.World.{World, thing_at}
 use Rattle.sdr_model.specs.Zco.{as_source, count_of, extents_length, names_raw, naming}
