@@ -1,6 +1,7 @@
 -- Facts that go by cases, taken apart.
-use Rattle.std.proofs.Common.{◌≡◌, Bool, true, false, Option, Some, None, Ok, Err, MatchBool, MatchOption, refl}
-use Rattle.std.specs.Prelude.{Result, IfOk, OnErr, OnOk}
+use Rattle.std.proofs.Common.{◌≡◌, Bool, true, false, Option, Some, None, Ok, Err, MatchBool, MatchOption, is_some, refl, sym, true≢false}
+use Rattle.std.specs.Option.{option_map}
+use Rattle.std.specs.Prelude.{Result, IfOk, IfSome, IsSome, OnErr, OnOk}
 
 -- what follows from both sides of a test
 pub in_bool : {P Q R : Type 0} (b : Bool) → MatchBool b P Q → (P → R) → (Q → R) → R
@@ -36,3 +37,18 @@ in_option_is (Some x) h f g = g x refl h
 pub on_err_always : {T E P : Type 0} (r : Result T E) → P → OnErr r P
 on_err_always (Ok x) p = tt
 on_err_always (Err e) p = p
+
+-- what holds of all values holds of one, if there is one
+pub if_some_always : {T : Type 0} {P : T → Type 0} (o : Option T) → ((x : T) → P x) → IfSome o P
+if_some_always None all = tt
+if_some_always (Some x) all = all x
+
+-- a value that is there
+pub some_is : {T : Type 0} (o : Option T) → IsSome o → (x : T) × (o ≡ Some x)
+some_is None none = absurd (true≢false (sym none))
+some_is (Some x) some = (x, refl)
+
+-- what is made of a value is there where the value is
+pub mapped_some : {T U : Type 0} (f : T → U) (o : Option T) → is_some (option_map f o) ≡ is_some o
+mapped_some f None = refl
+mapped_some f (Some x) = refl

@@ -23,10 +23,12 @@ pub mod FewLemmas
 pub mod FewSteps
 pub mod GoneLemmas
 mod HashExample
+pub mod GrowLemmas
 pub mod HashLemmas
 pub mod MachineLemmas
 pub mod MapLemmas
 pub mod NamesLemmas
+pub mod LogLemmas
 pub mod NotesLemmas
 pub mod ObjectCallLemmas
 pub mod ObjectLemmas

@@ -66,15 +66,6 @@ module _ (log : List (ℕ × Note)) (k : ℕ) (note : Note) (notes new : Notes)
   pub undone-kept : SameNotes (undone log new) (undone log notes)
   undone-kept = undone-same log new notes now-touched
 
-  pub undone-touched : SameNotes (undone (log ++ (k, note) ∷ []) new) (undone log notes)
-  undone-touched =
-      subst (λ m. SameNotes m (undone log notes)) (sym (undone-push log k note new))
-      (undone-same log (insert new k note) notes (λ q. note_at-insert new k note q ∙ by q (is_at (nat_cmp q) k) refl))
-    where
-      by : (q : ℕ) (b : Bool) → is_at (nat_cmp q) k ≡ b → cond b note (note_at new q) ≡ note_at notes q
-      by q true at = there ∙ sym (ap (note_at notes) (same_address q k at))
-      by q false at = now-touched q
-
 -- where a log has an address, it doesn't matter what note is there now
 first_logged-any : (log : List (ℕ × Note)) (k : ℕ) (a b : Note) → Contains (logged log) k
     → first_logged log k a ≡ first_logged log k b
@@ -124,41 +115,20 @@ some-there notes k note =
     subst IsSome (sym (get-insert nat_cmp_total notes k note k ∙ ap (λ b. cond b (Some note) (get notes k)) (at_itself k)))
     refl
 
--- the addresses of a longer log
-pub logged-push : (log : List (ℕ × Note)) (k : ℕ) (note : Note) → logged (log ++ (k, note) ∷ []) ≡ logged log ++ k ∷ []
-logged-push [] k note = refl
-logged-push (e ∷ log) k note = ap (λ ks. e.0 ∷ ks) (logged-push log k note)
-
--- the one element of a list
-only : {k : ℕ} (q : ℕ) → Contains (k ∷ []) q → q ≡ k
-only q (zero, lt, is) = sym is
-only q (suc i, lt, is) = absurd (omega (arith, lt))
-
--- one more address was touched
-pub HaveNotes-touched : (log : List (ℕ × Note)) (k : ℕ) (note : Note) (notes : Notes) → HaveNotes log notes
-    → HaveNotes (log ++ (k, note) ∷ []) (insert notes k note)
-HaveNotes-touched log k note notes have q has =
-    by (Contains-append_cases (logged log) (k ∷ []) q (subst (λ ks. Contains ks q) (logged-push log k note) has))
-  where
-    by : Contains (logged log) q ⊎ Contains (k ∷ []) q → IsSome (get (insert notes k note) q)
-    by (inl old) = some-inserted notes k q note (have q old)
-    by (inr new) = subst (λ a. IsSome (get (insert notes k note) a)) (sym (only q new)) (some-there notes k note)
-
 -- a note was set
 pub HaveNotes-set : (log : List (ℕ × Note)) (k : ℕ) (note : Note) (notes : Notes) → HaveNotes log notes
     → HaveNotes log (insert notes k note)
 HaveNotes-set log k note notes have q has = some-inserted notes k q note (have q has)
 
--- a longer log has the addresses of the shorter one, and its own
+-- the addresses of a longer log are those of the shorter one, and its own
+pub logged-push : (log : List (ℕ × Note)) (k : ℕ) (note : Note) → logged (log ++ (k, note) ∷ []) ≡ logged log ++ k ∷ []
+logged-push [] k note = refl
+logged-push (e ∷ log) k note = ap (λ ks. e.0 ∷ ks) (logged-push log k note)
+
 pub logged-more : (log : List (ℕ × Note)) (k : ℕ) (note : Note) (q : ℕ) → Contains (logged log) q
     → Contains (logged (log ++ (k, note) ∷ [])) q
 logged-more log k note q has =
     subst (λ ks. Contains ks q) (sym (logged-push log k note)) (Contains-append_left (logged log) (k ∷ []) q has)
-
-pub logged-last : (log : List (ℕ × Note)) (k : ℕ) (note : Note) → Contains (logged (log ++ (k, note) ∷ [])) k
-logged-last log k note =
-    subst (λ ks. Contains ks k) (sym (logged-push log k note))
-    (Contains-append_right (logged log) (k ∷ []) k (0, omega arith, refl))
 
 -- an address compares alike to another just where it is the same
 pub is_at-same : (q k : ℕ) → is_at (nat_cmp q) k ≡ (k == q)

@@ -4,7 +4,6 @@ use Rattle.std.specs.BTreeMap.{is_at}
 use Rattle.std.specs.FinMap.{get}
 use Rattle.std.specs.Ordering.{nat_cmp}
 use Rattle.std.specs.Prelude.{MatchBool, MatchOption, nat_lt}
-use Rattle.sdr_base.specs.declared.account.Acct.{Acct}
 use Rattle.sdr_base.specs.declared.account.Amounts.{Amounts}
 use Rattle.sdr_base.specs.declared.kind.Space.{Space}
 use Rattle.sdr_base.specs.declared.kind.Space.TheVariants as spaces
@@ -13,17 +12,18 @@ use Rattle.sdr_base.specs.declared.moves.Move.TheVariants.{Took}
 use Rattle.sdr_base.specs.declared.refusal.Refusal.{Refusal}
 use Rattle.sdr_base.specs.declared.refusal.Refusal.TheVariants as refusals
 use Rattle.sdr_model.specs.Accounts.{Pending}
-use Rattle.sdr_model.specs.Allowed.{HasRoomFor, MayCharge, RefusesCharge}
-use Rattle.sdr_model.specs.Amounts.{amount, amounts_by}
-use Rattle.sdr_model.specs.Charges.{bytes_charge, object_charge, occupancy, space_in, thing_charge}
+use Rattle.sdr_model.specs.Allowed.{MayCharge, RefusesCharge}
+use Rattle.sdr_model.specs.Amounts.{amounts_by}
+use Rattle.sdr_model.specs.Charges.{bytes_charge}
 use Rattle.sdr_model.specs.Charging.{Charges, with_used}
 use Rattle.sdr_model.specs.Dry.{StepsDry, addr_after, dry_moves, next_addr, with_blocks}
 use Rattle.sdr_model.specs.ObjectSteps.{AppendsRaw, AppendsSource, InRange, raw_append_moves, with_extent, with_object}
 use Rattle.sdr_model.specs.RowMoves.{append_moves}
 use Rattle.sdr_model.specs.Rows.{ByRow}
 use Rattle.sdr_model.specs.SourceSteps.{new_source}
+use Rattle.sdr_model.specs.Store.{with_at}
 use Rattle.sdr_model.specs.Steps.{DoesWith, On, Outcome, Refuses, with_thing}
-use Rattle.sdr_model.specs.Tallies.{MayReplace}
+use Rattle.sdr_model.specs.Tallies.{is_plain}
 use Rattle.sdr_model.specs.Things.{extent_need, source_need}
 use Rattle.sdr_model.specs.World.{World, as_raw, thing_at}
 use Rattle.sdr_model.specs.Zco.{as_object, as_source, object_at, source_at, source_on, uses_of}
@@ -37,63 +37,67 @@ use Rattle.sdr_model.specs.declared.zco.Subject.TheVariants as subjects
 use Rattle.sdr_model.specs.declared.zco.ZcoObject.{ZcoObject}
 use Rattle.sdr_model.specs.declared.zco.ZcoSource.{ZcoSource}
 use Rattle.sdr_model.proofs.ChargeLemmas.{charge_allowed, charge_refused}
-use Rattle.sdr_model.proofs.ExtentLemmas.{amount_of, replace-extent}
-use Rattle.sdr_model.proofs.StoreLemmas.{at_itself, get-with_at, same_address}
-use Rattle.sdr_model.proofs.SumLemmas.{counted_at}
+use Rattle.sdr_model.proofs.ObjectCallLemmas.{thing_at-blocks}
+use Rattle.sdr_model.proofs.StoreLemmas.{get-with_at, same_address, same_things}
 use Rattle.sdr_model.proofs.TakenLemmas.{Agree, does-with, run}
-use Rattle.sdr_model.proofs.TallyLemmas.{All-each, SameSpace, charged-with_at, object_charge-same, same_spaces}
 
 -- the source that takes over a raw object of so many bytes
 abbrev pub taking_source : ℕ → ℕ → Thing
 taking_source raw have = things.Source (new_source (subjects.Heap raw) have)
 
--- such a source is made where nothing is
-module _ (w : World) (src raw have : ℕ) (none : get w.things src ≡ None) where
-  abbrev made : World
-  made = with_thing w src (taking_source raw have)
+-- such a source is made where nothing is, after the object was put at its address
+pub made_behind : (w : World) (k src : ℕ) (z : ZcoObject) (object thing : Thing) → object_at w k ≡ Some z → get w.things src ≡ None
+    → with_thing (with_thing w k object) src thing ≡ with_thing (with_thing w src thing) k object
+made_behind w k src z object thing there none =
+    ap (λ m. record w { things = m }) (same_things _ _ (λ q.
+    get-with_at (with_at w.things k (Some object)) src (Some thing) q
+    ∙ ap (cond (is_at (nat_cmp q) src) (Some thing)) (get-with_at w.things k (Some object) q)
+    ∙ by q (is_at (nat_cmp q) src) (is_at (nat_cmp q) k) refl refl
+    ∙ sym (get-with_at (with_at w.things src (Some thing)) k (Some object) q
+    ∙ ap (cond (is_at (nat_cmp q) k) (Some object)) (get-with_at w.things src (Some thing) q))))
+  where
+    by : (q : ℕ) (a b : Bool) → is_at (nat_cmp q) src ≡ a → is_at (nat_cmp q) k ≡ b
+        → cond a (Some thing) (cond b (Some object) (get w.things q)) ≡ cond b (Some object) (cond a (Some thing) (get w.things q))
+    by q true true at_src at_k =
+        let gone : None ≡ Some z =
+        ap as_object (sym none) ∙ ap (λ a. as_object (get w.things a)) (sym (same_address q src at_src) ∙ same_address q k at_k) ∙ there in
+        absurd cc
+    by q true false at_src at_k = refl
+    by q false true at_src at_k = refl
+    by q false false at_src at_k = refl
 
-  -- an object that was there is there still
-  pub there-made : (k : ℕ) (z : ZcoObject) → object_at w k ≡ Some z → object_at made k ≡ Some z
-  there-made k z there = ap as_object (get-with_at w.things src (Some (taking_source raw have)) k) ∙ by (is_at (nat_cmp k) src) refl
-    where
-      by : (b : Bool) → is_at (nat_cmp k) src ≡ b
-          → as_object (cond b (Some (taking_source raw have)) (get w.things k)) ≡ Some z
-      by true at =
-          let gone : None ≡ Some z =
-          ap as_object (sym none) ∙ ap (λ a. as_object (get w.things a)) (sym (same_address k src at)) ∙ there in
-          absurd cc
-      by false at = there
+-- an object in the place of another leaves what is neither a source nor an object
+pub plain_grown : (w : World) (k q : ℕ) (z grown : ZcoObject) → object_at w k ≡ Some z
+    → is_plain (thing_at (with_object w k grown) q) ≡ is_plain (thing_at w q)
+plain_grown w k q z grown there =
+    ap is_plain (get-with_at w.things k (Some (things.Object grown)) q) ∙ by (is_at (nat_cmp q) k) refl
+  where
+    object : (o : Option Thing) → as_object o ≡ Some z → false ≡ is_plain o
+    object None some = let no : None ≡ Some z = some in absurd cc
+    object (Some (things.Object y)) some = refl
+    object (Some thing) some = let no : None ≡ Some z = some in absurd cc
 
-  -- the source is there
-  source-made : source_at made src ≡ Some (new_source (subjects.Heap raw) have)
-  source-made =
-      ap as_source (get-with_at w.things src (Some (taking_source raw have)) src)
-      ∙ ap (λ b. as_source (cond b (Some (taking_source raw have)) (get w.things src))) (at_itself src)
+    by : (b : Bool) → is_at (nat_cmp q) k ≡ b
+        → is_plain (cond b (Some (things.Object grown)) (get w.things q)) ≡ is_plain (get w.things q)
+    by true at = object (get w.things q) (ap (λ a. as_object (get w.things a)) (same_address q k at) ∙ there)
+    by false at = refl
 
-  -- the space of each source is the same
-  same-made : (q : ℕ) → space_in (source_at made q) ≡ space_in (source_at w q)
-  same-made =
-      same_spaces w.things w.accounts src (Some (taking_source raw have)) (ap (λ t. space_in (as_source t)) (sym none))
+-- so does one that grew by a charge for two blocks
+pub plain_still : (w w' : World) (k : ℕ) (z grown : ZcoObject) (p : Option Pending) (amounts : Amounts) → object_at w k ≡ Some z
+    → w' ≡ with_object (with_blocks (with_used w p amounts) 2) k grown → (q : ℕ)
+    → is_plain (thing_at w' q) ≡ is_plain (thing_at w q)
+plain_still w w' k z grown p amounts there put q =
+    ap (λ v. is_plain (thing_at v q)) put
+    ∙ plain_grown (with_blocks (with_used w p amounts) 2) k q z grown (ap as_object (thing_at-blocks w p amounts 2 k) ∙ there)
+    ∙ ap is_plain (thing_at-blocks w p amounts 2 q)
 
-  -- as much is occupied as before
-  occupancy-made : (acct : Acct) (space : Space) → occupancy made acct space ≡ occupancy w acct space
-  occupancy-made acct space =
-      omega (
-        arith,
-        charged-with_at w.things w.accounts src (Some (taking_source raw have))
-            (λ q y is. All-each (SameSpace w made) (λ e. same-made e.source) y.extents) acct space,
-        ap (counted_at (λ e. thing_charge w acct space e.1) src) none,
-      )
-
-  -- an account that has room for an extent of it may have the object with it
-  pub replace-raw-extent : (k : ℕ) (z : ZcoObject) (e : Extent) (amounts : Amounts) → object_at w k ≡ Some z
-      → e.source ≡ src → amounts ≡ amounts_by (bytes_charge spaces.Heap e.length)
-      → HasRoomFor w z.account amounts → MayReplace made (object_at made k) (with_extent z e)
-  replace-raw-extent k z e amounts there of is room =
-      replace-extent made k z e amounts (there-made k z there)
-      (λ space. amount_of amounts (bytes_charge spaces.Heap e.length) space is
-      ∙ ap (λ t. bytes_charge (space_in t) e.length space) (sym (ap (source_at made) of ∙ source-made)))
-      (λ space. omega (arith, occupancy-made z.account space, room space))
+-- a raw object is neither a source nor an object
+pub raw_plain : (o : Option Thing) (text : List ℕ) → as_raw o ≡ Some text → is_plain o ≡ true
+raw_plain None text some = let no : None ≡ Some text = some in absurd cc
+raw_plain (Some (things.Raw bytes)) text some = refl
+raw_plain (Some (things.Source s)) text some = let no : None ≡ Some text = some in absurd cc
+raw_plain (Some (things.Object z)) text some = let no : None ≡ Some text = some in absurd cc
+raw_plain (Some thing) text some = let no : None ≡ Some text = some in absurd cc
 
 -- the row of an append of a part of a raw object
 pub raw_append-row : (w : World) (o : Outcome) (k number named offset bytes : ℕ) (z : ZcoObject) (text : List ℕ)

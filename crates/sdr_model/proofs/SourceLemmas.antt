@@ -1,5 +1,5 @@
 -- Sums of a world where a source comes, goes or is flagged.
-use Rattle.std.proofs.Common.{◌≡◌, ◌≤◌, ◌<◌, ◌+◌, ◌==◌, ℕ, zero, suc, arith, Bool, true, false, List, [], ◌∷◌, cond, Option, Some, None, ap, sym, ◌∙◌, refl, subst, unwrap_or, true≢false}
+use Rattle.std.proofs.Common.{◌≡◌, ◌≤◌, ◌<◌, ◌+◌, ◌==◌, ℕ, zero, suc, arith, Bool, true, false, List, [], ◌∷◌, cond, Option, Some, None, ap, sym, ◌∙◌, refl, subst, unwrap_or, true≢false, ◌⊎◌, inl, inr}
 use Rattle.std.proofs.lemmas.Bool.{eqb-false, eqb-true}
 use Rattle.std.proofs.lemmas.List.Elements.{All-cons, All-head, All-nil, All-tail, All-weaker}
 use Rattle.std.proofs.lemmas.List.Sums.{sum_by-cons}
@@ -11,6 +11,7 @@ use Rattle.std.specs.Prelude.{IfSome, IsSome}
 use Rattle.sdr_base.specs.declared.account.Acct.{Acct}
 use Rattle.sdr_base.specs.declared.account.Acct.TheVariants as accts
 use Rattle.sdr_base.specs.declared.kind.Space.{Space}
+use Rattle.sdr_base.specs.declared.kind.Space.TheVariants as spaces
 use Rattle.sdr_model.specs.Accounts.{is_same_account}
 use Rattle.sdr_model.specs.Charges.{space_in, thing_charge}
 use Rattle.sdr_model.specs.Ledger.{Ledger}
@@ -22,7 +23,7 @@ use Rattle.sdr_model.specs.Store.{Store, with_at}
 use Rattle.sdr_model.specs.Tallies.{IsKept, IsSound, KnowSources, RawsArePlain, Tallied, is_plain, names_at, raw_of_thing, world_of}
 use Rattle.sdr_model.specs.Things.{Owners, Things}
 use Rattle.sdr_model.specs.World.{World}
-use Rattle.sdr_model.specs.Zco.{as_object, as_source, count_of, is_of_raw, naming, names_raw, source_on, uses_in, uses_of}
+use Rattle.sdr_model.specs.Zco.{as_object, as_source, count_of, is_of_raw, naming, names_raw, source_on, space_of, uses_in, uses_of}
 use Rattle.sdr_model.specs.declared.accounts.Accounts.{Accounts}
 use Rattle.sdr_model.specs.declared.tally.Charged.{Charged}
 use Rattle.sdr_model.specs.declared.tally.Tally.{Tally}
@@ -38,7 +39,7 @@ use Rattle.sdr_model.proofs.RawLemmas.{raws-plain, raws-with_at, unnamed_raws}
 use Rattle.sdr_model.proofs.StoreLemmas.{get-with_at, same_address, at_itself}
 use Rattle.sdr_model.proofs.SumLemmas.{counted_at, sum_by-removed}
 use Rattle.sdr_model.proofs.TallyBounds.{source_on-known}
-use Rattle.sdr_model.proofs.TallyLemmas.{All-each, KnowSources-same, SameSpace, Tallied-notes, Tallied-of, charged-with_at, count_of-with_at, plain_names, same_spaces, sound-with_at, sum_by-nothing, sum_by-things, sum_same}
+use Rattle.sdr_model.proofs.TallyLemmas.{All-each, KnowSources-same, SameSpace, Tallied-notes, Tallied-of, charged-with_at, count_of-with_at, plain_names, plain_source, same_spaces, sound-with_at, sum_by-nothing, sum_by-things, sum_same}
 
 -- what isn't an object names nothing and charges nothing
 module _ (k : ℕ) (o : Option Thing) (no_object : as_object o ≡ None) where
@@ -262,7 +263,8 @@ module _ (owners : Owners) (tally noted : Tally) (next : ℕ) (store changed : S
 
   pub IsKept-put : changed.now ≡ with_at store.now k (Some (things.Source s))
       → NameSource (raw_of s.subject) (Some k) tally.notes.now noted.notes.now
-      → k < next → is_plain (get store.now k) ≡ true → uses_of (world_of store.now ledger.now) k ≡ 0
+      → k < next → is_plain (get store.now k) ≡ true
+      → uses_of (world_of store.now ledger.now) k ≡ 0 ⊎ space_of s.subject ≡ spaces.Heap
       → s.length ≤ longest_source
       → IfSome (raw_of s.subject) (λ raw. source_on (world_of store.now ledger.now) raw ≡ None)
       → source_on (world_of store.now ledger.now) k ≡ None
@@ -281,7 +283,7 @@ module _ (owners : Owners) (tally noted : Tally) (next : ℕ) (store changed : S
           ledger.now ledger.now refl sums_now now refl
           (Tallied-source tally.notes.now noted.notes.now tally.now next store.now ledger.now k (Some (things.Source s))
           (plain_no_object (get store.now k) plain) refl small
-          (unused_spaces store.now ledger.now k (Some (things.Source s)) refl unused)
+          (stay unused)
           (named-counts (raw_of s.subject) (Some k) tally.notes.now noted.notes.now named)
           (KnowSources-made store.now k s (raw_of s.subject) tally.notes.now noted.notes.now (raw_of-is s) named
           free (λ q. plain_names q (get store.now k) plain) kept.told.now.sources)
@@ -292,6 +294,15 @@ module _ (owners : Owners) (tally noted : Tally) (next : ℕ) (store changed : S
     };
   }
     where
+      stay : uses_of (world_of store.now ledger.now) k ≡ 0 ⊎ space_of s.subject ≡ spaces.Heap
+          → (q : ℕ) (z : ZcoObject) → get (with_at store.now k (Some (things.Source s))) q ≡ Some (things.Object z)
+          → All (SameSpace (world_of store.now ledger.now) (world_of (with_at store.now k (Some (things.Source s))) ledger.now)) z.extents
+      stay (inl none) = unused_spaces store.now ledger.now k (Some (things.Source s)) refl none
+      stay (inr heap) = λ q z there. All-each
+          (SameSpace (world_of store.now ledger.now) (world_of (with_at store.now k (Some (things.Source s))) ledger.now))
+          (λ e. same_spaces store.now ledger.now k (Some (things.Source s))
+          (heap ∙ sym (ap space_in (plain_source (get store.now k) plain))) e.source) z.extents
+
       own : (raw : ℕ) → raw_of s.subject ≡ Some raw → (raw < next) × ((raw ≡ k → ⊥) × (is_plain (get store.now raw) ≡ true))
       own raw is =
           let it = subst (λ r. IfSome r (λ q. (q < k) × (is_plain (get store.now q) ≡ true))) is raw_there in

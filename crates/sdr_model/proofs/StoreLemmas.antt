@@ -1,5 +1,5 @@
 -- The things at the places, now and at the begin.
-use Rattle.std.proofs.Common.{◌≡◌, ℕ, zero, suc, arith, Bool, true, false, List, [], ◌∷◌, ◌++◌, cond, Option, Some, None, ap, sym, ◌∙◌, refl, subst, ◌⊎◌, inl, inr, ⊎_elim, true≢false, is_some}
+use Rattle.std.proofs.Common.{◌≡◌, ◌||◌, ℕ, zero, suc, arith, Bool, true, false, List, [], ◌∷◌, ◌++◌, cond, Option, Some, None, ap, sym, ◌∙◌, refl, subst, ◌⊎◌, inl, inr, ⊎_elim, true≢false, is_some}
 use Rattle.std.proofs.lemmas.List.Elements.{Contains-append_left, Contains-append_right, Contains-append_cases}
 use Rattle.std.specs.BTreeMap.{is_at}
 use Rattle.std.specs.Cmp.{nat_cmp_total, eq_by_cmp_equiv, Equal-is}
@@ -7,7 +7,7 @@ use Rattle.std.specs.FinMap.{empty, get, insert, remove, entries, find, get-entr
 use Rattle.std.specs.List.{Contains}
 use Rattle.std.specs.Option.{option_and_then}
 use Rattle.std.specs.Ordering.{nat_cmp}
-use Rattle.sdr_model.specs.Store.{Places, AreTouched, begun_at, now_at, empty_place, things_among, things_at, with_at, with_place}
+use Rattle.sdr_model.specs.Store.{Places, AreTouched, begun_at, now_at, empty_place, is_noted, things_among, things_at, with_at, with_place}
 use Rattle.sdr_model.specs.Things.{Things}
 use Rattle.sdr_model.specs.declared.place.Place.{Place}
 use Rattle.sdr_model.specs.declared.things.Thing.{Thing}
@@ -107,6 +107,19 @@ module _ (places : Places) (k q : ℕ) (new : Place) where
 pub some-inserted : (places : Places) (k : ℕ) (new : Place) → is_some (get (insert places k new) k) ≡ true
 some-inserted places k new = ap is_some (get-insert_here places k k new (at_itself k))
 
+-- whether the place that is there, if there is one, says that its address was touched
+abbrev noted_there : Option Place → Bool
+noted_there None = false
+noted_there (Some place) = is_noted place
+
+-- a place that was changed says that its address was touched
+noted-changed : (place : Place) → place.touched ≡ true → is_noted place ≡ true
+noted-changed place was = ap (λ b. place.listed || b) was ∙ by place.listed
+  where
+    by : (b : Bool) → (b || true) ≡ true
+    by true = refl
+    by false = refl
+
 -- an address that was touched may have another place
 pub touched-set : (places : Places) (touched : List ℕ) (k : ℕ) (new : Place)
     → AreTouched places touched → Contains touched k → AreTouched (insert places k new) touched
@@ -115,7 +128,7 @@ touched-set places touched k new are there = record {
   held = λ q has. some-insert places k q new (are.held q has);
 }
   where
-    by : (q : ℕ) (place : Place) → get (insert places k new) q ≡ Some place → place.touched ≡ true → (b : Bool) → is_at (nat_cmp q) k ≡ b → Contains touched q
+    by : (q : ℕ) (place : Place) → get (insert places k new) q ≡ Some place → is_noted place ≡ true → (b : Bool) → is_at (nat_cmp q) k ≡ b → Contains touched q
     by q place is was true at = subst (Contains touched) (sym (same_address q k at)) there
     by q place is was false at = are.among q place (sym (get-insert_apart places k q new at) ∙ is) was
 
@@ -129,13 +142,13 @@ touched-push places touched k are some = record {
 
 -- an address is touched no more, and its place isn't
 pub touched-pop : (places : Places) (touched : List ℕ) (k : ℕ) (new : Place)
-    → AreTouched places (touched ++ k ∷ []) → new.touched ≡ false → AreTouched (insert places k new) touched
+    → AreTouched places (touched ++ k ∷ []) → is_noted new ≡ false → AreTouched (insert places k new) touched
 touched-pop places touched k new are isn't = record {
   among = λ q place is was. by q place is was (is_at (nat_cmp q) k) refl;
   held = λ q has. some-insert places k q new (are.held q (Contains-append_left touched (k ∷ []) q has));
 }
   where
-    by : (q : ℕ) (place : Place) → get (insert places k new) q ≡ Some place → place.touched ≡ true → (b : Bool) → is_at (nat_cmp q) k ≡ b → Contains touched q
+    by : (q : ℕ) (place : Place) → get (insert places k new) q ≡ Some place → is_noted place ≡ true → (b : Bool) → is_at (nat_cmp q) k ≡ b → Contains touched q
     by q place is was true at = let same : Some new ≡ Some place = sym (get-insert_here places k q new at) ∙ is in cc
     by q place is was false at =
         ⊎_elim (λ left. left)
@@ -166,8 +179,9 @@ touched-with_place places touched k are = by (is_some (get places k))
       held = λ q has. some-insert places k q empty_place (are.held q has);
     }
       where
-        apart : (q : ℕ) (place : Place) → get (insert places k empty_place) q ≡ Some place → place.touched ≡ true → (b : Bool) → is_at (nat_cmp q) k ≡ b → Contains touched q
-        apart q place is was true at = let same : Some empty_place ≡ Some place = sym (get-insert_here places k q empty_place at) ∙ is in cc
+        apart : (q : ℕ) (place : Place) → get (insert places k empty_place) q ≡ Some place → is_noted place ≡ true → (b : Bool) → is_at (nat_cmp q) k ≡ b → Contains touched q
+        apart q place is was true at =
+            absurd (true≢false (sym (ap noted_there (sym (get-insert_here places k q empty_place at) ∙ is) ∙ was)))
         apart q place is was false at = are.among q place (sym (get-insert_apart places k q empty_place at) ∙ is) was
 
     by : (b : Bool) → AreTouched (cond b places (insert places k empty_place)) touched
@@ -193,7 +207,7 @@ nothing_touched places are = same_things _ _ (λ q.
     same q (Some place) is = by place.touched refl
       where
         by : (b : Bool) → place.touched ≡ b → begun_at place ≡ now_at place
-        by true was = absurd (none (are.among q place is was))
+        by true was = absurd (none (are.among q place is (noted-changed place was)))
           where
             none : Contains [] q → ⊥
             none has = omega (arith, has.1)

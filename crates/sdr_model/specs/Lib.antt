@@ -12,6 +12,7 @@ pub mod Catalogue
 pub mod Charged
 pub mod Charges
 pub mod Charging
+pub mod Components
 pub mod Core
 pub mod Cuts
 pub mod Draft

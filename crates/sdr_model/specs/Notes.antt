@@ -33,7 +33,7 @@ abbrev pub noted_count : Note → Acct → ℕ
 noted_count note accts.Inbound = note.inbound
 noted_count note accts.Outbound = note.outbound
 
--- the notes before those of the log, oldest first, were changed
+-- the notes before those of the log were changed
 abbrev pub undone : List (ℕ × Note) → Notes → Notes
 undone [] notes = notes
 undone (e ∷ log) notes = finite.insert (undone log notes) e.0 e.1

@@ -5,6 +5,8 @@ use Rattle.sdr_model.specs.declared.call.Call.{Call}
 use Rattle.sdr_model.specs.declared.call.Call.TheVariants as calls
 use Rattle.sdr_model.specs.declared.capsule_calls.Side.{Side}
 use Rattle.sdr_model.specs.declared.capsule_calls.Side.TheVariants as sides
+use Rattle.sdr_model.specs.declared.component.Component.{Component}
+use Rattle.sdr_model.specs.declared.component.Component.TheVariants as components
 use Rattle.sdr_model.specs.declared.zco.Capsule.{Capsule}
 use Rattle.sdr_model.specs.declared.zco.ZcoObject.{ZcoObject}
 
@@ -17,3 +19,8 @@ capsule_call sides.Back addr number text = calls.AppendTrailer addr number text
 abbrev pub with_capsule : Side → ZcoObject → Capsule → ZcoObject
 with_capsule sides.Front = with_header
 with_capsule sides.Back = with_trailer
+
+-- the header or trailer as a component
+abbrev pub component_on : Side → Capsule → Component
+component_on sides.Front c = components.Header c
+component_on sides.Back c = components.Trailer c

@@ -1,5 +1,5 @@
 -- The things of a world in the making.
-use Rattle.std.specs.Prelude.{◌≡◌, ℕ, true, false, cond, List, [], ◌∷◌, Option, None, Some, Contains, is_some, if◌then◌else◌, refl}
+use Rattle.std.specs.Prelude.{◌≡◌, ◌||◌, ℕ, Bool, true, false, cond, List, [], ◌∷◌, Option, None, Some, Contains, is_some, if◌then◌else◌, refl}
 use Rattle.std.specs.Coded.{Coded, code_by, coded×, coded_ℕ, coded_list}
 use Rattle.std.specs.FinMap as finite
 use Rattle.std.specs.Ordering.{nat_cmp}
@@ -50,13 +50,17 @@ things_at of places = things_among of (finite.entries places)
 
 -- a place where nothing is
 abbrev pub empty_place : Place
-empty_place = record { touched = false; begun = None; thing = None }
+empty_place = record { listed = false; touched = false; begun = None; thing = None }
 
 -- the places with an empty one at an address where there is none
 unfoldable pub with_place : Places → ℕ → Places
 with_place places addr = cond (is_some (finite.get places addr)) places (finite.insert places addr empty_place)
 
+-- whether the place at an address says that the address was touched
+abbrev pub is_noted : Place → Bool
+is_noted place = place.listed || place.touched
+
 -- the places that were touched have these addresses, each of which has a place
 pub record AreTouched (places : Places) (touched : List ℕ) : Type 0 where
-  pub among : (addr : ℕ) (place : Place) → finite.get places addr ≡ Some place → place.touched ≡ true → Contains touched addr
+  pub among : (addr : ℕ) (place : Place) → finite.get places addr ≡ Some place → is_noted place ≡ true → Contains touched addr
   pub held : (addr : ℕ) → Contains touched addr → is_some (finite.get places addr) ≡ true

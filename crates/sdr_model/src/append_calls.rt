@@ -1,16 +1,14 @@
 // What the call that adds an extent does to a world.
-ghost use Rattle.std.specs.Prelude.{◌≡◌, ◌<◌, ◌^◌, ◌||◌, ◌+◌, ◌==◌, Contains, IsSome, None, OnOk, nat_lt};
-ghost use Rattle.std.specs.List.{All};
+ghost use Rattle.std.specs.Prelude.{◌≡◌, ◌<◌, ◌^◌, ◌||◌, ◌+◌, ◌==◌, IsSome, None, nat_lt};
 ghost use Rattle.sdr_model.specs.Answers.{Answers};
 ghost use Rattle.sdr_model.specs.Zco.{object_at, source_at};
+ghost use Rattle.sdr_model.specs.declared.component.Component.TheVariants as components;
 
-use crate::charges::bytes_charge;
+use crate::component::Component;
 use crate::object_calls::object;
 use crate::raw_calls::{in_use, misnamed, raw};
-use crate::zco::Subject;
-use crate::{Call, Extent, Reply, World, ZcoObject, ZcoSource};
-use sdr_base::{Addr, NoMemory, Refusal, Space};
-use std::alloc::Global;
+use crate::{Call, Extent, Reply, World};
+use sdr_base::{Addr, NoMemory, Refusal};
 
 /// An append that is asked.
 #[derive(Clone, Copy, Debug)]
@@ -23,6 +21,25 @@ pub struct Append {
     /// In its bytes.
     pub offset: u64,
     pub bytes: u64,
+}
+
+impl Append {
+    // The extent that is asked, of this source.
+    fn extent(&self, block: Addr, source: Addr) -> Component
+        ensures { result ≡ components.Extent (record {
+          block = block;
+          source = source;
+          offset = self.now.offset;
+          length = self.now.bytes;
+        }) }
+    {
+        Component::Extent(Extent {
+            block,
+            source,
+            offset: self.offset,
+            length: self.bytes,
+        })
+    }
 }
 
 // Whether a range has no byte, or isn't within the bytes that are there.
@@ -49,17 +66,14 @@ fn bad_range(asked: &Append, have: u64) -> Reply
     })
 }
 
-// Appends a part of a source that is there to an object that is there. It is linear in the object.
-fn append_source(alloc: Global, world: &mut World, asked: &Append) -> Result<Reply, NoMemory>
+// Appends a part of a source that is there to an object that is there, which isn't copied.
+fn append_source(world: &mut World, asked: &Append) -> Result<Reply, NoMemory>
     requires taken { world.old.now.taken < 2 ^ 60 }
     requires object { IsSome (object_at world.old.now asked.now.object) }
     requires source { IsSome (source_at world.old.now asked.now.named) }
     ensures { Answers (Call.AppendExtent asked.now.object asked.now.ticket asked.now.named asked.now.offset asked.now.bytes)
         world.old world.new result }
 {
-    let Some(object) = object(world, asked.object) else {
-        unreachable!()
-    };
     let Some(source) = world.sound_source(asked.named) else {
         unreachable!()
     };
@@ -69,64 +83,23 @@ fn append_source(alloc: Global, world: &mut World, asked: &Append) -> Result<Rep
     if is_outside(asked.offset, asked.bytes, source.length) {
         return Ok(bad_range(asked, source.length));
     }
-    let charge = bytes_charge(source.subject.space(), asked.bytes);
-    let mut changed = object.copied(alloc)?;
-    let block = world.next();
-    changed.push_extent(Extent {
-        block,
-        source: asked.named,
-        offset: asked.offset,
-        length: asked.bytes,
-    })?;
-    world.touch_object(asked.object, &changed)?;
-    let _granted = match world.charge_blocks(
-        changed.account,
-        asked.ticket,
-        &charge,
-        asked.object,
-        1,
-    )? {
+    world.touch(asked.named)?;
+    let extent = asked.extent(world.next(), asked.named);
+    let _granted = match world.add_component(asked.object, asked.ticket, extent, 0)? {
         Ok(granted) => granted,
         Err(refusal) => return Ok(Reply::Refused(refusal)),
     };
-    world.replace_object(asked.object, changed);
     Ok(Reply::Done)
 }
 
-// Takes note that an object, the new source of one of its extents, and what names the source's raw object
-// may be changed.
-fn touch_raw_append(
-    world: &mut World,
-    asked: &Append,
-    changed: &ZcoObject,
-    source: Addr,
-) -> Result<(), NoMemory>
-    ensures now { world.new.now ≡ world.old.now }
-    ensures begun { world.new.begun ≡ world.old.begun }
-    ensures owners { world.new.owners ≡ world.old.owners }
-    ensures touched { OnOk result (Contains world.new.touched asked.now.object) }
-    ensures source { OnOk result (Contains world.new.touched source) }
-    ensures noted { OnOk result (All (λ e. Contains world.new.noted e.source) changed.now.extents) }
-    ensures raw { OnOk result (Contains world.new.noted asked.now.named) }
-{
-    world.touch_object(asked.object, changed)?;
-    world.touch(source)?;
-    world.touch(asked.named)?;
-    Ok(())
-}
-
-// Appends a part of a raw object, which a new source takes over, to an object that is there. It is linear in
-// the object.
-fn append_raw(alloc: Global, world: &mut World, asked: &Append) -> Result<Reply, NoMemory>
+// Appends a part of a raw object, which a new source takes over, to an object that is there, which isn't copied.
+fn append_raw(world: &mut World, asked: &Append) -> Result<Reply, NoMemory>
     requires taken { world.old.now.taken < 2 ^ 60 }
     requires object { IsSome (object_at world.old.now asked.now.object) }
     requires no_source { source_at world.old.now asked.now.named ≡ None }
     ensures { Answers (Call.AppendExtent asked.now.object asked.now.ticket asked.now.named asked.now.offset asked.now.bytes)
         world.old world.new result }
 {
-    let Some(object) = object(world, asked.object) else {
-        unreachable!()
-    };
     let Some(bytes) = raw(world, asked.named) else {
         return Ok(misnamed(world, asked.named));
     };
@@ -137,41 +110,20 @@ fn append_raw(alloc: Global, world: &mut World, asked: &Append) -> Result<Reply,
     if is_outside(asked.offset, asked.bytes, have) {
         return Ok(bad_range(asked, have));
     }
-    let charge = bytes_charge(Space::Heap, asked.bytes);
-    let mut changed = object.copied(alloc)?;
     let source = world.next();
-    changed.push_extent(Extent {
-        block: source + 8,
-        source,
-        offset: asked.offset,
-        length: asked.bytes,
-    })?;
-    touch_raw_append(world, asked, &changed, source)?;
-    let _granted = match world.charge_blocks(
-        changed.account,
-        asked.ticket,
-        &charge,
-        asked.object,
-        2,
-    )? {
+    world.touch(source)?;
+    world.touch(asked.named)?;
+    let extent = asked.extent(source + 8, source);
+    let _granted = match world.add_component(asked.object, asked.ticket, extent, 1)? {
         Ok(granted) => granted,
         Err(refusal) => return Ok(Reply::Refused(refusal)),
     };
-    world.put_source(
-        source,
-        ZcoSource {
-            subject: Subject::Heap(asked.named),
-            length: have,
-            flagged: false,
-        },
-    );
-    world.replace_object(asked.object, changed);
+    world.take_over(source, asked.named, have);
     Ok(Reply::Done)
 }
 
-/// Appends a part of a source, or of a raw object, to an object. It is linear in the object, times the
-/// logarithm of the world.
-pub fn append_extent(alloc: Global, world: &mut World, asked: &Append) -> Result<Reply, NoMemory>
+/// Appends a part of a source, or of a raw object, to an object. It is linear in the object's extents.
+pub fn append_extent(world: &mut World, asked: &Append) -> Result<Reply, NoMemory>
     requires taken { world.old.now.taken < 2 ^ 60 }
     ensures { Answers (Call.AppendExtent asked.now.object asked.now.ticket asked.now.named asked.now.offset asked.now.bytes)
         world.old world.new result }
@@ -180,7 +132,7 @@ pub fn append_extent(alloc: Global, world: &mut World, asked: &Append) -> Result
         return Ok(misnamed(world, asked.object));
     }
     if world.source(asked.named).is_some() {
-        return append_source(alloc, world, asked);
+        return append_source(world, asked);
     }
-    append_raw(alloc, world, asked)
+    append_raw(world, asked)
 }

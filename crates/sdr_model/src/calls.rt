@@ -144,7 +144,7 @@ pub fn apply(alloc: Global, world: &mut World, call: &Call) -> Result<Reply, NoM
                 offset: *offset,
                 bytes: *bytes,
             };
-            append_extent(alloc, world, &asked)
+            append_extent(world, &asked)
         }
         Call::ClonePart(addr, ticket, offset, bytes) => {
             clone_part(alloc, world, *addr, *ticket, *offset, *bytes)

@@ -1,14 +1,13 @@
 // What calls that add headers and trailers do to a world.
-ghost use Rattle.std.specs.Prelude.{◌≡◌, ◌<◌, ◌^◌, OnErr, OnOk};
+ghost use Rattle.std.specs.Prelude.{◌≡◌, ◌<◌, ◌^◌};
 ghost use Rattle.sdr_model.specs.Answers.{Answers};
-ghost use Rattle.sdr_model.specs.Sides.{capsule_call, with_capsule};
+ghost use Rattle.sdr_model.specs.Sides.{capsule_call, component_on};
 
-use crate::capsules::capsule_bytes;
-use crate::charges::heap_charge;
+use crate::component::Component;
 use crate::limits::LONGEST_CAPSULE;
 use crate::object_calls::object;
 use crate::raw_calls::{bad_length, misnamed};
-use crate::{Call, Capsule, Reply, World, ZcoObject};
+use crate::{Call, Capsule, Reply, World};
 use sdr_base::{Addr, Bytes, NoMemory};
 use std::alloc::Global;
 
@@ -22,19 +21,18 @@ pub enum Side {
 }
 
 impl Side {
-    // Puts a header or trailer on this side.
-    fn put(self, object: &mut ZcoObject, capsule: Capsule) -> Result<(), NoMemory>
-        ensures put { OnOk result (object.new ≡ with_capsule self object.old capsule) }
+    // A header or trailer for this side.
+    fn component(self, capsule: Capsule) -> Component
+        ensures { result ≡ component_on self capsule }
     {
         match self {
-            Side::Front => object.headers.insert(0, capsule)?,
-            Side::Back => object.trailers.push(capsule)?,
+            Side::Front => Component::Header(capsule),
+            Side::Back => Component::Trailer(capsule),
         }
-        Ok(())
     }
 }
 
-// Adds a header or trailer of this text. It is linear in the object.
+// Adds a header or trailer of this text to an object, which isn't copied.
 fn add_capsule(
     alloc: Global,
     world: &mut World,
@@ -46,24 +44,20 @@ fn add_capsule(
     requires taken { world.old.now.taken < 2 ^ 60 }
     ensures { Answers (capsule_call side addr number text.now) world.old world.new result }
 {
-    let Some(object) = object(world, addr) else {
+    if object(world, addr).is_none() {
         return Ok(misnamed(world, addr));
-    };
+    }
     let length = text.len() as u64;
     if length < 1 || length > LONGEST_CAPSULE {
         return Ok(bad_length(length, LONGEST_CAPSULE));
     }
-    let mut changed = object.copied(alloc)?;
-    world.touch_object(addr, &changed)?;
-    let block = world.next();
     let text = Bytes::copied(alloc, text.as_slice())?;
-    side.put(&mut changed, Capsule { block, text })?;
-    let charge = heap_charge(capsule_bytes(length));
-    let _granted = match world.charge_blocks(changed.account, number, &charge, addr, 1)? {
+    let block = world.next();
+    let capsule = side.component(Capsule { block, text });
+    let _granted = match world.add_component(addr, number, capsule, 0)? {
         Ok(granted) => granted,
         Err(refusal) => return Ok(Reply::Refused(refusal)),
     };
-    world.replace_object(addr, changed);
     Ok(Reply::Done)
 }
 

@@ -21,6 +21,7 @@ mod capsules;
 mod catalogue;
 mod charges;
 mod clone_calls;
+mod component;
 mod cuts;
 mod destroy_calls;
 mod edits;

@@ -7,6 +7,7 @@ use crate::note_map::NoteMap;
 use crate::tally::Note;
 use sdr_base::{Addr, NoMemory};
 use std::alloc::Global;
+use std::collections::BTreeMap;
 use std::marker::Model;
 
 /// What names an address that nothing names.
@@ -20,8 +21,8 @@ const BLANK: Note = Note {
 #[derive(Drop)]
 pub struct Notes {
     inner: NoteMap,
-    /// The addresses that were touched since the begin, each with its note before.
-    log: Vec<(u64, Note)>,
+    /// The addresses that were touched since the begin, each with its note before, once.
+    log: BTreeMap<u64, Note>,
 }
 
 impl Model for Notes {
@@ -32,12 +33,12 @@ impl Model for Notes {
     ghost coded = { notes.coded_notebook };
 
     ghost view = { λ s. record {
-      begun = notes.undone s.log.items s.inner;
+      begun = notes.undone s.log.entries s.inner;
       now = s.inner;
-      touched = notes.logged s.log.items;
+      touched = notes.logged s.log.entries;
     } };
 
-    ghost invariant = { λ s. notes.HaveNotes s.log.items s.inner };
+    ghost invariant = { λ s. notes.HaveNotes s.log.entries s.inner };
 }
 
 impl Notes {
@@ -47,7 +48,7 @@ impl Notes {
     {
         Notes {
             inner: NoteMap::new(alloc),
-            log: Vec::new(alloc),
+            log: BTreeMap::new(alloc),
         }
     }
 
@@ -58,16 +59,20 @@ impl Notes {
         self.inner.get(addr).unwrap_or(BLANK)
     }
 
-    /// Takes note that an address is touched. Want of memory leaves all as before.
+    /// Takes note that an address is touched. Where it was touched before, this takes no memory. Want of
+    /// memory leaves all as before.
     pub fn touch(&mut self, addr: Addr) -> Result<(), NoMemory>
         ensures now { SameNotes self.new.now self.old.now }
         ensures begun { SameNotes self.new.begun self.old.begun }
         ensures touched { OnOk result (Contains self.new.touched addr) }
         ensures others { (other : ℕ) → Contains self.old.touched other → Contains self.new.touched other }
     {
+        if self.log.contains_key(&addr) {
+            return Ok(());
+        }
         let note = self.get(addr);
         self.inner.insert(addr, note)?;
-        self.log.push((addr, note))?;
+        self.log.insert(addr, note)?;
         Ok(())
     }
 
@@ -94,7 +99,7 @@ impl Notes {
         ensures begun { SameNotes self.new.begun self.old.begun }
         ensures touched { self.new.touched ≡ [] }
     {
-        while let Some((addr, note)) = self.log.pop() {
+        while let Some((addr, note)) = self.log.pop_last() {
             self.inner.set(addr, note);
         }
     }

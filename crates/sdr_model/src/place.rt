@@ -4,16 +4,18 @@ ghost use Rattle.std.specs.Option.{option_copied};
 ghost use Rattle.sdr_model.specs.Store.{begun_at};
 
 use crate::Thing;
-use sdr_base::{Addr, NoMemory};
+use sdr_base::NoMemory;
 use std::alloc::Global;
 use std::mem;
 
 /// What is at an address, and what was there at the begin of the open transaction.
 #[derive(Drop)]
 pub struct Place {
-    /// Whether it was touched since the begin.
+    /// Whether its address is among those that were touched since the begin.
+    listed: bool,
+    /// Whether what is there was changed since the begin.
     touched: bool,
-    /// What was there at the begin, where it was touched since.
+    /// What was there at the begin, where it was changed since.
     begun: Option<Thing>,
     /// What is there now.
     thing: Option<Thing>,
@@ -32,23 +34,13 @@ fn copied(alloc: Global, thing: &Option<Thing>) -> Result<Option<Thing>, NoMemor
 impl Place {
     /// A place where nothing is.
     pub fn empty() -> Place
-        ensures { result ≡ record { touched = false; begun = None; thing = None } }
+        ensures { result ≡ record { listed = false; touched = false; begun = None; thing = None } }
     {
         Place {
+            listed: false,
             touched: false,
             begun: None,
             thing: None,
-        }
-    }
-
-    /// A place where nothing was at the begin.
-    pub fn made(thing: Thing) -> Place
-        ensures { result ≡ record { touched = true; begun = None; thing = Some thing } }
-    {
-        Place {
-            touched: true,
-            begun: None,
-            thing: Some(thing),
         }
     }
 
@@ -57,6 +49,20 @@ impl Place {
         ensures { option_copied result ≡ self.now.thing }
     {
         self.thing.as_ref()
+    }
+
+    /// Whether its address is among those that were touched since the begin.
+    pub fn is_listed(&self) -> bool
+        ensures { result ≡ self.now.listed }
+    {
+        self.listed
+    }
+
+    /// Takes note that its address is among those that were touched.
+    pub fn list(&mut self)
+        ensures { self.new ≡ record self.old { listed = true } }
+    {
+        self.listed = true;
     }
 
     // Keeps a copy of what was there at the begin.
@@ -104,20 +110,22 @@ impl Place {
 
     /// Takes what is there now as what is there at the begin.
     pub fn keep(&mut self)
-        ensures { self.new ≡ record { touched = false; begun = None; thing = self.old.thing } }
+        ensures { self.new ≡ record { listed = false; touched = false; begun = None; thing = self.old.thing } }
     {
+        self.listed = false;
         self.touched = false;
         self.begun = None;
     }
 
     /// Puts there what was there at the begin.
     pub fn put_back(&mut self)
-        ensures { self.new ≡ record { touched = false; begun = None; thing = begun_at self.old } }
+        ensures { self.new ≡ record { listed = false; touched = false; begun = None; thing = begun_at self.old } }
     {
         let begun = self.begun.take();
         if self.touched {
             self.thing = begun;
         }
+        self.listed = false;
         self.touched = false;
     }
 }

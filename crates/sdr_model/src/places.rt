@@ -1,5 +1,5 @@
 // Places by address.
-ghost use Rattle.std.specs.Prelude.{◌≡◌, IfOk, OnOk, OnErr, IsSome, Some, None, false};
+ghost use Rattle.std.specs.Prelude.{◌≡◌, OnOk, OnErr, IsSome, Some, None, false};
 ghost use Rattle.std.specs.FinMap as map;
 ghost use Rattle.std.specs.Option.{option_copied};
 
@@ -60,7 +60,7 @@ impl Places {
     pub fn lift(&mut self, addr: Addr) -> Place
         requires some { IsSome (map.get self.old addr) }
         ensures lifted { map.get self.old addr ≡ Some result }
-        ensures empty { self.new ≡ map.insert self.old addr (record { touched = false; begun = None; thing = None }) }
+        ensures empty { self.new ≡ map.insert self.old addr (record { listed = false; touched = false; begun = None; thing = None }) }
     {
         match self.inner.get_mut(&addr) {
             Some(place) => mem::replace(place, Place::empty()),

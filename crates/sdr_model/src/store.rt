@@ -1,5 +1,5 @@
 // The things of a world in the making, which can be put back to what they were at the begin.
-ghost use Rattle.std.specs.Prelude.{◌≡◌, ℕ, IfOk, OnOk, OnErr, IsSome, Some, None, Contains, [], ◌∷◌};
+ghost use Rattle.std.specs.Prelude.{◌≡◌, ℕ, IfOk, OnOk, OnErr, IsSome, Some, None, Contains, [], true};
 ghost use Rattle.std.specs.FinMap as map;
 ghost use Rattle.std.specs.Option.{option_copied};
 ghost use Rattle.sdr_model.specs.Store.{with_at, with_place};
@@ -17,7 +17,7 @@ use std::marker::Model;
 pub struct Store {
     alloc: Global,
     places: Places,
-    /// The addresses of all places that were touched since the begin.
+    /// The addresses of all places that were touched since the begin, once.
     touched: Vec<Addr>,
 }
 
@@ -70,15 +70,32 @@ impl Store {
         }
     }
 
-    /// Takes note that an address is touched, and makes a place for it where there is none.
+    // Whether an address was touched.
+    fn is_listed(&self, addr: Addr) -> bool
+        ensures { result ≡ true → Contains self.now.touched addr }
+    {
+        match self.places.get(addr) {
+            Some(place) => place.is_listed(),
+            None => false,
+        }
+    }
+
+    /// Takes note that an address is touched, and makes a place for it where there is none. Where it was
+    /// touched before, this takes no memory.
     pub fn touch(&mut self, addr: Addr) -> Result<(), NoMemory>
         ensures begun { self.new.begun ≡ self.old.begun }
         ensures now { self.new.now ≡ self.old.now }
         ensures touched { OnOk result (Contains self.new.touched addr) }
         ensures others { (other : ℕ) → Contains self.old.touched other → Contains self.new.touched other }
     {
+        if self.is_listed(addr) {
+            return Ok(());
+        }
         make_place(&mut self.places, addr)?;
         self.touched.push(addr)?;
+        let mut place = self.places.lift(addr);
+        place.list();
+        self.places.set(addr, place);
         Ok(())
     }
 

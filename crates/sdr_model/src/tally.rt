@@ -6,7 +6,7 @@ ghost use Rattle.sdr_base.specs.declared.kind.Space.{Space as GhostSpace};
 ghost use Rattle.sdr_model.specs.Amounts.{amount, minus, plus};
 ghost use Rattle.sdr_model.specs.Charged.{charged_to, no_charges, with_charged};
 ghost use Rattle.sdr_model.specs.Zco.{naming};
-ghost use Rattle.sdr_model.specs.Notes.{NameSource, SameNotes, UsesMore, more_uses, note_at, noted_count};
+ghost use Rattle.sdr_model.specs.Notes.{NameSource, SameNotes, UsesMore, is_this, more_uses, note_at, noted_count};
 
 use crate::amounts::{minus, plus};
 use crate::notes::Notes;
@@ -186,8 +186,8 @@ impl Tally {
         }
     }
 
-    /// Counts one more extent of an account at an address that was touched.
-    pub fn add_use(&mut self, acct: Acct, addr: Addr)
+    // Counts one more extent of an account at an address that was touched.
+    fn add_use(&mut self, acct: Acct, addr: Addr)
         requires touched { Contains self.old.notes.touched addr }
         requires small { noted_count (note_at self.old.notes.now addr) acct < 2 ^ 63 }
         ensures now { (q : ℕ) → note_at self.new.notes.now q
@@ -199,6 +199,22 @@ impl Tally {
     {
         let note = self.notes.get(addr);
         self.notes.set(addr, note.raised(acct));
+    }
+
+    /// Counts one more extent of an account at an address that was touched, if there is one.
+    pub fn add_use_of(&mut self, acct: Acct, addr: Option<Addr>)
+        requires touched { IfSome addr (Contains self.old.notes.touched) }
+        requires small { IfSome addr (λ addr. noted_count (note_at self.old.notes.now addr) acct < 2 ^ 63) }
+        ensures now { (q : ℕ) → note_at self.new.notes.now q
+            ≡ more_uses acct (if is_this addr q then 1 else 0) (note_at self.old.notes.now q) }
+        ensures begun { SameNotes self.new.notes.begun self.old.notes.begun }
+        ensures touched { self.new.notes.touched ≡ self.old.notes.touched }
+        ensures sums_now { self.new.now ≡ self.old.now }
+        ensures sums_begun { self.new.begun ≡ self.old.begun }
+    {
+        if let Some(addr) = addr {
+            self.add_use(acct, addr);
+        }
     }
 
     // Counts one extent of an account less at an address that was touched.

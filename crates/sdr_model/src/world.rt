@@ -19,10 +19,11 @@ mod charges;
 mod charging;
 mod dropping;
 mod editing;
+mod growing;
 mod objects;
-mod replacing;
 mod sources;
 mod taking;
+mod touching;
 mod trimming;
 
 use crate::catalogue::Catalogue;

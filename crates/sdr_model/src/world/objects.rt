@@ -1,27 +1,24 @@
 // The objects of a world in the making.
-ghost use Rattle.std.specs.Prelude.{◌≡◌, ◌≤◌, ◌+◌, ◌^◌, true, None, IfOk, OnOk, OnErr, IfSome, IsSome, Some, Contains};
+ghost use Rattle.std.specs.Prelude.{◌≡◌, ◌≤◌, ◌+◌, true, None, IfSome, IsSome, Some, Contains};
 ghost use Rattle.std.specs.FinMap as map;
 ghost use Rattle.std.specs.List.{All};
 ghost use Rattle.sdr_base.specs.declared.kind.Space.{Space as GhostSpace};
 ghost use Rattle.sdr_model.specs.Accounts.{most_amount};
 ghost use Rattle.sdr_model.specs.Amounts.{amounts_by};
-ghost use Rattle.sdr_model.specs.Bounds.{IsBounded};
-ghost use Rattle.sdr_model.specs.Charges.{extent_charge, object_charge, occupancy};
-ghost use Rattle.sdr_model.specs.ObjectSteps.{with_extent};
+ghost use Rattle.sdr_model.specs.Charges.{object_charge, occupancy};
 ghost use Rattle.sdr_model.specs.Dry.{next_addr};
 ghost use Rattle.sdr_model.specs.Owners.{MayPut};
 ghost use Rattle.sdr_model.specs.Steps.{with_thing, without_thing};
 ghost use Rattle.sdr_model.specs.Notes.{SameNotes};
-ghost use Rattle.sdr_model.specs.Tallies.{CountsOut, IsAccountOf, IsModest, MayCountOut, PushesExtent, is_plain};
+ghost use Rattle.sdr_model.specs.Tallies.{CountsOut, IsModest, MayCountOut, is_plain};
 ghost use Rattle.sdr_model.specs.World.{thing_at};
 ghost use Rattle.sdr_model.specs.Zco.{as_object, object_at, source_on};
 ghost use Rattle.sdr_model.specs.declared.things.Thing.{Thing};
 
 use crate::amounts::NOTHING;
-use crate::charges::bytes_charge;
 use crate::tally::Tally;
-use crate::{Extent, Store, Thing, World, ZcoObject};
-use sdr_base::{Acct, Addr, Amounts, NoMemory};
+use crate::{Store, Thing, World, ZcoObject};
+use sdr_base::{Addr, Amounts};
 
 // Counts the extents of the object at an address no more, and charges so much less for it.
 fn count_out(things: &Store, tally: &mut Tally, addr: Addr, charge: &Amounts)
@@ -34,28 +31,6 @@ fn count_out(things: &Store, tally: &mut Tally, addr: Addr, charge: &Amounts)
     if let Some(Thing::Object(object)) = things.get(addr) {
         tally.remove_uses(object.account, object.extents.as_slice());
         tally.release(object.account, charge);
-    }
-}
-
-// Adds an extent to the object at an address, and answers its account. Want of memory leaves all as before.
-fn push_at(things: &mut Store, addr: Addr, extent: Extent) -> Result<Acct, NoMemory>
-    requires there { IsSome (as_object (map.get things.old.now addr)) }
-    requires bounded { IfSome (as_object (map.get things.old.now addr)) IsBounded }
-    requires small { extent.length ≤ 2 ^ 40 }
-    ensures pushed { OnOk result (PushesExtent (as_object (map.get things.old.now addr)) addr extent things.old.now things.new.now) }
-    ensures account { IfOk result (IsAccountOf (as_object (map.get things.old.now addr))) }
-    ensures begun { things.new.begun ≡ things.old.begun }
-    ensures same { OnErr result (things.new.now ≡ things.old.now) }
-{
-    match things.take(addr)? {
-        Thing::Object(mut object) => {
-            let acct = object.account;
-            let pushed = object.push_extent(extent);
-            things.put(addr, Some(Thing::Object(object)));
-            pushed?;
-            Ok(acct)
-        }
-        _ => unreachable!(),
     }
 }
 
@@ -78,7 +53,6 @@ impl World {
         requires noted { IfSome (object_at self.old.now addr) (λ z.
             All (λ e. Contains self.old.noted e.source) z.extents) }
         ensures lost { self.new.now ≡ without_thing self.old.now addr }
-        ensures unnamed { source_on self.new.now addr ≡ None }
         ensures begun { self.new.begun ≡ self.old.begun }
         ensures owners { self.new.owners ≡ self.old.owners }
         ensures touched { self.new.touched ≡ self.old.touched }
@@ -89,6 +63,7 @@ impl World {
         count_out(&self.things, &mut self.tally, addr, &charge);
         self.things.put(addr, None);
     }
+
     /// Puts an object at an address that was touched, where neither a source nor an object is. The sources
     /// of its extents were touched too. It is linear in the object, times the logarithm of the world.
     pub fn add_object(&mut self, addr: Addr, object: ZcoObject)
@@ -112,33 +87,5 @@ impl World {
         self.tally.add_uses(acct, object.extents.as_slice());
         self.tally.charge(acct, &charge);
         self.things.put(addr, Some(Thing::Object(object)));
-    }
-
-    /// Adds an extent to the object at an address, whose source was touched. Want of memory leaves the world
-    /// as before. It is linear in the object.
-    pub fn push_extent(&mut self, addr: Addr, extent: Extent) -> Result<(), NoMemory>
-        requires there { IsSome (object_at self.old.now addr) }
-        requires noted { Contains self.old.noted extent.source }
-        requires may_put { IfSome (object_at self.old.now addr) (λ z.
-            MayPut self.old addr (Thing.Object (with_extent z extent))) }
-        requires modest { IfSome (object_at self.old.now addr) (λ z.
-            IsModest (next_addr self.old.now.taken) (with_extent z extent)) }
-        requires small { extent.length ≤ 2 ^ 40 }
-        requires room { IfSome (object_at self.old.now addr) (λ z. (space : GhostSpace) →
-            occupancy self.old.now z.account space + extent_charge self.old.now space extent ≤ most_amount) }
-        ensures pushed { OnOk result (PushesExtent (object_at self.old.now addr) addr extent
-            self.old.now.things self.new.now.things) }
-        ensures others { OnOk result (self.new.now ≡ record self.old.now { things = self.new.now.things }) }
-        ensures begun { self.new.begun ≡ self.old.begun }
-        ensures owners { self.new.owners ≡ self.old.owners }
-        ensures noted_stay { self.new.noted ≡ self.old.noted }
-        ensures saved { self.new.saved ≡ self.old.saved }
-        ensures same { OnErr result (self.new.now ≡ self.old.now) }
-    {
-        let charge = bytes_charge(self.space_of(extent.source), extent.length);
-        let acct = push_at(&mut self.things, addr, extent)?;
-        self.tally.add_use(acct, extent.source);
-        self.tally.charge(acct, &charge);
-        Ok(())
     }
 }

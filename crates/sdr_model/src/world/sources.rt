@@ -1,5 +1,5 @@
 // The sources of a world in the making, what names them, and what is charged.
-ghost use Rattle.std.specs.Prelude.{◌≡◌, ◌≤◌, ◌<◌, ◌+◌, ◌^◌, ℕ, IfSome, IsSome, OnOk, OnErr, None, Some, Contains, true, [], length};
+ghost use Rattle.std.specs.Prelude.{◌≡◌, ◌≤◌, ◌<◌, ◌+◌, ◌^◌, ℕ, IfSome, IsSome, OnOk, OnErr, None, Some, Contains, true, length};
 ghost use Rattle.std.specs.Option.{option_copied};
 ghost use Rattle.sdr_base.specs.declared.account.Acct.{Acct as GhostAcct};
 ghost use Rattle.sdr_base.specs.declared.kind.Space.{Space};
@@ -9,14 +9,16 @@ ghost use Rattle.sdr_model.specs.Charges.{object_charge, occupancy};
 ghost use Rattle.sdr_model.specs.Dry.{next_addr};
 ghost use Rattle.sdr_model.specs.Limits.{longest_raw, longest_source};
 ghost use Rattle.sdr_model.specs.Notes.{raw_of};
+ghost use Rattle.sdr_model.specs.SourceSteps.{new_source};
 ghost use Rattle.sdr_model.specs.Steps.{with_thing, without_thing};
 ghost use Rattle.sdr_model.specs.Owners.{MayPut};
 ghost use Rattle.sdr_model.specs.Tallies.{FlagsSource, IsModest, charged, is_plain, raw_at};
 ghost use Rattle.sdr_model.specs.World.{as_raw, thing_at};
 ghost use Rattle.sdr_model.specs.Zco.{count_of, object_at, source_at, source_on, uses_of};
 ghost use Rattle.sdr_model.specs.declared.things.Thing.{Thing};
+ghost use Rattle.sdr_model.specs.declared.zco.Subject.{Subject};
 
-use crate::{Thing, World, ZcoObject, ZcoSource};
+use crate::{Subject, Thing, World, ZcoObject, ZcoSource};
 use sdr_base::{Acct, Addr, Amounts, Bytes, NoMemory};
 
 impl World {
@@ -151,6 +153,32 @@ impl World {
         let raw = source.subject.raw();
         self.things.put(addr, Some(Thing::Source(source)));
         self.tally.set_source(raw, Some(addr));
+    }
+
+    /// Puts a source of this length, which takes over a raw object, at an address that was touched, where
+    /// neither a source nor an object is. Extents may name it already: the bytes of no source are in heap
+    /// space too. The raw object was touched, and has no source.
+    pub fn take_over(&mut self, addr: Addr, raw: Addr, length: u64)
+        requires below { addr < next_addr self.old.now.taken }
+        requires touched { Contains self.old.touched addr }
+        requires plain { is_plain (thing_at self.old.now addr) ≡ true }
+        requires length { length ≤ longest_source }
+        requires noted { Contains self.old.noted raw }
+        requires unnamed { source_on self.old.now raw ≡ None }
+        requires unnamed_here { source_on self.old.now addr ≡ None }
+        requires raw_below { raw < addr }
+        requires raw_plain { is_plain (thing_at self.old.now raw) ≡ true }
+        ensures put { self.new.now ≡ with_thing self.old.now addr
+            (Thing.Source (new_source (Subject.Heap raw) length)) }
+        ensures begun { self.new.begun ≡ self.old.begun }
+    {
+        let source = ZcoSource {
+            subject: Subject::Heap(raw),
+            length,
+            flagged: false,
+        };
+        self.things.put(addr, Some(Thing::Source(source)));
+        self.tally.set_source(Some(raw), Some(addr));
     }
 
     /// Lets the source at an address that was touched go, which no extent names. Its raw object, if it has

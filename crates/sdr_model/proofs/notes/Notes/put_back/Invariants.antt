@@ -4,9 +4,9 @@ use Rattle.sdr_model.proofs.notes.Notes.put_back.Given as goal
 
 abbrev pub invariant-loop-addr : goal.invariant-loop-addr
 invariant-loop-addr l = record {
-  begun : SameNotes (undone l.self-inside.log.items l.self-inside.inner) l.fn.self.begun;
-  have : HaveNotes l.self-inside.log.items l.self-inside.inner;
+  begun : SameNotes (undone l.self-inside.log.entries l.self-inside.inner) l.fn.self.begun;
+  have : HaveNotes l.self-inside.log.entries l.self-inside.inner;
 }
 
 abbrev pub decreases-loop-addr : goal.decreases-loop-addr
-decreases-loop-addr l = length l.self-inside.log.items
+decreases-loop-addr l = length l.self-inside.log.entries

@@ -2,7 +2,7 @@ use Rattle.std.proofs.Common.{◌≡◌, ◌∷◌, [], ◌++◌, List, ℕ, Non
 use Rattle.std.proofs.Common.{◌-◌, append-nil}
 use Rattle.std.specs.FinMap.{get, insert}
 use Rattle.std.specs.Prelude.{is_some, take}
-use Rattle.sdr_model.specs.Store.{AreTouched, now_at, empty_place, things_at}
+use Rattle.sdr_model.specs.Store.{AreTouched, now_at, empty_place, is_noted, things_at}
 use Rattle.sdr_model.proofs.StoreLemmas.{nothing_touched, insert-insert, some-inserted, things_at-same, touched-pop}
 use Rattle.sdr_model.proofs.store.Store.keep.Goals as goal
 
@@ -22,7 +22,7 @@ loop-addr-preserved c =
       touched = subst (λ m. AreTouched m c.pop.new.self.items) (sym is)
           (touched-pop c.loop-addr.self-inside.places c.pop.new.self.items c.in-Some.addr c.keep.new.self
           (subst (AreTouched c.loop-addr.self-inside.places) c.in-Some.ensures.items c.loop-addr.invariant.touched)
-          (ap (λ p. p.touched) c.keep.ensures));
+          (ap is_noted c.keep.ensures));
     }
 
 pub returns : goal.returns

@@ -62,5 +62,5 @@ returns-clause-same c =
     c.take-taken.ensures.same
 
 pub returns-clause-others : goal.returns-clause-others
-returns-clause-others c = λ other was.
-    subst (λ s. Contains s.touched other) (sym c.self.view_is) (c.touch.ensures.others other was)
+returns-clause-others c other has =
+    subst (λ s. Contains s.touched other) (sym c.self.view_is) (c.touch.ensures.others other has)

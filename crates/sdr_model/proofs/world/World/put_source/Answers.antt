@@ -1,4 +1,4 @@
-use Rattle.std.proofs.Common.{◌≡◌, true, Some, None, ap, sym, subst, subst₂, ◌∙◌}
+use Rattle.std.proofs.Common.{◌≡◌, true, Some, None, ap, sym, subst, subst₂, ◌∙◌, inl}
 use Rattle.std.specs.Prelude.{◌<◌, IfSome}
 use Rattle.sdr_model.specs.Dry.{next_addr}
 use Rattle.sdr_model.specs.Notes.{NameSource, raw_of}
@@ -19,7 +19,7 @@ invariant_of-self c =
     (subst (λ raw. NameSource raw (Some k) inside.tally.notes.now c.set_source.new.self.notes.now) c.raw-raw.ensures c.set_source.ensures.now)
     (subst (λ d. k < next_addr d.now.taken) view c.requires.below)
     (subst (λ d. is_plain (thing_at d.now k) ≡ true) view c.requires.plain)
-    (subst (λ d. uses_of d.now k ≡ 0) view c.requires.unused)
+    (inl (subst (λ d. uses_of d.now k ≡ 0) view c.requires.unused))
     c.requires.length
     (subst (λ d. IfSome (raw_of c.args.source.subject) (λ raw. source_on d.now raw ≡ None)) view c.requires.unnamed)
     (subst (λ d. source_on d.now k ≡ None) view c.requires.unnamed_here)
