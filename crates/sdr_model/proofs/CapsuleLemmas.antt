@@ -25,7 +25,7 @@ use Rattle.sdr_model.specs.Owners.{IsOwned, Owns, OwnsInside}
 use Rattle.sdr_model.specs.Rows.{ByRow}
 use Rattle.sdr_model.specs.Sides.{capsule_call, with_capsule}
 use Rattle.sdr_model.specs.Steps.{On, Outcome, Refuses, Takes}
-use Rattle.sdr_model.specs.Tallies.{IsModest, IsShort, MayReplace}
+use Rattle.sdr_model.specs.Tallies.{IsModest, IsShort}
 use Rattle.sdr_model.specs.Things.{Owners, capsule_block, capsule_need, extent_block, inner_blocks}
 use Rattle.sdr_model.specs.World.{World}
 use Rattle.sdr_model.specs.Zco.{object_at}
@@ -68,22 +68,6 @@ pub charge-capsule : (side : Side) (w : World) (space : Space) (z : ZcoObject) (
 charge-capsule sides.Front w space z c = omega (arith, sum_by-cons (capsule_charge space) c z.headers)
 charge-capsule sides.Back w space z c = omega (arith, sum_by_push (capsule_charge space) z.trailers c)
 
--- an account that has room for it may have the object with it
-pub replace-capsule : (side : Side) (w : World) (k : ℕ) (z : ZcoObject) (c : Capsule) (amounts : Amounts)
-    → object_at w k ≡ Some z → amounts ≡ amounts_by (in_space spaces.Heap (capsule_bytes (length c.text)))
-    → HasRoomFor w z.account amounts → MayReplace w (object_at w k) (with_capsule side z c)
-replace-capsule side w k z c amounts there is room =
-    subst (λ o. MayReplace w o (with_capsule side z c)) (sym there) (by side)
-  where
-    more : (space : Space) → amount amounts space ≡ capsule_charge space c
-    more spaces.File = ap (λ a. amount a spaces.File) is
-    more spaces.Bulk = ap (λ a. amount a spaces.Bulk) is
-    more spaces.Heap = ap (λ a. amount a spaces.Heap) is
-
-    by : (side : Side) → MayReplace w (Some z) (with_capsule side z c)
-    by sides.Front = (refl, λ space. omega (arith, room space, more space, charge-capsule sides.Front w space z c))
-    by sides.Back = (refl, λ space. omega (arith, room space, more space, charge-capsule sides.Back w space z c))
-
 -- what was owned still is, where owners of lower blocks stay
 pub owned-kept : (owners now : Owners) (next more k : ℕ) (z : ZcoObject) → next ≤ more
     → ((other of : ℕ) → other < next → get owners other ≡ Some of → get now other ≡ Some of)
@@ -118,17 +102,6 @@ owned-capsule side owners now next more k z c higher stay owns noted below = rec
         ∙ ap (λ (l : List Block). front ++ l) (sym (map-append capsule_block z.trailers (c ∷ []))))
         (All-append (Owns now more k) (inner_blocks (things.Object z)) (capsule_block c ∷ []) all
         (All-cons (Owns now more k) (capsule_block c) [] here (All-nil (Owns now more k))))
-
--- the sources of its extents are noted as before
-pub noted-capsule : (side : Side) (z : ZcoObject) (c : Capsule) (noted : List ℕ) → All (λ e. Contains noted e.source) z.extents
-    → All (λ e. Contains noted e.source) (with_capsule side z c).extents
-noted-capsule sides.Front z c noted all = all
-noted-capsule sides.Back z c noted all = all
-
--- its account is that of the object
-pub account-capsule : (side : Side) (z : ZcoObject) (c : Capsule) → (with_capsule side z c).account ≡ z.account
-account-capsule sides.Front z c = refl
-account-capsule sides.Back z c = refl
 
 -- so many bytes may be a header or trailer
 pub some_capsule : (bytes : ℕ) → 1 ≤ bytes → bytes ≤ longest_capsule → is_no_capsule bytes ≡ false

@@ -8,6 +8,7 @@ use Rattle.sdr_model.specs.PartSteps.{outside_part, stripped}
 use Rattle.sdr_model.specs.Queue.{with_served}
 use Rattle.sdr_model.specs.RowMoves.{block_of_capsule, destroyed_blocks, first_header, last_trailer, stripped_blocks}
 use Rattle.sdr_model.specs.Steps.{Does, On, Outcome, gave, without_thing}
+use Rattle.sdr_model.specs.Strips.{IsStripped}
 use Rattle.sdr_model.specs.World.{World}
 use Rattle.sdr_model.specs.Zco.{object_at}
 use Rattle.sdr_model.specs.declared.answer.Reply.TheVariants as replies
@@ -48,12 +49,7 @@ destroys w w' addr z is put = record {
     same : record next { shown = []; taken = w.taken } ≡ record next { shown = [] }
     same = ap (λ n. record next { shown = []; taken = n }) (sym (taken_left w (gone_things w z.extents z.extents)))
 
--- the world after an object is stripped
-abbrev pub IsStripped : World → World → ℕ → ZcoObject → Type 0
-IsStripped w w' addr z =
-    let out = outside_part z in
-    w' ≡ record (with_served (with_object (without_things w (gone_things w out out)) addr (stripped z)) z.account) { shown = [] }
-
+-- it is stripped
 pub strips : (w w' : World) (addr : ℕ) (z : ZcoObject) → Some z ≡ object_at w addr → IsStripped w w' addr z
     → StepsDry w (calls.Strip addr) (gave (stripped_blocks w (object_at w addr))) w' replies.Done
 strips w w' addr z is put = record {

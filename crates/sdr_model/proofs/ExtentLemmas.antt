@@ -23,7 +23,7 @@ use Rattle.sdr_model.specs.Owners.{Owns, OwnsInside}
 use Rattle.sdr_model.specs.RowMoves.{append_moves}
 use Rattle.sdr_model.specs.Rows.{ByRow}
 use Rattle.sdr_model.specs.Steps.{On, Outcome, Refuses, Takes}
-use Rattle.sdr_model.specs.Tallies.{EndsInTime, IsModest, MayReplace}
+use Rattle.sdr_model.specs.Tallies.{EndsInTime, IsModest}
 use Rattle.sdr_model.specs.Things.{Owners, capsule_block, extent_block, extent_need}
 use Rattle.sdr_model.specs.World.{World, as_raw, thing_at}
 use Rattle.sdr_model.specs.Zco.{as_source, extents_length, object_at, source_at, space_of}
@@ -84,14 +84,6 @@ pub charge-extent : (w : World) (space : Space) (z : ZcoObject) (e : Extent)
     → object_charge w space (with_extent z e) ≡ object_charge w space z + extent_charge w space e
 charge-extent w space z e = omega (arith, sum_by_push (extent_charge w space) z.extents e)
 
--- an account that has room for it may have the object with it
-pub replace-extent : (w : World) (k : ℕ) (z : ZcoObject) (e : Extent) (amounts : Amounts) → object_at w k ≡ Some z
-    → ((space : Space) → amount amounts space ≡ extent_charge w space e)
-    → HasRoomFor w z.account amounts → MayReplace w (object_at w k) (with_extent z e)
-replace-extent w k z e amounts there is room =
-    subst (λ o. MayReplace w o (with_extent z e)) (sym there)
-    (refl, λ space. omega (arith, room space, is space, charge-extent w space z e))
-
 -- the object owns its new extent too
 pub owned-extent : (owners now : Owners) (next more k : ℕ) (z : ZcoObject) (e : Extent) → next ≤ more
     → ((other of : ℕ) → other < next → get owners other ≡ Some of → get now other ≡ Some of)
@@ -116,11 +108,6 @@ owned-extent owners now next more k z e higher stay owns noted below = record {
       (All-front (Owns now more k) headers extents front) pushed)
       (All-back (Owns now more k) (headers ++ extents) trailers all);
 }
-
--- the sources of its extents are noted where that of the new one is
-pub noted-extents : (z : ZcoObject) (e : Extent) (P : ℕ → Type 0) → All (λ e. P e.source) (with_extent z e).extents
-    → All (λ e. P e.source) z.extents
-noted-extents z e P all = All-front (λ e. P e.source) z.extents (e ∷ []) all
 
 -- the row of an append of a part of a source
 pub append-row : (w : World) (o : Outcome) (k number named offset bytes : ℕ) (z : ZcoObject) (s : ZcoSource)
@@ -194,12 +181,6 @@ append-refused w w' k number named offset bytes z s amounts refusal there source
       in_order = tt;
       counted = omega arith;
     })
-
--- a source is there still after a charge for blocks
-pub same_source : (w wt wc : World) (p : Option Pending) (amounts : Amounts) (n k : ℕ) (s : ZcoSource) → wt ≡ w
-    → wc ≡ with_blocks (with_used wt p amounts) n → Some s ≡ source_at w k → source_at wc k ≡ Some s
-same_source w wt wc p amounts n k s same taken there =
-    ap (λ v. source_at v k) taken ∙ ap as_source (thing_at-blocks wt p amounts n k) ∙ ap (λ v. source_at v k) same ∙ sym there
 
 -- the amount of a space
 pub amount_of : (amounts : Amounts) (charge : Space → ℕ) (space : Space) → amounts ≡ amounts_by charge → amount amounts space ≡ charge space

@@ -18,7 +18,6 @@ use Rattle.sdr_model.specs.Charging.{Charges, with_used}
 use Rattle.sdr_model.specs.Dry.{StepsDry, dry_moves, next_addr, with_blocks}
 use Rattle.sdr_model.specs.ObjectSteps.{with_object}
 use Rattle.sdr_model.specs.Steps.{Outcome, Takes, without_thing}
-use Rattle.sdr_model.specs.Tallies.{MayReplace}
 use Rattle.sdr_model.specs.World.{World, thing_at}
 use Rattle.sdr_model.specs.Zco.{as_object, as_source, empty_object, object_at}
 use Rattle.sdr_model.specs.declared.answer.Reply.{Reply}
@@ -85,62 +84,7 @@ room_made w z acct amounts empty charge room space =
     of_empty spaces.Bulk = refl
     of_empty spaces.Heap = refl
 
--- the account of an object is itself
-same_account : (acct : Acct) → is_same_account acct acct ≡ true
-same_account accts.Inbound = refl
-same_account accts.Outbound = refl
-
--- without an object
-module _ (w : World) (k : ℕ) (z : ZcoObject) (is : get w.things k ≡ Some (things.Object z)) where
-  no_source : space_in (as_source None) ≡ space_in (as_source (get w.things k))
-  no_source = ap (λ t. space_in (as_source t)) (sym is)
-
-  -- what another object charges is the same
-  pub object_charge-gone : (space : Space) (y : ZcoObject) → object_charge (without_thing w k) space y ≡ object_charge w space y
-  object_charge-gone space y =
-      object_charge-same w (without_thing w k) space y
-      (All-each (SameSpace w (without_thing w k)) (λ e. same_spaces w.things w.accounts k None no_source e.source) y.extents)
-
-  -- so much less is occupied
-  pub occupancy-gone : (space : Space)
-      → occupancy (without_thing w k) z.account space + object_charge w space z ≡ occupancy w z.account space
-  occupancy-gone space =
-      omega (
-        arith,
-        charged-with_at w.things w.accounts k None
-            (λ q y there. All-each (SameSpace w (without_thing w k)) (λ e. same_spaces w.things w.accounts k None no_source e.source) y.extents)
-            z.account space,
-        ap (λ t. counted_at (λ e. thing_charge w z.account space e.1) k t) is,
-        ap (λ b. cond b (object_charge w space z) 0) (same_account z.account),
-      )
-
--- an object that may come in the place of another has room where that one is gone
-pub room_replaced : (w : World) (k : ℕ) (object : ZcoObject) → MayReplace w (object_at w k) object
-    → (space : Space) → occupancy (without_thing w k) object.account space + object_charge (without_thing w k) space object ≤ most_amount
-room_replaced w k object may space = of_thing (get w.things k) refl may
-  where
-    of_thing : (t : Option Thing) → get w.things k ≡ t → MayReplace w (as_object t) object
-        → occupancy (without_thing w k) object.account space + object_charge (without_thing w k) space object ≤ most_amount
-    of_thing (Some (things.Object z)) is may =
-        let gone : occupancy (without_thing w k) object.account space + object_charge w space z ≡ occupancy w object.account space =
-        subst (λ acct. occupancy (without_thing w k) acct space + object_charge w space z ≡ occupancy w acct space) may.0
-        (occupancy-gone w k z is space) in
-        omega (arith, gone, object_charge-gone w k z is space object, may.1 space)
-    of_thing (Some (things.Raw bytes)) is may = absurd may
-    of_thing (Some (things.Text text)) is may = absurd may
-    of_thing (Some (things.List l)) is may = absurd may
-    of_thing (Some (things.Table t)) is may = absurd may
-    of_thing (Some (things.Hash h)) is may = absurd may
-    of_thing (Some (things.Source s)) is may = absurd may
-    of_thing None is may = absurd may
-
--- an object is there still after a charge for blocks
-pub there_after : (w wt wc : World) (p : Option Pending) (amounts : Amounts) (n k : ℕ) (z : ZcoObject) → wt ≡ w
-    → wc ≡ with_blocks (with_used wt p amounts) n → Some z ≡ object_at w k → object_at wc k ≡ Some z
-there_after w wt wc p amounts n k z same taken there =
-    ap (λ v. object_at v k) taken ∙ ap as_object (thing_at-blocks wt p amounts n k) ∙ ap (λ v. object_at v k) same ∙ sym there
-
--- and so many more blocks are counted
+-- so many more blocks are counted after a charge for them
 pub taken_after : (w wt wc : World) (p : Option Pending) (amounts : Amounts) (n : ℕ) → wt ≡ w
     → wc ≡ with_blocks (with_used wt p amounts) n → wc.taken ≡ w.taken + n
 taken_after w wt wc None amounts n same taken =

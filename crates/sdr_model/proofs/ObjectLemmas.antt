@@ -333,15 +333,3 @@ pub object_there : (o : Option Thing) → IsSome (as_object o) → (z : ZcoObjec
 object_there None none = absurd (true≢false (sym none))
 object_there (Some (things.Object z)) some = (z, refl)
 object_there (Some thing) none = absurd (true≢false (sym none))
-
--- where an object was, no source names a raw object
-pub unnamed_gone : (next : ℕ) (m gone : Things) (accounts : Accounts) (k : ℕ) (z : ZcoObject) → RawsArePlain next m
-    → get m k ≡ Some (things.Object z) → gone ≡ with_at m k None → source_on (world_of gone accounts) k ≡ None
-unnamed_gone next m gone accounts k z raws there is =
-    source_on-none (world_of gone accounts) k (λ addr thing here names.
-    by addr thing names (is_at (nat_cmp addr) k) (sym (ap (λ t. get t addr) is ∙ get-with_at m k None addr) ∙ here))
-  where
-    by : (addr : ℕ) (thing : Thing) → names_raw k thing ≡ true → (b : Bool) → cond b None (get m addr) ≡ Some thing → ⊥
-    by addr thing names true none = let no : None ≡ Some thing = none in absurd cc
-    by addr thing names false same =
-        true≢false (sym (raws.each addr k (ap raw_of_thing same ∙ own_named thing k names)).1 ∙ ap is_plain there)

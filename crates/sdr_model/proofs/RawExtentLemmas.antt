@@ -82,21 +82,14 @@ plain_grown w k q z grown there =
     by true at = object (get w.things q) (ap (λ a. as_object (get w.things a)) (same_address q k at) ∙ there)
     by false at = refl
 
--- an object grew by a charge for two blocks: they are counted, and what is neither a source nor an object stays
-module _ (w w' : World) (k : ℕ) (z grown : ZcoObject) (p : Option Pending) (amounts : Amounts) (there : object_at w k ≡ Some z)
-    (put : w' ≡ with_object (with_blocks (with_used w p amounts) 2) k grown) where
-  pub taken_grown : w'.taken ≡ w.taken + 2
-  taken_grown = ap (λ (v : World). v.taken) put ∙ by p
-    where
-      by : (p : Option Pending) → (with_object (with_blocks (with_used w p amounts) 2) k grown).taken ≡ w.taken + 2
-      by None = refl
-      by (Some p) = refl
-
-  pub plain_still : (q : ℕ) → is_plain (thing_at w' q) ≡ is_plain (thing_at w q)
-  plain_still q =
-      ap (λ v. is_plain (thing_at v q)) put
-      ∙ plain_grown (with_blocks (with_used w p amounts) 2) k q z grown (ap as_object (thing_at-blocks w p amounts 2 k) ∙ there)
-      ∙ ap is_plain (thing_at-blocks w p amounts 2 q)
+-- so does one that grew by a charge for two blocks
+pub plain_still : (w w' : World) (k : ℕ) (z grown : ZcoObject) (p : Option Pending) (amounts : Amounts) → object_at w k ≡ Some z
+    → w' ≡ with_object (with_blocks (with_used w p amounts) 2) k grown → (q : ℕ)
+    → is_plain (thing_at w' q) ≡ is_plain (thing_at w q)
+plain_still w w' k z grown p amounts there put q =
+    ap (λ v. is_plain (thing_at v q)) put
+    ∙ plain_grown (with_blocks (with_used w p amounts) 2) k q z grown (ap as_object (thing_at-blocks w p amounts 2 k) ∙ there)
+    ∙ ap is_plain (thing_at-blocks w p amounts 2 q)
 
 -- a raw object is neither a source nor an object
 pub raw_plain : (o : Option Thing) (text : List ℕ) → as_raw o ≡ Some text → is_plain o ≡ true

@@ -26,7 +26,8 @@ edited (edits.Extents extents part) z = record z { extents = extents; part = par
 -- Of two objects of one account the uses and charges differ by this, and the account has room for it.
 pub record Differ (w : World) (by : Change) (z after : ZcoObject) : Type 0 where
   pub account : after.account ≡ z.account
-  pub uses : (source : ℕ) → naming source after.extents + naming source by.lost ≡ naming source z.extents + naming source by.gained
+  pub uses : (source : ℕ)
+      → naming source after.extents + naming source by.lost ≡ naming source z.extents + naming source by.gained
   pub gained : (source : ℕ) → naming source by.gained ≤ naming source after.extents
   pub charges : (space : Space)
       → object_charge w space after + amount by.released space ≡ object_charge w space z + amount by.charged space

@@ -4,7 +4,10 @@ use Rattle.sdr_base.specs.declared.kind.Space.{Space}
 use Rattle.sdr_model.specs.Amounts.{amount, no_amounts}
 use Rattle.sdr_model.specs.Charges.{bytes_charge, object_charge, space_in}
 use Rattle.sdr_model.specs.Edits.{edited}
+use Rattle.sdr_model.specs.Gone.{gone_things, without_things}
+use Rattle.sdr_model.specs.ObjectSteps.{with_object}
 use Rattle.sdr_model.specs.PartSteps.{outside_part, stripped}
+use Rattle.sdr_model.specs.Queue.{with_served}
 use Rattle.sdr_model.specs.World.{World}
 use Rattle.sdr_model.specs.Zco.{source_at}
 use Rattle.sdr_model.specs.declared.strip_calls.Stripping.{Stripping}
@@ -28,3 +31,9 @@ pub record Strips (w : World) (z : ZcoObject) (so : Stripping) : Type 0 where
 abbrev pub StripsThere : World → Stripping → Option ZcoObject → Type 0
 StripsThere w so None = ⊥
 StripsThere w so (Some z) = Strips w z so
+
+-- the world after an object is stripped
+abbrev pub IsStripped : World → World → ℕ → ZcoObject → Type 0
+IsStripped w w' addr z =
+    let out = outside_part z in
+    w' ≡ record (with_served (with_object (without_things w (gone_things w out out)) addr (stripped z)) z.account) { shown = [] }

@@ -16,7 +16,7 @@ use Rattle.sdr_model.specs.Notes.{Notes, UsesMore, note_at, noted_count, raw_of}
 use Rattle.sdr_model.specs.Owners.{AllOwnInside}
 use Rattle.sdr_model.specs.SourceSteps.{flagged}
 use Rattle.sdr_model.specs.Steps.{with_thing}
-use Rattle.sdr_model.specs.Store.{Store, with_at}
+use Rattle.sdr_model.specs.Store.{Store}
 use Rattle.sdr_model.specs.Things.{Owners, Things}
 use Rattle.sdr_model.specs.World.{World, thing_at}
 use Rattle.sdr_model.specs.Zco.{as_source, count_of, extents_length, names_raw, naming}
@@ -114,13 +114,6 @@ pub record IsKept (owners : Owners) (tally : Tally) (next : ℕ) (things : Store
 abbrev pub FlagsSource : Option ZcoSource → ℕ → World → World → Type 0
 FlagsSource None addr w w' = ⊥
 FlagsSource (Some source) addr w w' = w' ≡ record (with_thing w addr (things.Source (flagged source))) { shown = [] }
-
--- an object of the same account is there, and with the other one in its place no more is occupied than the greatest amount
-abbrev pub MayReplace : World → Option ZcoObject → ZcoObject → Type 0
-MayReplace w None object = ⊥
-MayReplace w (Some z) object =
-    (z.account ≡ object.account)
-    × ((space : Space) → occupancy w object.account space + object_charge w space object ≤ most_amount + object_charge w space z)
 
 -- the object is there, its extents are counted no more, and this isn't charged any more
 abbrev pub CountsOut : Option ZcoObject → Amounts → Tally → Tally → Type 0

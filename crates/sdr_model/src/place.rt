@@ -4,7 +4,7 @@ ghost use Rattle.std.specs.Option.{option_copied};
 ghost use Rattle.sdr_model.specs.Store.{begun_at};
 
 use crate::Thing;
-use sdr_base::{Addr, NoMemory};
+use sdr_base::NoMemory;
 use std::alloc::Global;
 use std::mem;
 

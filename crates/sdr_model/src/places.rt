@@ -1,5 +1,5 @@
 // Places by address.
-ghost use Rattle.std.specs.Prelude.{◌≡◌, IfOk, OnOk, OnErr, IsSome, Some, None, false};
+ghost use Rattle.std.specs.Prelude.{◌≡◌, OnOk, OnErr, IsSome, Some, None, false};
 ghost use Rattle.std.specs.FinMap as map;
 ghost use Rattle.std.specs.Option.{option_copied};
 

@@ -1,15 +1,11 @@
 // What a call that strips an object does to a world.
-ghost use Rattle.std.specs.Prelude.{◌≡◌, ◌≤◌, [], IfOk, IfSome, OnErr, OnOk};
+ghost use Rattle.std.specs.Prelude.{◌≡◌, ◌≤◌, IfOk, IfSome, OnErr, OnOk};
 ghost use Rattle.sdr_base.specs.declared.kind.Space.{Space as GhostSpace};
 ghost use Rattle.sdr_model.specs.Accounts.{most_amount};
 ghost use Rattle.sdr_model.specs.Answers.{Answers};
 ghost use Rattle.sdr_model.specs.Bounds.{IsBounded};
 ghost use Rattle.sdr_model.specs.Charges.{object_charge};
-ghost use Rattle.sdr_model.specs.Gone.{gone_things, without_things};
-ghost use Rattle.sdr_model.specs.ObjectSteps.{with_object};
-ghost use Rattle.sdr_model.specs.PartSteps.{outside_part, stripped};
-ghost use Rattle.sdr_model.specs.Queue.{with_served};
-ghost use Rattle.sdr_model.specs.Strips.{Strips, StripsThere};
+ghost use Rattle.sdr_model.specs.Strips.{IsStripped, Strips, StripsThere};
 ghost use Rattle.sdr_model.specs.Zco.{object_at};
 
 use crate::amounts::NOTHING;
@@ -63,9 +59,8 @@ fn put_stripped(
 ) -> Result<Reply, NoMemory>
     requires strips { StripsThere world.old.now so (object_at world.old.now addr) }
     ensures reply { IfOk result (λ reply. reply ≡ Reply.Done) }
-    ensures put { OnOk result (IfSome (object_at world.old.now addr) (λ z.
-        let out = outside_part z in let w = world.old.now in world.new.now
-        ≡ record (with_served (with_object (without_things w (gone_things w out out)) addr (stripped z)) z.account) { shown = [] })) }
+    ensures put { OnOk result
+        (IfSome (object_at world.old.now addr) (IsStripped world.old.now world.new.now addr)) }
     ensures begun { world.new.begun ≡ world.old.begun }
     ensures same { OnErr result (world.new.now ≡ world.old.now) }
 {

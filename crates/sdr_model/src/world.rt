@@ -21,9 +21,9 @@ mod dropping;
 mod editing;
 mod growing;
 mod objects;
-mod replacing;
 mod sources;
 mod taking;
+mod touching;
 mod trimming;
 
 use crate::catalogue::Catalogue;

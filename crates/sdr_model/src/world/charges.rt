@@ -55,7 +55,8 @@ impl World {
         requires ends { EndsInTime extent.now }
         requires within { left ≤ extent.now.length }
         ensures { (space : GhostSpace) →
-            amount result space + left_charge self.now.now space extent.now left ≡ extent_charge self.now.now space extent.now }
+            amount result space + left_charge self.now.now space extent.now left
+            ≡ extent_charge self.now.now space extent.now }
     {
         if left == 0 {
             return bytes_charge(self.space_of(extent.source), extent.length);

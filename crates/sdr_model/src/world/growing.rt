@@ -7,8 +7,7 @@ ghost use Rattle.sdr_model.specs.Charging.{with_used};
 ghost use Rattle.sdr_model.specs.Components.{AddsComponent, Grows, KeepsLimits, block_of, component_charges, source_of};
 ghost use Rattle.sdr_model.specs.Dry.{addr_after, next_addr, with_blocks};
 ghost use Rattle.sdr_model.specs.Owners.{IsOwned};
-ghost use Rattle.sdr_model.specs.Tallies.{IsAccountOf, is_plain};
-ghost use Rattle.sdr_model.specs.World.{thing_at};
+ghost use Rattle.sdr_model.specs.Tallies.{IsAccountOf};
 ghost use Rattle.sdr_model.specs.Zco.{as_object, object_at, source_on};
 
 use crate::capsules::capsule_bytes;

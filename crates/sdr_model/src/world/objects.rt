@@ -1,27 +1,24 @@
 // The objects of a world in the making.
-ghost use Rattle.std.specs.Prelude.{◌≡◌, ◌≤◌, ◌+◌, ◌^◌, true, None, IfOk, OnOk, OnErr, IfSome, IsSome, Some, Contains};
+ghost use Rattle.std.specs.Prelude.{◌≡◌, ◌≤◌, ◌+◌, true, None, IfSome, IsSome, Some, Contains};
 ghost use Rattle.std.specs.FinMap as map;
 ghost use Rattle.std.specs.List.{All};
 ghost use Rattle.sdr_base.specs.declared.kind.Space.{Space as GhostSpace};
 ghost use Rattle.sdr_model.specs.Accounts.{most_amount};
 ghost use Rattle.sdr_model.specs.Amounts.{amounts_by};
-ghost use Rattle.sdr_model.specs.Bounds.{IsBounded};
-ghost use Rattle.sdr_model.specs.Charges.{extent_charge, object_charge, occupancy};
-ghost use Rattle.sdr_model.specs.ObjectSteps.{with_extent};
+ghost use Rattle.sdr_model.specs.Charges.{object_charge, occupancy};
 ghost use Rattle.sdr_model.specs.Dry.{next_addr};
 ghost use Rattle.sdr_model.specs.Owners.{MayPut};
 ghost use Rattle.sdr_model.specs.Steps.{with_thing, without_thing};
 ghost use Rattle.sdr_model.specs.Notes.{SameNotes};
-ghost use Rattle.sdr_model.specs.Tallies.{CountsOut, IsAccountOf, IsModest, MayCountOut, PushesExtent, is_plain};
+ghost use Rattle.sdr_model.specs.Tallies.{CountsOut, IsModest, MayCountOut, is_plain};
 ghost use Rattle.sdr_model.specs.World.{thing_at};
 ghost use Rattle.sdr_model.specs.Zco.{as_object, object_at, source_on};
 ghost use Rattle.sdr_model.specs.declared.things.Thing.{Thing};
 
 use crate::amounts::NOTHING;
-use crate::charges::bytes_charge;
 use crate::tally::Tally;
-use crate::{Extent, Store, Thing, World, ZcoObject};
-use sdr_base::{Acct, Addr, Amounts, NoMemory};
+use crate::{Store, Thing, World, ZcoObject};
+use sdr_base::{Addr, Amounts};
 
 // Counts the extents of the object at an address no more, and charges so much less for it.
 fn count_out(things: &Store, tally: &mut Tally, addr: Addr, charge: &Amounts)
@@ -56,7 +53,6 @@ impl World {
         requires noted { IfSome (object_at self.old.now addr) (λ z.
             All (λ e. Contains self.old.noted e.source) z.extents) }
         ensures lost { self.new.now ≡ without_thing self.old.now addr }
-        ensures unnamed { source_on self.new.now addr ≡ None }
         ensures begun { self.new.begun ≡ self.old.begun }
         ensures owners { self.new.owners ≡ self.old.owners }
         ensures touched { self.new.touched ≡ self.old.touched }

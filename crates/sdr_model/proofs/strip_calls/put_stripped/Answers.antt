@@ -11,12 +11,12 @@ use Rattle.sdr_model.specs.ObjectSteps.{with_object}
 use Rattle.sdr_model.specs.Owners.{MayPut}
 use Rattle.sdr_model.specs.PartSteps.{outside_part, part_end, stripped}
 use Rattle.sdr_model.specs.Queue.{with_served}
+use Rattle.sdr_model.specs.Strips.{IsStripped}
 use Rattle.sdr_model.specs.Tallies.{IsModest}
 use Rattle.sdr_model.specs.World.{World}
 use Rattle.sdr_model.specs.Zco.{naming, object_at, uses_of}
 use Rattle.sdr_model.specs.declared.things.Thing.TheVariants as things
 use Rattle.sdr_model.proofs.CutLemmas.{MayChange-stripped, strips_there}
-use Rattle.sdr_model.proofs.DiscardLemmas.{IsStripped}
 use Rattle.sdr_model.proofs.DropLemmas.{IsNoted-more, gone_go}
 use Rattle.sdr_model.proofs.StripLemmas.{MayGo-replaced, all_apart, naming-cut, without_things-with}
 use Rattle.sdr_model.proofs.strip_calls.put_stripped.Goals as goal

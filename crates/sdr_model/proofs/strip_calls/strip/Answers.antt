@@ -1,11 +1,12 @@
 use Rattle.std.proofs.Common.{◌≡◌, Some, sym, subst}
 use Rattle.std.specs.Prelude.{IfSome}
 use Rattle.sdr_model.specs.Dry.{StepsDry, dry_moves}
+use Rattle.sdr_model.specs.Strips.{IsStripped}
 use Rattle.sdr_model.specs.Zco.{object_at}
 use Rattle.sdr_model.specs.declared.call.Call.{Call}
 use Rattle.sdr_model.specs.declared.call.Call.TheVariants as calls
 use Rattle.sdr_model.proofs.Cases.{in_ok}
-use Rattle.sdr_model.proofs.DiscardLemmas.{IsStripped, strips}
+use Rattle.sdr_model.proofs.DiscardLemmas.{strips}
 use Rattle.sdr_model.proofs.strip_calls.strip.Goals as goal
 
 pub returns : goal.returns

@@ -8,7 +8,7 @@ use Rattle.sdr_model.specs.Charges.{object_charge}
 use Rattle.sdr_model.specs.Tallies.{CountsOut, MayCountOut}
 use Rattle.sdr_model.specs.Zco.{as_object, object_at}
 use Rattle.sdr_model.specs.contracts.world.World.{the_view}
-use Rattle.sdr_model.proofs.ObjectLemmas.{Changes-removed, IsKept-changed, object_there, unnamed_gone, uses_there}
+use Rattle.sdr_model.proofs.ObjectLemmas.{Changes-removed, IsKept-changed, object_there, uses_there}
 use Rattle.sdr_model.proofs.world.World.lose_object.Goals as goal
 
 pub count_out-requires : goal.count_out-requires
@@ -45,12 +45,3 @@ invariant_of-self c =
     inside.accounts.now k z c.self.invariant.told.now there.1 out.0
     (out.1 ∙ ap (λ a. with_charged inside.tally.now z.account (minus (charged_to inside.tally.now z.account) a)) charge))
     c.self.invariant
-
-pub returns-clause-unnamed : goal.returns-clause-unnamed
-returns-clause-unnamed c =
-    let inside = c.self.inside in
-    let k = c.args.addr in
-    let there = object_there (get inside.things.now k)
-    (subst (λ d. IsSome (object_at d.now k)) (sym c.self.view_is) c.requires.there) in
-    unnamed_gone _ inside.things.now c.put.new.self.now inside.accounts.now k there.0 c.self.invariant.told.now.raws there.1
-    c.put.ensures.now

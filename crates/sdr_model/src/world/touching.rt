@@ -1,14 +1,10 @@
-// Objects in the place of others.
+// Sources that are looked up, and notes of what is to be changed.
 ghost use Rattle.std.specs.Prelude.{◌≡◌, ◌≤◌, ◌<◌, ℕ, Contains, IfSome, OnOk};
 ghost use Rattle.std.specs.List.{All};
 ghost use Rattle.std.specs.Option.{option_copied};
 ghost use Rattle.sdr_model.specs.Limits.{longest_source};
 ghost use Rattle.sdr_model.specs.Dry.{next_addr};
-ghost use Rattle.sdr_model.specs.ObjectSteps.{with_object};
-ghost use Rattle.sdr_model.specs.Owners.{MayPut};
-ghost use Rattle.sdr_model.specs.Tallies.{IsModest, MayReplace};
-ghost use Rattle.sdr_model.specs.Zco.{object_at, source_at};
-ghost use Rattle.sdr_model.specs.declared.things.Thing.{Thing};
+ghost use Rattle.sdr_model.specs.Zco.{source_at};
 
 use crate::{Extent, Thing, World, ZcoObject, ZcoSource};
 use sdr_base::{Addr, NoMemory};
@@ -56,26 +52,5 @@ impl World {
     {
         self.touch(addr)?;
         self.touch_sources(object.extents.as_slice())
-    }
-
-    /// Puts an object in the place of the one at an address that was touched, of the same account. It is
-    /// linear in both, times the logarithm of the world.
-    pub fn replace_object(&mut self, addr: Addr, object: ZcoObject)
-        requires touched { Contains self.old.touched addr }
-        requires noted { All (λ e. Contains self.old.noted e.source) object.extents }
-        requires noted_there { IfSome (object_at self.old.now addr) (λ z.
-            All (λ e. Contains self.old.noted e.source) z.extents) }
-        requires modest { IsModest (next_addr self.old.now.taken) object }
-        requires may_put { MayPut self.old addr (Thing.Object object) }
-        requires room { MayReplace self.old.now (object_at self.old.now addr) object }
-        ensures put { self.new.now ≡ with_object self.old.now addr object }
-        ensures begun { self.new.begun ≡ self.old.begun }
-        ensures owners { self.new.owners ≡ self.old.owners }
-        ensures touched { self.new.touched ≡ self.old.touched }
-        ensures noted_stay { self.new.noted ≡ self.old.noted }
-        ensures saved { self.new.saved ≡ self.old.saved }
-    {
-        self.lose_object(addr);
-        self.add_object(addr, object);
     }
 }
