@@ -164,13 +164,6 @@ impl Lock {
         self.world.shown()
     }
 
-    /// The daemons.
-    pub fn daemons(&self) -> Result<Vec<u8>, NoMemory>
-        ensures { IfOk result (λ daemons. daemons.items ≡ self.now.daemons) }
-    {
-        Vec::from_slice(self.alloc, &self.daemons)
-    }
-
     /// The daemons that hold a number, in lock order.
     pub fn holding(&self) -> Result<Vec<u8>, NoMemory>
         ensures { IfOk result (λ daemons. daemons.items ≡ holding self.now) }
