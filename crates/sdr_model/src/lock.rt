@@ -176,7 +176,7 @@ impl Lock {
 
     /// Those of these daemons that haven't left.
     pub fn staying(&self, daemons: &[u8]) -> Result<Vec<u8>, NoMemory>
-        ensures { IfOk result (λ staying. staying.items ≡ staying self.now daemons.now) }
+        ensures { IfOk result (λ left. left.items ≡ staying self.now daemons.now) }
     {
         daemons
             .iter()
