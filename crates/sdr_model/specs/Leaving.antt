@@ -25,8 +25,8 @@ holding m = map (λ h. h.daemon) m.holders
 abbrev pub staying : Machine → List ℕ → List ℕ
 staying m daemons = filter (λ daemon. not (has_left m daemon)) daemons
 
--- Each holder of a number makes a leave, in lock order; then those that haven't left yet do, in the order of the daemons.
-pub record AllLeave (leave : Leave) (m m' : Machine) : Type 0 where
+-- Each holder of a number makes a leave, in lock order; then those of these daemons that haven't left yet do, in order.
+pub record AllLeave (leave : Leave) (daemons : List ℕ) (m m' : Machine) : Type 0 where
   pub between : Machine
   pub holders : LeaveInTurn leave (holding m) m between
-  pub others : LeaveInTurn leave (staying between m.daemons) between m'
+  pub others : LeaveInTurn leave (staying between daemons) between m'

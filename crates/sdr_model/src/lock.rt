@@ -164,13 +164,6 @@ impl Lock {
         self.world.shown()
     }
 
-    /// The daemons.
-    pub fn daemons(&self) -> Result<Vec<u8>, NoMemory>
-        ensures { IfOk result (λ daemons. daemons.items ≡ self.now.daemons) }
-    {
-        Vec::from_slice(self.alloc, &self.daemons)
-    }
-
     /// The daemons that hold a number, in lock order.
     pub fn holding(&self) -> Result<Vec<u8>, NoMemory>
         ensures { IfOk result (λ daemons. daemons.items ≡ holding self.now) }
@@ -183,7 +176,7 @@ impl Lock {
 
     /// Those of these daemons that haven't left.
     pub fn staying(&self, daemons: &[u8]) -> Result<Vec<u8>, NoMemory>
-        ensures { IfOk result (λ staying. staying.items ≡ staying self.now daemons.now) }
+        ensures { IfOk result (λ left. left.items ≡ staying self.now daemons.now) }
     {
         daemons
             .iter()

@@ -103,15 +103,14 @@ impl Plain {
     }
 
     /// Makes the leaves at the end of the input: each daemon that holds a number makes one, in lock order, and then
-    /// those that haven't left yet do, in their order.
-    pub fn leave_all(&mut self, leave: Leave) -> Result<(), NoMemory>
-        requires events { 2 * self.old.events + length self.old.machine.daemons ≤ 4_194_304 }
-        ensures { OnOk result (AllLeave leave self.old.machine self.new.machine) }
+    /// those of these daemons that haven't left yet do, in their order.
+    pub fn leave_all(&mut self, daemons: &[u8], leave: Leave) -> Result<(), NoMemory>
+        requires events { 2 * self.old.events + length daemons.now ≤ 4_194_304 }
+        ensures { OnOk result (AllLeave leave daemons.now self.old.machine self.new.machine) }
     {
-        let daemons = self.lock.daemons()?;
         let holding = self.lock.holding()?;
         self.leave_in_turn(&holding, leave)?;
-        let staying = self.lock.staying(&daemons)?;
+        let staying = self.lock.staying(daemons)?;
         self.leave_in_turn(&staying, leave)
     }
 }

@@ -13,7 +13,7 @@ ghost use Rattle.sdr_shell.specs.Schedule.{all_daemons, answer_line, daemons_of,
 
 use crate::media::{Gap, gather};
 use sdr_base::{Media, NoMemory, Refusal, Sink, SinkFault};
-use sdr_model::{Answer, Event, Piece, Plain, Reply, Step};
+use sdr_model::{Answer, Event, Leave, Piece, Plain, Reply, Step};
 use sdr_text::write_answer;
 use sdr_words::Bindings;
 use std::alloc::{AllocError, AllocFailed, Global};
@@ -168,7 +168,8 @@ fn names(script: &[Step], daemon: u8) -> bool
 
 // The daemons that a script names.
 fn daemons_of(alloc: Global, script: &[Step]) -> Result<Vec<u8>, NoMemory>
-    ensures { IfOk result (λ daemons. daemons.items ≡ daemons_of script.now) }
+    ensures named { IfOk result (λ daemons. daemons.items ≡ daemons_of script.now) }
+    ensures few { IfOk result (λ daemons. length daemons.items ≤ 16) }
 {
     (1..17u8)
         .filter(|daemon| names(script, *daemon))
@@ -184,7 +185,7 @@ fn run_on<M: Media, K: Sink>(
     script: &[Step],
     out: &mut K,
 ) -> Result<(), RunError>
-    requires few { length script.now < 2_097_152 }
+    requires few { length script.now ≤ 1_048_577 }
     requires plain { plain.old ≡ record { machine = first_machine (daemons_of script.now); events = 0 } }
     requires bindings { bindings.old ≡ [] }
     ensures ok { OnOk result (SomeRun (seen_media M.told M.faults M.short media.old) (seen_media M.told M.faults M.short media.new) script.now (λ rest text.
@@ -193,6 +194,7 @@ fn run_on<M: Media, K: Sink>(
         Appends (K.taken out.old) (K.taken out.new) text) }
     ensures output { result ≡ Err RunError.Output → SomeRun (seen_media M.told M.faults M.short media.old) (seen_media M.told M.faults M.short media.new) script.now (λ rest text.
         AppendsPart (K.taken out.old) (K.taken out.new) text) }
+    ensures few { OnOk result (plain.new.events ≤ 1_048_577) }
     ensures later { K.faults out.old ≤ K.faults out.new }
     ensures cause { result ≡ Err RunError.Output → Rose (K.faults out.old) (K.faults out.new) }
 {
@@ -212,7 +214,7 @@ pub fn run<M: Media, K: Sink>(
     media: &mut M,
     out: &mut K,
 ) -> Result<(), RunError>
-    requires few { length script.now < 2_097_152 }
+    requires few { length script.now ≤ 1_048_577 }
     ensures ok { OnOk result (SomeRun (seen_media M.told M.faults M.short media.old) (seen_media M.told M.faults M.short media.new) script.now (λ rest text.
         (rest ≡ []) × Appends (K.taken out.old) (K.taken out.new) text)) }
     ensures memory { result ≡ Err RunError.NoMemory → SomeRun (seen_media M.told M.faults M.short media.old) (seen_media M.told M.faults M.short media.new) script.now (λ rest text.
@@ -231,5 +233,8 @@ pub fn run<M: Media, K: Sink>(
         &mut Bindings::new(alloc),
         script,
         out,
-    )
+    )?;
+    // The leaves at the end of the input print nothing.
+    plain.leave_all(daemons.as_slice(), Leave::Done)?;
+    Ok(())
 }

@@ -8,7 +8,7 @@ invariant-loop-step g l = record {
   running : Running (seen_media g.M.Media.told g.M.Media.faults g.M.Media.short l.fn.media)
       (seen_media g.M.Media.told g.M.Media.faults g.M.Media.short l.media) l.fn.script l.rest l.bindings l.plain.machine (g.K.Sink.taken l.fn.out) (g.K.Sink.taken l.out);
   later : g.K.Sink.faults l.fn.out ≤ g.K.Sink.faults l.out;
-  few : l.plain.events + length l.rest < 2_097_152;
+  few : l.plain.events + length l.rest ≤ 1_048_577;
 }
 
 abbrev pub decreases-loop-step : goal.decreases-loop-step
