@@ -3,7 +3,9 @@ pub mod AmountLemmas
 pub mod AskingLemmas
 pub mod BlocksLemmas
 pub mod BlocksTaken
+pub mod BondCallLemmas
 pub mod BondLemmas
+pub mod BondRowLemmas
 pub mod BoundsLemmas
 pub mod CapsuleLemmas
 pub mod Cases
