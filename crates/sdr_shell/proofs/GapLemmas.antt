@@ -1,5 +1,5 @@
 -- Answers that media have no part in.
-use Rattle.std.proofs.Common.{◌≡◌, ℕ, List, Bool, true, false, Option, Result, Ok, Err, IfOk, refl, sym, ap, ◌∙◌, subst, true≢false}
+use Rattle.std.proofs.Common.{◌≡◌, ℕ, List, false, Result, Ok, Err, IfOk, refl, ap, ◌∙◌, true≢false}
 use Rattle.sdr_base.specs.declared.moves.Move.{Move}
 use Rattle.sdr_base.specs.declared.refusal.Refusal.TheVariants as refusals
 use Rattle.sdr_laws.proofs.StepLemmas.{row_is_no_stop}
@@ -12,7 +12,7 @@ use Rattle.sdr_model.specs.declared.answer.Reply.TheVariants as replies
 use Rattle.sdr_model.specs.declared.event.Event.{Event}
 use Rattle.sdr_laws.specs.Refused.{is_stop}
 use Rattle.sdr_shell.proofs.MediaLemmas.{failed_refl}
-use Rattle.sdr_shell.specs.Schedule.{HaveFailed, IsCaused, SeenMedia, from_to, is_media_fault, is_short, once}
+use Rattle.sdr_shell.specs.Schedule.{IsCaused, SeenMedia, from_to}
 
 -- a reply that tells of no stop tells of no gap
 whole_reply : (reply : Reply) → is_stop reply ≡ false → is_gap (answers.Reply reply) ≡ false

@@ -1,4 +1,4 @@
-use Rattle.std.proofs.Common.{◌≡◌, ◌≤◌, ◌<◌, ◌+◌, length}
+use Rattle.std.proofs.Common.{◌≤◌, ◌<◌, ◌+◌, length}
 use Rattle.sdr_shell.specs.Schedule.{media_change}
 use Rattle.sdr_shell.proofs.ScheduleLemmas.{Running}
 use Rattle.sdr_shell.proofs.run.run_on.Given as goal
