@@ -1,5 +1,5 @@
 -- What reads of media give of pieces.
-use Rattle.std.proofs.Common.{◌≡◌, ◌≤◌, ◌<◌, ◌==◌, ℕ, suc, List, [], ◌∷◌, ◌++◌, Bool, true, false, Option, None, Some, length, take, drop, min, replicate, refl, sym, ap, ◌∙◌, subst, arith, IfSome, append_assoc, append-nil, flat_map, length-append, ◌⊎◌, inl, inr, Result, Ok, Err, IfOk}
+use Rattle.std.proofs.Common.{◌≡◌, ◌≤◌, ◌<◌, ℕ, suc, List, [], ◌∷◌, ◌++◌, false, Option, None, Some, length, take, drop, min, refl, sym, ap, ◌∙◌, subst, arith, IfSome, append_assoc, append-nil, length-append, ◌⊎◌, inl, inr, Result, Ok, Err, IfOk}
 use Rattle.std.specs.Prelude.{MatchBool, nat_lt}
 use Rattle.std.proofs.lemmas.Bool.{le-ltb, lt-ltb}
 use Rattle.std.proofs.Math.Seq.{take-length}
@@ -12,7 +12,7 @@ use Rattle.sdr_model.specs.declared.wire.Piece.{Piece}
 use Rattle.sdr_model.specs.declared.wire.Piece.TheVariants as pieces
 use Rattle.sdr_shell.specs.declared.media.Gap.{Gap}
 use Rattle.sdr_shell.specs.declared.media.Gap.TheVariants as gaps
-use Rattle.sdr_shell.specs.Gathering.{AddsPiece, AreGathered, Gathering, GivesPiece, HasGiven, IsGapIn, IsGapOf}
+use Rattle.sdr_shell.specs.Gathering.{AddsPiece, AreGathered, Gathering, HasGiven, IsGapIn, IsGapOf}
 
 -- known bytes are spelled by themselves
 pub spells_known : (bytes : List ℕ) → Spells (known bytes) bytes

@@ -13,7 +13,7 @@ use Rattle.sdr_model.specs.declared.answer.Answer.TheVariants as answers
 use Rattle.sdr_model.specs.declared.answer.Reply.TheVariants as replies
 use Rattle.sdr_words.specs.Bindings.{Binding, bound, event_of}
 use Rattle.sdr_shell.proofs.MediaLemmas.{caused_later, caused_more, failed_refl}
-use Rattle.sdr_shell.specs.Schedule.{Answers, AreCaused, Follows, HaveFailed, IsCaused, MakesEvent, RunsDry, SeenMedia, SomeAnswer, SomeRun, answer_line, daemons_of}
+use Rattle.sdr_shell.specs.Schedule.{Answers, AreCaused, Follows, HaveFailed, IsCaused, MakesEvent, MediaChange, RunsDry, SeenMedia, SomeAnswer, SomeRun, answer_line, daemons_of, from_to}
 use Rattle.sdr_text.proofs.TextLemmas.{part_later}
 use Rattle.sdr_text.specs.Text.{given_text, line_text, made_text}
 use Rattle.sdr_model.specs.declared.script.Step.{Step}
@@ -107,14 +107,14 @@ given_text-shown (answers.Reply reply) m = refl
 given_text-shown answer m = refl
 
 -- A run so far, with the lines of all that was made printed.
-pub record Running (media now_media : SeenMedia) (script rest : List Step) (bindings : List Binding) (m : Machine) (old now : Option (List ℕ)) : Type 0 where
+pub record Running (media : MediaChange) (script rest : List Step) (bindings : List Binding) (m : Machine) (old now : Option (List ℕ)) : Type 0 where
   pub made : List Made
-  pub at : At media.told script rest made bindings m
-  pub caused : AreCaused made media now_media
+  pub at : At media.before.told script rest made bindings m
+  pub caused : AreCaused made media
   pub printed : Appends old now (made_text made)
 
 pub running_start : (media : SeenMedia) (script : List Step) (m : Machine) (old : Option (List ℕ)) → first_machine (daemons_of script) ≡ m
-    → Running media media script script [] m old old
+    → Running (from_to media media) script script [] m old old
 running_start media script m old is = record {
   made = [];
   at = at_start media.told script m is;
@@ -123,9 +123,9 @@ running_start media script m old is = record {
 }
 
 -- the run so far, with its text
-pub running_some : (media media' : SeenMedia) (script rest : List Step) (bindings : List Binding) (m : Machine) (old now : Option (List ℕ))
-    → Running media media' script rest bindings m old now → SomeRun media media' script (λ rest text. Appends old now text)
-running_some media media' script rest bindings m old now r = record {
+pub running_some : (media : MediaChange) (script rest : List Step) (bindings : List Binding) (m : Machine) (old now : Option (List ℕ))
+    → Running media script rest bindings m old now → SomeRun media script (λ rest text. Appends old now text)
+running_some media script rest bindings m old now r = record {
   rest = rest;
   made = r.made;
   core = r.at.core;
@@ -135,7 +135,7 @@ running_some media media' script rest bindings m old now r = record {
 }
 
 module _ (media between media' : SeenMedia) (script : List Step) (step : Step) (rest : List Step) (bindings : List Binding) (m m' : Machine)
-    (old now later : Option (List ℕ)) (r : Running media between script (step ∷ rest) bindings m old now) where
+    (old now later : Option (List ℕ)) (r : Running (from_to media between) script (step ∷ rest) bindings m old now) where
   -- the run with one more answer
   next_at : (answer : Answer) → Answers between.told m step (event_of bindings step) answer m'
       → At media.told script rest (r.made ++ made_of bindings step answer m' ∷ []) (bound bindings step answer) m'
@@ -144,8 +144,8 @@ module _ (media between media' : SeenMedia) (script : List Step) (step : Step) (
       (subst (λ told. Answers told m step (event_of bindings step) answer m') r.caused.told answers_so)
 
   -- one more line was printed
-  pub running_next : (answer : Answer) → Answers between.told m step (event_of bindings step) answer m' → IsCaused answer between media'
-      → Appends now later (answer_line step answer m') → Running media media' script rest (bound bindings step answer) m' old later
+  pub running_next : (answer : Answer) → Answers between.told m step (event_of bindings step) answer m' → IsCaused answer (from_to between media')
+      → Appends now later (answer_line step answer m') → Running (from_to media media') script rest (bound bindings step answer) m' old later
   running_next answer answers_so caused line =
       let e = made_of bindings step answer m' in
       record {
@@ -156,8 +156,8 @@ module _ (media between media' : SeenMedia) (script : List Step) (step : Step) (
       }
 
   -- the last line is printed in part
-  pub running_cut : SomeAnswer between media' m bindings step m' (AppendsPart now later)
-      → SomeRun media media' script (λ rest text. AppendsPart old later text)
+  pub running_cut : SomeAnswer (from_to between media') m bindings step m' (AppendsPart now later)
+      → SomeRun (from_to media media') script (λ rest text. AppendsPart old later text)
   running_cut cut =
       let e = made_of bindings step cut.answer m' in
       let next = next_at cut.answer cut.answers in
@@ -171,8 +171,8 @@ module _ (media between media' : SeenMedia) (script : List Step) (step : Step) (
       }
 
   -- the run stopped for want of memory: before its next line was printed, or behind it
-  pub running_kept : (Keeps now later × HaveFailed 0 0 between media') ⊎ SomeAnswer between media' m bindings step m' (Appends now later)
-      → SomeRun media media' script (λ rest text. Appends old later text)
+  pub running_kept : (Keeps now later × HaveFailed 0 0 (from_to between media')) ⊎ SomeAnswer (from_to between media') m bindings step m' (Appends now later)
+      → SomeRun (from_to media media') script (λ rest text. Appends old later text)
   running_kept (inl kept) = record {
     rest = step ∷ rest;
     made = r.made;
@@ -182,12 +182,12 @@ module _ (media between media' : SeenMedia) (script : List Step) (step : Step) (
     printed = Appends-kept old now later (made_text r.made) r.printed kept.0;
   }
   running_kept (inr line) =
-      running_some media media' script rest _ m' old later (running_next line.answer line.answers line.caused line.printed)
+      running_some (from_to media media') script rest _ m' old later (running_next line.answer line.answers line.caused line.printed)
 
-pub running_done : (media media' : SeenMedia) (script rest : List Step) (bindings : List Binding) (m : Machine) (old now : Option (List ℕ))
-    → Running media media' script rest bindings m old now → rest ≡ []
-    → SomeRun media media' script (λ rest text. (rest ≡ []) × Appends old now text)
-running_done media media' script rest bindings m old now r is = record {
+pub running_done : (media : MediaChange) (script rest : List Step) (bindings : List Binding) (m : Machine) (old now : Option (List ℕ))
+    → Running media script rest bindings m old now → rest ≡ []
+    → SomeRun media script (λ rest text. (rest ≡ []) × Appends old now text)
+running_done media script rest bindings m old now r is = record {
   rest = rest;
   made = r.made;
   core = r.at.core;
@@ -197,6 +197,6 @@ running_done media media' script rest bindings m old now r is = record {
 }
 
 -- no step was made, and nothing was printed
-pub some_none : (media : SeenMedia) (script : List Step) (old : Option (List ℕ)) → SomeRun media media script (λ rest text. Appends old old text)
+pub some_none : (media : SeenMedia) (script : List Step) (old : Option (List ℕ)) → SomeRun (from_to media media) script (λ rest text. Appends old old text)
 some_none media script old =
-    running_some media media script script [] (first_machine (daemons_of script)) old old (running_start media script _ old refl)
+    running_some (from_to media media) script script [] (first_machine (daemons_of script)) old old (running_start media script _ old refl)

@@ -1,10 +1,10 @@
 -- What a last line adds to a run, and what follows from the statuses.
-use Rattle.std.proofs.Common.{◌≡◌, ◌≤◌, ◌<◌, ◌↔◌, ℕ, List, ◌++◌, ◌⊎◌, inl, inr, Option, Some, None, Ok, Err, IsOk, IsErr, true≢false, refl, sym, subst, arith}
+use Rattle.std.proofs.Common.{◌≡◌, ◌≤◌, ◌<◌, ◌↔◌, ℕ, List, ◌++◌, ◌⊎◌, inl, inr, Option, Some, None, Ok, Err, IsOk, IsErr, true≢false, sym, subst, arith}
 use Rattle.std.specs.Io.KnownBytes.{Appends}
 use Rattle.std.proofs.KnownBytes.{Appends-trans}
 use Rattle.sdr_base.specs.Causes.{Rose}
 use Rattle.sdr_base.proofs.WrittenLemmas.{rose_later}
-use Rattle.sdr_shell.specs.Schedule.{SeenMedia, SomeRun}
+use Rattle.sdr_shell.specs.Schedule.{MediaChange, SomeRun}
 use Rattle.sdr_shell.specs.Formatting.{IsFormatStatus}
 use Rattle.sdr_shell.specs.Still.{Writes, HadScript, HadBadLine, HadRun, IsDryStatus, IsRefused, NamesBadLine, Tells}
 use Rattle.sdr_words.specs.Script.{input_script}
@@ -22,10 +22,10 @@ writes_behind old mid new before between now text line a later (inr f) =
     inr (rose_later before between now later f.0, part_later old mid new text line a f.1)
 
 -- a last line behind the answers of a run
-pub some_behind : (media media' : SeenMedia) (script : List Step) (old mid new : Option (List ℕ)) (before between now : ℕ) (line : List ℕ)
-    → SomeRun media media' script (λ rest text. Appends old mid text) → before ≤ between → Writes mid new between now line
-    → SomeRun media media' script (λ rest text. Writes old new before now (text ++ line))
-some_behind media media' script old mid new before between now line r later w = record {
+pub some_behind : (media : MediaChange) (script : List Step) (old mid new : Option (List ℕ)) (before between now : ℕ) (line : List ℕ)
+    → SomeRun media script (λ rest text. Appends old mid text) → before ≤ between → Writes mid new between now line
+    → SomeRun media script (λ rest text. Writes old new before now (text ++ line))
+some_behind media script old mid new before between now line r later w = record {
   rest = r.rest;
   made = r.made;
   core = r.core;
@@ -40,9 +40,9 @@ told_script None bytes script told h = cc
 told_script (Some input) bytes script told h = cc (told, h.had, h.spells)
 
 -- an input that is refused was not run
-pub not_run : (left : Option (List ℕ)) (bytes : List ℕ) (media media' : SeenMedia) (P : List Step → List ℕ → Type 0)
-    → left ≡ Some bytes → IsErr (input_script bytes) → HadRun left media media' P → ⊥
-not_run left bytes media media' P told refused run = absurd (true≢false (sym (subst IsErr (told_script left bytes run.script told run.input) refused)))
+pub not_run : (left : Option (List ℕ)) (bytes : List ℕ) (media : MediaChange) (P : List Step → List ℕ → Type 0)
+    → left ≡ Some bytes → IsErr (input_script bytes) → HadRun left media P → ⊥
+not_run left bytes media P told refused run = absurd (true≢false (sym (subst IsErr (told_script left bytes run.script told run.input) refused)))
 
 -- a status that tells of a refused line stands for one
 pub tells_refused : (error : ScriptError) (status : ℕ) (left old new : Option (List ℕ)) (before now : ℕ)
@@ -81,10 +81,10 @@ format_completes status size need disk disk' before now known small fault output
     ]
 
 -- the script that was read is the one that ran
-pub had_run : (left : Option (List ℕ)) (media media' : SeenMedia) (script ran : List Step) (P : List Step → List ℕ → Type 0)
-    → HadScript left script → ran ≡ script → SomeRun media media' ran P → HadRun left media media' P
-had_run left media media' script ran P had same run = record {
+pub had_run : (left : Option (List ℕ)) (media : MediaChange) (script ran : List Step) (P : List Step → List ℕ → Type 0)
+    → HadScript left script → ran ≡ script → SomeRun media ran P → HadRun left media P
+had_run left media script ran P had same run = record {
   script = script;
   input = had;
-  run = subst (λ s. SomeRun media media' s P) same run;
+  run = subst (λ s. SomeRun media s P) same run;
 }

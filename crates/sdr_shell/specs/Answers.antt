@@ -6,7 +6,7 @@ use Rattle.sdr_base.specs.Written.{AppendsPart}
 use Rattle.sdr_log.specs.Frame.{disk_bytes}
 use Rattle.sdr_log.specs.declared.frame.Frame.{Frame}
 use Rattle.sdr_shell.specs.Formatting.{line_formatted, line_too_small, IsFormatted, HasFormatted, IsFormatStatus}
-use Rattle.sdr_shell.specs.Schedule.{SeenMedia}
+use Rattle.sdr_shell.specs.Schedule.{MediaChange}
 use Rattle.sdr_shell.specs.Still.{Writes, HadRun, IsDone, IsDryStatus, IsRefused, IsStarved}
 use Rattle.sdr_words.specs.Script.{input_script}
 use Rattle.sdr_shell.specs.declared.status.TheConstants.{DONE, INPUT_FAULT, OUTPUT_FAULT, DISK_FAULT, REFUSED_LINE, NO_MEMORY, TOO_SMALL}
@@ -26,15 +26,15 @@ Wrote sink sink' text = Writes sink.bytes sink'.bytes sink.faults sink'.faults t
 
 -- What a dry run answers. A script that is refused is not run; one that is accepted is run to its end, unless there is a
 -- fault or no memory.
-pub record AnswersDry (status : ℕ) (source source' : Seen) (media media' : SeenMedia) (sink sink' : Seen) : Type 0 where
+pub record AnswersDry (status : ℕ) (source source' : Seen) (media : MediaChange) (sink sink' : Seen) : Type 0 where
   pub known : IsDryStatus status
-  pub done : status ≡ DONE → IsDone source.bytes source'.bytes media media' sink.bytes sink'.bytes
+  pub done : status ≡ DONE → IsDone source.bytes source'.bytes media sink.bytes sink'.bytes
   pub input : status ≡ INPUT_FAULT → Rose source.faults source'.faults
   pub input_text : status ≡ INPUT_FAULT → Wrote sink sink' (codes "input fault\n")
   pub output : status ≡ OUTPUT_FAULT → Rose sink.faults sink'.faults
-  pub part : status ≡ OUTPUT_FAULT → HadRun source.bytes media media' (λ rest text. AppendsPart sink.bytes sink'.bytes text)
+  pub part : status ≡ OUTPUT_FAULT → HadRun source.bytes media (λ rest text. AppendsPart sink.bytes sink'.bytes text)
   pub refused : status ≡ REFUSED_LINE → IsRefused source.bytes sink.bytes sink'.bytes sink.faults sink'.faults
-  pub starved : status ≡ NO_MEMORY → IsStarved source.bytes media media' sink.bytes sink'.bytes sink.faults sink'.faults
+  pub starved : status ≡ NO_MEMORY → IsStarved source.bytes media sink.bytes sink'.bytes sink.faults sink'.faults
   pub exact : (bytes : List ℕ) → source.bytes ≡ Some bytes → IsErr (input_script bytes) → (status ≢ DONE) × (status ≢ OUTPUT_FAULT)
   pub complete : (bytes : List ℕ) → source.bytes ≡ Some bytes → IsOk (input_script bytes) → ¬ Rose source.faults source'.faults
       → ¬ Rose sink.faults sink'.faults → (status ≡ DONE) ⊎ (status ≡ NO_MEMORY)

@@ -1,5 +1,5 @@
 -- What `format` answers: by status, what it leaves on the disk and what is written.
-use Rattle.std.specs.Prelude.{◌≡◌, ◌<◌, ℕ, List, ◌++◌, ◌⊎◌, Some, codes, decimal}
+use Rattle.std.specs.Prelude.{◌≡◌, ℕ, List, ◌++◌, ◌⊎◌, Some, codes, decimal}
 use Rattle.std.specs.declared.option.Option.{Option}
 use Rattle.sdr_disk.specs.Told.{Told}
 use Rattle.sdr_image.specs.Format.{formatted}

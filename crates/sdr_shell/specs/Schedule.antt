@@ -32,6 +32,19 @@ pub record SeenMedia : Type 0 where
 abbrev pub seen_media : {X : Type 0} → (X → Option Told) → (X → ℕ) → (X → ℕ) → X → SeenMedia
 seen_media told faults short x = record { told = told x; faults = faults x; short = short x }
 
+-- what is seen of media before and after
+pub record MediaChange : Type 0 where
+  pub before : SeenMedia
+  pub after : SeenMedia
+
+-- a change of what is seen of media, from this to that
+abbrev pub from_to : SeenMedia → SeenMedia → MediaChange
+from_to before after = record { before = before; after = after }
+
+-- what is seen of media as they were and as they are
+abbrev pub media_change : {X : Type 0} → (X → Option Told) → (X → ℕ) → (X → ℕ) → X → X → MediaChange
+media_change told faults short old new = from_to (seen_media told faults short old) (seen_media told faults short new)
+
 -- a count went up so often, or stands at the end of its type
 abbrev pub RoseBy : ℕ → ℕ → ℕ → Type 0
 RoseBy often before now = min (before + often) (2 ^ 64 - 1) ≤ now
@@ -51,10 +64,10 @@ is_short (answers.Reply (replies.Refused (refusals.SourceShort have want))) = tr
 is_short answer = false
 
 -- Media still tell the same, and have failed and given too few bytes at least so often since.
-pub record HaveFailed (failures lacks : ℕ) (media media' : SeenMedia) : Type 0 where
-  pub told : media'.told ≡ media.told
-  pub faults : RoseBy failures media.faults media'.faults
-  pub short : RoseBy lacks media.short media'.short
+pub record HaveFailed (failures lacks : ℕ) (media : MediaChange) : Type 0 where
+  pub told : media.after.told ≡ media.before.told
+  pub faults : RoseBy failures media.before.faults media.after.faults
+  pub short : RoseBy lacks media.before.short media.after.short
 
 -- how many answers of these are faults of media
 abbrev pub media_faults : List Made → ℕ
@@ -65,7 +78,7 @@ abbrev pub short_answers : List Made → ℕ
 short_answers = sum_by (λ e. once (is_short e.answer))
 
 -- The answers that tell of faults of media, and of too few bytes, are at most as many as these since.
-abbrev pub AreCaused : List Made → SeenMedia → SeenMedia → Type 0
+abbrev pub AreCaused : List Made → MediaChange → Type 0
 AreCaused made = HaveFailed (media_faults made) (short_answers made)
 
 -- the step makes this event, under what the names hold
@@ -95,23 +108,23 @@ abbrev pub answer_line : Step → Answer → Machine → List ℕ
 answer_line step answer m' = line_text step.line step.daemon answer (given_bytes answer m'.current)
 
 -- media failed, or gave too few bytes, where the answer tells so
-abbrev pub IsCaused : Answer → SeenMedia → SeenMedia → Type 0
+abbrev pub IsCaused : Answer → MediaChange → Type 0
 IsCaused answer = HaveFailed (once (is_media_fault answer)) (once (is_short answer))
 
 -- Some answer to the event of a step, of whose printed line P tells.
-pub record SomeLine (media media' : SeenMedia) (m : Machine) (step : Step) (event : Event) (m' : Machine) (P : List ℕ → Type 0) : Type 0 where
+pub record SomeLine (media : MediaChange) (m : Machine) (step : Step) (event : Event) (m' : Machine) (P : List ℕ → Type 0) : Type 0 where
   pub answer : Answer
-  pub answers : Answers media.told m step event answer m'
-  pub caused : IsCaused answer media media'
+  pub answers : Answers media.before.told m step event answer m'
+  pub caused : IsCaused answer media
   pub printed : P (answer_line step answer m')
 
 -- Some answer to a step under what the names hold, of whose printed line P tells.
-abbrev pub SomeAnswer : SeenMedia → SeenMedia → Machine → List Binding → Step → Machine → (List ℕ → Type 0) → Type 0
-SomeAnswer media media' m bindings step m' P = SomeLine media media' m step (event_of bindings step) m' P
+abbrev pub SomeAnswer : MediaChange → Machine → List Binding → Step → Machine → (List ℕ → Type 0) → Type 0
+SomeAnswer media m bindings step m' P = SomeLine media m step (event_of bindings step) m' P
 
 -- The same, where the step's name holds from then on what the answer gave it.
-pub record SomeStep (media media' : SeenMedia) (m : Machine) (bindings : List Binding) (step : Step) (m' : Machine) (bindings' : List Binding) (P : List ℕ → Type 0) : Type 0 where
-  pub line : SomeAnswer media media' m bindings step m' P
+pub record SomeStep (media : MediaChange) (m : Machine) (bindings : List Binding) (step : Step) (m' : Machine) (bindings' : List Binding) (P : List ℕ → Type 0) : Type 0 where
+  pub line : SomeAnswer media m bindings step m' P
   pub names : bindings' ≡ bound bindings step line.answer
 
 -- The script's steps but these last ones were made in order, on a core of the script's daemons, with these events and answers,
@@ -123,10 +136,10 @@ pub record RunsDry (told : Option Told) (script rest : List Step) (made : List M
   pub runs : RunsCore told (first_core (daemons_of script)) made core
 
 -- Some run of the script's first steps, of which P tells by the steps that are left and the text of the answers.
-pub record SomeRun (media media' : SeenMedia) (script : List Step) (P : List Step → List ℕ → Type 0) : Type 0 where
+pub record SomeRun (media : MediaChange) (script : List Step) (P : List Step → List ℕ → Type 0) : Type 0 where
   pub rest : List Step
   pub made : List Made
   pub core : Core
-  pub run : RunsDry media.told script rest made core
-  pub caused : AreCaused made media media'
+  pub run : RunsDry media.before.told script rest made core
+  pub caused : AreCaused made media
   pub printed : P rest (made_text made)

@@ -3,7 +3,7 @@ use Rattle.std.specs.Prelude.{◌≡◌, ℕ, List, [], ◌++◌, ◌⊎◌, Opt
 use Rattle.std.specs.Io.KnownBytes.{Appends, IsAtEnd}
 use Rattle.sdr_base.specs.Causes.{Rose}
 use Rattle.sdr_base.specs.Written.{AppendsPart}
-use Rattle.sdr_shell.specs.Schedule.{SeenMedia, SomeRun}
+use Rattle.sdr_shell.specs.Schedule.{MediaChange, SomeRun}
 use Rattle.sdr_words.specs.Script.{input_script}
 use Rattle.sdr_words.specs.declared.error.ScriptError.{ScriptError}
 use Rattle.sdr_words.specs.declared.error.ScriptError.TheVariants as errors
@@ -38,15 +38,15 @@ NamesBadLine left (errors.Line line) = HadBadLine left line
 NamesBadLine left errors.NoMemory = ⊤
 
 -- The source's input spelled a script, of which some run of the first steps went so.
-pub record HadRun (left : Option (List ℕ)) (media media' : SeenMedia) (P : List Step → List ℕ → Type 0) : Type 0 where
+pub record HadRun (left : Option (List ℕ)) (media : MediaChange) (P : List Step → List ℕ → Type 0) : Type 0 where
   pub script : List Step
   pub input : HadScript left script
-  pub run : SomeRun media media' script P
+  pub run : SomeRun media script P
 
 -- All of the source's input was read, all steps were made, and the lines of all answers were written.
-pub record IsDone (left left' : Option (List ℕ)) (media media' : SeenMedia) (old new : Option (List ℕ)) : Type 0 where
+pub record IsDone (left left' : Option (List ℕ)) (media : MediaChange) (old new : Option (List ℕ)) : Type 0 where
   pub read : IsAtEnd left'
-  pub run : HadRun left media media' (λ rest text. (rest ≡ []) × Appends old new text)
+  pub run : HadRun left media (λ rest text. (rest ≡ []) × Appends old new text)
 
 -- the last line of a refused script
 abbrev pub line_refused : ℕ → List ℕ
@@ -59,10 +59,10 @@ pub record IsRefused (left old new : Option (List ℕ)) (before now : ℕ) : Typ
   pub written : Writes old new before now (line_refused line)
 
 -- Memory was wanted: before a step was made, or behind some steps, whose answers stand before the last line.
-abbrev pub IsStarved : Option (List ℕ) → SeenMedia → SeenMedia → Option (List ℕ) → Option (List ℕ) → ℕ → ℕ → Type 0
-IsStarved left media media' old new before now =
+abbrev pub IsStarved : Option (List ℕ) → MediaChange → Option (List ℕ) → Option (List ℕ) → ℕ → ℕ → Type 0
+IsStarved left media old new before now =
     Writes old new before now (codes "no memory\n")
-    ⊎ HadRun left media media' (λ rest text. Writes old new before now (text ++ codes "no memory\n"))
+    ⊎ HadRun left media (λ rest text. Writes old new before now (text ++ codes "no memory\n"))
 
 -- the statuses with which a dry run ends
 abbrev pub IsDryStatus : ℕ → Type 0

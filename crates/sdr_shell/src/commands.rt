@@ -8,8 +8,9 @@ ghost use Rattle.sdr_shell.specs.Answers.{AnswersDry, AnswersFormat, Wrote, seen
 ghost use Rattle.sdr_shell.specs.Form.{form_of, OnFormat};
 ghost use Rattle.sdr_shell.specs.Formatting.{line_formatted, line_too_small, IsFormatted};
 ghost use Rattle.sdr_shell.specs.Formatting.{HasFormatted, IsFormatStatus, LeavesDisk};
-ghost use Rattle.sdr_shell.specs.Schedule.{HaveFailed, SomeRun, seen_media};
-ghost use Rattle.sdr_shell.specs.Still.{Writes, HadRun, IsDone, IsRefused, IsDryStatus, IsStarved, Tells, line_refused};
+ghost use Rattle.sdr_shell.specs.Schedule.{HaveFailed, SomeRun, media_change};
+ghost use Rattle.sdr_shell.specs.Still.{Writes, HadRun, IsDone, IsRefused, IsDryStatus, IsStarved};
+ghost use Rattle.sdr_shell.specs.Still.{Tells, line_refused};
 ghost use Rattle.sdr_base.specs.Written.{AppendsPart};
 
 use crate::Outcome;
@@ -30,7 +31,8 @@ use std::rc::RcStr;
 
 // Writes the number of a refused line.
 fn refuse_line<K: Sink>(output: &mut K, line: u64)
-    ensures written { Writes (K.taken output.old) (K.taken output.new) (K.faults output.old) (K.faults output.new)
+    ensures written { Writes (K.taken output.old) (K.taken output.new)
+        (K.faults output.old) (K.faults output.new)
         (line_refused line) }
     ensures later { K.faults output.old ≤ K.faults output.new }
 {
@@ -50,14 +52,17 @@ fn run_script<M: Media, K: Sink>(
 ) -> u8
     requires few { length script.now ≤ 1048577 }
     ensures known { (result ≡ DONE) ⊎ (result ≡ OUTPUT_FAULT) ⊎ (result ≡ NO_MEMORY) }
-    ensures media { HaveFailed 0 0 (seen_media M.told M.faults M.short media.old) (seen_media M.told M.faults M.short media.new) }
+    ensures media { HaveFailed 0 0 (media_change M.told M.faults M.short media.old media.new) }
     ensures later { K.faults output.old ≤ K.faults output.new }
-    ensures done { result ≡ DONE → SomeRun (seen_media M.told M.faults M.short media.old) (seen_media M.told M.faults M.short media.new) script.now (λ rest text.
+    ensures done { result ≡ DONE →
+        SomeRun (media_change M.told M.faults M.short media.old media.new) script.now (λ rest text.
         (rest ≡ []) × Appends (K.taken output.old) (K.taken output.new) text) }
     ensures fault { result ≡ OUTPUT_FAULT → Rose (K.faults output.old) (K.faults output.new) }
-    ensures part { result ≡ OUTPUT_FAULT → SomeRun (seen_media M.told M.faults M.short media.old) (seen_media M.told M.faults M.short media.new) script.now (λ rest text.
+    ensures part { result ≡ OUTPUT_FAULT →
+        SomeRun (media_change M.told M.faults M.short media.old media.new) script.now (λ rest text.
         AppendsPart (K.taken output.old) (K.taken output.new) text) }
-    ensures starved { result ≡ NO_MEMORY → SomeRun (seen_media M.told M.faults M.short media.old) (seen_media M.told M.faults M.short media.new) script.now (λ rest text.
+    ensures starved { result ≡ NO_MEMORY →
+        SomeRun (media_change M.told M.faults M.short media.old media.new) script.now (λ rest text.
         Writes (K.taken output.old) (K.taken output.new) (K.faults output.old) (K.faults output.new)
         (text ++ codes "no memory\n")) }
 {
@@ -74,7 +79,8 @@ fn run_script<M: Media, K: Sink>(
 // Tells why no script was read.
 fn tell<K: Sink>(error: &ScriptError, output: &mut K) -> u8
     ensures later { K.faults output.old ≤ K.faults output.new }
-    ensures told { Tells error.now result (K.taken output.old) (K.taken output.new) (K.faults output.old) (K.faults output.new) }
+    ensures told { Tells error.now result
+        (K.taken output.old) (K.taken output.new) (K.faults output.old) (K.faults output.new) }
 {
     match error {
         ScriptError::Input => {
@@ -101,21 +107,26 @@ fn dry<M: Media, S: Source, K: Sink>(
     output: &mut K,
 ) -> u8
     ensures known { IsDryStatus result }
-    ensures later { (S.faults input.old ≤ S.faults input.new) × (K.faults output.old ≤ K.faults output.new) }
-    ensures media { HaveFailed 0 0 (seen_media M.told M.faults M.short media.old) (seen_media M.told M.faults M.short media.new) }
+    ensures later { (S.faults input.old ≤ S.faults input.new)
+        × (K.faults output.old ≤ K.faults output.new) }
+    ensures media { HaveFailed 0 0 (media_change M.told M.faults M.short media.old media.new) }
     ensures reads { S.reads input.new ≤ S.reads input.old + 1048577 }
     ensures done { result ≡ DONE →
-        IsDone (S.left input.old) (S.left input.new) (seen_media M.told M.faults M.short media.old) (seen_media M.told M.faults M.short media.new) (K.taken output.old) (K.taken output.new) }
+        IsDone (S.left input.old) (S.left input.new)
+        (media_change M.told M.faults M.short media.old media.new)
+        (K.taken output.old) (K.taken output.new) }
     ensures input { result ≡ INPUT_FAULT → Rose (S.faults input.old) (S.faults input.new) }
     ensures input_text { result ≡ INPUT_FAULT →
         Writes (K.taken output.old) (K.taken output.new) (K.faults output.old) (K.faults output.new)
         (codes "input fault\n") }
     ensures output { result ≡ OUTPUT_FAULT → Rose (K.faults output.old) (K.faults output.new) }
-    ensures part { result ≡ OUTPUT_FAULT → HadRun (S.left input.old) (seen_media M.told M.faults M.short media.old) (seen_media M.told M.faults M.short media.new) (λ rest text.
+    ensures part { result ≡ OUTPUT_FAULT → HadRun (S.left input.old)
+        (media_change M.told M.faults M.short media.old media.new) (λ rest text.
         AppendsPart (K.taken output.old) (K.taken output.new) text) }
     ensures refused { result ≡ REFUSED_LINE → IsRefused (S.left input.old)
         (K.taken output.old) (K.taken output.new) (K.faults output.old) (K.faults output.new) }
-    ensures starved { result ≡ NO_MEMORY → IsStarved (S.left input.old) (seen_media M.told M.faults M.short media.old) (seen_media M.told M.faults M.short media.new)
+    ensures starved { result ≡ NO_MEMORY → IsStarved (S.left input.old)
+        (media_change M.told M.faults M.short media.old media.new)
         (K.taken output.old) (K.taken output.new) (K.faults output.old) (K.faults output.new) }
 {
     match read_script(alloc, input) {
@@ -152,12 +163,14 @@ pub fn still<D: Disk, M: Media, S: Source, K: Sink>(
     // The words are no form.
     ensures usage { (result.status ≡ USAGE) ↔ (form_of words.now ≡ None) }
     ensures usage_text { result.status ≡ USAGE →
-        Wrote (seen K.taken K.faults output.old) (seen K.taken K.faults output.new) (codes "usage\n") }
+        Wrote (seen K.taken K.faults output.old) (seen K.taken K.faults output.new)
+        (codes "usage\n") }
 
     // What the forms answer.
-    ensures dry { form_of words.now ≡ Some Form.Dry → (result.disk ≡ disk) × AnswersDry result.status
+    ensures dry { form_of words.now ≡ Some Form.Dry → (result.disk ≡ disk)
+        × AnswersDry result.status
         (seen S.left S.faults input.old) (seen S.left S.faults input.new)
-        (seen_media M.told M.faults M.short media) (seen_media M.told M.faults M.short result.media)
+        (media_change M.told M.faults M.short media result.media)
         (seen K.taken K.faults output.old) (seen K.taken K.faults output.new) }
     ensures format { OnFormat (form_of words.now) (λ frame. (input.new ≡ input.old)
         × AnswersFormat result.status frame (D.size disk)
@@ -165,11 +178,12 @@ pub fn still<D: Disk, M: Media, S: Source, K: Sink>(
         (seen K.taken K.faults output.old) (seen K.taken K.faults output.new)) }
 
     // Every form.
-    ensures counts { (S.faults input.old ≤ S.faults input.new) × (K.faults output.old ≤ K.faults output.new)
-        × (D.faults disk ≤ D.faults result.disk) × (S.reads input.new ≤ S.reads input.old + 1048577) }
+    ensures counts { (S.faults input.old ≤ S.faults input.new)
+        × (K.faults output.old ≤ K.faults output.new)
+        × (D.faults disk ≤ D.faults result.disk)
+        × (S.reads input.new ≤ S.reads input.old + 1048577) }
     ensures given { result.journal ≡ [] }
-    ensures media { HaveFailed 0 0
-        (seen_media M.told M.faults M.short media) (seen_media M.told M.faults M.short result.media) }
+    ensures media { HaveFailed 0 0 (media_change M.told M.faults M.short media result.media) }
     ensures unread { (form_of words.now ≢ Some Form.Dry) → result.media ≡ media }
     ensures same { LeavesDisk result.status → result.disk ≡ disk }
     ensures told { (is_some (D.bytes result.disk) ≡ is_some (D.bytes disk))

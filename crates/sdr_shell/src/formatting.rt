@@ -40,7 +40,8 @@ fn tell_formatted<K: Sink>(output: &mut K, frame: Frame) -> u8
 
 // Tells how many bytes the regions take, and how many the disk has.
 fn tell_too_small<K: Sink>(output: &mut K, need: u64, have: u64)
-    ensures written { Writes (K.taken output.old) (K.taken output.new) (K.faults output.old) (K.faults output.new)
+    ensures written { Writes (K.taken output.old) (K.taken output.new)
+        (K.faults output.old) (K.faults output.new)
         (line_too_small need have) }
     ensures later { K.faults output.old ≤ K.faults output.new }
 {
@@ -57,10 +58,12 @@ fn tell_too_small<K: Sink>(output: &mut K, need: u64, have: u64)
 pub fn format_disk<D: Disk, K: Sink>(frame: Frame, disk: &mut D, output: &mut K) -> u8
     requires { IsInLimits frame }
     ensures known { IsFormatStatus result }
-    ensures later { (D.faults disk.old ≤ D.faults disk.new) × (K.faults output.old ≤ K.faults output.new) }
+    ensures later { (D.faults disk.old ≤ D.faults disk.new)
+        × (K.faults output.old ≤ K.faults output.new) }
 
     // done
-    ensures formatted { HasFormatted result → IsFormatted frame (D.bytes disk.old) (D.bytes disk.new) }
+    ensures formatted { HasFormatted result →
+        IsFormatted frame (D.bytes disk.old) (D.bytes disk.new) }
     ensures text { result ≡ DONE →
         Appends (K.taken output.old) (K.taken output.new) (line_formatted frame) }
     ensures part { result ≡ OUTPUT_FAULT →

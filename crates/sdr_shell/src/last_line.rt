@@ -6,7 +6,8 @@ use sdr_base::{Sink, write_all};
 
 /// Writes the last line of a status, which stands whether or not the sink takes the line.
 pub fn last_line<K: Sink>(output: &mut K, line: &[u8])
-    ensures written { Writes (K.taken output.old) (K.taken output.new) (K.faults output.old) (K.faults output.new)
+    ensures written { Writes (K.taken output.old) (K.taken output.new)
+        (K.faults output.old) (K.faults output.new)
         line.now }
     ensures later { K.faults output.old ≤ K.faults output.new }
 {

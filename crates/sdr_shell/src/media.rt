@@ -66,7 +66,8 @@ fn ask<M: Media>(media: &mut M, piece: &Piece, into: &mut [u8]) -> Result<u64, M
 fn read_piece<M: Media>(media: &mut M, piece: &Piece, into: &mut [u8]) -> Result<(), Gap>
     requires whole { length into.old ≡ piece_length piece.now }
     ensures gives { OnOk result (GivesPiece (M.told media.old) piece.now into.new) }
-    ensures gap { IfErr result (IsGapOf (M.told media.old) piece.now (Rose (M.faults media.old) (M.faults media.new))
+    ensures gap { IfErr result (IsGapOf (M.told media.old) piece.now
+        (Rose (M.faults media.old) (M.faults media.new))
         (Rose (M.short media.old) (M.short media.new))) }
     ensures told { M.told media.new ≡ M.told media.old }
     ensures faults { M.faults media.old ≤ M.faults media.new }
@@ -89,9 +90,11 @@ fn add_piece<M: Media>(
 ) -> Result<(), Gap>
     requires page { length page.old ≡ 4096 }
     requires fits { piece_length piece.now ≤ 4096 }
-    ensures adds { OnOk result (AddsPiece (M.told media.old) piece.now bytes.old.items bytes.new.items) }
+    ensures adds { OnOk result (
+        AddsPiece (M.told media.old) piece.now bytes.old.items bytes.new.items) }
     ensures gap { IfErr result (λ gap. gap ≡ Gap.NoMemory ⊎ IsGapOf (M.told media.old) piece.now
-        (Rose (M.faults media.old) (M.faults media.new)) (Rose (M.short media.old) (M.short media.new)) gap) }
+        (Rose (M.faults media.old) (M.faults media.new))
+        (Rose (M.short media.old) (M.short media.new)) gap) }
     ensures page { length page.new ≡ length page.old }
     ensures told { M.told media.new ≡ M.told media.old }
     ensures faults { M.faults media.old ≤ M.faults media.new }
@@ -109,7 +112,8 @@ fn add_piece<M: Media>(
 pub fn gather<M: Media>(alloc: Global, media: &mut M, pieces: &[Piece]) -> Result<Bytes, Gap>
     requires page { length (pieces_told pieces.now) ≤ 4096 }
     ensures gathered { IfOk result (AreGathered (M.told media.old) pieces.now) }
-    ensures gap { IfErr result (IsGapIn (M.told media.old) pieces.now (Rose (M.faults media.old) (M.faults media.new))
+    ensures gap { IfErr result (IsGapIn (M.told media.old) pieces.now
+        (Rose (M.faults media.old) (M.faults media.new))
         (Rose (M.short media.old) (M.short media.new))) }
     ensures told { M.told media.new ≡ M.told media.old }
     ensures faults { M.faults media.old ≤ M.faults media.new }

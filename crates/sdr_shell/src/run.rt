@@ -9,7 +9,7 @@ ghost use Rattle.sdr_model.specs.Asking.{Asks};
 ghost use Rattle.sdr_model.specs.Pieces.{pieces_told};
 ghost use Rattle.sdr_model.specs.declared.event.Event.{Event};
 ghost use Rattle.sdr_shell.specs.Schedule.{HaveFailed, IsCaused, Responds, SomeAnswer, SomeLine, SomeRun, SomeStep};
-ghost use Rattle.sdr_shell.specs.Schedule.{all_daemons, answer_line, daemons_of, seen_media};
+ghost use Rattle.sdr_shell.specs.Schedule.{all_daemons, answer_line, daemons_of, media_change};
 
 use crate::media::{Gap, gather};
 use sdr_base::{Media, NoMemory, Refusal, Sink, SinkFault};
@@ -59,11 +59,13 @@ fn answer_reading<M: Media>(
 ) -> Result<Answer, NoMemory>
     requires few { plain.old.events < 2_097_152 }
     requires page { length (pieces_told pieces.now) ≤ 4096 }
-    ensures answers { IfOk result (λ given. (event : Event) → Asks plain.old.machine daemon event pieces.now →
+    ensures answers { IfOk result (λ given.
+        (event : Event) → Asks plain.old.machine daemon event pieces.now →
         Responds (M.told media.old) plain.old.machine daemon event given plain.new.machine) }
-    ensures caused { IfOk result (λ given. IsCaused given (seen_media M.told M.faults M.short media.old) (seen_media M.told M.faults M.short media.new)) }
+    ensures caused { IfOk result (λ given.
+        IsCaused given (media_change M.told M.faults M.short media.old media.new)) }
     ensures events { OnOk result (plain.new.events ≡ plain.old.events + 1) }
-    ensures later { HaveFailed 0 0 (seen_media M.told M.faults M.short media.old) (seen_media M.told M.faults M.short media.new) }
+    ensures later { HaveFailed 0 0 (media_change M.told M.faults M.short media.old media.new) }
 {
     let (reply, given) = match gather(alloc, media, pieces) {
         Ok(bytes) => {
@@ -90,10 +92,12 @@ fn respond<M: Media>(
 ) -> Result<Answer, NoMemory>
     requires few { plain.old.events < 2_097_152 }
     ensures answers { IfOk result (λ given.
-        Responds (M.told media.old) plain.old.machine step.now.daemon event.now given plain.new.machine) }
-    ensures caused { IfOk result (λ given. IsCaused given (seen_media M.told M.faults M.short media.old) (seen_media M.told M.faults M.short media.new)) }
+        Responds (M.told media.old) plain.old.machine step.now.daemon event.now given
+        plain.new.machine) }
+    ensures caused { IfOk result (λ given.
+        IsCaused given (media_change M.told M.faults M.short media.old media.new)) }
     ensures events { OnOk result (plain.new.events ≡ plain.old.events + 1) }
-    ensures later { HaveFailed 0 0 (seen_media M.told M.faults M.short media.old) (seen_media M.told M.faults M.short media.new) }
+    ensures later { HaveFailed 0 0 (media_change M.told M.faults M.short media.old media.new) }
 {
     match plain.pieces(step.daemon, event)? {
         Some(pieces) => answer_reading(alloc, plain, media, step.daemon, pieces.as_slice()),
@@ -112,15 +116,20 @@ fn answer<M: Media, K: Sink>(
 ) -> Result<Answer, RunError>
     requires few { plain.old.events < 2_097_152 }
     ensures answers { IfOk result (λ given.
-        Responds (M.told media.old) plain.old.machine step.now.daemon event.now given plain.new.machine) }
-    ensures caused { IfOk result (λ given. IsCaused given (seen_media M.told M.faults M.short media.old) (seen_media M.told M.faults M.short media.new)) }
+        Responds (M.told media.old) plain.old.machine step.now.daemon event.now given
+        plain.new.machine) }
+    ensures caused { IfOk result (λ given.
+        IsCaused given (media_change M.told M.faults M.short media.old media.new)) }
     ensures printed { IfOk result (λ given.
-        Appends (K.taken out.old) (K.taken out.new) (answer_line step.now given plain.new.machine)) }
+        Appends (K.taken out.old) (K.taken out.new)
+        (answer_line step.now given plain.new.machine)) }
     ensures events { OnOk result (plain.new.events ≡ plain.old.events + 1) }
     ensures same { result ≡ Err RunError.NoMemory → Keeps (K.taken out.old) (K.taken out.new) }
-    ensures cut { result ≡ Err RunError.Output → SomeLine (seen_media M.told M.faults M.short media.old) (seen_media M.told M.faults M.short media.new)
-        plain.old.machine step.now event.now plain.new.machine (AppendsPart (K.taken out.old) (K.taken out.new)) }
-    ensures media { HaveFailed 0 0 (seen_media M.told M.faults M.short media.old) (seen_media M.told M.faults M.short media.new) }
+    ensures cut { result ≡ Err RunError.Output →
+        SomeLine (media_change M.told M.faults M.short media.old media.new)
+        plain.old.machine step.now event.now plain.new.machine
+        (AppendsPart (K.taken out.old) (K.taken out.new)) }
+    ensures media { HaveFailed 0 0 (media_change M.told M.faults M.short media.old media.new) }
     ensures later { K.faults out.old ≤ K.faults out.new }
     ensures cause { result ≡ Err RunError.Output → Rose (K.faults out.old) (K.faults out.new) }
 {
@@ -140,16 +149,20 @@ fn make<M: Media, K: Sink>(
     out: &mut K,
 ) -> Result<(), RunError>
     requires few { plain.old.events < 2_097_152 }
-    ensures ok { OnOk result (SomeStep (seen_media M.told M.faults M.short media.old) (seen_media M.told M.faults M.short media.new)
+    ensures ok { OnOk result (SomeStep (media_change M.told M.faults M.short media.old media.new)
         plain.old.machine bindings.old step.now plain.new.machine bindings.new
         (Appends (K.taken out.old) (K.taken out.new))) }
     ensures events { OnOk result (plain.new.events ≡ plain.old.events + 1) }
     ensures memory { result ≡ Err RunError.NoMemory →
-        (Keeps (K.taken out.old) (K.taken out.new) × HaveFailed 0 0 (seen_media M.told M.faults M.short media.old) (seen_media M.told M.faults M.short media.new))
-        ⊎ SomeAnswer (seen_media M.told M.faults M.short media.old) (seen_media M.told M.faults M.short media.new) plain.old.machine bindings.old step.now plain.new.machine
+        (Keeps (K.taken out.old) (K.taken out.new)
+        × HaveFailed 0 0 (media_change M.told M.faults M.short media.old media.new))
+        ⊎ SomeAnswer (media_change M.told M.faults M.short media.old media.new)
+        plain.old.machine bindings.old step.now plain.new.machine
         (Appends (K.taken out.old) (K.taken out.new)) }
-    ensures output { result ≡ Err RunError.Output → SomeAnswer (seen_media M.told M.faults M.short media.old) (seen_media M.told M.faults M.short media.new)
-        plain.old.machine bindings.old step.now plain.new.machine (AppendsPart (K.taken out.old) (K.taken out.new)) }
+    ensures output { result ≡ Err RunError.Output →
+        SomeAnswer (media_change M.told M.faults M.short media.old media.new)
+        plain.old.machine bindings.old step.now plain.new.machine
+        (AppendsPart (K.taken out.old) (K.taken out.new)) }
     ensures later { K.faults out.old ≤ K.faults out.new }
     ensures cause { result ≡ Err RunError.Output → Rose (K.faults out.old) (K.faults out.new) }
 {
@@ -186,13 +199,19 @@ fn run_on<M: Media, K: Sink>(
     out: &mut K,
 ) -> Result<(), RunError>
     requires few { length script.now ≤ 1_048_577 }
-    requires plain { plain.old ≡ record { machine = first_machine (daemons_of script.now); events = 0 } }
+    requires plain { plain.old ≡ record {
+      machine = first_machine (daemons_of script.now);
+      events = 0;
+    } }
     requires bindings { bindings.old ≡ [] }
-    ensures ok { OnOk result (SomeRun (seen_media M.told M.faults M.short media.old) (seen_media M.told M.faults M.short media.new) script.now (λ rest text.
+    ensures ok { OnOk result (
+        SomeRun (media_change M.told M.faults M.short media.old media.new) script.now (λ rest text.
         (rest ≡ []) × Appends (K.taken out.old) (K.taken out.new) text)) }
-    ensures memory { result ≡ Err RunError.NoMemory → SomeRun (seen_media M.told M.faults M.short media.old) (seen_media M.told M.faults M.short media.new) script.now (λ rest text.
+    ensures memory { result ≡ Err RunError.NoMemory →
+        SomeRun (media_change M.told M.faults M.short media.old media.new) script.now (λ rest text.
         Appends (K.taken out.old) (K.taken out.new) text) }
-    ensures output { result ≡ Err RunError.Output → SomeRun (seen_media M.told M.faults M.short media.old) (seen_media M.told M.faults M.short media.new) script.now (λ rest text.
+    ensures output { result ≡ Err RunError.Output →
+        SomeRun (media_change M.told M.faults M.short media.old media.new) script.now (λ rest text.
         AppendsPart (K.taken out.old) (K.taken out.new) text) }
     ensures few { OnOk result (plain.new.events ≤ 1_048_577) }
     ensures later { K.faults out.old ≤ K.faults out.new }
@@ -215,11 +234,14 @@ pub fn run<M: Media, K: Sink>(
     out: &mut K,
 ) -> Result<(), RunError>
     requires few { length script.now ≤ 1_048_577 }
-    ensures ok { OnOk result (SomeRun (seen_media M.told M.faults M.short media.old) (seen_media M.told M.faults M.short media.new) script.now (λ rest text.
+    ensures ok { OnOk result (
+        SomeRun (media_change M.told M.faults M.short media.old media.new) script.now (λ rest text.
         (rest ≡ []) × Appends (K.taken out.old) (K.taken out.new) text)) }
-    ensures memory { result ≡ Err RunError.NoMemory → SomeRun (seen_media M.told M.faults M.short media.old) (seen_media M.told M.faults M.short media.new) script.now (λ rest text.
+    ensures memory { result ≡ Err RunError.NoMemory →
+        SomeRun (media_change M.told M.faults M.short media.old media.new) script.now (λ rest text.
         Appends (K.taken out.old) (K.taken out.new) text) }
-    ensures output { result ≡ Err RunError.Output → SomeRun (seen_media M.told M.faults M.short media.old) (seen_media M.told M.faults M.short media.new) script.now (λ rest text.
+    ensures output { result ≡ Err RunError.Output →
+        SomeRun (media_change M.told M.faults M.short media.old media.new) script.now (λ rest text.
         AppendsPart (K.taken out.old) (K.taken out.new) text) }
     ensures later { K.faults out.old ≤ K.faults out.new }
     ensures cause { result ≡ Err RunError.Output → Rose (K.faults out.old) (K.faults out.new) }

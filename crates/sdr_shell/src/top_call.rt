@@ -3,7 +3,7 @@ ghost use Rattle.std.specs.Prelude.{◌≡◌, ◌≢◌, ◌≤◌, ◌+◌, �
 ghost use Rattle.sdr_shell.specs.Answers.{AnswersDry, AnswersFormat, Wrote, seen};
 ghost use Rattle.sdr_shell.specs.Form.{form_of, OnFormat};
 ghost use Rattle.sdr_shell.specs.Formatting.{LeavesDisk};
-ghost use Rattle.sdr_shell.specs.Schedule.{HaveFailed, seen_media};
+ghost use Rattle.sdr_shell.specs.Schedule.{HaveFailed, media_change};
 
 use crate::Outcome;
 use crate::commands::still;
@@ -38,12 +38,14 @@ pub fn top<
     // The words are no form.
     ensures usage { (result.status ≡ USAGE) ↔ (form_of words.now ≡ None) }
     ensures usage_text { result.status ≡ USAGE →
-        Wrote (seen K.taken K.faults output.old) (seen K.taken K.faults output.new) (codes "usage\n") }
+        Wrote (seen K.taken K.faults output.old) (seen K.taken K.faults output.new)
+        (codes "usage\n") }
 
     // What the forms answer.
-    ensures dry { form_of words.now ≡ Some Form.Dry → (result.disk ≡ disk) × AnswersDry result.status
+    ensures dry { form_of words.now ≡ Some Form.Dry → (result.disk ≡ disk)
+        × AnswersDry result.status
         (seen S.left S.faults input.old) (seen S.left S.faults input.new)
-        (seen_media M.told M.faults M.short media) (seen_media M.told M.faults M.short result.media)
+        (media_change M.told M.faults M.short media result.media)
         (seen K.taken K.faults output.old) (seen K.taken K.faults output.new) }
     ensures format { OnFormat (form_of words.now) (λ frame. (input.new ≡ input.old)
         × AnswersFormat result.status frame (D.size disk)
@@ -51,11 +53,12 @@ pub fn top<
         (seen K.taken K.faults output.old) (seen K.taken K.faults output.new)) }
 
     // Every form.
-    ensures counts { (S.faults input.old ≤ S.faults input.new) × (K.faults output.old ≤ K.faults output.new)
-        × (D.faults disk ≤ D.faults result.disk) × (S.reads input.new ≤ S.reads input.old + 1048577) }
+    ensures counts { (S.faults input.old ≤ S.faults input.new)
+        × (K.faults output.old ≤ K.faults output.new)
+        × (D.faults disk ≤ D.faults result.disk)
+        × (S.reads input.new ≤ S.reads input.old + 1048577) }
     ensures given { result.journal ≡ [] }
-    ensures media { HaveFailed 0 0
-        (seen_media M.told M.faults M.short media) (seen_media M.told M.faults M.short result.media) }
+    ensures media { HaveFailed 0 0 (media_change M.told M.faults M.short media result.media) }
     ensures unread { (form_of words.now ≢ Some Form.Dry) → result.media ≡ media }
     ensures same { LeavesDisk result.status → result.disk ≡ disk }
     ensures told { (is_some (D.bytes result.disk) ≡ is_some (D.bytes disk))

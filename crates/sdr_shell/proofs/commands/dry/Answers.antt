@@ -1,4 +1,4 @@
-use Rattle.std.proofs.Common.{◌≡◌, ◌++◌, [], inr, subst}
+use Rattle.std.proofs.Common.{◌≡◌, ◌++◌, [], inr}
 use Rattle.std.specs.Io.KnownBytes.{Appends}
 use Rattle.std.specs.Prelude.{codes}
 use Rattle.sdr_base.specs.Written.{AppendsPart}
@@ -10,18 +10,18 @@ use Rattle.sdr_shell.proofs.commands.dry.Goals as goal
 pub returns-in-Ok-clause-done : goal.returns-in-Ok-clause-done
 returns-in-Ok-clause-done g c is = record {
   read = read_to_the_end _ _ _ c.in-Ok.ensures.script;
-  run = had_run _ _ _ c.in-Ok.script _ (λ rest text. (rest ≡ []) × Appends (g.K.Sink.taken c.args.output.now) (g.K.Sink.taken c.run_script.new.output) text)
+  run = had_run _ _ c.in-Ok.script _ (λ rest text. (rest ≡ []) × Appends (g.K.Sink.taken c.args.output.now) (g.K.Sink.taken c.run_script.new.output) text)
       (had_script _ _ _ c.in-Ok.ensures.script) c.as_slice.ensures (c.run_script.ensures.done is);
 }
 
 pub returns-in-Ok-clause-part : goal.returns-in-Ok-clause-part
 returns-in-Ok-clause-part g c is =
-    had_run _ _ _ c.in-Ok.script _ (λ rest text. AppendsPart (g.K.Sink.taken c.args.output.now) (g.K.Sink.taken c.run_script.new.output) text)
+    had_run _ _ c.in-Ok.script _ (λ rest text. AppendsPart (g.K.Sink.taken c.args.output.now) (g.K.Sink.taken c.run_script.new.output) text)
     (had_script _ _ _ c.in-Ok.ensures.script) c.as_slice.ensures (c.run_script.ensures.part is)
 
 pub returns-in-Ok-clause-starved : goal.returns-in-Ok-clause-starved
 returns-in-Ok-clause-starved g c is =
-    inr (had_run _ _ _ c.in-Ok.script _
+    inr (had_run _ _ c.in-Ok.script _
     (λ rest text. Writes (g.K.Sink.taken c.args.output.now) (g.K.Sink.taken c.run_script.new.output)
     (g.K.Sink.faults c.args.output.now) (g.K.Sink.faults c.run_script.new.output) (text ++ codes "no memory\n"))
     (had_script _ _ _ c.in-Ok.ensures.script) c.as_slice.ensures (c.run_script.ensures.starved is))

@@ -1,6 +1,6 @@
 use Rattle.std.proofs.Common.{◌≡◌, Some, refl, sym, subst}
 use Rattle.sdr_shell.specs.Answers.{AnswersDry, AnswersFormat, seen}
-use Rattle.sdr_shell.specs.Schedule.{seen_media}
+use Rattle.sdr_shell.specs.Schedule.{media_change}
 use Rattle.sdr_shell.specs.Form.{form_of, OnFormat}
 use Rattle.sdr_shell.specs.declared.form.Form.TheVariants.{Format}
 use Rattle.sdr_shell.proofs.StillLemmas.{dry_completes, format_completes, not_run}
@@ -13,9 +13,8 @@ returns-in-Some-Dry-clause-dry g c form =
     let sink = seen g.K.Sink.taken g.K.Sink.faults c.args.output.now in
     let sink' = seen g.K.Sink.taken g.K.Sink.faults c.dry-status.new.output in
     let e = c.dry-status.ensures in
-    let media = seen_media g.M.Media.told g.M.Media.faults g.M.Media.short c.args.media in
-    let media' = seen_media g.M.Media.told g.M.Media.faults g.M.Media.short c.dry-status.new.media in
-    let answers : AnswersDry c.dry-status.result source source' media media' sink sink' = record {
+    let media = media_change g.M.Media.told g.M.Media.faults g.M.Media.short c.args.media c.dry-status.new.media in
+    let answers : AnswersDry c.dry-status.result source source' media sink sink' = record {
       known = e.known;
       done = e.done;
       input = e.input;
@@ -24,12 +23,14 @@ returns-in-Some-Dry-clause-dry g c form =
       part = e.part;
       refused = e.refused;
       starved = e.starved;
-      exact = λ bytes told refused. (λ is. not_run _ bytes _ _ _ told refused (e.done is).run, λ is. not_run _ bytes _ _ _ told refused (e.part is));
+      exact = λ bytes told refused. (λ is. not_run _ bytes _ _ told refused (e.done is).run, λ is. not_run _ bytes _ _ told refused (e.part is));
       complete = λ bytes told ok no_input no_output. dry_completes _ _ _ _ _ _ _ _ bytes e.known e.input e.output e.refused told ok no_input no_output;
     } in (
       c.outcome.ensures.disk,
-      subst (λ s. AnswersDry s source source' media (seen_media g.M.Media.told g.M.Media.faults g.M.Media.short c.outcome.result.media) sink sink') (sym c.outcome.ensures.status)
-          (subst (λ m. AnswersDry c.dry-status.result source source' media (seen_media g.M.Media.told g.M.Media.faults g.M.Media.short m) sink sink') (sym c.outcome.ensures.media) answers),
+      subst (λ s. AnswersDry s source source'
+          (media_change g.M.Media.told g.M.Media.faults g.M.Media.short c.args.media c.outcome.result.media) sink sink') (sym c.outcome.ensures.status)
+          (subst (λ m. AnswersDry c.dry-status.result source source'
+          (media_change g.M.Media.told g.M.Media.faults g.M.Media.short c.args.media m) sink sink') (sym c.outcome.ensures.media) answers),
     )
 
 pub returns-in-Some-Format-clause-format : goal.returns-in-Some-Format-clause-format

@@ -3,24 +3,33 @@ use Rattle.std.proofs.lemmas.List.{nil_from_length}
 use Rattle.std.proofs.lemmas.Result.{err_from_is_err_and}
 use Rattle.sdr_shell.specs.declared.run.RunError.TheVariants.{NoMemory, Output}
 use Rattle.sdr_shell.proofs.ScheduleLemmas.{Running, running_start, running_next, running_kept, running_cut, running_done}
-use Rattle.sdr_shell.specs.Schedule.{seen_media}
+use Rattle.sdr_shell.specs.Schedule.{from_to, seen_media}
 use Rattle.sdr_shell.proofs.run.run_on.Goals as goal
 
 pub loop-step-init : goal.loop-step-init
-loop-step-init g c = record {
-  running = subst (λ b. Running (seen_media g.M.Media.told g.M.Media.faults g.M.Media.short c.args.media.now) (seen_media g.M.Media.told g.M.Media.faults g.M.Media.short c.args.media.now) c.args.script.now c.args.script.now b c.args.plain.now.machine (g.K.Sink.taken c.args.out.now) (g.K.Sink.taken c.args.out.now)) (sym c.requires.bindings)
-      (running_start (seen_media g.M.Media.told g.M.Media.faults g.M.Media.short c.args.media.now) c.args.script.now c.args.plain.now.machine (g.K.Sink.taken c.args.out.now) (sym (ap (λ p. p.machine) c.requires.plain)));
-  later = omega arith;
-  few = omega (arith, ap (λ p. p.events) c.requires.plain, c.requires.few);
-}
+loop-step-init g c =
+    let media = seen_media g.M.Media.told g.M.Media.faults g.M.Media.short c.args.media.now in
+    let text = g.K.Sink.taken c.args.out.now in
+    record {
+      running = subst (λ b. Running (from_to media media) c.args.script.now c.args.script.now b c.args.plain.now.machine text text)
+          (sym c.requires.bindings)
+          (running_start media c.args.script.now c.args.plain.now.machine text (sym (ap (λ p. p.machine) c.requires.plain)));
+      later = omega arith;
+      few = omega (arith, ap (λ p. p.events) c.requires.plain, c.requires.few);
+    }
 
 pub returns-in_err-make-clause-memory : goal.returns-in_err-make-clause-memory
 returns-in_err-make-clause-memory g c is =
     let e : c.loop-step.rest.now ≡ c.in-Some.step.now ∷ c.in-Some.after.now = search c.in-Some.ensures.cases in
     let p = err_from_is_err_and c.from_residual.result c.from_residual.ensures.1 in
     let h : c.make.result ≡ Err NoMemory = cc (p.1, p.2, is, c.in_err-make.was) in
-    running_kept (seen_media g.M.Media.told g.M.Media.faults g.M.Media.short c.args.media.now) (seen_media g.M.Media.told g.M.Media.faults g.M.Media.short c.loop-step.media) (seen_media g.M.Media.told g.M.Media.faults g.M.Media.short c.make.new.media) c.args.script.now c.in-Some.step.now c.in-Some.after.now c.loop-step.bindings c.loop-step.plain.machine c.make.new.plain.machine _ _ _
-    (subst (λ r. Running (seen_media g.M.Media.told g.M.Media.faults g.M.Media.short c.args.media.now) (seen_media g.M.Media.told g.M.Media.faults g.M.Media.short c.loop-step.media) c.args.script.now r c.loop-step.bindings c.loop-step.plain.machine (g.K.Sink.taken c.args.out.now) (g.K.Sink.taken c.loop-step.out)) e c.loop-step.invariant.running)
+    let media = seen_media g.M.Media.told g.M.Media.faults g.M.Media.short c.args.media.now in
+    let between = seen_media g.M.Media.told g.M.Media.faults g.M.Media.short c.loop-step.media in
+    let media' = seen_media g.M.Media.told g.M.Media.faults g.M.Media.short c.make.new.media in
+    running_kept media between media' c.args.script.now c.in-Some.step.now c.in-Some.after.now c.loop-step.bindings
+    c.loop-step.plain.machine c.make.new.plain.machine _ _ _
+    (subst (λ r. Running (from_to media between) c.args.script.now r c.loop-step.bindings c.loop-step.plain.machine
+    (g.K.Sink.taken c.args.out.now) (g.K.Sink.taken c.loop-step.out)) e c.loop-step.invariant.running)
     (c.make.ensures.memory h)
 
 pub returns-in_err-make-clause-output : goal.returns-in_err-make-clause-output
@@ -28,18 +37,29 @@ returns-in_err-make-clause-output g c is =
     let e : c.loop-step.rest.now ≡ c.in-Some.step.now ∷ c.in-Some.after.now = search c.in-Some.ensures.cases in
     let p = err_from_is_err_and c.from_residual.result c.from_residual.ensures.1 in
     let h : c.make.result ≡ Err Output = cc (p.1, p.2, is, c.in_err-make.was) in
-    running_cut (seen_media g.M.Media.told g.M.Media.faults g.M.Media.short c.args.media.now) (seen_media g.M.Media.told g.M.Media.faults g.M.Media.short c.loop-step.media) (seen_media g.M.Media.told g.M.Media.faults g.M.Media.short c.make.new.media) c.args.script.now c.in-Some.step.now c.in-Some.after.now c.loop-step.bindings c.loop-step.plain.machine c.make.new.plain.machine _ _ _
-    (subst (λ r. Running (seen_media g.M.Media.told g.M.Media.faults g.M.Media.short c.args.media.now) (seen_media g.M.Media.told g.M.Media.faults g.M.Media.short c.loop-step.media) c.args.script.now r c.loop-step.bindings c.loop-step.plain.machine (g.K.Sink.taken c.args.out.now) (g.K.Sink.taken c.loop-step.out)) e c.loop-step.invariant.running)
+    let media = seen_media g.M.Media.told g.M.Media.faults g.M.Media.short c.args.media.now in
+    let between = seen_media g.M.Media.told g.M.Media.faults g.M.Media.short c.loop-step.media in
+    let media' = seen_media g.M.Media.told g.M.Media.faults g.M.Media.short c.make.new.media in
+    running_cut media between media' c.args.script.now c.in-Some.step.now c.in-Some.after.now c.loop-step.bindings
+    c.loop-step.plain.machine c.make.new.plain.machine _ _ _
+    (subst (λ r. Running (from_to media between) c.args.script.now r c.loop-step.bindings c.loop-step.plain.machine
+    (g.K.Sink.taken c.args.out.now) (g.K.Sink.taken c.loop-step.out)) e c.loop-step.invariant.running)
     (c.make.ensures.output h)
 
 pub loop-step-preserved : goal.loop-step-preserved
 loop-step-preserved g c =
     let e : c.loop-step.rest.now ≡ c.in-Some.step.now ∷ c.in-Some.after.now = search c.in-Some.ensures.cases in
     let made = c.in_ok-make.ensures.ok in
+    let media = seen_media g.M.Media.told g.M.Media.faults g.M.Media.short c.args.media.now in
+    let between = seen_media g.M.Media.told g.M.Media.faults g.M.Media.short c.loop-step.media in
+    let media' = seen_media g.M.Media.told g.M.Media.faults g.M.Media.short c.make.new.media in
     record {
-      running = subst (λ b. Running (seen_media g.M.Media.told g.M.Media.faults g.M.Media.short c.args.media.now) (seen_media g.M.Media.told g.M.Media.faults g.M.Media.short c.make.new.media) c.args.script.now c.in-Some.after.now b c.make.new.plain.machine (g.K.Sink.taken c.args.out.now) (g.K.Sink.taken c.make.new.out)) (sym made.names)
-          (running_next (seen_media g.M.Media.told g.M.Media.faults g.M.Media.short c.args.media.now) (seen_media g.M.Media.told g.M.Media.faults g.M.Media.short c.loop-step.media) (seen_media g.M.Media.told g.M.Media.faults g.M.Media.short c.make.new.media) c.args.script.now c.in-Some.step.now c.in-Some.after.now c.loop-step.bindings c.loop-step.plain.machine c.make.new.plain.machine _ _ _
-          (subst (λ r. Running (seen_media g.M.Media.told g.M.Media.faults g.M.Media.short c.args.media.now) (seen_media g.M.Media.told g.M.Media.faults g.M.Media.short c.loop-step.media) c.args.script.now r c.loop-step.bindings c.loop-step.plain.machine (g.K.Sink.taken c.args.out.now) (g.K.Sink.taken c.loop-step.out)) e c.loop-step.invariant.running)
+      running = subst (λ b. Running (from_to media media') c.args.script.now c.in-Some.after.now b c.make.new.plain.machine
+          (g.K.Sink.taken c.args.out.now) (g.K.Sink.taken c.make.new.out)) (sym made.names)
+          (running_next media between media' c.args.script.now c.in-Some.step.now c.in-Some.after.now c.loop-step.bindings
+          c.loop-step.plain.machine c.make.new.plain.machine _ _ _
+          (subst (λ r. Running (from_to media between) c.args.script.now r c.loop-step.bindings c.loop-step.plain.machine
+          (g.K.Sink.taken c.args.out.now) (g.K.Sink.taken c.loop-step.out)) e c.loop-step.invariant.running)
           made.line.answer made.line.answers made.line.caused made.line.printed);
       later = omega (arith, c.loop-step.invariant.later, c.make.ensures.later);
       few = omega (arith, c.loop-step.invariant.few, c.in_ok-make.ensures.events, ap length e);
@@ -47,5 +67,5 @@ loop-step-preserved g c =
 
 pub returns-clause-ok : goal.returns-clause-ok
 returns-clause-ok g c =
-    running_done _ _ c.args.script.now c.loop-step.rest.now _ _ _ _ c.loop-step.invariant.running
+    running_done _ c.args.script.now c.loop-step.rest.now _ _ _ _ c.loop-step.invariant.running
     (nil_from_length c.loop-step.rest.now (search c.in_default.ensures))
