@@ -196,6 +196,18 @@ running_done media script rest bindings m old now r is = record {
   printed = (is, r.printed);
 }
 
+-- what else holds of what a run has left and has printed
+pub some_weaker : (media : MediaChange) (script : List Step) (P Q : List Step → List ℕ → Type 0)
+    → ((rest : List Step) (text : List ℕ) → P rest text → Q rest text) → SomeRun media script P → SomeRun media script Q
+some_weaker media script P Q more r = record {
+  rest = r.rest;
+  made = r.made;
+  core = r.core;
+  run = r.run;
+  caused = r.caused;
+  printed = more r.rest (made_text r.made) r.printed;
+}
+
 -- no step was made, and nothing was printed
 pub some_none : (media : SeenMedia) (script : List Step) (old : Option (List ℕ)) → SomeRun (from_to media media) script (λ rest text. Appends old old text)
 some_none media script old =

@@ -13,6 +13,7 @@ use Rattle.sdr_words.specs.declared.error.ScriptError.TheVariants as errors
 use Rattle.sdr_shell.specs.declared.status.TheConstants.{DONE, INPUT_FAULT, OUTPUT_FAULT, DISK_FAULT, REFUSED_LINE, NO_MEMORY, TOO_SMALL}
 use Rattle.sdr_model.specs.declared.script.Step.{Step}
 use Rattle.sdr_text.proofs.TextLemmas.{part_later}
+use Rattle.sdr_shell.proofs.ScheduleLemmas.{some_weaker}
 
 -- a last line behind a text that was written whole
 writes_behind : (old mid new : Option (List ℕ)) (before between now : ℕ) (text line : List ℕ)
@@ -25,14 +26,9 @@ writes_behind old mid new before between now text line a later (inr f) =
 pub some_behind : (media : MediaChange) (script : List Step) (old mid new : Option (List ℕ)) (before between now : ℕ) (line : List ℕ)
     → SomeRun media script (λ rest text. Appends old mid text) → before ≤ between → Writes mid new between now line
     → SomeRun media script (λ rest text. Writes old new before now (text ++ line))
-some_behind media script old mid new before between now line r later w = record {
-  rest = r.rest;
-  made = r.made;
-  core = r.core;
-  run = r.run;
-  caused = r.caused;
-  printed = writes_behind old mid new before between now _ line r.printed later w;
-}
+some_behind media script old mid new before between now line r later w =
+    some_weaker media script (λ rest text. Appends old mid text) (λ rest text. Writes old new before now (text ++ line))
+    (λ rest text h. writes_behind old mid new before between now text line h later w) r
 
 -- what a told input spells
 told_script : (left : Option (List ℕ)) (bytes : List ℕ) (script : List Step) → left ≡ Some bytes → HadScript left script → input_script bytes ≡ Ok script
