@@ -21,11 +21,12 @@ fn add_at(things: &mut Store, addr: Addr, component: Component) -> Result<Acct, 
     requires there { IsSome (as_object (map.get things.old.now addr)) }
     requires bounded { IfSome (as_object (map.get things.old.now addr)) IsBounded }
     requires limits { KeepsLimits component }
-    ensures added { OnOk result
-        (AddsComponent (as_object (map.get things.old.now addr)) addr component things.old.now things.new.now) }
+    ensures added { OnOk result (AddsComponent (as_object (map.get things.old.now addr)) addr
+        component things.old.now things.new.now) }
     ensures account { IfOk result (IsAccountOf (as_object (map.get things.old.now addr))) }
     ensures begun { things.new.begun ≡ things.old.begun }
-    ensures others { (other : ℕ) → Contains things.old.touched other → Contains things.new.touched other }
+    ensures others { (other : ℕ) → Contains things.old.touched other
+        → Contains things.new.touched other }
     ensures same { OnErr result (things.new.now ≡ things.old.now) }
 {
     match things.take(addr)? {
@@ -68,13 +69,16 @@ impl World {
         requires there { IsSome (object_at self.old.now addr) }
         requires noted { IfSome (source_of component) (Contains self.old.noted) }
         requires limits { KeepsLimits component }
-        requires below { IfSome (source_of component) (λ s. s < next_addr (self.old.now.taken + count)) }
-        requires owned { IsOwned self.old.owners (next_addr (self.old.now.taken + count)) addr (block_of component) }
+        requires below { IfSome (source_of component) (λ s.
+            s < next_addr (self.old.now.taken + count)) }
+        requires owned { IsOwned self.old.owners (next_addr (self.old.now.taken + count)) addr
+            (block_of component) }
         requires room { IfSome (object_at self.old.now addr) (λ z.
             HasRoomFor self.old.now z.account (component_charges self.old.now component)) }
         ensures added { OnOk result (Grows (object_at self.old.now addr) addr component
             (record self.old.now { shown = []; taken = self.old.now.taken + count }) self.new.now) }
-        ensures named { OnOk result ((raw : ℕ) → source_on self.new.now raw ≡ source_on self.old.now raw) }
+        ensures named { OnOk result ((raw : ℕ) →
+            source_on self.new.now raw ≡ source_on self.old.now raw) }
         ensures begun { self.new.begun ≡ self.old.begun }
         ensures owners { self.new.owners ≡ self.old.owners }
         ensures touched { OnOk result ((other : ℕ) →
@@ -105,13 +109,15 @@ impl World {
         requires there { IsSome (object_at self.old.now addr) }
         requires noted { IfSome (source_of component) (Contains self.old.noted) }
         requires limits { KeepsLimits component }
-        requires below { IfSome (source_of component) (λ s. s < next_addr (self.old.now.taken + (before + 1))) }
+        requires below { IfSome (source_of component) (λ s.
+            s < next_addr (self.old.now.taken + (before + 1))) }
         requires block { block_of component ≡ addr_after self.old.now.taken before }
         requires room { IfSome (object_at self.old.now addr) (λ z.
             HasRoomFor self.old.now z.account (component_charges self.old.now component)) }
         ensures added { OnOk result (Grows (object_at self.old.now addr) addr component
             (with_blocks self.old.now (before + 1)) self.new.now) }
-        ensures named { OnOk result ((raw : ℕ) → source_on self.new.now raw ≡ source_on self.old.now raw) }
+        ensures named { OnOk result ((raw : ℕ) →
+            source_on self.new.now raw ≡ source_on self.old.now raw) }
         ensures begun { self.new.begun ≡ self.old.begun }
         ensures touched { OnOk result ((other : ℕ) →
             Contains self.old.touched other → Contains self.new.touched other) }
@@ -144,21 +150,25 @@ impl World {
         requires there { IsSome (object_at self.old.now addr) }
         requires noted { IfSome (source_of component) (Contains self.old.noted) }
         requires limits { KeepsLimits component }
-        requires below { IfSome (source_of component) (λ s. s < next_addr (self.old.now.taken + (before + 1))) }
+        requires below { IfSome (source_of component) (λ s.
+            s < next_addr (self.old.now.taken + (before + 1))) }
         requires block { block_of component ≡ addr_after self.old.now.taken before }
         ensures allowed { IfOk result (λ r. IfOk r (λ p. IfSome (object_at self.old.now addr) (λ z.
-            MayCharge self.old.now z.account number (component_charges self.old.now component) p))) }
-        ensures added { IfOk result (λ r. IfOk r (λ p. Grows (object_at self.old.now addr) addr component
-            (with_blocks (with_used self.old.now p (component_charges self.old.now component)) (before + 1))
-            self.new.now)) }
+            MayCharge self.old.now z.account number
+            (component_charges self.old.now component) p))) }
+        ensures added { IfOk result (λ r. IfOk r (λ p.
+            Grows (object_at self.old.now addr) addr component
+            (with_blocks (with_used self.old.now p (component_charges self.old.now component))
+            (before + 1)) self.new.now)) }
         ensures named { IfOk result (λ r. OnOk r ((raw : ℕ) →
             source_on self.new.now raw ≡ source_on self.old.now raw)) }
         ensures begun { self.new.begun ≡ self.old.begun }
         ensures touched { IfOk result (λ r. OnOk r ((other : ℕ) →
             Contains self.old.touched other → Contains self.new.touched other)) }
         ensures noted { self.new.noted ≡ self.old.noted }
-        ensures refused { IfOk result (λ r. IfErr r (λ refusal. IfSome (object_at self.old.now addr) (λ z.
-            RefusesCharge self.old.now z.account number (component_charges self.old.now component) refusal))) }
+        ensures refused { IfOk result (λ r. IfErr r (λ refusal.
+            IfSome (object_at self.old.now addr) (λ z. RefusesCharge self.old.now z.account number
+            (component_charges self.old.now component) refusal))) }
         ensures same { IfOk result (λ r. OnErr r (self.new.now ≡ self.old.now)) }
         ensures err { OnErr result (self.new.now ≡ self.old.now) }
     {
