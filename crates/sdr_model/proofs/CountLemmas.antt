@@ -76,8 +76,8 @@ module _ (most : ℕ) (m m' : Machine) (few_world : HasFewPieces most m.world.th
   one_less : length (drop 1 m.holders) ≤ length m.holders + 1
   one_less = omega (arith, length-drop 1 m.holders)
 
-  as_many : {h : Holder} → length (h ∷ drop 1 m.holders) ≤ length m.holders + 1
-  as_many = omega (arith, length-drop 1 m.holders)
+  as_many : (h : Holder) → length (h ∷ drop 1 m.holders) ≤ length m.holders + 1
+  as_many h = omega (arith, length-drop 1 m.holders)
 
   one_more : (daemon depth : ℕ) → length (m.holders ++ record { daemon = daemon; number = m.drawn + 1; depth = depth; doom = None; modified = false } ∷ [])
       ≤ length m.holders + 1
@@ -127,9 +127,9 @@ module _ (most : ℕ) (m m' : Machine) (few_world : HasFewPieces most m.world.th
       → Serves m h event answer (event_moves m event answer) m' → FewAfter most m m'
   few_serves h event answer s =
       in_bool (is_opening (transaction_of h m.current) event) s
-      (λ o. stays (with_transaction m h (record (transaction_of h m.current) { depth = 1 })) o.2 (omega arith, as_many) refl refl)
+      (λ o. stays (with_transaction m h (record (transaction_of h m.current) { depth = 1 })) o.2 (omega arith, as_many h) refl refl)
       (λ s. in_bool (is_closing (transaction_of h m.current) event) s (few_closes h event answer)
-      (λ works. is_few (with_transaction m h works.after) works.others (omega arith, as_many) few_then
+      (λ works. is_few (with_transaction m h works.after) works.others (omega arith, as_many h) few_then
       (few_transacts h works.after event answer works.transacts)))
 
   few_waits : (h : Holder) (event : Event) (answer : Answer)
