@@ -1,8 +1,8 @@
 -- Calls that read media, as steps of the machine.
-use Rattle.std.proofs.Common.{◌≡◌, ◌<◌, ◌≤◌, ◌==◌, ◌&&◌, ℕ, List, [], ◌∷◌, Bool, true, false, not, cond, ◌+◌, unwrap_or, Result, Ok, Err, IfOk, IfSome, Option, None, Some, ◌⊎◌, inl, inr, length, refl, sym, ap, ◌∙◌, subst, arith, drop, length-drop, MatchBool, MatchOption, true≢false}
+use Rattle.std.proofs.Common.{◌≡◌, ◌≤◌, ◌==◌, ◌&&◌, ℕ, List, [], Bool, true, false, not, cond, ◌+◌, unwrap_or, Result, Ok, Err, IfOk, IfSome, Option, None, Some, inl, inr, length, refl, sym, ap, ◌∙◌, subst, arith, length-drop, MatchBool, MatchOption, true≢false}
 use Rattle.std.proofs.lemmas.Bool.{ltb-false}
 use Rattle.std.specs.Option.{option_map_or}
-use Rattle.std.specs.Prelude.{find, is_none, nat_le, nat_lt, ⊤}
+use Rattle.std.specs.Prelude.{find, is_none, nat_le, nat_lt}
 use Rattle.sdr_base.specs.Media.{Told}
 use Rattle.sdr_base.specs.declared.moves.Move.{Move}
 use Rattle.sdr_base.specs.declared.refusal.Reason.{Reason}
@@ -17,7 +17,7 @@ use Rattle.sdr_model.specs.Asking.{AgreesReading, AgreesWith, Asks, AsksNothing,
 use Rattle.sdr_model.specs.Dry.{StepsDry, StopsReading}
 use Rattle.sdr_model.specs.Few.{IsAfter}
 use Rattle.sdr_model.specs.Limits.{longest_read}
-use Rattle.sdr_model.specs.Machine.{Machine, MachineStep, Comes, Goes, Holds, LooksAt, is_outside, is_stalled, waits_for, with_drawn, without_served, Waits, Serves, Works, may_come, served_number, with_transaction}
+use Rattle.sdr_model.specs.Machine.{Machine, MachineStep, Comes, Goes, Holds, LooksAt, is_outside, is_stalled, waits_for, with_drawn, without_served, Waits, Serves, may_come, served_number, with_transaction}
 use Rattle.sdr_model.specs.Pieces.{AsksBytes, AsksPage, filled, pieces_asked, pieces_told}
 use Rattle.sdr_model.specs.Reading.{is_reading, reads_media}
 use Rattle.sdr_model.specs.Rows.{ByRow}

@@ -1,5 +1,5 @@
 -- Objects whose headers and trailers become extents.
-use Rattle.std.proofs.Common.{◌≡◌, ◌≤◌, ◌<◌, ◌+◌, ◌*◌, ◌++◌, ◌∷◌, [], ℕ, List, Option, None, Some, Bool, true, false, ap, sym, ◌∙◌, refl, subst, cond, arith, length}
+use Rattle.std.proofs.Common.{◌≡◌, ◌≤◌, ◌<◌, ◌+◌, ◌*◌, ◌++◌, ◌∷◌, [], ℕ, List, Option, None, Some, Bool, true, false, ap, sym, ◌∙◌, refl, cond, arith, length}
 use Rattle.std.proofs.lemmas.List.Sums.{sum_by-cons}
 use Rattle.std.specs.FinMap.{get, insert}
 use Rattle.std.specs.BTreeMap.{is_at}
@@ -15,7 +15,7 @@ use Rattle.sdr_model.specs.ObjectSteps.{wire_length}
 use Rattle.sdr_model.specs.SourceSteps.{new_source}
 use Rattle.sdr_model.specs.Steps.{with_thing}
 use Rattle.sdr_model.specs.Store.{with_at}
-use Rattle.sdr_model.specs.Tallies.{charged, world_of}
+use Rattle.sdr_model.specs.Tallies.{world_of}
 use Rattle.sdr_model.specs.Things.{Things}
 use Rattle.sdr_model.specs.World.{World, thing_at}
 use Rattle.sdr_model.specs.Zco.{as_object, as_source, capsules_length, extents_length, object_at, source_at}

@@ -1,27 +1,27 @@
 -- Objects that get a header or trailer.
-use Rattle.std.proofs.Common.{◌≡◌, ◌≤◌, ◌<◌, ◌+◌, ◌++◌, ◌∷◌, [], ℕ, List, Option, None, Some, Bool, true, false, ◌||◌, ap, sym, ◌∙◌, refl, subst, arith, append_assoc, length, map}
+use Rattle.std.proofs.Common.{◌≡◌, ◌≤◌, ◌<◌, ◌+◌, ◌++◌, ◌∷◌, [], ℕ, List, Option, Some, false, ◌||◌, ap, sym, ◌∙◌, refl, subst, arith, append_assoc, length, map}
 use Rattle.std.proofs.lemmas.List.{map-append}
-use Rattle.std.proofs.lemmas.List.Elements.{All-append, All-cons, All-head, All-nil, All-weaker}
+use Rattle.std.proofs.lemmas.List.Elements.{All-append, All-cons, All-nil, All-weaker}
 use Rattle.std.proofs.lemmas.List.Sums.{sum_by-cons, sum_by_push}
 use Rattle.std.proofs.lemmas.Bool.{le-ltb}
 use Rattle.std.specs.FinMap.{get}
 use Rattle.std.specs.List.{All}
-use Rattle.std.specs.Prelude.{Contains, MatchBool, nat_lt}
+use Rattle.std.specs.Prelude.{MatchBool, nat_lt}
 use Rattle.sdr_base.specs.declared.account.Amounts.{Amounts}
 use Rattle.sdr_base.specs.declared.kind.Space.{Space}
 use Rattle.sdr_base.specs.declared.kind.Space.TheVariants as spaces
 use Rattle.sdr_base.specs.declared.moves.Move.TheVariants.{Took}
 use Rattle.sdr_base.specs.declared.refusal.Refusal.{Refusal}
 use Rattle.sdr_base.specs.declared.refusal.Refusal.TheVariants as refusals
-use Rattle.sdr_model.specs.Accounts.{Pending, most_amount}
-use Rattle.sdr_model.specs.Allowed.{HasRoomFor, MayCharge, RefusesCharge}
-use Rattle.sdr_model.specs.Amounts.{amount, amounts_by, in_space}
+use Rattle.sdr_model.specs.Accounts.{Pending}
+use Rattle.sdr_model.specs.Allowed.{MayCharge, RefusesCharge}
+use Rattle.sdr_model.specs.Amounts.{amounts_by, in_space}
 use Rattle.sdr_model.specs.Charges.{capsule_bytes, capsule_charge, object_charge}
 use Rattle.sdr_model.specs.Charging.{Charges, with_used}
 use Rattle.sdr_model.specs.Dry.{StepsDry, dry_moves, next_addr, with_blocks}
 use Rattle.sdr_model.specs.Limits.{is_no_capsule, longest_capsule}
 use Rattle.sdr_model.specs.ObjectSteps.{with_object}
-use Rattle.sdr_model.specs.Owners.{IsOwned, Owns, OwnsInside}
+use Rattle.sdr_model.specs.Owners.{Owns, OwnsInside}
 use Rattle.sdr_model.specs.Rows.{ByRow}
 use Rattle.sdr_model.specs.Sides.{capsule_call, with_capsule}
 use Rattle.sdr_model.specs.Steps.{On, Outcome, Refuses, Takes}

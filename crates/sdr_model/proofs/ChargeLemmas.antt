@@ -1,5 +1,5 @@
 -- What an account allows, and what a charge leaves.
-use Rattle.std.proofs.Common.{true≢false, position, ◌≡◌, ◌≤◌, ◌<◌, ◌+◌, ◌-◌, ◌==◌, ℕ, List, [], Bool, true, false, Option, None, Some, MatchBool, MatchOption, IfNone, IfSome, ap, sym, ◌∙◌, subst, refl, arith, set, length, slice_get, length-set}
+use Rattle.std.proofs.Common.{true≢false, position, ◌≡◌, ◌≤◌, ◌<◌, ◌+◌, ◌-◌, ◌==◌, ℕ, List, [], Bool, true, false, Option, None, Some, MatchBool, MatchOption, IfSome, ap, sym, ◌∙◌, subst, refl, arith, set, length, slice_get, length-set}
 use Rattle.std.proofs.lemmas.List.{set-set, set-get_or}
 use Rattle.std.proofs.lemmas.List.Sums.{sum_by-set}
 use Rattle.std.proofs.lemmas.Option.{get_or_from_slice_get}
@@ -18,7 +18,6 @@ use Rattle.sdr_model.specs.Charging.{Charges, OnTicket, RefusesSpace, grant_left
 use Rattle.sdr_model.specs.Ledger.{KeepGrants}
 use Rattle.sdr_model.specs.Queue.{barrier}
 use Rattle.sdr_model.specs.Steps.{Outcome, Refuses}
-use Rattle.sdr_model.specs.Tallies.{charged, world_of}
 use Rattle.sdr_model.specs.Things.{Things}
 use Rattle.sdr_model.specs.World.{World}
 use Rattle.sdr_model.specs.declared.accounts.Accounts.{Accounts}

@@ -1,19 +1,17 @@
 -- A part of an object, as another object.
-use Rattle.std.proofs.Common.{◌≡◌, ◌≤◌, ◌<◌, ◌+◌, ◌*◌, ◌==◌, ◌||◌, ◌++◌, ◌∷◌, [], ℕ, suc, List, Option, None, Some, Bool, false, ap, sym, ◌∙◌, ap₂, refl, subst, arith, length, map}
+use Rattle.std.proofs.Common.{◌≡◌, ◌≤◌, ◌<◌, ◌+◌, ◌*◌, ◌==◌, ◌||◌, ◌++◌, ◌∷◌, [], ℕ, suc, List, Option, None, Some, false, ap, sym, ◌∙◌, ap₂, refl, subst, arith, length, map}
 use Rattle.std.proofs.lemmas.List.Elements.{All-append, All-cons, All-nil, All-weaker}
 use Rattle.std.specs.FinMap.{get}
 use Rattle.std.specs.List.{All}
-use Rattle.std.specs.Prelude.{MatchBool, nat_lt}
+use Rattle.std.specs.Prelude.{nat_lt}
 use Rattle.sdr_base.specs.declared.account.Acct.{Acct}
 use Rattle.sdr_base.specs.declared.account.Amounts.{Amounts}
 use Rattle.sdr_base.specs.declared.kind.Space.{Space}
 use Rattle.sdr_base.specs.declared.kind.Space.TheVariants as spaces
-use Rattle.sdr_base.specs.declared.moves.Move.{Move}
 use Rattle.sdr_base.specs.declared.refusal.Refusal.{Refusal}
-use Rattle.sdr_base.specs.declared.refusal.Refusal.TheVariants as refusals
 use Rattle.sdr_model.specs.Accounts.{Pending, most_amount}
 use Rattle.sdr_model.specs.Allowed.{HasRoomFor, MayCharge, RefusesCharge}
-use Rattle.sdr_model.specs.Amounts.{amount, amounts_by}
+use Rattle.sdr_model.specs.Amounts.{amounts_by}
 use Rattle.sdr_model.specs.Charges.{object_charge, occupancy}
 use Rattle.sdr_model.specs.Charging.{Charges, with_used}
 use Rattle.sdr_model.specs.Cuts.{cut_all, placed}
@@ -23,7 +21,7 @@ use Rattle.sdr_model.specs.Owners.{IsOwned, Owns, OwnsInside}
 use Rattle.sdr_model.specs.PartSteps.{asked_extents, clone_moves, object_of}
 use Rattle.sdr_model.specs.RowMoves.{clone_moves_of}
 use Rattle.sdr_model.specs.Rows.{ByRow}
-use Rattle.sdr_model.specs.Steps.{DoesWith, On, Outcome, Refuses}
+use Rattle.sdr_model.specs.Steps.{DoesWith, On, Outcome}
 use Rattle.sdr_model.specs.Tallies.{EndsInTime, IsModest, IsShort}
 use Rattle.sdr_model.specs.Things.{Owners, extent_block}
 use Rattle.sdr_model.specs.World.{World}
@@ -31,7 +29,6 @@ use Rattle.sdr_model.specs.Zco.{object_at}
 use Rattle.sdr_model.specs.declared.answer.Reply.TheVariants as replies
 use Rattle.sdr_model.specs.declared.call.Call.{Call}
 use Rattle.sdr_model.specs.declared.call.Call.TheVariants as calls
-use Rattle.sdr_model.specs.declared.things.Block.{Block}
 use Rattle.sdr_model.specs.declared.things.Thing.TheVariants as things
 use Rattle.sdr_model.specs.declared.zco.Extent.{Extent}
 use Rattle.sdr_model.specs.declared.zco.ZcoObject.{ZcoObject}

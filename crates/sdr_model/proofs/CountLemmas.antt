@@ -1,5 +1,5 @@
 -- One event draws one number at most, and no more are held, adds one piece at most to an object, and takes few blocks.
-use Rattle.std.proofs.Common.{◌≡◌, ◌≤◌, ◌<◌, ◌+◌, ◌*◌, ◌==◌, ◌&&◌, ◌++◌, ◌∷◌, [], ℕ, List, Bool, false, None, Some, drop, find, length, length-append, length-drop, nat_le, ap, refl, subst, sym, ◌∙◌, arith, ◌⊎◌, inl, inr}
+use Rattle.std.proofs.Common.{◌≡◌, ◌≤◌, ◌<◌, ◌+◌, ◌*◌, ◌==◌, ◌&&◌, ◌++◌, ◌∷◌, [], ℕ, List, false, None, Some, drop, find, length, length-append, length-drop, nat_le, ap, refl, subst, sym, ◌∙◌, arith, ◌⊎◌, inl, inr}
 use Rattle.std.specs.FinMap.{empty, get-empty}
 use Rattle.std.specs.Ordering.{nat_cmp}
 use Rattle.sdr_model.specs.AccountSteps.{pending_of}

@@ -1,14 +1,13 @@
 -- What an object that is cut to its part charges less, and that it may come in its own place.
-use Rattle.std.proofs.Common.{◌≡◌, ◌≤◌, ◌<◌, ◌+◌, ◌-◌, ◌==◌, ◌∷◌, ℕ, Bool, true, false, Option, None, Some, List, [], cond, drop, get_or, length, ap, sym, ◌∙◌, refl, subst, subst₂, arith}
+use Rattle.std.proofs.Common.{◌≡◌, ◌≤◌, ◌<◌, ◌+◌, ◌-◌, ◌==◌, ◌∷◌, ℕ, Bool, true, false, Option, None, Some, List, cond, drop, get_or, length, ap, sym, ◌∙◌, refl, subst, subst₂, arith}
 use Rattle.std.proofs.lemmas.List.{drop_more}
 use Rattle.std.proofs.lemmas.List.Elements.{All-nil}
 use Rattle.std.proofs.lemmas.List.Sums.{sum_by-cons}
 use Rattle.std.specs.List.{All, sum_by}
 use Rattle.std.specs.Prelude.{Contains}
 use Rattle.sdr_base.specs.declared.kind.Space.{Space}
-use Rattle.sdr_base.specs.declared.kind.Space.TheVariants as spaces
 use Rattle.sdr_model.specs.Allowed.{IsBound}
-use Rattle.sdr_model.specs.Amounts.{amount, no_amounts}
+use Rattle.sdr_model.specs.Amounts.{amount}
 use Rattle.sdr_model.specs.Charges.{bytes_charge, extent_charge, space_in}
 use Rattle.sdr_model.specs.Cuts.{cut, cut_all}
 use Rattle.sdr_model.specs.Draft.{Draft}

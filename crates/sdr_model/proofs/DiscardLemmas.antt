@@ -1,20 +1,17 @@
 -- The steps in which an object goes, or is cut to its part.
-use Rattle.std.proofs.Common.{◌≡◌, ◌≤◌, ◌<◌, ◌+◌, ◌-◌, ℕ, zero, suc, List, [], ◌∷◌, Option, None, Some, ap, sym, ◌∙◌, refl, subst, arith, length}
-use Rattle.std.specs.Prelude.{slice_get}
-use Rattle.sdr_model.specs.Dry.{AreInOrder, StepsDry, blocks_taken}
+use Rattle.std.proofs.Common.{◌≡◌, ℕ, List, [], ◌∷◌, Some, ap, sym, ◌∙◌, refl, subst, arith}
+use Rattle.sdr_model.specs.Dry.{StepsDry}
 use Rattle.sdr_model.specs.Gone.{gone_blocks, gone_things, without_things}
-use Rattle.sdr_model.specs.ObjectSteps.{Discards, destroy_blocks, last_capsule, with_object, without_header, without_trailer}
+use Rattle.sdr_model.specs.ObjectSteps.{destroy_blocks, with_object}
 use Rattle.sdr_model.specs.PartSteps.{outside_part, stripped}
 use Rattle.sdr_model.specs.Queue.{with_served}
-use Rattle.sdr_model.specs.RowMoves.{block_of_capsule, destroyed_blocks, first_header, last_trailer, stripped_blocks}
+use Rattle.sdr_model.specs.RowMoves.{destroyed_blocks, stripped_blocks}
 use Rattle.sdr_model.specs.Steps.{Does, On, Outcome, gave, without_thing}
 use Rattle.sdr_model.specs.Strips.{IsStripped}
 use Rattle.sdr_model.specs.World.{World}
 use Rattle.sdr_model.specs.Zco.{object_at}
 use Rattle.sdr_model.specs.declared.answer.Reply.TheVariants as replies
-use Rattle.sdr_model.specs.declared.call.Call.{Call}
 use Rattle.sdr_model.specs.declared.call.Call.TheVariants as calls
-use Rattle.sdr_model.specs.declared.zco.Capsule.{Capsule}
 use Rattle.sdr_model.specs.declared.zco.ZcoObject.{ZcoObject}
 use Rattle.sdr_model.proofs.DryLemmas.{AreInOrder-gave, blocks_taken-gave}
 

@@ -1,9 +1,8 @@
 -- What is told of a world where an object is changed.
-use Rattle.std.proofs.Common.{◌≡◌, ◌≤◌, ◌<◌, ◌+◌, ◌-◌, ◌^◌, ℕ, arith, true, cond, Option, Some, None, ap, sym, ◌∙◌, refl, subst, subst₂, true≢false}
+use Rattle.std.proofs.Common.{◌≡◌, ◌≤◌, ◌<◌, ◌+◌, ◌^◌, ℕ, arith, cond, Option, Some, None, ap, sym, ◌∙◌, refl, subst, subst₂, true≢false}
 use Rattle.std.specs.FinMap.{get}
 use Rattle.sdr_base.specs.declared.account.Acct.{Acct}
 use Rattle.sdr_base.specs.declared.account.Acct.TheVariants as accts
-use Rattle.sdr_base.specs.declared.account.Amounts.{Amounts}
 use Rattle.sdr_base.specs.declared.kind.Space.{Space}
 use Rattle.sdr_base.specs.declared.kind.Space.TheVariants as spaces
 use Rattle.sdr_model.specs.Accounts.{is_same_account, most_amount}
@@ -31,7 +30,7 @@ use Rattle.sdr_model.specs.declared.zco.ZcoObject.{ZcoObject}
 use Rattle.sdr_model.proofs.AmountLemmas.{amount-minus, amount-plus}
 use Rattle.sdr_model.proofs.ObjectLemmas.{Changes, IsKept-changed, charge_at, uses_at, uses_there}
 use Rattle.sdr_model.proofs.RawLemmas.{raws-with_at}
-use Rattle.sdr_model.proofs.SumLemmas.{counted_at, sum_by-removed}
+use Rattle.sdr_model.proofs.SumLemmas.{sum_by-removed}
 use Rattle.sdr_model.proofs.TallyBounds.{count_of-small, counted_thing, object_charge-small}
 
 module _ (notes : Notes) (sums : Charged) (next : ℕ) (m : Things) (accounts : Accounts) (k : ℕ) (by : Change) (z y : ZcoObject)

@@ -1,5 +1,5 @@
 -- Objects that get an extent.
-use Rattle.std.proofs.Common.{◌≡◌, ◌≤◌, ◌<◌, ◌+◌, ◌==◌, ◌++◌, ◌∷◌, [], ℕ, List, Option, None, Some, Bool, true, false, ◌||◌, ap, sym, ◌∙◌, refl, subst, cond, arith, append_assoc, length, map}
+use Rattle.std.proofs.Common.{◌≡◌, ◌≤◌, ◌<◌, ◌+◌, ◌==◌, ◌++◌, ◌∷◌, [], ℕ, List, Option, Some, Bool, true, false, ◌||◌, ap, sym, refl, subst, cond, arith, map}
 use Rattle.std.proofs.lemmas.List.{map-append}
 use Rattle.std.proofs.lemmas.List.Elements.{All-append, All-cons, All-head, All-nil, All-tail}
 use Rattle.std.proofs.lemmas.List.Sums.{sum_by_push}
@@ -13,7 +13,7 @@ use Rattle.sdr_base.specs.declared.moves.Move.TheVariants.{Took}
 use Rattle.sdr_base.specs.declared.refusal.Refusal.{Refusal}
 use Rattle.sdr_base.specs.declared.refusal.Refusal.TheVariants as refusals
 use Rattle.sdr_model.specs.Accounts.{Pending}
-use Rattle.sdr_model.specs.Allowed.{HasRoomFor, MayCharge, RefusesCharge}
+use Rattle.sdr_model.specs.Allowed.{MayCharge, RefusesCharge}
 use Rattle.sdr_model.specs.Amounts.{amount, amounts_by}
 use Rattle.sdr_model.specs.Charges.{bytes_charge, extent_charge, object_charge}
 use Rattle.sdr_model.specs.Charging.{Charges, with_used}
@@ -26,7 +26,7 @@ use Rattle.sdr_model.specs.Steps.{On, Outcome, Refuses, Takes}
 use Rattle.sdr_model.specs.Tallies.{EndsInTime, IsModest}
 use Rattle.sdr_model.specs.Things.{Owners, capsule_block, extent_block, extent_need}
 use Rattle.sdr_model.specs.World.{World, as_raw, thing_at}
-use Rattle.sdr_model.specs.Zco.{as_source, extents_length, object_at, source_at, space_of}
+use Rattle.sdr_model.specs.Zco.{extents_length, object_at, source_at, space_of}
 use Rattle.sdr_model.specs.declared.answer.Reply.TheVariants as replies
 use Rattle.sdr_model.specs.declared.call.Call.{Call}
 use Rattle.sdr_model.specs.declared.call.Call.TheVariants as calls
@@ -36,7 +36,7 @@ use Rattle.sdr_model.specs.declared.zco.ZcoObject.{ZcoObject}
 use Rattle.sdr_model.specs.declared.zco.ZcoSource.{ZcoSource}
 use Rattle.sdr_model.proofs.CapsuleLemmas.{owned-kept}
 use Rattle.sdr_model.proofs.ChargeLemmas.{charge_refused}
-use Rattle.sdr_model.proofs.ObjectCallLemmas.{TakenOne, charged_one, taken_one, thing_at-blocks}
+use Rattle.sdr_model.proofs.ObjectCallLemmas.{TakenOne, charged_one, taken_one}
 use Rattle.sdr_model.proofs.TallyLemmas.{IsSound-raised}
 
 -- what holds of all items of two lists holds of those of each

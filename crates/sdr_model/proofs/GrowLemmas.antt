@@ -1,5 +1,5 @@
 -- Objects that get one more component.
-use Rattle.std.proofs.Common.{◌≡◌, ◌≤◌, ◌<◌, ◌+◌, ◌==◌, ◌++◌, ◌∷◌, [], ℕ, arith, length, Bool, true, false, cond, Option, Some, None, Ok, Err, ap, sym, ◌∙◌, refl, subst, true≢false}
+use Rattle.std.proofs.Common.{◌≡◌, ◌≤◌, ◌<◌, ◌+◌, ℕ, arith, length, cond, Option, Some, None, Ok, Err, ap, sym, ◌∙◌, refl, subst, true≢false}
 use Rattle.std.specs.FinMap.{get}
 use Rattle.std.specs.Prelude.{Result, IfErr, IfOk, IfSome}
 use Rattle.sdr_base.specs.declared.account.Acct.{Acct}

@@ -1,5 +1,5 @@
 -- A hash of two keys in one bucket and one in another: what the definitions say of it.
-use Rattle.std.specs.Prelude.{◌≡◌, List, [], ◌∷◌, Result, Ok, Err, codes, refl}
+use Rattle.std.specs.Prelude.{◌≡◌, List, [], ◌∷◌, Ok, Err, codes, refl}
 use Rattle.std.specs.FinMap as map
 use Rattle.sdr_base.specs.declared.moves.Move.TheVariants.{Took}
 use Rattle.sdr_base.specs.declared.refusal.Refusal.TheVariants as refusals

@@ -1,5 +1,5 @@
 -- The log of notes, which has an address once.
-use Rattle.std.proofs.Common.{◌≡◌, ℕ, zero, suc, arith, Bool, true, false, List, [], ◌∷◌, ◌++◌, cond, Option, Some, None, ap, sym, ◌∙◌, refl, subst, unwrap_or, is_some, true≢false}
+use Rattle.std.proofs.Common.{◌≡◌, ℕ, zero, suc, arith, Bool, true, false, List, [], ◌∷◌, cond, Option, Some, None, ap, sym, ◌∙◌, refl, subst, unwrap_or, is_some, true≢false}
 use Rattle.std.specs.BTreeMap.{is_at}
 use Rattle.std.specs.Cmp.{nat_cmp_total, eq_by_cmp_equiv}
 use Rattle.std.specs.FinMap.{get, insert}
@@ -9,7 +9,7 @@ use Rattle.std.specs.Ordering.{nat_cmp}
 use Rattle.std.specs.Prelude.{IsSome}
 use Rattle.sdr_model.specs.Notes.{HaveNotes, Notes, SameNotes, logged, note_at, undone}
 use Rattle.sdr_model.specs.declared.tally.Note.{Note}
-use Rattle.sdr_model.proofs.NotesLemmas.{first_logged, note_at-insert, note_at-undone, now-touched, some-inserted, some-there}
+use Rattle.sdr_model.proofs.NotesLemmas.{first_logged, note_at-undone, now-touched, some-inserted, some-there}
 use Rattle.sdr_model.proofs.StoreLemmas.{at_itself, same_address}
 
 -- the note that a log has for an address

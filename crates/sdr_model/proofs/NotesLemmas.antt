@@ -1,7 +1,7 @@
 -- Notes by address, and a log of those before.
-use Rattle.std.proofs.Common.{◌≡◌, ◌==◌, ◌+◌, ℕ, zero, suc, arith, Bool, true, false, List, [], ◌∷◌, ◌++◌, cond, Option, Some, None, ap, sym, ◌∙◌, refl, subst, unwrap_or, true≢false, ◌⊎◌, inl, inr}
+use Rattle.std.proofs.Common.{◌≡◌, ◌==◌, ◌+◌, ℕ, zero, suc, arith, Bool, true, false, List, [], ◌∷◌, ◌++◌, cond, Option, Some, ap, sym, ◌∙◌, refl, subst, unwrap_or, true≢false}
 use Rattle.std.proofs.lemmas.Bool.{eqb-false, eqb-true}
-use Rattle.std.proofs.lemmas.List.Elements.{Contains-append_left, Contains-append_right, Contains-append_cases}
+use Rattle.std.proofs.lemmas.List.Elements.{Contains-append_left}
 use Rattle.std.proofs.lemmas.List.Sums.{sum_by_push}
 use Rattle.std.specs.BTreeMap.{is_at}
 use Rattle.std.specs.Cmp.{nat_cmp_total}
@@ -11,7 +11,7 @@ use Rattle.std.specs.Ordering.{nat_cmp}
 use Rattle.std.specs.Prelude.{IsSome}
 use Rattle.sdr_base.specs.declared.account.Acct.{Acct}
 use Rattle.sdr_base.specs.declared.account.Acct.TheVariants as accts
-use Rattle.sdr_model.specs.Notes.{HaveNotes, more_uses, noted_count, NameSource, Notes, SameNotes, blank, is_this, logged, note_at, undone, with_source}
+use Rattle.sdr_model.specs.Notes.{HaveNotes, more_uses, noted_count, NameSource, Notes, SameNotes, blank, logged, note_at, undone, with_source}
 use Rattle.sdr_model.specs.Zco.{naming}
 use Rattle.sdr_model.specs.declared.tally.Note.{Note}
 use Rattle.sdr_model.specs.declared.zco.Extent.{Extent}

@@ -1,32 +1,23 @@
 -- Calls that put objects into a world in the making.
-use Rattle.std.proofs.Common.{◌≡◌, ◌≤◌, ◌+◌, ◌++◌, ◌∷◌, [], ℕ, List, Option, None, Some, Bool, true, false, cond, ap, sym, ◌∙◌, refl, subst, arith}
-use Rattle.std.specs.FinMap.{get}
-use Rattle.std.specs.List.{All}
-use Rattle.std.specs.Prelude.{Contains, IfSome}
+use Rattle.std.proofs.Common.{◌≡◌, ◌≤◌, ◌+◌, ◌++◌, ◌∷◌, [], ℕ, Option, None, Some, ap, sym, ◌∙◌, refl, subst, arith}
 use Rattle.sdr_base.specs.declared.account.Acct.{Acct}
-use Rattle.sdr_base.specs.declared.account.Acct.TheVariants as accts
 use Rattle.sdr_base.specs.declared.account.Amounts.{Amounts}
 use Rattle.sdr_base.specs.declared.kind.Space.{Space}
 use Rattle.sdr_base.specs.declared.kind.Space.TheVariants as spaces
-use Rattle.sdr_base.specs.declared.moves.Move.{Move}
 use Rattle.sdr_base.specs.declared.moves.Move.TheVariants.{Took}
-use Rattle.sdr_model.specs.Accounts.{Pending, is_same_account, most_amount}
+use Rattle.sdr_model.specs.Accounts.{Pending, most_amount}
 use Rattle.sdr_model.specs.Allowed.{HasRoomFor, MayCharge}
 use Rattle.sdr_model.specs.Amounts.{amount, amounts_by, in_space}
-use Rattle.sdr_model.specs.Charges.{object_bytes, object_charge, occupancy, space_in, thing_charge}
+use Rattle.sdr_model.specs.Charges.{object_bytes, object_charge, occupancy}
 use Rattle.sdr_model.specs.Charging.{Charges, with_used}
-use Rattle.sdr_model.specs.Dry.{StepsDry, dry_moves, next_addr, with_blocks}
+use Rattle.sdr_model.specs.Dry.{next_addr, with_blocks}
 use Rattle.sdr_model.specs.ObjectSteps.{with_object}
-use Rattle.sdr_model.specs.Steps.{Outcome, Takes, without_thing}
+use Rattle.sdr_model.specs.Steps.{Outcome, Takes}
 use Rattle.sdr_model.specs.World.{World, thing_at}
-use Rattle.sdr_model.specs.Zco.{as_object, as_source, empty_object, object_at}
+use Rattle.sdr_model.specs.Zco.{empty_object}
 use Rattle.sdr_model.specs.declared.answer.Reply.{Reply}
-use Rattle.sdr_model.specs.declared.things.Thing.{Thing}
-use Rattle.sdr_model.specs.declared.things.Thing.TheVariants as things
 use Rattle.sdr_model.specs.declared.zco.ZcoObject.{ZcoObject}
 use Rattle.sdr_model.proofs.ChargeLemmas.{charge_allowed}
-use Rattle.sdr_model.proofs.SumLemmas.{counted_at}
-use Rattle.sdr_model.proofs.TallyLemmas.{All-each, SameSpace, charged-with_at, object_charge-same, same_spaces}
 
 -- the one block that is taken after a charge
 put_one : (w : World) (p : Option Pending) (amounts : Amounts) (k : ℕ) (z : ZcoObject)

@@ -1,10 +1,6 @@
 -- Sums of a world where an object comes, goes or is changed.
-use Rattle.std.proofs.Common.{◌≡◌, ◌≤◌, ◌<◌, ◌+◌, ◌^◌, ◌==◌, ℕ, arith, Bool, true, false, List, [], ◌∷◌, ◌++◌, cond, Option, Some, None, ap, sym, ◌∙◌, refl, subst, true≢false}
-use Rattle.std.proofs.lemmas.List.Sums.{sum_by_push}
-use Rattle.std.specs.BTreeMap.{is_at}
+use Rattle.std.proofs.Common.{◌≡◌, ◌≤◌, ◌<◌, ◌+◌, ◌^◌, ℕ, arith, true, false, cond, Option, Some, None, ap, sym, ◌∙◌, refl, subst, true≢false}
 use Rattle.std.specs.FinMap.{get}
-use Rattle.std.specs.List.{All}
-use Rattle.std.specs.Ordering.{nat_cmp}
 use Rattle.std.specs.Prelude.{IfSome, IsSome}
 use Rattle.sdr_base.specs.declared.account.Acct.{Acct}
 use Rattle.sdr_base.specs.declared.account.Acct.TheVariants as accts
@@ -14,30 +10,25 @@ use Rattle.sdr_base.specs.declared.kind.Space.TheVariants as spaces
 use Rattle.sdr_model.specs.Accounts.{is_same_account, most_amount}
 use Rattle.sdr_model.specs.Amounts.{amount, amounts_by, minus, plus}
 use Rattle.sdr_model.specs.Charged.{charged_to, with_charged}
-use Rattle.sdr_model.specs.Charges.{extent_charge, object_charge, occupancy, space_in, thing_charge}
+use Rattle.sdr_model.specs.Charges.{object_charge, occupancy, space_in, thing_charge}
 use Rattle.sdr_model.specs.Ledger.{Ledger}
 use Rattle.sdr_model.specs.Notes.{Notes, SameNotes, UsesMore, more_uses, note_at, noted_count}
-use Rattle.sdr_model.specs.ObjectSteps.{with_extent}
 use Rattle.sdr_model.specs.Owners.{OwnInside, OwnsInside}
 use Rattle.sdr_model.specs.Store.{Store, with_at}
-use Rattle.sdr_model.specs.Tallies.{IsKept, IsModest, IsSound, KnowSources, RawsArePlain, Tallied, charged, is_plain, names_at, raw_of_thing, world_of}
+use Rattle.sdr_model.specs.Tallies.{IsKept, IsModest, IsSound, KnowSources, RawsArePlain, Tallied, charged, is_plain, names_at, world_of}
 use Rattle.sdr_model.specs.Things.{Owners, Things}
 use Rattle.sdr_model.specs.World.{World}
-use Rattle.sdr_model.specs.Zco.{as_object, as_source, count_of, names_raw, naming, source_on, uses_in}
+use Rattle.sdr_model.specs.Zco.{as_object, as_source, naming, source_on, uses_in}
 use Rattle.sdr_model.specs.declared.accounts.Accounts.{Accounts}
 use Rattle.sdr_model.specs.declared.tally.Charged.{Charged}
-use Rattle.sdr_model.specs.declared.tally.Note.{Note}
 use Rattle.sdr_model.specs.declared.tally.Tally.{Tally}
 use Rattle.sdr_model.specs.declared.things.Thing.{Thing}
 use Rattle.sdr_model.specs.declared.things.Thing.TheVariants as things
-use Rattle.sdr_model.specs.declared.zco.Extent.{Extent}
 use Rattle.sdr_model.specs.declared.zco.ZcoObject.{ZcoObject}
-use Rattle.sdr_model.proofs.NotesLemmas.{naming-push}
 use Rattle.sdr_model.proofs.OwnersLemmas.{OwnInside-insert, OwnInside-remove}
-use Rattle.sdr_model.proofs.RawLemmas.{own_named, raws-plain, raws-with_at, unnamed_raws}
-use Rattle.sdr_model.proofs.StoreLemmas.{get-with_at}
+use Rattle.sdr_model.proofs.RawLemmas.{raws-plain, raws-with_at, unnamed_raws}
 use Rattle.sdr_model.proofs.SumLemmas.{counted_at, sum_by-removed}
-use Rattle.sdr_model.proofs.TallyBounds.{counted_thing, count_of-charged, source_on-known, source_on-none}
+use Rattle.sdr_model.proofs.TallyBounds.{counted_thing, count_of-charged, source_on-known}
 use Rattle.sdr_model.proofs.TallyLemmas.{All-each, KnowSources-same, Tallied-notes, Tallied-of, charged-with_at, count_of-with_at, plain_charge, plain_source, plain_uses, same_spaces, sound-with_at}
 
 -- what the thing at an address counts among the uses of a source, and charges

@@ -1,5 +1,5 @@
 -- What owns the blocks inside it keeps owning them.
-use Rattle.std.proofs.Common.{◌≡◌, ◌≤◌, ◌<◌, ◌+◌, ℕ, zero, suc, arith, Bool, true, false, List, [], ◌∷◌, cond, map, length, take, drop, set as set_at, Option, Some, None, ap, sym, ◌∙◌, refl, subst, subst₂, unwrap_or, Result, Ok, Err}
+use Rattle.std.proofs.Common.{◌≡◌, ◌≤◌, ◌<◌, ◌+◌, ℕ, zero, suc, arith, Bool, true, false, List, [], ◌∷◌, cond, map, length, take, drop, set as set_at, Some, None, ap, sym, ◌∙◌, refl, subst, subst₂, unwrap_or, Result, Ok, Err}
 use Rattle.std.proofs.lemmas.List.Elements.{All-append, All-cons, All-drop, All-head, All-map, All-nil, All-set, All-tail, All-take, All-weaker}
 use Rattle.std.specs.BTreeMap.{is_at}
 use Rattle.std.specs.Cmp.{nat_cmp_total}

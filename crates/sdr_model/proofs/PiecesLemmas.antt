@@ -1,25 +1,23 @@
 -- Pieces, and the bytes in them.
-use Rattle.std.proofs.Common.{◌≡◌, ◌≤◌, ◌<◌, ◌+◌, ◌-◌, ◌==◌, ℕ, zero, suc, Bool, true, false, List, [], ◌∷◌, ◌++◌, length, map, take, drop, replicate, min, max, Option, None, Some, ap, sym, ◌∙◌, refl, ap₂, subst, cond, arith, length-append, length-drop, length-take, append_assoc}
-use Rattle.std.proofs.lemmas.Grind.{common_steps, flat_map-append}
-use Rattle.std.proofs.lemmas.List.{append-nil, take-replicate, drop-replicate, drop-take, length-map, length-replicate, map-append, take-map, take_min, drop-map}
+use Rattle.std.proofs.Common.{◌≡◌, ◌≤◌, ◌-◌, ◌==◌, ℕ, zero, suc, Bool, true, false, List, [], ◌∷◌, ◌++◌, length, take, drop, replicate, min, max, Option, None, Some, ap, sym, ◌∙◌, refl, ap₂, subst, cond, arith, length-drop, length-take, append_assoc}
+use Rattle.std.proofs.lemmas.Grind.{flat_map-append}
+use Rattle.std.proofs.lemmas.List.{append-nil, take-replicate, drop-replicate, length-map, length-replicate, take-map, take_min, drop-map}
 use Rattle.std.proofs.lemmas.List.Concat.{flat_map-cons}
 use Rattle.std.proofs.lemmas.List.Folds.{flat_map-map}
 use Rattle.std.proofs.lemmas.Bool.{eqb-true, le-ltb}
 use Rattle.std.specs.Prelude.{nat_lt, MatchBool}
-use Rattle.sdr_base.specs.Parts.{part}
 use Rattle.sdr_base.specs.declared.moves.Move.{Move}
-use Rattle.sdr_base.specs.declared.refusal.Refusal.{Refusal}
 use Rattle.sdr_base.specs.declared.refusal.Refusal.TheVariants as refusals
 use Rattle.sdr_model.specs.Dry.{StepsDry, addr_after, answered_moves, dry_moves}
 use Rattle.sdr_model.specs.Limits.{longest_read}
 use Rattle.sdr_model.specs.PartSteps.{part_end}
-use Rattle.sdr_model.specs.Pieces.{AsksBytes, AsksPage, Gathers, asked_addr, asked_count, capsule_pieces, cut_pieces, extent_piece, extent_pieces, filled, header_pieces, piece_length, piece_part, piece_told, pieces_asked, pieces_of, pieces_told, part_asked, part_pieces, raw_piece, source_piece, source_pieces, subject_piece, trailer_pieces, wire_pieces}
+use Rattle.sdr_model.specs.Pieces.{AsksBytes, AsksPage, Gathers, asked_addr, asked_count, capsule_pieces, cut_pieces, extent_piece, extent_pieces, filled, piece_length, piece_part, piece_told, pieces_asked, pieces_of, pieces_told, part_asked, part_pieces, raw_piece, source_piece, subject_piece, wire_pieces}
 use Rattle.sdr_model.specs.Reading.{reads_media}
 use Rattle.sdr_model.specs.RowMoves.{row_moves}
 use Rattle.sdr_model.specs.Rows.{ByRow}
 use Rattle.sdr_model.specs.Steps.{On, Outcome, Refuses}
-use Rattle.sdr_model.specs.Wire.{Gives, GivesOf, Spells, Told, capsules_told, extent_told, extents_told, headers_part, known, raw_told, some_of, source_part, source_told, subject_told, trailers_part, unknown, wire_part, wire_told}
-use Rattle.sdr_model.specs.World.{World, as_raw, misnamed, thing_at}
+use Rattle.sdr_model.specs.Wire.{Gives, GivesOf, Spells, Told, capsules_told, extent_told, extents_told, known, raw_told, some_of, source_told, subject_told, unknown, wire_told}
+use Rattle.sdr_model.specs.World.{World, as_raw, thing_at}
 use Rattle.sdr_model.specs.Zco.{object_at, source_at}
 use Rattle.sdr_model.specs.declared.answer.Reply.{Reply}
 use Rattle.sdr_model.specs.declared.answer.Reply.TheVariants as replies

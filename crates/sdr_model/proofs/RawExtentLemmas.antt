@@ -1,13 +1,11 @@
 -- Objects that get an extent of a raw object, which a new source takes over.
-use Rattle.std.proofs.Common.{◌≡◌, ◌≤◌, ◌<◌, ◌+◌, ◌==◌, ◌++◌, ◌∷◌, [], ℕ, List, Option, None, Some, Bool, true, false, ◌||◌, ap, ap₂, sym, ◌∙◌, refl, subst, cond, arith, length}
+use Rattle.std.proofs.Common.{◌≡◌, ◌+◌, ◌==◌, ◌++◌, ◌∷◌, [], ℕ, List, Option, None, Some, Bool, true, false, ◌||◌, ap, ap₂, sym, ◌∙◌, refl, subst, cond, arith, length}
 use Rattle.std.specs.BTreeMap.{is_at}
 use Rattle.std.specs.FinMap.{get}
 use Rattle.std.specs.Ordering.{nat_cmp}
 use Rattle.std.specs.Prelude.{MatchBool, MatchOption, nat_lt}
 use Rattle.sdr_base.specs.declared.account.Amounts.{Amounts}
-use Rattle.sdr_base.specs.declared.kind.Space.{Space}
 use Rattle.sdr_base.specs.declared.kind.Space.TheVariants as spaces
-use Rattle.sdr_base.specs.declared.moves.Move.{Move}
 use Rattle.sdr_base.specs.declared.moves.Move.TheVariants.{Took}
 use Rattle.sdr_base.specs.declared.refusal.Refusal.{Refusal}
 use Rattle.sdr_base.specs.declared.refusal.Refusal.TheVariants as refusals
@@ -26,20 +24,18 @@ use Rattle.sdr_model.specs.Steps.{DoesWith, On, Outcome, Refuses, with_thing}
 use Rattle.sdr_model.specs.Tallies.{is_plain}
 use Rattle.sdr_model.specs.Things.{extent_need, source_need}
 use Rattle.sdr_model.specs.World.{World, as_raw, thing_at}
-use Rattle.sdr_model.specs.Zco.{as_object, as_source, object_at, source_at, source_on, uses_of}
+use Rattle.sdr_model.specs.Zco.{as_object, object_at, source_at, source_on, uses_of}
 use Rattle.sdr_model.specs.declared.answer.Reply.TheVariants as replies
 use Rattle.sdr_model.specs.declared.call.Call.{Call}
 use Rattle.sdr_model.specs.declared.call.Call.TheVariants as calls
 use Rattle.sdr_model.specs.declared.things.Thing.{Thing}
 use Rattle.sdr_model.specs.declared.things.Thing.TheVariants as things
-use Rattle.sdr_model.specs.declared.zco.Extent.{Extent}
 use Rattle.sdr_model.specs.declared.zco.Subject.TheVariants as subjects
 use Rattle.sdr_model.specs.declared.zco.ZcoObject.{ZcoObject}
-use Rattle.sdr_model.specs.declared.zco.ZcoSource.{ZcoSource}
 use Rattle.sdr_model.proofs.ChargeLemmas.{charge_allowed, charge_refused}
 use Rattle.sdr_model.proofs.ObjectCallLemmas.{thing_at-blocks}
 use Rattle.sdr_model.proofs.StoreLemmas.{get-with_at, same_address, same_things}
-use Rattle.sdr_model.proofs.TakenLemmas.{Agree, does-with, run}
+use Rattle.sdr_model.proofs.TakenLemmas.{does-with, run}
 
 -- the source that takes over a raw object of so many bytes
 abbrev pub taking_source : ℕ → ℕ → Thing

@@ -2,14 +2,13 @@
 use Rattle.std.proofs.Common.{◌≡◌, ◌≤◌, ◌<◌, ◌==◌, ℕ, arith, Bool, true, false, cond, Option, Some, None, ap, sym, ◌∙◌, refl, subst, unwrap_or, true≢false}
 use Rattle.std.proofs.lemmas.Bool.{eqb-true}
 use Rattle.std.specs.BTreeMap.{is_at}
-use Rattle.std.specs.FinMap.{empty, entries, entries_sorted, get, get-empty, get-entries}
+use Rattle.std.specs.FinMap.{empty, get, get-empty}
 use Rattle.std.specs.Ordering.{nat_cmp}
 use Rattle.sdr_model.specs.Notes.{Notes, note_at, raw_of}
 use Rattle.sdr_model.specs.Store.{with_at}
 use Rattle.sdr_model.specs.Tallies.{KnowSources, RawsArePlain, is_plain, raw_of_thing}
 use Rattle.sdr_model.specs.Things.{Things}
-use Rattle.sdr_model.specs.World.{World}
-use Rattle.sdr_model.specs.Zco.{as_source, is_of_raw, names_raw, source_on}
+use Rattle.sdr_model.specs.Zco.{is_of_raw, names_raw}
 use Rattle.sdr_model.specs.declared.things.Thing.{Thing}
 use Rattle.sdr_model.specs.declared.things.Thing.TheVariants as things
 use Rattle.sdr_model.specs.declared.zco.Subject.{Subject}

@@ -1,24 +1,21 @@
 -- What is told of a world, where it is asked for.
-use Rattle.std.proofs.Common.{◌≡◌, ◌≤◌, ◌+◌, ◌==◌, ℕ, arith, Bool, true, false, List, [], ◌∷◌, T, cond, Option, Some, None, Ordering, Less, Equal, Greater, is_eq, ap, sym, ◌∙◌, refl, true≢false}
+use Rattle.std.proofs.Common.{◌≡◌, ◌≤◌, ◌==◌, ℕ, arith, Bool, true, false, List, [], ◌∷◌, T, cond, Option, Some, None, Ordering, Less, Equal, Greater, is_eq, ap, sym, ◌∙◌, refl, true≢false}
 use Rattle.std.specs.FinMap.{entries, entries_sorted, find, get, get-entries, is_sorted}
-use Rattle.std.specs.List.{sum_by, find as find_first}
+use Rattle.std.specs.List.{find as find_first}
 use Rattle.std.specs.Option.{option_map}
 use Rattle.std.specs.Ordering.{nat_cmp}
 use Rattle.sdr_base.specs.declared.account.Acct.{Acct}
 use Rattle.sdr_base.specs.declared.account.Acct.TheVariants as accts
-use Rattle.sdr_base.specs.declared.account.Amounts.{Amounts}
 use Rattle.sdr_base.specs.declared.kind.Space.{Space}
 use Rattle.sdr_base.specs.declared.kind.Space.TheVariants as spaces
 use Rattle.sdr_model.specs.Accounts.{is_same_account, most_amount}
-use Rattle.sdr_model.specs.Amounts.{amount, amounts_by, in_space}
+use Rattle.sdr_model.specs.Amounts.{amounts_by}
 use Rattle.sdr_model.specs.Charged.{charged_to}
-use Rattle.sdr_model.specs.Charges.{bytes_charge, capsule_charge, extent_charge, object_bytes, object_charge, space_in, thing_charge}
-use Rattle.sdr_model.specs.Notes.{Notes, note_at, noted_count}
-use Rattle.sdr_model.specs.Tallies.{KnowSources, Tallied, charged, names_at, world_of}
-use Rattle.sdr_model.specs.Things.{Things}
+use Rattle.sdr_model.specs.Charges.{extent_charge, object_charge, thing_charge}
+use Rattle.sdr_model.specs.Notes.{Notes, note_at}
+use Rattle.sdr_model.specs.Tallies.{KnowSources, Tallied, charged, names_at}
 use Rattle.sdr_model.specs.World.{World}
-use Rattle.sdr_model.specs.Zco.{count_of, naming, names_raw, source_at, source_on, uses_in}
-use Rattle.sdr_model.specs.declared.accounts.Accounts.{Accounts}
+use Rattle.sdr_model.specs.Zco.{count_of, naming, names_raw, source_on, uses_in}
 use Rattle.sdr_model.specs.declared.tally.Charged.{Charged}
 use Rattle.sdr_model.specs.declared.things.Thing.{Thing}
 use Rattle.sdr_model.specs.declared.things.Thing.TheVariants as things

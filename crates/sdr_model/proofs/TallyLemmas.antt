@@ -1,11 +1,10 @@
 -- Sums of a world where its things change.
-use Rattle.std.proofs.Common.{◌≡◌, ◌≤◌, ◌<◌, ◌+◌, ℕ, zero, suc, arith, Bool, true, false, List, [], ◌∷◌, ◌&&◌, T, cond, Option, Some, None, ap, sym, ◌∙◌, refl, subst, unwrap_or, true≢false, Result, Ok, Err}
+use Rattle.std.proofs.Common.{◌≡◌, ◌≤◌, ◌<◌, ◌+◌, ℕ, arith, Bool, true, false, List, [], ◌∷◌, T, cond, Option, Some, None, ap, sym, ◌∙◌, refl, subst, unwrap_or, true≢false, Result, Ok, Err}
 use Rattle.std.proofs.lemmas.List.Elements.{All-cons, All-head, All-nil, All-tail, All-weaker}
 use Rattle.std.proofs.lemmas.List.Sums.{sum_by-cons}
 use Rattle.std.specs.BTreeMap.{is_at}
 use Rattle.std.specs.FinMap.{empty, remove, entries, entries_sorted, find, get, get-empty, get-entries, is_sorted}
-use Rattle.std.specs.List.{All, sum_by, find as find_first}
-use Rattle.std.specs.Option.{option_map}
+use Rattle.std.specs.List.{All, sum_by}
 use Rattle.std.specs.Ordering.{nat_cmp}
 use Rattle.std.specs.Prelude.{IfSome, OnErr, OnOk}
 use Rattle.sdr_base.specs.declared.account.Acct.{Acct}
@@ -20,10 +19,10 @@ use Rattle.sdr_model.specs.Ledger.{Ledger}
 use Rattle.sdr_model.specs.Notes.{Notes, SameNotes, blank, note_at, noted_count}
 use Rattle.sdr_model.specs.Owners.{OwnInside}
 use Rattle.sdr_model.specs.Store.{Store, with_at}
-use Rattle.sdr_model.specs.Tallies.{AllTallied, IsKept, IsModest, IsSound, KnowSources, Tallied, charged, is_plain, names_at, world_of}
+use Rattle.sdr_model.specs.Tallies.{AllTallied, IsKept, IsSound, KnowSources, Tallied, charged, is_plain, names_at, world_of}
 use Rattle.sdr_model.specs.Things.{Owners, Things}
 use Rattle.sdr_model.specs.World.{World}
-use Rattle.sdr_model.specs.Zco.{as_source, count_of, names_raw, source_at, source_on, uses_in}
+use Rattle.sdr_model.specs.Zco.{as_source, count_of, names_raw, source_at, uses_in}
 use Rattle.sdr_model.specs.declared.accounts.Accounts.{Accounts}
 use Rattle.sdr_model.specs.declared.tally.Charged.{Charged}
 use Rattle.sdr_model.specs.declared.tally.Tally.{Tally}
@@ -34,7 +33,7 @@ use Rattle.sdr_model.specs.declared.zco.ZcoObject.{ZcoObject}
 use Rattle.sdr_model.proofs.OwnersLemmas.{OwnInside-raised}
 use Rattle.sdr_model.proofs.RawLemmas.{raws-empty, raws-plain, raws-raised}
 use Rattle.sdr_model.proofs.SpotLemmas.{first_there, rest_there, right_of}
-use Rattle.sdr_model.proofs.StoreLemmas.{get-with_at, same_address, at_itself}
+use Rattle.sdr_model.proofs.StoreLemmas.{get-with_at, same_address}
 use Rattle.sdr_model.proofs.SumLemmas.{counted_at, sum_by-inserted, sum_by-removed}
 
 -- what holds of every item holds of all in a list

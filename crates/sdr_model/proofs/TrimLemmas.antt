@@ -2,7 +2,7 @@
 use Rattle.std.proofs.Common.{◌≡◌, ◌≤◌, ◌+◌, ◌-◌, ◌++◌, ◌∷◌, [], ℕ, zero, suc, List, Option, None, Some, cond, map, drop, take, length, ap, sym, ◌∙◌, refl, subst, arith}
 use Rattle.std.proofs.lemmas.List.Elements.{All-append, All-cons, All-drop, All-head, All-map, All-nil, All-tail, All-take}
 use Rattle.std.proofs.lemmas.List.Sums.{sum_by-cons}
-use Rattle.std.specs.FinMap.{entries, get}
+use Rattle.std.specs.FinMap.{get}
 use Rattle.std.specs.List.{All, sum_by}
 use Rattle.std.specs.Prelude.{Contains, IfSome, slice_get}
 use Rattle.sdr_base.specs.declared.account.Acct.{Acct}

@@ -1,5 +1,5 @@
 -- The catalogue in the making.
-use Rattle.std.specs.Prelude.{◌≤◌, ℕ, List, length, take, refl}
+use Rattle.std.specs.Prelude.{◌≤◌, List, length, take, refl}
 use Rattle.std.specs.Coded.{Coded, code_by, coded×, coded_list}
 use Rattle.sdr_model.specs.Names.{coded_name}
 use Rattle.sdr_model.specs.declared.catalogue.Kept.{Kept}

@@ -1,5 +1,5 @@
 -- Charges: what an account allows, with a ticket or without.
-use Rattle.std.specs.Prelude.{ℕ, ◌==◌, Bool, Option, None, Some, MatchBool, MatchOption}
+use Rattle.std.specs.Prelude.{ℕ, ◌==◌, Option, None, Some, MatchBool, MatchOption}
 use Rattle.sdr_base.specs.declared.account.Acct.{Acct}
 use Rattle.sdr_base.specs.declared.account.Amounts.{Amounts}
 use Rattle.sdr_base.specs.declared.kind.Space.{Space}

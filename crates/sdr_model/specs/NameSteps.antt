@@ -1,5 +1,5 @@
 -- The steps of the catalogue.
-use Rattle.std.specs.Prelude.{◌≡◌, ℕ, List, [], ◌∷◌, ◌++◌, length, slice_get, MatchBool, MatchOption}
+use Rattle.std.specs.Prelude.{ℕ, List, [], ◌∷◌, ◌++◌, length, slice_get, MatchBool, MatchOption}
 use Rattle.sdr_base.specs.declared.refusal.Refusal.TheVariants as refusals
 use Rattle.sdr_model.specs.Limits.{longest_name, is_no_name}
 use Rattle.sdr_model.specs.Names.{name_of, without_name}

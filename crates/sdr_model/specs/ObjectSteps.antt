@@ -1,7 +1,6 @@
 -- The steps that make an object, add to it and take from it.
-use Rattle.std.specs.Prelude.{ℕ, ◌+◌, ◌-◌, ◌==◌, ◌||◌, List, [], ◌∷◌, ◌++◌, Bool, length, take, drop, map, slice_get, nat_lt, Option, None, Some, MatchBool, MatchOption, if◌then◌else◌}
+use Rattle.std.specs.Prelude.{ℕ, ◌+◌, ◌-◌, ◌==◌, ◌||◌, List, [], ◌∷◌, ◌++◌, length, take, drop, map, slice_get, nat_lt, Option, MatchBool, MatchOption, if◌then◌else◌}
 use Rattle.sdr_base.specs.declared.account.Acct.{Acct}
-use Rattle.sdr_base.specs.declared.kind.Space.{Space}
 use Rattle.sdr_base.specs.declared.kind.Space.TheVariants as spaces
 use Rattle.sdr_base.specs.declared.moves.Move.{Move}
 use Rattle.sdr_base.specs.declared.moves.Move.TheVariants.{Took}
@@ -13,7 +12,7 @@ use Rattle.sdr_model.specs.Gone.{gone_blocks, gone_things, without_things}
 use Rattle.sdr_model.specs.Limits.{is_no_capsule, longest_capsule}
 use Rattle.sdr_model.specs.Queue.{with_served}
 use Rattle.sdr_model.specs.SourceSteps.{OnUnnamed, new_source}
-use Rattle.sdr_model.specs.Steps.{Outcome, Refuses, Reads, Does, DoesWith, Takes, Makes, On, gave, with_thing, without_thing}
+use Rattle.sdr_model.specs.Steps.{Outcome, Refuses, Reads, Does, DoesWith, Takes, On, gave, with_thing, without_thing}
 use Rattle.sdr_model.specs.Things.{capsule_need, extent_need, object_need, source_need}
 use Rattle.sdr_model.specs.World.{World, thing_at, as_raw}
 use Rattle.sdr_model.specs.Zco.{capsules_length, empty_object, extents_length, object_at, source_at, space_of}

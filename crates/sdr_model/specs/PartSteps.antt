@@ -1,8 +1,6 @@
 -- The steps that clone a part of an object, set it and cut to it.
-use Rattle.std.specs.Prelude.{ℕ, ◌+◌, List, [], ◌∷◌, map, nat_lt, Option, MatchBool}
+use Rattle.std.specs.Prelude.{ℕ, ◌+◌, List, [], ◌∷◌, map, nat_lt, MatchBool}
 use Rattle.sdr_base.specs.declared.account.Acct.{Acct}
-use Rattle.sdr_base.specs.declared.kind.Space.{Space}
-use Rattle.sdr_base.specs.declared.kind.Space.TheVariants as spaces
 use Rattle.sdr_base.specs.declared.moves.Move.{Move}
 use Rattle.sdr_base.specs.declared.moves.Move.TheVariants.{Took}
 use Rattle.sdr_base.specs.declared.refusal.Refusal.TheVariants as refusals
@@ -18,7 +16,6 @@ use Rattle.sdr_model.specs.World.{World}
 use Rattle.sdr_model.specs.Zco.{empty_object, extents_length, object_at, whole_of}
 use Rattle.sdr_model.specs.declared.answer.Reply.TheVariants as replies
 use Rattle.sdr_model.specs.declared.zco.Extent.{Extent}
-use Rattle.sdr_model.specs.declared.zco.Part.{Part}
 use Rattle.sdr_model.specs.declared.zco.ZcoObject.{ZcoObject}
 
 -- the extents of so many bytes of an object's part, from a place in it on

@@ -1,5 +1,5 @@
 -- The queue of an account's tickets.
-use Rattle.std.specs.Prelude.{ℕ, ◌==◌, ◌&&◌, ◌||◌, not, List, [], ◌∷◌, Bool, true, false, find, insert, nat_lt, nat_le, Option, None, if◌then◌else◌}
+use Rattle.std.specs.Prelude.{◌==◌, ◌&&◌, ◌||◌, not, List, [], ◌∷◌, Bool, true, find, insert, nat_lt, nat_le, Option, None, if◌then◌else◌}
 use Rattle.std.specs.List.{prefix_len}
 use Rattle.sdr_base.specs.declared.account.Acct.{Acct}
 use Rattle.sdr_base.specs.declared.account.Amounts.{Amounts}

@@ -1,7 +1,7 @@
 -- The moves that each row of the table of calls has.
 use Rattle.std.specs.Prelude.{ℕ, ◌==◌, List, [], ◌∷◌, ◌++◌, length, map, position, slice_get, Option, None, Some, if◌then◌else◌}
 use Rattle.sdr_base.specs.declared.moves.Move.{Move}
-use Rattle.sdr_base.specs.declared.moves.Move.TheVariants.{Took, Gave}
+use Rattle.sdr_base.specs.declared.moves.Move.TheVariants.{Took}
 use Rattle.sdr_model.specs.AccountSteps.{pending_of}
 use Rattle.sdr_model.specs.Accounts.{Pending, ticket_need}
 use Rattle.sdr_model.specs.BondSteps.{bond_moves, capsules_of}

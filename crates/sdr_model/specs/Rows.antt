@@ -1,6 +1,5 @@
 -- The rows: what each call may come to where nothing stops it on its way.
 use Rattle.std.specs.Prelude.{◌+◌, length}
-use Rattle.sdr_base.specs.declared.account.Amounts.{Amounts}
 use Rattle.sdr_model.specs.AccountSteps as account
 use Rattle.sdr_model.specs.BondSteps as bond
 use Rattle.sdr_model.specs.ObjectSteps as object

@@ -1,5 +1,5 @@
 -- The steps of sources.
-use Rattle.std.specs.Prelude.{ℕ, ◌==◌, List, [], ◌∷◌, true, false, length, nat_lt, is_some, Option, Some, None, MatchBool, MatchOption, if◌then◌else◌}
+use Rattle.std.specs.Prelude.{ℕ, ◌==◌, List, [], ◌∷◌, true, false, length, nat_lt, is_some, MatchBool, MatchOption}
 use Rattle.sdr_base.specs.Kinds.{kind_number}
 use Rattle.sdr_base.specs.declared.kind.Kind.TheVariants as kinds
 use Rattle.sdr_base.specs.declared.refusal.Refusal.TheVariants as refusals

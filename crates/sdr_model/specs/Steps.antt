@@ -4,7 +4,7 @@ use Rattle.std.specs.FinMap as finite
 use Rattle.sdr_base.specs.declared.moves.Move.{Move}
 use Rattle.sdr_base.specs.declared.moves.Move.TheVariants.{Took, Gave}
 use Rattle.sdr_base.specs.declared.refusal.Refusal.{Refusal}
-use Rattle.sdr_model.specs.World.{World, thing_at, misnamed}
+use Rattle.sdr_model.specs.World.{World, misnamed}
 use Rattle.sdr_model.specs.declared.answer.Reply.{Reply}
 use Rattle.sdr_model.specs.declared.answer.Reply.TheVariants as replies
 use Rattle.sdr_model.specs.declared.things.Thing.{Thing}

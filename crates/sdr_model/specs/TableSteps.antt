@@ -1,5 +1,5 @@
 -- The steps of tables.
-use Rattle.std.specs.Prelude.{ℕ, ◌+◌, ◌*◌, ◌==◌, not, List, [], ◌∷◌, length, replicate, nat_lt, nat_le, MatchBool, Option, None, Some}
+use Rattle.std.specs.Prelude.{ℕ, ◌*◌, ◌==◌, List, [], ◌∷◌, length, replicate, nat_lt, nat_le, MatchBool, Option, None, Some}
 use Rattle.sdr_base.specs.Parts.{overwrite, part}
 use Rattle.sdr_base.specs.declared.refusal.Refusal.TheVariants as refusals
 use Rattle.sdr_model.specs.Limits.{longest_raw, longest_read}

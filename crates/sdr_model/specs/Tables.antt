@@ -1,5 +1,5 @@
 -- Tables.
-use Rattle.std.specs.Prelude.{◌≡◌, ℕ, ◌*◌, List, length, refl}
+use Rattle.std.specs.Prelude.{ℕ, List, refl}
 use Rattle.std.specs.Coded.{Coded, code_by, coded×, coded_ℕ, coded_list}
 
 -- a table: the user's number, the count of its rows, the bytes of a row, and the rows one after another

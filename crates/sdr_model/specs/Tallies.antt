@@ -3,13 +3,12 @@ use Rattle.std.specs.Prelude.{◌≡◌, ◌≤◌, ◌<◌, ◌+◌, ℕ, Bool,
 use Rattle.std.specs.FinMap as finite
 use Rattle.std.specs.Option.{option_and_then}
 use Rattle.sdr_base.specs.declared.account.Acct.{Acct}
-use Rattle.sdr_base.specs.declared.account.Acct.TheVariants as accts
 use Rattle.sdr_base.specs.declared.account.Amounts.{Amounts}
 use Rattle.sdr_base.specs.declared.kind.Space.{Space}
 use Rattle.sdr_model.specs.Accounts.{most_amount}
 use Rattle.sdr_model.specs.Amounts.{amount, minus}
 use Rattle.sdr_model.specs.Charged.{charged_to, with_charged}
-use Rattle.sdr_model.specs.Charges.{object_charge, occupancy, thing_charge}
+use Rattle.sdr_model.specs.Charges.{occupancy, thing_charge}
 use Rattle.sdr_model.specs.Ledger.{Ledger}
 use Rattle.sdr_model.specs.Limits.{longest_capsule, longest_raw, longest_source}
 use Rattle.sdr_model.specs.Notes.{Notes, UsesMore, note_at, noted_count, raw_of}

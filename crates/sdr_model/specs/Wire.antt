@@ -1,5 +1,5 @@
 -- The bytes of an object on the wire, and the steps that give some of them.
-use Rattle.std.specs.Prelude.{◌≡◌, ℕ, ◌+◌, List, [], ◌∷◌, ◌++◌, length, map, max, replicate, take, drop, flat_map, nat_lt, Option, None, Some, MatchBool}
+use Rattle.std.specs.Prelude.{◌≡◌, ℕ, List, [], ◌∷◌, ◌++◌, length, map, max, replicate, take, drop, flat_map, nat_lt, Option, None, Some, MatchBool}
 use Rattle.sdr_base.specs.Parts.{part}
 use Rattle.sdr_base.specs.declared.refusal.Refusal.TheVariants as refusals
 use Rattle.sdr_model.specs.Limits.{longest_read}

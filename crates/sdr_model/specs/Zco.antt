@@ -1,5 +1,5 @@
 -- Sources, and zero-copy objects: what an extent names, how often a source is named, and how long an object is.
-use Rattle.std.specs.Prelude.{ℕ, ◌+◌, ◌==◌, ◌||◌, List, [], Bool, true, false, length, sum_by, find, Option, None, Some, if◌then◌else◌}
+use Rattle.std.specs.Prelude.{ℕ, ◌+◌, ◌==◌, List, [], Bool, false, length, sum_by, find, Option, None, Some, if◌then◌else◌}
 use Rattle.std.specs.FinMap as finite
 use Rattle.std.specs.Option.{option_map}
 use Rattle.sdr_base.specs.declared.account.Acct.{Acct}

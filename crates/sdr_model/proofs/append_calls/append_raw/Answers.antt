@@ -9,7 +9,7 @@ use Rattle.sdr_model.specs.Dry.{next_addr, with_blocks}
 use Rattle.sdr_model.specs.ObjectSteps.{with_object}
 use Rattle.sdr_model.specs.Steps.{with_thing}
 use Rattle.sdr_model.specs.Tallies.{is_plain}
-use Rattle.sdr_model.specs.World.{World, as_raw, thing_at}
+use Rattle.sdr_model.specs.World.{World, thing_at}
 use Rattle.sdr_model.specs.Zco.{as_object, as_source, object_at}
 use Rattle.sdr_model.specs.declared.component.Component.{Component}
 use Rattle.sdr_model.specs.declared.component.Component.TheVariants as components

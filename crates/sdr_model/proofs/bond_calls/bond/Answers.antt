@@ -1,10 +1,9 @@
-use Rattle.std.proofs.Common.{◌≡◌, ◌≤◌, ◌<◌, ◌+◌, ◌*◌, ◌∙◌, ℕ, List, Some, ap, ap₂, sym, subst, arith, length, length-append}
+use Rattle.std.proofs.Common.{◌≡◌, ◌<◌, ◌+◌, ◌*◌, ◌∙◌, ℕ, List, Some, ap, ap₂, sym, subst, arith, length, length-append}
 use Rattle.std.proofs.lemmas.List.Elements.{All-append, All-nil}
 use Rattle.std.specs.FinMap.{get}
 use Rattle.std.specs.List.{All}
-use Rattle.std.specs.Prelude.{Contains, IfErr, IfOk, IfSome, OnErr, OnOk}
+use Rattle.std.specs.Prelude.{Contains, IfErr, IfOk, OnErr, OnOk}
 use Rattle.sdr_base.specs.declared.account.Amounts.{Amounts}
-use Rattle.sdr_base.specs.declared.kind.Space.TheVariants as spaces
 use Rattle.sdr_model.specs.Allowed.{HasRoomFor, MayCharge, RefusesCharge}
 use Rattle.sdr_model.specs.Amounts.{amounts_by}
 use Rattle.sdr_model.specs.BondSteps.{bond_charge, bonded, bonded_extents, capsules_of}
@@ -18,7 +17,6 @@ use Rattle.sdr_model.specs.World.{World}
 use Rattle.sdr_model.specs.Zco.{object_at}
 use Rattle.sdr_model.specs.declared.things.Thing.TheVariants as things
 use Rattle.sdr_model.specs.declared.zco.Capsule.{Capsule}
-use Rattle.sdr_model.specs.declared.zco.Extent.{Extent}
 use Rattle.sdr_model.specs.declared.zco.ZcoObject.{ZcoObject}
 use Rattle.sdr_model.proofs.BondLemmas.{texts_put}
 use Rattle.sdr_model.proofs.BondCallLemmas.{Differ-bonded, gained-next, heap-texts, modest-bonded, noted-marks, owned-bonded, sources-bonded, taken-marks, there-texts, wire-most, with_marks}

@@ -1,4 +1,4 @@
-use Rattle.std.proofs.Common.{◌≡◌, ◌≤◌, ◌+◌, ◌*◌, ◌^◌, ◌++◌, ℕ, List, ap, ap₂, sym, subst, ◌∙◌, arith, length}
+use Rattle.std.proofs.Common.{◌≡◌, ◌+◌, ◌*◌, ◌++◌, ℕ, List, ap, ap₂, sym, subst, ◌∙◌, arith, length}
 use Rattle.sdr_model.specs.BondSteps.{bond_extents, bonded_extents}
 use Rattle.sdr_model.specs.Bounds.{AreFewBytes}
 use Rattle.sdr_model.specs.PartSteps.{object_of}

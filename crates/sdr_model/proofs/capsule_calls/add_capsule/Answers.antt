@@ -1,5 +1,5 @@
-use Rattle.std.proofs.Common.{◌≡◌, ◌≤◌, ◌<◌, ◌+◌, ◌∙◌, ℕ, Some, ap, sym, subst, arith, is_some, length, not, refl}
-use Rattle.std.specs.Prelude.{Contains, IfSome, IsSome, OnErr}
+use Rattle.std.proofs.Common.{◌≡◌, ◌≤◌, ◌<◌, ◌+◌, ◌∙◌, ap, sym, subst, arith, is_some, length, not, refl}
+use Rattle.std.specs.Prelude.{Contains, IfSome, OnErr}
 use Rattle.sdr_base.specs.declared.kind.Space.TheVariants as spaces
 use Rattle.sdr_model.specs.Amounts.{amounts_by, in_space}
 use Rattle.sdr_model.specs.Charges.{capsule_bytes}

@@ -1,4 +1,4 @@
-use Rattle.std.proofs.Common.{◌≡◌, ℕ, List, Some, ap, ap₂, sym, subst, ◌∙◌, get_or}
+use Rattle.std.proofs.Common.{◌≡◌, Some, ap, ap₂, sym, subst, ◌∙◌, get_or}
 use Rattle.std.proofs.lemmas.List.Elements.{All-weaker}
 use Rattle.std.specs.List.{All}
 use Rattle.std.specs.Prelude.{Contains, IfSome, []}
@@ -9,8 +9,6 @@ use Rattle.sdr_model.specs.Queue.{with_served}
 use Rattle.sdr_model.specs.Steps.{without_thing}
 use Rattle.sdr_model.specs.World.{World}
 use Rattle.sdr_model.specs.Zco.{object_at}
-use Rattle.sdr_model.specs.declared.zco.Extent.{Extent}
-use Rattle.sdr_model.specs.declared.zco.ZcoObject.{ZcoObject}
 use Rattle.sdr_model.proofs.DropLemmas.{IsNoted-more, MayGo-lost, gone_go, without_things-swap}
 use Rattle.sdr_model.proofs.destroy_calls.lose_whole.Goals as goal
 

@@ -1,4 +1,4 @@
-use Rattle.std.proofs.Common.{◌≡◌, ◌≤◌, ◌++◌, ℕ, drop, take, unwrap_or}
+use Rattle.std.proofs.Common.{◌≡◌, ◌++◌, ℕ, drop, take, unwrap_or}
 use Rattle.std.specs.BTreeMap.{get}
 use Rattle.std.specs.Ordering.{nat_cmp}
 use Rattle.sdr_model.specs.Gone.{gone_things}

@@ -1,4 +1,4 @@
-use Rattle.std.proofs.Common.{◌≡◌, ◌∙◌, ◌+◌, ◌%◌, take, sum, ap, ap₂, sym}
+use Rattle.std.proofs.Common.{◌∙◌, ◌+◌, ◌%◌, take, sum, ap, ap₂, sym}
 use Rattle.std.proofs.Math.Nat.{mod-add-mod}
 use Rattle.std.proofs.lemmas.List.Sums.{sum_by_more}
 use Rattle.sdr_model.proofs.hash.bucket_of.Goals as goal

@@ -1,22 +1,18 @@
-use Rattle.std.proofs.Common.{◌≡◌, ◌≤◌, ◌+◌, None, Some, ap, ap₂, sym, subst, ◌∙◌, arith, refl}
-use Rattle.std.specs.FinMap.{get}
+use Rattle.std.proofs.Common.{◌≡◌, ap, ap₂, sym, subst, ◌∙◌, refl}
 use Rattle.std.specs.Prelude.{IfOk, OnOk}
-use Rattle.sdr_base.specs.declared.kind.Space.{Space}
 use Rattle.sdr_base.specs.declared.kind.Space.TheVariants as spaces
 use Rattle.sdr_model.specs.Allowed.{HasRoomFor, MayCharge}
-use Rattle.sdr_model.specs.Amounts.{amount, in_space}
+use Rattle.sdr_model.specs.Amounts.{in_space}
 use Rattle.sdr_model.specs.Charges.{object_bytes}
 use Rattle.sdr_model.specs.Charging.{with_used}
 use Rattle.sdr_model.specs.Dry.{StepsDry, dry_moves, next_addr, with_blocks}
 use Rattle.sdr_model.specs.ObjectSteps.{with_object}
 use Rattle.sdr_model.specs.Things.{object_need}
-use Rattle.sdr_model.specs.World.{World, thing_at}
-use Rattle.sdr_model.specs.Zco.{as_source, empty_object}
+use Rattle.sdr_model.specs.Zco.{empty_object}
 use Rattle.sdr_model.specs.declared.answer.Reply.TheVariants as replies
 use Rattle.sdr_model.specs.declared.call.Call.{Call}
 use Rattle.sdr_model.specs.declared.call.Call.TheVariants as calls
-use Rattle.sdr_model.specs.declared.zco.ZcoObject.{ZcoObject}
-use Rattle.sdr_model.proofs.ObjectCallLemmas.{charged_one, room_made, taken_one, thing_at-blocks}
+use Rattle.sdr_model.proofs.ObjectCallLemmas.{charged_one, room_made, taken_one}
 use Rattle.sdr_model.proofs.object_calls.create.Goals as goal
 
 pub add_object-requires-clause-room : goal.add_object-requires-clause-room

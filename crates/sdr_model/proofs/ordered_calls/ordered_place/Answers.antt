@@ -1,4 +1,4 @@
-use Rattle.std.proofs.Common.{◌≡◌, ◌+◌, ◌≤◌, ◌<◌, ℕ, Bool, true, false, List, ap, sym, ◌∙◌, subst, cond, not, length, slice_index_or, arith}
+use Rattle.std.proofs.Common.{◌+◌, ◌≤◌, ◌<◌, ℕ, Bool, true, false, List, ap, sym, ◌∙◌, subst, cond, not, length, slice_index_or, arith}
 use Rattle.std.specs.Ordering.{is_gt}
 use Rattle.sdr_model.specs.ListSteps.{compare_keys, sort_key}
 use Rattle.sdr_model.specs.declared.things.Element.{Element}

@@ -1,5 +1,5 @@
 use Rattle.std.proofs.Common.{◌≡◌, ap, sym, ◌∙◌, cond, subst}
-use Rattle.std.specs.FinMap.{get, insert}
+use Rattle.std.specs.FinMap.{insert}
 use Rattle.std.specs.Option.{option_copied}
 use Rattle.std.specs.Prelude.{OnOk, is_some}
 use Rattle.sdr_model.specs.Store.{empty_place, with_place}

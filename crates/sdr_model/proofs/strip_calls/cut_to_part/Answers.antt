@@ -1,4 +1,4 @@
-use Rattle.std.proofs.Common.{◌≤◌, ap, sym, subst, ◌∙◌, arith}
+use Rattle.std.proofs.Common.{ap, sym, subst, ◌∙◌, arith}
 use Rattle.sdr_model.specs.Bounds.{AreFewBytes}
 use Rattle.sdr_model.specs.Cuts.{cut_all}
 use Rattle.sdr_model.specs.Zco.{extents_length}

@@ -1,4 +1,4 @@
-use Rattle.std.proofs.Common.{◌≡◌, ◌∙◌, Bool, ap, sym, subst, ltb, rules}
+use Rattle.std.proofs.Common.{◌∙◌, ap, sym, subst, ltb, rules}
 use Rattle.std.specs.List.{prefix_len}
 use Rattle.std.proofs.lemmas.List.Sorted.{IsPartitionPoint-from_clause, IsPartitionedBy-ltb}
 use Rattle.sdr_model.proofs.HashLemmas.{prefix_len-point}

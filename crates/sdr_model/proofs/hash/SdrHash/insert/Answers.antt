@@ -1,4 +1,4 @@
-use Rattle.std.proofs.Common.{◌≡◌, ◌∙◌, ap, sym, subst, insert}
+use Rattle.std.proofs.Common.{◌∙◌, ap, sym, subst, insert}
 use Rattle.sdr_model.proofs.Cases.{in_result}
 use Rattle.sdr_model.proofs.HashLemmas.{ordered-insert}
 use Rattle.sdr_model.specs.HashChanges.{first_of}

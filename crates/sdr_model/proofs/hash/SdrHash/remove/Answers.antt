@@ -1,4 +1,4 @@
-use Rattle.std.proofs.Common.{◌≡◌, ◌<◌, subst, sym, length}
+use Rattle.std.proofs.Common.{◌<◌, subst, sym, length}
 use Rattle.sdr_model.proofs.HashLemmas.{ordered-remove}
 use Rattle.sdr_model.specs.Hashes.{AreByBucket, Hash}
 use Rattle.sdr_model.specs.HashSteps.{bucket_of}

@@ -1,4 +1,4 @@
-use Rattle.std.proofs.Common.{◌≡◌, ap, sym, ◌∙◌, subst, subst₂}
+use Rattle.std.proofs.Common.{ap, sym, ◌∙◌, subst}
 use Rattle.std.specs.List.{Contains}
 use Rattle.sdr_model.specs.Notes.{HaveNotes, logged, note_at, undone}
 use Rattle.sdr_model.proofs.NotesLemmas.{HaveNotes-set, logged-more, undone-push}

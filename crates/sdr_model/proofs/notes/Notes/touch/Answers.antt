@@ -1,6 +1,6 @@
-use Rattle.std.proofs.Common.{◌≡◌, ap, sym, ◌∙◌, subst, subst₂}
+use Rattle.std.proofs.Common.{ap, sym, ◌∙◌, subst, subst₂}
 use Rattle.std.specs.List.{Contains}
-use Rattle.sdr_model.specs.Notes.{HaveNotes, logged, note_at, undone}
+use Rattle.sdr_model.specs.Notes.{HaveNotes, note_at, undone}
 use Rattle.sdr_model.proofs.LogLemmas.{HaveNotes-put, in_log-logged, logged-put, logged-still, undone-put}
 use Rattle.sdr_model.proofs.NotesLemmas.{HaveNotes-set, now-touched, undone-kept}
 use Rattle.sdr_model.proofs.notes.Notes.touch.Goals as goal

@@ -1,4 +1,4 @@
-use Rattle.std.proofs.Common.{◌≡◌, None, ap, sym, subst, ◌∙◌, rules, true≢false}
+use Rattle.std.proofs.Common.{ap, sym, subst, ◌∙◌, rules, true≢false}
 use Rattle.std.specs.FinMap.{get, insert}
 use Rattle.std.specs.Option.{option_copied_mut}
 use Rattle.std.specs.Prelude.{IsSome}

@@ -1,9 +1,9 @@
-use Rattle.std.proofs.Common.{◌≡◌, ◌≤◌, ◌+◌, ◌*◌, ◌∙◌, ℕ, ap, arith, length, not, refl, subst}
+use Rattle.std.proofs.Common.{◌∙◌, ℕ, ap, arith, length, not, refl, subst}
 use Rattle.std.proofs.lemmas.List.{length-map}
 use Rattle.std.proofs.lemmas.List.Filters.{length-filter_both}
 use Rattle.std.proofs.lemmas.Result.{on_ok_weaker}
 use Rattle.sdr_model.specs.Leaving.{LeaveInTurn, holding, staying}
-use Rattle.sdr_model.specs.Machine.{Machine, has_left}
+use Rattle.sdr_model.specs.Machine.{has_left}
 use Rattle.sdr_model.specs.Plain.{Plain}
 use Rattle.sdr_model.specs.declared.holder.Holder.{Holder}
 use Rattle.sdr_model.proofs.plain.Plain.leave_all.Goals as goal

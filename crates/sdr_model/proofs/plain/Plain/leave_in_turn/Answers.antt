@@ -1,4 +1,4 @@
-use Rattle.std.proofs.Common.{◌≡◌, ◌+◌, ◌∷◌, suc, ap, sym, subst, arith, drop, get_or, length, refl}
+use Rattle.std.proofs.Common.{◌≡◌, ◌+◌, suc, sym, subst, arith, drop, refl}
 use Rattle.std.proofs.Math.Seq.{drop-cons}
 use Rattle.std.proofs.lemmas.List.{drop_all}
 use Rattle.sdr_model.specs.Leaving.{LeaveInTurn}

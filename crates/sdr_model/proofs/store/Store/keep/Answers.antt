@@ -1,4 +1,4 @@
-use Rattle.std.proofs.Common.{◌≡◌, ◌∷◌, [], ◌++◌, List, ℕ, None, ap, sym, ◌∙◌, subst, length}
+use Rattle.std.proofs.Common.{◌≡◌, [], ap, sym, ◌∙◌, subst}
 use Rattle.std.proofs.Common.{◌-◌, append-nil}
 use Rattle.std.specs.FinMap.{get, insert}
 use Rattle.std.specs.Prelude.{is_some, take}

@@ -1,5 +1,4 @@
-use Rattle.std.proofs.Common.{◌≡◌, ap, ap₂, sym, ◌∙◌, subst₂}
-use Rattle.std.specs.FinMap.{empty}
+use Rattle.std.proofs.Common.{ap, sym, ◌∙◌, subst₂}
 use Rattle.sdr_model.specs.Store.{AreTouched, begun_at, now_at, things_at}
 use Rattle.sdr_model.proofs.StoreLemmas.{things_at-empty, touched-none}
 use Rattle.sdr_model.proofs.store.Store.new.Goals as goal

@@ -1,4 +1,4 @@
-use Rattle.std.proofs.Common.{◌≡◌, ◌∷◌, [], ◌++◌, arith, ap, sym, ◌∙◌, refl, subst, subst₂}
+use Rattle.std.proofs.Common.{◌∷◌, [], ◌++◌, arith, ap, sym, ◌∙◌, refl, subst, subst₂}
 use Rattle.std.proofs.lemmas.List.Elements.{Contains-append_left, Contains-append_right}
 use Rattle.std.specs.FinMap.{get, insert}
 use Rattle.std.specs.List.{Contains}

@@ -1,4 +1,4 @@
-use Rattle.std.proofs.Common.{◌≡◌, ◌<◌, subst, ap, arith, length}
+use Rattle.std.proofs.Common.{ap, arith, length}
 use Rattle.sdr_model.proofs.TableLemmas.{row-within}
 use Rattle.sdr_model.proofs.table.SdrTable.set_row.Goals as goal
 

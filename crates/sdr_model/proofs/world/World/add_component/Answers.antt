@@ -1,12 +1,11 @@
-use Rattle.std.proofs.Common.{◌≡◌, ◌≤◌, ◌<◌, ◌+◌, ◌∙◌, ℕ, Some, ap, arith, sym, subst, true}
-use Rattle.std.specs.Prelude.{Contains, IfErr, IfOk, IfSome, IsSome, OnErr, OnOk}
+use Rattle.std.proofs.Common.{◌≡◌, ◌<◌, ◌+◌, ◌∙◌, ap, arith, sym, subst, true}
+use Rattle.std.specs.Prelude.{Contains, IfErr, IfOk, IfSome, IsSome, OnOk}
 use Rattle.sdr_model.specs.Allowed.{HasRoomFor, MayCharge, RefusesCharge}
 use Rattle.sdr_model.specs.Charging.{with_used}
 use Rattle.sdr_model.specs.Components.{Grows, component_charges, source_of}
 use Rattle.sdr_model.specs.Draft.{Draft}
 use Rattle.sdr_model.specs.Dry.{addr_after, next_addr, with_blocks}
-use Rattle.sdr_model.specs.World.{World}
-use Rattle.sdr_model.specs.Zco.{object_at, source_on}
+use Rattle.sdr_model.specs.Zco.{object_at}
 use Rattle.sdr_model.proofs.GrowLemmas.{charges-used, object_at-used, source_on-used, taken-used}
 use Rattle.sdr_model.proofs.world.World.add_component.Goals as goal
 

@@ -1,13 +1,8 @@
-use Rattle.std.proofs.Common.{◌≡◌, Some, ap, sym, subst, ◌∙◌, refl}
+use Rattle.std.proofs.Common.{sym, subst, refl}
 use Rattle.std.specs.FinMap.{get}
-use Rattle.std.specs.Prelude.{IfSome}
-use Rattle.sdr_model.specs.Draft.{Draft}
-use Rattle.sdr_model.specs.Edits.{MayChange, MayFollow, edited}
-use Rattle.sdr_model.specs.Store.{with_at}
-use Rattle.sdr_model.specs.Tallies.{IsAccountOf}
-use Rattle.sdr_model.specs.Zco.{as_object, object_at}
+use Rattle.sdr_model.specs.Edits.{MayChange}
+use Rattle.sdr_model.specs.Zco.{object_at}
 use Rattle.sdr_model.specs.contracts.world.World.{the_view}
-use Rattle.sdr_model.specs.declared.things.Thing.TheVariants as things
 use Rattle.sdr_model.proofs.EditLemmas.{IsKept-edited, changed_there, charged_fits, gained_fits, lost_counted}
 use Rattle.sdr_model.proofs.world.World.change_object.Goals as goal
 

@@ -1,4 +1,4 @@
-use Rattle.std.proofs.Common.{◌≡◌, ◌+◌, ◌∙◌, [], ap, subst, sym}
+use Rattle.std.proofs.Common.{◌+◌, ◌∙◌, [], ap, subst, sym}
 use Rattle.std.specs.Prelude.{OnOk}
 use Rattle.sdr_model.specs.Allowed.{HasRoomFor}
 use Rattle.sdr_model.specs.World.{World}

@@ -1,8 +1,7 @@
-use Rattle.std.proofs.Common.{◌≡◌, Some, ap, sym, subst, ◌∙◌, refl}
+use Rattle.std.proofs.Common.{◌≡◌, Some, sym, subst, refl}
 use Rattle.std.specs.FinMap.{get}
 use Rattle.std.specs.Prelude.{IfSome}
-use Rattle.sdr_model.specs.Draft.{Draft}
-use Rattle.sdr_model.specs.Edits.{MayChange, MayFollow, edited}
+use Rattle.sdr_model.specs.Edits.{MayChange, edited}
 use Rattle.sdr_model.specs.Store.{with_at}
 use Rattle.sdr_model.specs.Tallies.{IsAccountOf}
 use Rattle.sdr_model.specs.Zco.{as_object, object_at}

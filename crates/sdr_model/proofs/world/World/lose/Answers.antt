@@ -1,4 +1,4 @@
-use Rattle.std.proofs.Common.{None, ap, sym, subst, subst₂, refl, ◌∙◌}
+use Rattle.std.proofs.Common.{None, ap, sym, subst₂, refl, ◌∙◌}
 use Rattle.sdr_model.specs.Owners.{AllOwnInside}
 use Rattle.sdr_model.specs.Tallies.{is_plain}
 use Rattle.sdr_model.specs.World.{thing_at}

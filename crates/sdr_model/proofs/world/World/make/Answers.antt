@@ -1,5 +1,4 @@
-use Rattle.std.proofs.Common.{◌≡◌, ◌+◌, ◌≤◌, Some, ap, arith, sym, subst, subst₂, ◌∙◌}
-use Rattle.std.specs.FinMap.{get}
+use Rattle.std.proofs.Common.{◌≡◌, ◌+◌, ◌≤◌, Some, ap, arith, sym, subst₂, ◌∙◌}
 use Rattle.sdr_model.specs.Dry.{next_addr}
 use Rattle.sdr_model.specs.Owners.{AllOwnInside}
 use Rattle.sdr_model.specs.Tallies.{is_plain}

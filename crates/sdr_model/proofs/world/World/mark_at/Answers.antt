@@ -1,4 +1,4 @@
-use Rattle.std.proofs.Common.{◌≡◌, ℕ, Some, arith, ap, cond, sym, subst, ◌∙◌}
+use Rattle.std.proofs.Common.{Some, arith, ap, cond, ◌∙◌}
 use Rattle.std.specs.Cmp.{nat_cmp_total}
 use Rattle.std.specs.FinMap.{get, get-insert}
 use Rattle.sdr_model.specs.Draft.{Draft}

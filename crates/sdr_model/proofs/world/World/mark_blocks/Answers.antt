@@ -1,4 +1,4 @@
-use Rattle.std.proofs.Common.{◌≡◌, ◌+◌, ◌*◌, ◌<◌, ◌++◌, ◌∷◌, ◌∙◌, [], ℕ, List, Some, ap, sym, arith, append_assoc, below_more}
+use Rattle.std.proofs.Common.{◌≡◌, ◌+◌, ◌*◌, ◌++◌, ◌∷◌, ◌∙◌, [], ℕ, List, ap, sym, arith, append_assoc, below_more}
 use Rattle.std.specs.FinMap.{get}
 use Rattle.sdr_model.specs.Draft.{Draft}
 use Rattle.sdr_model.specs.Dry.{addr_after, next_addr, next_addrs}

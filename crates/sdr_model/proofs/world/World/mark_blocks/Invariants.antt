@@ -1,4 +1,4 @@
-use Rattle.std.proofs.Common.{◌≡◌, ◌+◌, ◌*◌, ◌<◌, ◌++◌, ℕ, Some, length, take}
+use Rattle.std.proofs.Common.{◌≡◌, ◌<◌, ◌++◌, ℕ, Some}
 use Rattle.std.specs.FinMap.{get}
 use Rattle.sdr_model.specs.Dry.{addr_after, next_addr, next_addrs}
 use Rattle.sdr_model.proofs.world.World.mark_blocks.Given as goal

@@ -1,4 +1,4 @@
-use Rattle.std.proofs.Common.{◌≡◌, ◌*◌, ◌+◌, Some, arith, ap, cond, ◌∙◌}
+use Rattle.std.proofs.Common.{Some, arith, ap, cond, ◌∙◌}
 use Rattle.std.specs.Cmp.{nat_cmp_total}
 use Rattle.std.specs.FinMap.{get, get-insert}
 use Rattle.sdr_model.specs.Dry.{next_addr}

@@ -1,20 +1,17 @@
 use Rattle.std.proofs.Common.{◌≡◌, Some, arith, ap, sym, subst, ◌∙◌}
 use Rattle.std.specs.FinMap.{get}
-use Rattle.std.specs.Prelude.{◌≤◌, ◌+◌, ◌<◌, if◌then◌else◌, IfSome, IsSome, Contains}
+use Rattle.std.specs.Prelude.{◌+◌, ◌<◌, if◌then◌else◌, IfSome, IsSome}
 use Rattle.sdr_base.specs.declared.kind.Space.{Space}
-use Rattle.sdr_model.specs.Accounts.{most_amount}
 use Rattle.sdr_model.specs.Allowed.{HasRoomFor}
 use Rattle.sdr_model.specs.Amounts.{plus}
 use Rattle.sdr_model.specs.Bounds.{IsBounded}
 use Rattle.sdr_model.specs.Charged.{charged_to, with_charged}
-use Rattle.sdr_model.specs.Charges.{occupancy}
 use Rattle.sdr_model.specs.Components.{AddsComponent, block_of, component_charge, component_charges, source_of, with_component}
 use Rattle.sdr_model.specs.Dry.{next_addr}
 use Rattle.sdr_model.specs.Notes.{is_this, more_uses, note_at}
 use Rattle.sdr_model.specs.Owners.{IsOwned}
 use Rattle.sdr_model.specs.Tallies.{IsAccountOf, IsKept, world_of}
 use Rattle.sdr_model.specs.Zco.{as_object, object_at, source_on}
-use Rattle.sdr_model.specs.contracts.world.World.{the_view}
 use Rattle.sdr_model.specs.declared.things.Thing.TheVariants as things
 use Rattle.sdr_model.specs.declared.zco.ZcoObject.{ZcoObject}
 use Rattle.sdr_model.proofs.Cases.{if_some_always}

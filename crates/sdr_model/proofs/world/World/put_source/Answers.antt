@@ -1,4 +1,4 @@
-use Rattle.std.proofs.Common.{◌≡◌, true, Some, None, ap, sym, subst, subst₂, ◌∙◌, inl}
+use Rattle.std.proofs.Common.{◌≡◌, true, Some, None, sym, subst, inl}
 use Rattle.std.specs.Prelude.{◌<◌, IfSome}
 use Rattle.sdr_model.specs.Dry.{next_addr}
 use Rattle.sdr_model.specs.Notes.{NameSource, raw_of}

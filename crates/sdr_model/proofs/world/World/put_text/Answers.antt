@@ -1,7 +1,7 @@
-use Rattle.std.proofs.Common.{◌≡◌, ◌+◌, [], ℕ, Some, ap, sym, ◌∙◌, arith}
+use Rattle.std.proofs.Common.{◌+◌, Some, ap, ◌∙◌, arith}
 use Rattle.sdr_model.specs.Steps.{with_thing}
 use Rattle.sdr_model.specs.Tallies.{is_plain}
-use Rattle.sdr_model.specs.World.{World, thing_at}
+use Rattle.sdr_model.specs.World.{thing_at}
 use Rattle.sdr_model.specs.SourceSteps.{new_source}
 use Rattle.sdr_model.specs.declared.things.Thing.TheVariants as things
 use Rattle.sdr_model.specs.declared.zco.Subject.TheVariants as subjects

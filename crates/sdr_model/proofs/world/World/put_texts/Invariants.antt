@@ -4,13 +4,10 @@ use Rattle.std.specs.Prelude.{Contains}
 use Rattle.std.specs.Vec.Iter.{into_iter_items, into_iter_len}
 use Rattle.sdr_base.specs.declared.account.Acct.{Acct}
 use Rattle.sdr_base.specs.declared.kind.Space.{Space}
-use Rattle.sdr_model.specs.BondSteps.{with_bonded}
 use Rattle.sdr_model.specs.Charges.{occupancy, space_in}
 use Rattle.sdr_model.specs.Dry.{addr_after, next_addr}
 use Rattle.sdr_model.specs.Tallies.{IsShort}
-use Rattle.sdr_model.specs.World.{World}
 use Rattle.sdr_model.specs.Zco.{object_at, source_at}
-use Rattle.sdr_model.specs.declared.zco.Capsule.{Capsule}
 use Rattle.sdr_model.proofs.BondLemmas.{texts_put}
 use Rattle.sdr_model.proofs.world.World.put_texts.Given as goal
 

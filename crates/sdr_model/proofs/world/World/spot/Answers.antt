@@ -1,4 +1,4 @@
-use Rattle.std.proofs.Common.{◌≡◌, ℕ, Option, Some, None, ap, sym, ◌∙◌, refl, subst, subst₂}
+use Rattle.std.proofs.Common.{ap, sym, ◌∙◌, refl, subst, subst₂}
 use Rattle.std.specs.FinMap.{entries, get}
 use Rattle.std.specs.Option.{option_and_then, option_copied}
 use Rattle.std.specs.Prelude.{IfSome}

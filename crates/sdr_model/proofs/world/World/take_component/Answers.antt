@@ -1,11 +1,10 @@
-use Rattle.std.proofs.Common.{◌≡◌, ◌≤◌, ◌<◌, ◌+◌, ◌++◌, ◌∙◌, [], List, ℕ, Some, arith, ap, sym, subst, length, take}
+use Rattle.std.proofs.Common.{◌≡◌, ◌<◌, ◌+◌, ◌++◌, ◌∙◌, [], List, ℕ, arith, ap, sym, subst, take}
 use Rattle.std.proofs.Math.Seq.{take-append_seam}
 use Rattle.std.specs.FinMap.{get}
-use Rattle.std.specs.Prelude.{Contains, IfSome, IsSome, OnOk}
+use Rattle.std.specs.Prelude.{Contains, IfSome, IsSome}
 use Rattle.sdr_model.specs.Allowed.{HasRoomFor}
-use Rattle.sdr_model.specs.Components.{Grows, block_of, component_charges, source_of}
-use Rattle.sdr_model.specs.Dry.{addr_after, next_addr, next_addrs}
-use Rattle.sdr_model.specs.Owners.{IsOwned}
+use Rattle.sdr_model.specs.Components.{Grows, component_charges, source_of}
+use Rattle.sdr_model.specs.Dry.{next_addr, next_addrs}
 use Rattle.sdr_model.specs.World.{World}
 use Rattle.sdr_model.specs.Zco.{object_at, source_on}
 use Rattle.sdr_model.proofs.TakenLemmas.{addr_after-next}

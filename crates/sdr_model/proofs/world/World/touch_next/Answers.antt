@@ -1,4 +1,4 @@
-use Rattle.std.proofs.Common.{◌≡◌, ◌+◌, ◌*◌, ◌<◌, ◌∙◌, ℕ, ap, sym, subst, arith, below_more}
+use Rattle.std.proofs.Common.{◌≡◌, ◌+◌, ◌*◌, ◌∙◌, ℕ, ap, sym, subst, arith, below_more}
 use Rattle.std.specs.Prelude.{Contains}
 use Rattle.sdr_model.specs.Draft.{Draft}
 use Rattle.sdr_model.specs.Dry.{addr_after, next_addr}

@@ -1,9 +1,9 @@
-use Rattle.std.proofs.Common.{Some, IfSome, ap, subst, sym, ◌∙◌}
+use Rattle.std.proofs.Common.{IfSome, ap, subst, sym, ◌∙◌}
 use Rattle.sdr_model.specs.Accounts.{Stands, with_ticket}
 use Rattle.sdr_model.specs.Draft.{Draft}
 use Rattle.sdr_model.specs.Ledger.{Ledger}
 use Rattle.sdr_model.proofs.AccountLemmas.{AreBound}
-use Rattle.sdr_model.proofs.ChargeLemmas.{bound_used, may_take_back, with_back-used}
+use Rattle.sdr_model.proofs.ChargeLemmas.{bound_used}
 use Rattle.sdr_model.proofs.TallyLemmas.{IsKept-accounts}
 use Rattle.sdr_model.proofs.world.World.use_grant.Goals as goal
 

@@ -1,8 +1,7 @@
-use Rattle.std.proofs.Common.{◌≡◌, ap, sym, subst, ◌∙◌}
+use Rattle.std.proofs.Common.{ap, sym, subst, ◌∙◌}
 use Rattle.std.specs.Prelude.{◌≤◌}
 use Rattle.sdr_model.specs.Accounts.{most_amount}
 use Rattle.sdr_model.specs.Notes.{noted_count}
-use Rattle.sdr_model.specs.Zco.{count_of}
 use Rattle.sdr_model.proofs.TallyBounds.{count_of-small}
 use Rattle.sdr_model.proofs.world.World.uses_by.Goals as goal
 

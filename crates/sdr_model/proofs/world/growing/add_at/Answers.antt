@@ -1,5 +1,5 @@
-use Rattle.std.proofs.Common.{◌≡◌, Some, ap, sym, subst, ◌∙◌}
-use Rattle.std.specs.FinMap.{get, insert}
+use Rattle.std.proofs.Common.{Some, ap, sym, subst, ◌∙◌}
+use Rattle.std.specs.FinMap.{insert}
 use Rattle.std.specs.List.{Contains}
 use Rattle.sdr_model.specs.Components.{AddsComponent, with_component}
 use Rattle.sdr_model.specs.Zco.{as_object}
