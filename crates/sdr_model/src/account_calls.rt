@@ -9,7 +9,7 @@ use crate::{Call, MOST_AMOUNT, Reply, World};
 use sdr_base::{Acct, Amounts, NoMemory, Refusal, Space};
 
 /// What a ticket asks for.
-#[derive(Clone, Copy, Debug)]
+#[derive(Clone, Copy)]
 pub struct Asking {
     pub amounts: Amounts,
     /// The greater goes first.

@@ -13,7 +13,7 @@ use std::mem;
 pub const MOST_AMOUNT: u64 = 1 << 40;
 
 /// A request for space.
-#[derive(Clone, Copy, Debug)]
+#[derive(Clone, Copy)]
 pub struct Ticket {
     /// The ticket's own address.
     pub block: Addr,
@@ -29,7 +29,7 @@ pub struct Ticket {
 }
 
 /// A ticket, the account in whose queue it stands, and its place there, from 0.
-#[derive(Clone, Copy, Debug)]
+#[derive(Clone, Copy)]
 pub struct Pending {
     pub acct: Acct,
     pub place: usize,
@@ -37,7 +37,7 @@ pub struct Pending {
 }
 
 /// An account of space.
-#[derive(Drop, Debug)]
+#[derive(Drop)]
 pub struct Account {
     /// In queue order: those granted, and then those that wait.
     pub tickets: Items<Ticket>,
@@ -46,7 +46,7 @@ pub struct Account {
 }
 
 /// Both accounts.
-#[derive(Drop, Debug)]
+#[derive(Drop)]
 pub struct Accounts {
     pub inbound: Account,
     pub outbound: Account,

@@ -11,7 +11,7 @@ use crate::{Call, Extent, Reply, World};
 use sdr_base::{Addr, NoMemory, Refusal};
 
 /// An append that is asked.
-#[derive(Clone, Copy, Debug)]
+#[derive(Clone, Copy)]
 pub struct Append {
     pub object: Addr,
     /// 0 for none.

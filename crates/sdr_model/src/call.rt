@@ -7,7 +7,7 @@ use sdr_base::{Acct, Addr, Bytes, Space};
 
 /// A call of the machine, one variant for each verb of a script that is no event of its own, with the
 /// verb's arguments in order. Places, counts and lengths are in bytes.
-#[derive(Drop, Debug)]
+#[derive(Drop)]
 pub enum Call {
     /// Makes a raw object of so many zero bytes.
     Malloc(u64),

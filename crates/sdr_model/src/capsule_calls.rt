@@ -12,7 +12,7 @@ use sdr_base::{Addr, Bytes, NoMemory};
 use std::alloc::Global;
 
 /// Where an object gets a header or trailer.
-#[derive(Clone, Copy, Debug)]
+#[derive(Clone, Copy)]
 pub enum Side {
     /// In front: a header, which is first.
     Front,

@@ -7,7 +7,7 @@ use crate::{Capsule, Extent, ZcoObject};
 use sdr_base::{Addr, NoMemory};
 
 /// What is added to an object.
-#[derive(Drop, Debug)]
+#[derive(Drop)]
 pub enum Component {
     /// Behind the extents.
     Extent(Extent),

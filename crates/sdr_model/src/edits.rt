@@ -13,7 +13,7 @@ use sdr_base::{Amounts, Items};
 use std::alloc::Global;
 
 /// How an object is changed, whose extents all stay.
-#[derive(Clone, Copy, Debug)]
+#[derive(Clone, Copy)]
 pub enum Trim {
     /// It gets another part.
     Part(Part),
@@ -24,7 +24,7 @@ pub enum Trim {
 }
 
 /// How an object is changed in place.
-#[derive(Drop, Debug)]
+#[derive(Drop)]
 pub enum Edit {
     Trim(Trim),
     /// It gets other extents, and this part of them.
@@ -32,7 +32,7 @@ pub enum Edit {
 }
 
 /// By what the uses of sources and the charges of two objects differ.
-#[derive(Drop, Debug)]
+#[derive(Drop)]
 pub struct Change {
     /// Extents that the object had.
     pub lost: Items<Extent>,

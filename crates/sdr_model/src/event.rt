@@ -3,7 +3,7 @@
 use crate::Call;
 
 /// Why a daemon leaves.
-#[derive(Clone, Copy, Debug, PartialEq, Eq)]
+#[derive(Clone, Copy)]
 pub enum Leave {
     /// Its script is done.
     Done,
@@ -16,7 +16,7 @@ pub enum Leave {
 }
 
 /// One event of a daemon.
-#[derive(Drop, Debug)]
+#[derive(Drop)]
 pub enum Event {
     /// Asks for the lock: draws a number where the daemon holds none.
     Request,

@@ -10,7 +10,7 @@ use std::alloc::Global;
 use std::marker::Model;
 
 /// A hash of keys of one length.
-#[derive(Drop, Debug)]
+#[derive(Drop)]
 pub struct SdrHash {
     /// The bytes of a key.
     key_length: u64,

@@ -2,7 +2,7 @@
 use sdr_base::Reason;
 
 /// A daemon that holds a lock number, and what its transaction has come to.
-#[derive(Clone, Copy, Debug)]
+#[derive(Clone, Copy)]
 pub struct Holder {
     pub daemon: u8,
     /// The lock number, from 1.
@@ -16,7 +16,7 @@ pub struct Holder {
 }
 
 /// A daemon whose last entry is a look at a ticket that waited.
-#[derive(Clone, Copy, Debug)]
+#[derive(Clone, Copy)]
 pub struct Waiting {
     pub daemon: u8,
     pub ticket: u64,

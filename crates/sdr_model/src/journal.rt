@@ -6,7 +6,7 @@ use sdr_base::{Bytes, Items, Move};
 pub type Moves = Items<Move>;
 
 /// One event of a transaction and its answer.
-#[derive(Drop, Debug)]
+#[derive(Drop)]
 pub struct Said {
     /// The line of the statement, from 1.
     pub line: u64,
@@ -22,7 +22,7 @@ pub struct Said {
 pub type Saids = Items<Said>;
 
 /// What an entry is of.
-#[derive(Drop, Debug)]
+#[derive(Drop)]
 pub enum What {
     /// A transaction, and how it closed.
     Work { said: Saids, close: Close },
@@ -37,7 +37,7 @@ pub enum What {
 }
 
 /// An entry of the journal.
-#[derive(Drop, Debug)]
+#[derive(Drop)]
 pub struct Entry {
     /// The lock number.
     pub number: u64,

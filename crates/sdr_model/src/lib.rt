@@ -59,8 +59,6 @@ mod strip_calls;
 mod table;
 mod table_calls;
 mod tally;
-#[cfg(test)]
-mod tests;
 mod text_calls;
 mod things;
 mod transaction;

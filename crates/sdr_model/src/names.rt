@@ -13,7 +13,7 @@ use std::alloc::Global;
 use std::marker::Model;
 
 /// An entry of the catalogue.
-#[derive(Drop, Debug)]
+#[derive(Drop)]
 pub struct Name {
     /// The address of the entry's own block.
     pub block: Addr,
@@ -25,7 +25,7 @@ pub struct Name {
 }
 
 /// An entry of the catalogue without its name.
-#[derive(Clone, Copy, Debug)]
+#[derive(Clone, Copy)]
 pub struct Named {
     /// The address of the entry's own block.
     pub block: Addr,

@@ -3,7 +3,7 @@ use crate::Keys;
 use sdr_base::{Acct, Bytes, Items, Space};
 
 /// An argument of a statement.
-#[derive(Drop, Debug)]
+#[derive(Drop)]
 pub enum Arg {
     Number(u64),
     /// What an earlier statement of the same daemon has bound to this name.
@@ -19,7 +19,7 @@ pub enum Arg {
 pub type Args = Items<Arg>;
 
 /// A statement.
-#[derive(Drop, Debug)]
+#[derive(Drop)]
 pub struct Step {
     /// The line, from 1 over all lines of the input.
     pub line: u64,

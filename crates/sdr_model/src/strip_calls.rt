@@ -18,7 +18,7 @@ use sdr_base::{Acct, Addr, Items, NoMemory};
 use std::alloc::Global;
 
 /// How an object is cut to its part.
-#[derive(Drop, Debug)]
+#[derive(Drop)]
 pub struct Stripping {
     /// The object's.
     pub account: Acct,

@@ -7,7 +7,7 @@ use std::alloc::Global;
 use std::marker::Model;
 
 /// A table of rows of one size, with a number of the user's.
-#[derive(Drop, Debug)]
+#[derive(Drop)]
 pub struct SdrTable {
     user: u64,
     rows: u64,

@@ -15,7 +15,7 @@ use sdr_base::{Acct, Addr, Amounts, NoMemory};
 use std::alloc::Global;
 
 /// What names an address.
-#[derive(Clone, Copy, Debug)]
+#[derive(Clone, Copy)]
 pub struct Note {
     /// How many extents of inbound objects name the source there.
     pub inbound: u64,
@@ -72,7 +72,7 @@ impl Note {
 }
 
 /// What objects charge each account, in bytes.
-#[derive(Clone, Copy, Debug)]
+#[derive(Clone, Copy)]
 pub struct Charged {
     pub inbound: Amounts,
     pub outbound: Amounts,

@@ -7,7 +7,7 @@ use sdr_base::{Addr, Bytes, Items, Kind, NoMemory};
 use std::alloc::Global;
 
 /// A block that is in use.
-#[derive(Clone, Copy, Debug)]
+#[derive(Clone, Copy)]
 pub struct Block {
     pub addr: Addr,
     pub kind: Kind,
@@ -15,7 +15,7 @@ pub struct Block {
 }
 
 /// An element of a list.
-#[derive(Clone, Copy, Debug)]
+#[derive(Clone, Copy)]
 pub struct Element {
     /// The element's own address.
     pub block: Addr,
@@ -24,7 +24,7 @@ pub struct Element {
 }
 
 /// A list of elements, with a number of the user's.
-#[derive(Drop, Debug)]
+#[derive(Drop)]
 pub struct SdrList {
     pub user: u64,
     pub elements: Items<Element>,
@@ -41,7 +41,7 @@ pub struct Spot<'a> {
 }
 
 /// An entry of a hash.
-#[derive(Drop, Debug)]
+#[derive(Drop)]
 pub struct HashEntry {
     /// The entry's own address.
     pub block: Addr,
@@ -50,7 +50,7 @@ pub struct HashEntry {
 }
 
 /// A thing, which has an address of its own.
-#[derive(Drop, Debug)]
+#[derive(Drop)]
 pub enum Thing {
     /// A raw object's bytes.
     Raw(Bytes),

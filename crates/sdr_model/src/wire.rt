@@ -13,7 +13,7 @@ use sdr_base::{Addr, Bytes, Items, NoMemory};
 use std::alloc::Global;
 
 /// A piece of the bytes of an object.
-#[derive(Drop, Debug)]
+#[derive(Drop)]
 pub enum Piece {
     /// Bytes that the world keeps.
     Known(Bytes),

@@ -11,7 +11,7 @@ use sdr_base::{Acct, Addr, Bytes, Items, Kind, NoMemory};
 use std::alloc::Global;
 
 /// What the bytes of a source are.
-#[derive(Drop, Debug)]
+#[derive(Drop)]
 pub enum Subject {
     /// Those of a file, by its path.
     File(Bytes),
@@ -24,7 +24,7 @@ pub enum Subject {
 }
 
 /// A source of bytes, which extents name parts of.
-#[derive(Drop, Debug)]
+#[derive(Drop)]
 pub struct ZcoSource {
     pub subject: Subject,
     /// In bytes.
@@ -34,7 +34,7 @@ pub struct ZcoSource {
 }
 
 /// A part of a source in an object.
-#[derive(Clone, Copy, Debug)]
+#[derive(Clone, Copy)]
 pub struct Extent {
     /// The extent's own address.
     pub block: Addr,
@@ -46,7 +46,7 @@ pub struct Extent {
 }
 
 /// A header or a trailer of an object.
-#[derive(Drop, Debug)]
+#[derive(Drop)]
 pub struct Capsule {
     /// The capsule's own address.
     pub block: Addr,
@@ -54,14 +54,14 @@ pub struct Capsule {
 }
 
 /// A part of the bytes of an object's extents.
-#[derive(Clone, Copy, Debug)]
+#[derive(Clone, Copy)]
 pub struct Part {
     pub offset: u64,
     pub length: u64,
 }
 
 /// A zero-copy object.
-#[derive(Drop, Debug)]
+#[derive(Drop)]
 pub struct ZcoObject {
     pub account: Acct,
     /// The first one first on the wire.
