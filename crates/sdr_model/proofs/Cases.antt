@@ -52,3 +52,8 @@ some_is (Some x) some = (x, refl)
 pub mapped_some : {T U : Type 0} (f : T → U) (o : Option T) → is_some (option_map f o) ≡ is_some o
 mapped_some f None = refl
 mapped_some f (Some x) = refl
+
+-- where the test is false, the second holds
+pub on_false : (P Q : Type 0) (b : Bool) → b ≡ false → Q → MatchBool b P Q
+on_false P Q true e q = absurd (true≢false e)
+on_false P Q false e q = q

@@ -1,17 +1,10 @@
 -- Pieces, and the bytes in them.
-use Rattle.std.proofs.Common.{◌≡◌, ◌≤◌, ◌-◌, ◌==◌, ℕ, zero, suc, Bool, true, false, List, [], ◌∷◌, ◌++◌, length, take, drop, replicate, min, max, Option, None, Some, ap, sym, ◌∙◌, refl, ap₂, subst, cond, arith, length-drop, length-take, append_assoc}
-use Rattle.std.proofs.lemmas.Grind.{flat_map-append}
-use Rattle.std.proofs.lemmas.List.{append-nil, take-replicate, drop-replicate, length-map, length-replicate, take-map, take_min, drop-map}
-use Rattle.std.proofs.lemmas.List.Concat.{flat_map-cons}
-use Rattle.std.proofs.lemmas.List.Folds.{flat_map-map}
-use Rattle.std.proofs.lemmas.Bool.{eqb-true, le-ltb}
-use Rattle.std.specs.Prelude.{nat_lt, MatchBool}
 use Rattle.sdr_base.specs.declared.moves.Move.{Move}
 use Rattle.sdr_base.specs.declared.refusal.Refusal.TheVariants as refusals
 use Rattle.sdr_model.specs.Dry.{StepsDry, addr_after, answered_moves, dry_moves}
 use Rattle.sdr_model.specs.Limits.{longest_read}
 use Rattle.sdr_model.specs.PartSteps.{part_end}
-use Rattle.sdr_model.specs.Pieces.{AsksBytes, AsksPage, Gathers, asked_addr, asked_count, capsule_pieces, cut_pieces, extent_piece, extent_pieces, filled, piece_length, piece_part, piece_told, pieces_asked, pieces_of, pieces_told, part_asked, part_pieces, raw_piece, source_piece, subject_piece, wire_pieces}
+use Rattle.sdr_model.specs.Pieces.{AsksBytes, AsksPage, asked_addr, asked_count, capsule_pieces, cut_pieces, extent_piece, extent_pieces, filled, piece_length, piece_part, piece_told, pieces_asked, pieces_of, pieces_told, part_asked, part_pieces, raw_piece, source_piece, subject_piece, wire_pieces}
 use Rattle.sdr_model.specs.Reading.{reads_media}
 use Rattle.sdr_model.specs.RowMoves.{row_moves}
 use Rattle.sdr_model.specs.Rows.{ByRow}
@@ -19,34 +12,25 @@ use Rattle.sdr_model.specs.Steps.{On, Outcome, Refuses}
 use Rattle.sdr_model.specs.Wire.{Gives, GivesOf, Spells, Told, capsules_told, extent_told, extents_told, known, raw_told, some_of, source_told, subject_told, unknown, wire_told}
 use Rattle.sdr_model.specs.World.{World, as_raw, thing_at}
 use Rattle.sdr_model.specs.Zco.{object_at, source_at}
-use Rattle.sdr_model.specs.declared.answer.Reply.{Reply}
 use Rattle.sdr_model.specs.declared.answer.Reply.TheVariants as replies
-use Rattle.sdr_model.specs.declared.call.Call.{Call}
+use Rattle.sdr_model.specs.declared.answer.Reply.{Reply}
 use Rattle.sdr_model.specs.declared.call.Call.TheVariants as calls
-use Rattle.sdr_model.specs.declared.wire.Gathering.{Gathering}
-use Rattle.sdr_model.specs.declared.wire.Piece.{Piece}
-use Rattle.sdr_model.specs.declared.wire.Piece.TheVariants as pieces
+use Rattle.sdr_model.specs.declared.call.Call.{Call}
+use Rattle.sdr_model.specs.declared.piece.Piece.TheVariants as pieces
+use Rattle.sdr_model.specs.declared.piece.Piece.{Piece}
 use Rattle.sdr_model.specs.declared.zco.Capsule.{Capsule}
 use Rattle.sdr_model.specs.declared.zco.Extent.{Extent}
-use Rattle.sdr_model.specs.declared.zco.Subject.{Subject}
 use Rattle.sdr_model.specs.declared.zco.Subject.TheVariants as subjects
+use Rattle.sdr_model.specs.declared.zco.Subject.{Subject}
 use Rattle.sdr_model.specs.declared.zco.ZcoObject.{ZcoObject}
 use Rattle.sdr_model.specs.declared.zco.ZcoSource.{ZcoSource}
-
--- pieces gathered one after another
-pub Gathers-append : (ps qs : List Piece) (a b c : Gathering) → Gathers ps a b → Gathers qs b c → Gathers (ps ++ qs) a c
-Gathers-append ps qs a b c first second = λ others.
-    ap (λ all. a.pieces ++ cut_pieces a.skip a.count all) (append_assoc ps qs others)
-    ∙ first (qs ++ others) ∙ second others
-
--- what is gathered where nothing was
-pub Gathers-all : (ps : List Piece) (skip count : ℕ) (old new : Gathering) → old.pieces ≡ [] → old.skip ≡ skip
-    → old.count ≡ count → Gathers ps old new → new.pieces ≡ cut_pieces skip count ps
-Gathers-all ps skip count old new none s c gathers =
-    sym (append-nil new.pieces) ∙ sym (gathers [])
-    ∙ ap (λ (had : List Piece). had ++ cut_pieces old.skip old.count (ps ++ [])) none
-    ∙ ap (cut_pieces old.skip old.count) (append-nil ps)
-    ∙ ap₂ (λ s c. cut_pieces s c ps) s c
+use Rattle.std.proofs.Common.{◌≡◌, ◌≤◌, ◌-◌, ◌==◌, ℕ, zero, suc, Bool, true, false, List, [], ◌∷◌, ◌++◌, length, take, drop, replicate, min, max, Option, None, Some, ap, sym, ◌∙◌, refl, ap₂, subst, cond, arith, length-drop, length-take}
+use Rattle.std.proofs.lemmas.Bool.{eqb-true, le-ltb}
+use Rattle.std.proofs.lemmas.Grind.{flat_map-append}
+use Rattle.std.proofs.lemmas.List.Concat.{flat_map-cons}
+use Rattle.std.proofs.lemmas.List.Folds.{flat_map-map}
+use Rattle.std.proofs.lemmas.List.{take-replicate, drop-replicate, length-map, length-replicate, take-map, take_min, drop-map}
+use Rattle.std.specs.Prelude.{nat_lt, MatchBool}
 
 module _ {X : Type 0} where
   take_zero : (k : ℕ) (xs : List X) → k ≡ 0 → take k xs ≡ []

@@ -1,15 +1,15 @@
 -- The rule for addresses where there is no heap: the k-th block that is taken has address 8 k, and never another.
-use Rattle.std.specs.Prelude.{◌≡◌, ℕ, true, zero, suc, ◌+◌, ◌*◌, List, [], ◌∷◌, ◌++◌}
-use Rattle.sdr_base.specs.declared.moves.Move.{Move}
 use Rattle.sdr_base.specs.declared.moves.Move.TheVariants.{Took, Gave, Short}
+use Rattle.sdr_base.specs.declared.moves.Move.{Move}
 use Rattle.sdr_model.specs.Reading.{reads_media}
 use Rattle.sdr_model.specs.RowMoves.{row_moves}
 use Rattle.sdr_model.specs.Rows.{ByRow}
 use Rattle.sdr_model.specs.Step.{Stops}
 use Rattle.sdr_model.specs.World.{World}
-use Rattle.sdr_model.specs.declared.answer.Reply.{Reply}
 use Rattle.sdr_model.specs.declared.answer.Reply.TheVariants as replies
+use Rattle.sdr_model.specs.declared.answer.Reply.{Reply}
 use Rattle.sdr_model.specs.declared.call.Call.{Call}
+use Rattle.std.specs.Prelude.{◌≡◌, ℕ, true, zero, suc, ◌+◌, ◌*◌, List, [], ◌∷◌, ◌++◌}
 
 -- the address of the next block, where so many were taken
 abbrev pub next_addr : ℕ → ℕ
@@ -62,3 +62,7 @@ dry_moves w call reply = answered_moves w call
 pub record StopsReading (old : World) (call : Call) (moves : List Move) (new : World) (reply : Reply) : Type 0 where
   pub reads : reads_media call ≡ true
   pub stopped : Stops old (record { moves = moves; after = new; reply = reply }) call
+
+-- the world with one more block taken, which is marked, and no bytes shown
+abbrev pub with_taken : World → ℕ → World
+with_taken w addr = record w { marks = w.marks ++ addr ∷ []; shown = []; taken = w.taken + 1 }

@@ -4,8 +4,7 @@ use Rattle.std.specs.List.{prefix_len}
 use Rattle.std.specs.Option.{ok_or}
 use Rattle.sdr_base.specs.declared.refusal.Refusal.{Refusal}
 use Rattle.sdr_base.specs.declared.refusal.Refusal.TheVariants as refusals
-use Rattle.sdr_model.specs.Draft.{with_taken}
-use Rattle.sdr_model.specs.Dry.{next_addr}
+use Rattle.sdr_model.specs.Dry.{with_taken, next_addr}
 use Rattle.sdr_model.specs.HashSteps.{bucket_of, bucket_place, has_key}
 use Rattle.sdr_model.specs.Hashes.{Hash}
 use Rattle.sdr_model.specs.Steps.{with_thing}

@@ -7,7 +7,7 @@ use Rattle.sdr_model.specs.Steps.{Outcome, Refuses, Reads, Does, Takes, gave}
 use Rattle.sdr_model.specs.Things.{name_need}
 use Rattle.sdr_model.specs.World.{World}
 use Rattle.sdr_model.specs.declared.answer.Reply.TheVariants as replies
-use Rattle.sdr_model.specs.declared.names.Name.{Name}
+use Rattle.sdr_model.specs.declared.name.Name.{Name}
 
 -- The call is refused where the name has no byte or too many, and else goes on with its entry, if it has one.
 abbrev pub OnName : World → Outcome → List ℕ → Type 0 → (Name → Type 0) → Type 0

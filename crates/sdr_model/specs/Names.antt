@@ -1,23 +1,13 @@
 -- The catalogue's list of entries.
-use Rattle.std.specs.Prelude.{ℕ, List, [], ◌∷◌, Option, None, Some, nat_eq, map, if◌then◌else◌, refl, Vec}
+use Rattle.sdr_model.specs.declared.name.Name.{Name}
 use Rattle.std.specs.Cmp.Lexicographic.{pointwise}
 use Rattle.std.specs.Coded.{Coded, code_by, coded×, coded_ℕ, coded_list}
-use Rattle.std.specs.declared.alloc.Global.{Global}
-use Rattle.sdr_model.specs.declared.names.Name.{Name}
-use Rattle.sdr_model.specs.declared.names.Named.{Named}
+use Rattle.std.specs.Prelude.{ℕ, List, [], ◌∷◌, Option, None, Some, nat_eq, if◌then◌else◌, refl}
 
 -- the entry of a name
 abbrev pub name_of : List Name → List ℕ → Option Name
 name_of [] name = None
 name_of (n ∷ names) name = if pointwise nat_eq name n.name then Some n else name_of names name
-
--- an entry without its name
-abbrev pub named_of : Name → Named
-named_of n = record { block = n.block; kind = n.kind; object = n.object }
-
--- the entries under these keys
-abbrev pub names_in : List (Vec ℕ Global × Named) → List Name
-names_in = map (λ e. record { block = e.1.block; name = e.0.items; kind = e.1.kind; object = e.1.object })
 
 -- a name as numbers and a list
 abbrev pub coded_name : Coded Name

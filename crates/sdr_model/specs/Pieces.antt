@@ -1,5 +1,4 @@
 -- The pieces in which the bytes that a call asks of an object lie: in the world, in files and in items.
-use Rattle.std.specs.Prelude.{◌≡◌, ℕ, ◌+◌, ◌-◌, ◌==◌, ◌≤◌, List, [], ◌∷◌, ◌++◌, length, map, min, max, true, unwrap_or, flat_map, Option, None, Some, if◌then◌else◌}
 use Rattle.sdr_base.specs.Media.{Told as Media}
 use Rattle.sdr_base.specs.Parts.{part}
 use Rattle.sdr_model.specs.Limits.{longest_read}
@@ -8,17 +7,17 @@ use Rattle.sdr_model.specs.Reading.{reads_media}
 use Rattle.sdr_model.specs.Wire.{Told, headers_part, known, source_part, trailers_part, unknown, wire_part}
 use Rattle.sdr_model.specs.World.{World, thing_at, as_raw}
 use Rattle.sdr_model.specs.Zco.{object_at, source_at}
-use Rattle.sdr_model.specs.declared.call.Call.{Call}
 use Rattle.sdr_model.specs.declared.call.Call.TheVariants as calls
-use Rattle.sdr_model.specs.declared.wire.Gathering.{Gathering}
-use Rattle.sdr_model.specs.declared.wire.Piece.{Piece}
-use Rattle.sdr_model.specs.declared.wire.Piece.TheVariants as pieces
+use Rattle.sdr_model.specs.declared.call.Call.{Call}
+use Rattle.sdr_model.specs.declared.piece.Piece.TheVariants as pieces
+use Rattle.sdr_model.specs.declared.piece.Piece.{Piece}
 use Rattle.sdr_model.specs.declared.zco.Capsule.{Capsule}
 use Rattle.sdr_model.specs.declared.zco.Extent.{Extent}
-use Rattle.sdr_model.specs.declared.zco.Subject.{Subject}
 use Rattle.sdr_model.specs.declared.zco.Subject.TheVariants as subjects
+use Rattle.sdr_model.specs.declared.zco.Subject.{Subject}
 use Rattle.sdr_model.specs.declared.zco.ZcoObject.{ZcoObject}
 use Rattle.sdr_model.specs.declared.zco.ZcoSource.{ZcoSource}
+use Rattle.std.specs.Prelude.{◌≡◌, ℕ, ◌+◌, ◌-◌, ◌==◌, ◌≤◌, List, [], ◌∷◌, ◌++◌, length, map, min, max, true, unwrap_or, flat_map, Option, None, Some, if◌then◌else◌}
 
 -- how many bytes a piece has
 abbrev pub piece_length : Piece → ℕ
@@ -161,13 +160,6 @@ AsksPage (Some z) count = count ≤ longest_read
 pub record AsksBytes (w : World) (call : Call) : Type 0 where
   pub reads : reads_media call ≡ true
   pub there : AsksPage (object_at w (asked_addr call)) (asked_count call)
-
--- The bytes of these pieces are gathered: the pieces had, and those still to be cut of any others, are as those to be
--- cut of these and the others.
-abbrev pub Gathers : List Piece → Gathering → Gathering → Type 0
-Gathers ps old new =
-    (others : List Piece) → old.pieces ++ cut_pieces old.skip old.count (ps ++ others)
-    ≡ new.pieces ++ cut_pieces new.skip new.count others
 
 -- the bytes that are told, with zeros in the place of those that aren't
 abbrev pub filled : Told → List ℕ

@@ -18,7 +18,7 @@ use Rattle.sdr_model.specs.World.{World, thing_at, as_text}
 use Rattle.sdr_model.specs.Zco.{object_at, source_at, uses_of}
 use Rattle.sdr_model.specs.declared.call.Call.TheVariants as calls
 use Rattle.sdr_model.specs.declared.call.Call.{Call}
-use Rattle.sdr_model.specs.declared.names.Name.{Name}
+use Rattle.sdr_model.specs.declared.name.Name.{Name}
 use Rattle.sdr_model.specs.declared.things.SdrList.{SdrList}
 use Rattle.sdr_model.specs.declared.zco.Capsule.{Capsule}
 use Rattle.sdr_model.specs.declared.zco.ZcoObject.{ZcoObject}

@@ -1,22 +1,23 @@
 -- The things of a world, and the blocks that they fill.
-use Rattle.std.specs.Prelude.{◌≡◌, ◌<◌, ◌^◌, ℕ, ◌+◌, ◌*◌, ◌==◌, List, [], ◌∷◌, ◌++◌, length, map, Option, None, Some, find, position}
-use Rattle.std.specs.Option.{option_map, option_or}
-use Rattle.std.specs.Ordering.{nat_cmp}
-use Rattle.std.specs.FinMap as finite
 use Rattle.sdr_base.specs.declared.kind.Kind.TheVariants as kinds
-use Rattle.sdr_model.specs.declared.names.Name.{Name}
+use Rattle.sdr_model.specs.contracts.things.Thing as thing
+use Rattle.sdr_model.specs.declared.name.Name.{Name}
 use Rattle.sdr_model.specs.declared.things.Block.{Block}
 use Rattle.sdr_model.specs.declared.things.Element.{Element}
 use Rattle.sdr_model.specs.declared.things.HashEntry.{HashEntry}
 use Rattle.sdr_model.specs.declared.things.SdrList.{SdrList}
 use Rattle.sdr_model.specs.declared.things.Spot.{Spot as Found}
-use Rattle.sdr_model.specs.declared.things.Thing.{Thing}
 use Rattle.sdr_model.specs.declared.things.Thing.TheVariants as things
+use Rattle.sdr_model.specs.declared.things.Thing.{Thing}
 use Rattle.sdr_model.specs.declared.zco.Capsule.{Capsule}
 use Rattle.sdr_model.specs.declared.zco.Extent.{Extent}
-use Rattle.sdr_model.specs.declared.zco.Subject.{Subject}
 use Rattle.sdr_model.specs.declared.zco.Subject.TheVariants as subjects
+use Rattle.sdr_model.specs.declared.zco.Subject.{Subject}
 use Rattle.sdr_model.specs.declared.zco.ZcoObject.{ZcoObject}
+use Rattle.std.specs.FinMap as finite
+use Rattle.std.specs.Option.{option_map, option_or}
+use Rattle.std.specs.Ordering.{nat_cmp}
+use Rattle.std.specs.Prelude.{◌≡◌, ◌<◌, ◌^◌, ℕ, ◌+◌, ◌*◌, ◌==◌, List, [], ◌∷◌, ◌++◌, length, map, Option, None, Some, find, position}
 
 -- the things by their addresses
 abbrev pub Things : Type 0
@@ -155,3 +156,8 @@ IsWithin (Some found) = (found.place < length found.row.now.elements) × (found.
 abbrev pub inner_among : ℕ → List (ℕ × Thing) → Option Block
 inner_among addr [] = None
 inner_among addr (e ∷ es) = option_or (block_among addr (inner_blocks e.1)) (inner_among addr es)
+
+-- the things with this at an address, or without the one there
+abbrev pub with_at : Things → ℕ → Option Thing → Things
+with_at things addr None = finite.remove things addr
+with_at things addr (Some thing) = finite.insert things addr thing

@@ -1,22 +1,22 @@
 -- The world: all that a user sees in a heap, as maps and lists.
-use Rattle.std.specs.Prelude.{ℕ, Bool, List, [], ◌==◌, map, Option, None, Some, refl}
+use Rattle.sdr_base.specs.Kinds.{kind_number}
+use Rattle.sdr_base.specs.declared.refusal.Refusal.TheVariants as refusals
+use Rattle.sdr_base.specs.declared.refusal.Refusal.{Refusal}
+use Rattle.sdr_model.specs.Accounts.{fresh_accounts, ticket_blocks}
+use Rattle.sdr_model.specs.Names.{coded_name}
+use Rattle.sdr_model.specs.Things.{Spot, Things, own_block, name_block, block_among, inner_among, spot_among}
+use Rattle.sdr_model.specs.contracts.accounts.Accounts as accounts
+use Rattle.sdr_model.specs.contracts.things.Thing as thing
+use Rattle.sdr_model.specs.declared.accounts.Accounts.{Accounts}
+use Rattle.sdr_model.specs.declared.name.Name.{Name}
+use Rattle.sdr_model.specs.declared.things.Block.{Block}
+use Rattle.sdr_model.specs.declared.things.Thing.TheVariants as things
+use Rattle.sdr_model.specs.declared.things.Thing.{Thing}
 use Rattle.std.specs.Coded.{Coded, code_by, coded×, coded_ℕ, coded_list}
 use Rattle.std.specs.FinMap as finite
 use Rattle.std.specs.List.{list_any}
 use Rattle.std.specs.Option.{option_map, option_or}
-use Rattle.sdr_base.specs.declared.refusal.Refusal.{Refusal}
-use Rattle.sdr_base.specs.declared.refusal.Refusal.TheVariants as refusals
-use Rattle.sdr_base.specs.Kinds.{kind_number}
-use Rattle.sdr_model.specs.Accounts.{fresh_accounts, ticket_blocks}
-use Rattle.sdr_model.specs.Names.{coded_name}
-use Rattle.sdr_model.specs.Things.{Spot, Things, own_block, name_block, block_among, inner_among, spot_among}
-use Rattle.sdr_model.specs.declared.accounts.Accounts.{Accounts}
-use Rattle.sdr_model.specs.declared.names.Name.{Name}
-use Rattle.sdr_model.specs.declared.things.Block.{Block}
-use Rattle.sdr_model.specs.declared.things.Thing.{Thing}
-use Rattle.sdr_model.specs.declared.things.Thing.TheVariants as things
-use Rattle.sdr_model.specs.contracts.accounts.Accounts as accounts
-use Rattle.sdr_model.specs.contracts.things.Thing as thing
+use Rattle.std.specs.Prelude.{ℕ, Bool, List, [], ◌==◌, map, Option, None, Some, refl}
 
 -- the things by their addresses, the catalogue, oldest entry first, both accounts of space, the addresses marked in the
 -- open transaction, the bytes that the last answered call gave, and how many blocks were taken without a heap
@@ -81,3 +81,7 @@ is_marked w addr = list_any (λ m. m == addr) w.marks
 -- where the element at an address stands
 abbrev pub spot_of : World → ℕ → Option Spot
 spot_of w element = spot_among element (finite.entries w.things)
+
+-- the world as a transaction begins with it
+abbrev pub at_rest : World → World
+at_rest w = record w { marks = []; shown = [] }

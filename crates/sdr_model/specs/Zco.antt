@@ -1,22 +1,22 @@
 -- Sources, and zero-copy objects: what an extent names, how often a source is named, and how long an object is.
-use Rattle.std.specs.Prelude.{ℕ, ◌+◌, ◌==◌, List, [], Bool, false, length, sum_by, find, Option, None, Some, if◌then◌else◌}
-use Rattle.std.specs.FinMap as finite
-use Rattle.std.specs.Option.{option_map}
-use Rattle.sdr_base.specs.declared.account.Acct.{Acct}
 use Rattle.sdr_base.specs.declared.account.Acct.TheVariants as accts
-use Rattle.sdr_base.specs.declared.kind.Space.{Space}
+use Rattle.sdr_base.specs.declared.account.Acct.{Acct}
 use Rattle.sdr_base.specs.declared.kind.Space.TheVariants as spaces
+use Rattle.sdr_base.specs.declared.kind.Space.{Space}
 use Rattle.sdr_model.specs.Accounts.{is_same_account}
 use Rattle.sdr_model.specs.World.{World, thing_at}
-use Rattle.sdr_model.specs.declared.things.Thing.{Thing}
 use Rattle.sdr_model.specs.declared.things.Thing.TheVariants as things
+use Rattle.sdr_model.specs.declared.things.Thing.{Thing}
 use Rattle.sdr_model.specs.declared.zco.Capsule.{Capsule}
 use Rattle.sdr_model.specs.declared.zco.Extent.{Extent}
 use Rattle.sdr_model.specs.declared.zco.Part.{Part}
-use Rattle.sdr_model.specs.declared.zco.Subject.{Subject}
 use Rattle.sdr_model.specs.declared.zco.Subject.TheVariants as subjects
+use Rattle.sdr_model.specs.declared.zco.Subject.{Subject}
 use Rattle.sdr_model.specs.declared.zco.ZcoObject.{ZcoObject}
 use Rattle.sdr_model.specs.declared.zco.ZcoSource.{ZcoSource}
+use Rattle.std.specs.FinMap as finite
+use Rattle.std.specs.Option.{option_map}
+use Rattle.std.specs.Prelude.{ℕ, ◌+◌, ◌==◌, List, [], Bool, false, length, sum_by, find, Option, None, Some, if◌then◌else◌}
 
 -- the source, where the thing is one
 abbrev pub as_source : Option Thing → Option ZcoSource
@@ -105,3 +105,9 @@ space_of (subjects.File path) = spaces.File
 space_of (subjects.Bulk item) = spaces.Bulk
 space_of (subjects.Heap raw) = spaces.Heap
 space_of (subjects.Obj raw) = spaces.Heap
+
+-- the raw object that a subject is, where it is one
+abbrev pub raw_of : Subject → Option ℕ
+raw_of (subjects.Heap raw) = Some raw
+raw_of (subjects.Obj raw) = Some raw
+raw_of subject = None

@@ -1,13 +1,11 @@
 // Sources of bytes, and zero-copy objects.
-ghost use Rattle.std.specs.Prelude.{◌≡◌, ◌≤◌, ◌<◌, ◌^◌, IfOk, OnOk, OnErr, length, map};
-ghost use Rattle.sdr_model.specs.Bounds.{IsBounded};
-ghost use Rattle.sdr_model.specs.ObjectSteps.{with_extent};
-ghost use Rattle.sdr_model.specs.Notes.{raw_of};
+ghost use Rattle.std.specs.Prelude.{◌≡◌, ◌<◌, ◌^◌, IfOk, length, map};
+ghost use Rattle.sdr_model.specs.Zco.{raw_of, space_of};
 ghost use Rattle.sdr_model.specs.Things.{block_among, capsule_block, extent_block, object_blocks, own_block, path_length};
 ghost use Rattle.sdr_model.specs.declared.things.Thing.TheVariants as things;
 
 use crate::Block;
-use sdr_base::{Acct, Addr, Bytes, Items, Kind, NoMemory};
+use sdr_base::{Acct, Addr, Bytes, Items, Kind, NoMemory, Space};
 use std::alloc::Global;
 
 /// What the bytes of a source are.
@@ -83,6 +81,17 @@ fn copied(alloc: Global, capsules: &[Capsule]) -> Result<Items<Capsule>, NoMemor
 }
 
 impl Subject {
+    /// The space that the bytes are in.
+    pub fn space(&self) -> Space
+        ensures { result ≡ space_of self.now }
+    {
+        match self {
+            Subject::File(_) => Space::File,
+            Subject::Bulk(_) => Space::Bulk,
+            Subject::Heap(_) | Subject::Obj(_) => Space::Heap,
+        }
+    }
+
     /// The raw object, where the bytes are those of one.
     pub fn raw(&self) -> Option<Addr>
         ensures { result ≡ raw_of self.now }
@@ -220,18 +229,5 @@ impl ZcoObject {
             return Some(block);
         }
         capsule_among(self.trailers.as_slice(), addr)
-    }
-
-    /// Adds an extent, which is last. Want of memory leaves the object as before. It is linear in the extents.
-    pub fn push_extent(&mut self, extent: Extent) -> Result<(), NoMemory>
-        requires bounded { IsBounded self.old }
-        requires small { extent.length ≤ 2 ^ 40 }
-        ensures ok { OnOk result (self.new ≡ with_extent self.old extent) }
-        ensures same { OnErr result (self.new ≡ self.old) }
-    {
-        let part = self.grown_part(extent.length);
-        self.extents.push(extent)?;
-        self.part = part;
-        Ok(())
     }
 }

@@ -1,0 +1,117 @@
+// What calls on accounts and their tickets do to a world.
+ghost use Rattle.std.specs.Prelude.{◌≡◌, ◌<◌, ◌^◌};
+ghost use Rattle.sdr_model.specs.AccountSteps.{is_granted};
+ghost use Rattle.sdr_model.specs.Accounts.{pending_in};
+ghost use Rattle.sdr_calls.specs.Answers.{Answers};
+
+use sdr_parts::amounts::{amount, first_above};
+use sdr_model::{Call, MOST_AMOUNT, Reply};
+use sdr_draft::Undoable;
+use sdr_base::{Acct, Amounts, NoMemory, Refusal, Space};
+
+/// What a ticket asks for.
+#[derive(Clone, Copy)]
+pub struct Asking {
+    pub amounts: Amounts,
+    /// The greater goes first.
+    pub coarse: u8,
+    /// The greater goes first, among tickets of one coarse priority.
+    pub fine: u8,
+}
+
+pub fn occupancy(world: &mut Undoable, acct: Acct, space: Space) -> Result<Reply, NoMemory>
+    ensures { Answers (Call.Occupancy acct space) world.old world.new result }
+{
+    let value = world.occupancy(acct, space);
+    world.hide();
+    Ok(Reply::Value { value })
+}
+
+pub fn maximum(world: &mut Undoable, acct: Acct, space: Space) -> Result<Reply, NoMemory>
+    ensures { Answers (Call.Maximum acct space) world.old world.new result }
+{
+    let value = amount(&world.accounts().account(acct).maxima, space);
+    world.hide();
+    Ok(Reply::Value { value })
+}
+
+// The refusal of more of a space than is allowed.
+fn too_large(space: Space, asked: u64, most: u64) -> Reply
+    ensures { result ≡ Reply.Refused (Refusal.TooLarge space asked most) }
+{
+    Reply::Refused(Refusal::TooLarge { space, asked, most })
+}
+
+// The refusal of a number that is no ticket's.
+fn bad_ticket(ticket: u64) -> Reply
+    ensures { result ≡ Reply.Refused (Refusal.BadTicket ticket) }
+{
+    Reply::Refused(Refusal::BadTicket { ticket })
+}
+
+pub fn set_maximum(
+    world: &mut Undoable,
+    acct: Acct,
+    space: Space,
+    value: u64,
+) -> Result<Reply, NoMemory>
+    ensures { Answers (Call.SetMaximum acct space value) world.old world.new result }
+{
+    if value > MOST_AMOUNT {
+        return Ok(too_large(space, value, MOST_AMOUNT));
+    }
+    world.set_maximum(acct, space, value)?;
+    Ok(Reply::Done)
+}
+
+// Whether the ticket of a number in an account is granted.
+fn is_granted(world: &Undoable, acct: Acct, number: u64) -> bool
+    ensures { result ≡ is_granted (pending_in world.now.now.accounts acct number) }
+{
+    match world.accounts().pending_in(acct, number) {
+        Some(pending) => pending.ticket.granted,
+        None => false,
+    }
+}
+
+pub fn request(world: &mut Undoable, acct: Acct, asking: Asking) -> Result<Reply, NoMemory>
+    requires taken { world.old.now.taken < 2 ^ 60 }
+    ensures { let asked = asking.amounts in
+        Answers (Call.Request acct asked.file asked.bulk asked.heap asking.coarse asking.fine) world.old world.new result }
+{
+    let maxima = world.accounts().account(acct).maxima;
+    if let Some(space) = first_above(&asking.amounts, &maxima) {
+        let asked = amount(&asking.amounts, space);
+        return Ok(too_large(space, asked, amount(&maxima, space)));
+    }
+    let number = world.next_ticket();
+    if number == MOST_AMOUNT {
+        return Ok(bad_ticket(MOST_AMOUNT));
+    }
+    world.request(acct, asking.amounts, asking.coarse, asking.fine)?;
+    let granted = is_granted(world, acct, number);
+    Ok(Reply::Ticket { number, granted })
+}
+
+pub fn awarded(world: &mut Undoable, ticket: u64) -> Result<Reply, NoMemory>
+    ensures { Answers (Call.Awarded ticket) world.old world.new result }
+{
+    let Some(pending) = world.accounts().pending(ticket) else {
+        return Ok(bad_ticket(ticket));
+    };
+    if !pending.ticket.granted {
+        return Ok(Reply::Refused(Refusal::NotAwarded { ticket }));
+    }
+    world.hide();
+    Ok(Reply::Done)
+}
+
+pub fn shred(world: &mut Undoable, ticket: u64) -> Result<Reply, NoMemory>
+    ensures { Answers (Call.Shred ticket) world.old world.new result }
+{
+    let Some(pending) = world.accounts().pending(ticket) else {
+        return Ok(bad_ticket(ticket));
+    };
+    world.shred(&pending)?;
+    Ok(Reply::Done)
+}

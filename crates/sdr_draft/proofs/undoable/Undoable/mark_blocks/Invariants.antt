@@ -1,0 +1,19 @@
+use Rattle.std.proofs.Common.{◌≡◌, ◌<◌, ◌++◌, ℕ, Some}
+use Rattle.std.specs.FinMap.{get}
+use Rattle.sdr_model.specs.Dry.{addr_after, next_addr, next_addrs}
+use Rattle.sdr_draft.proofs.undoable.Undoable.mark_blocks.Given as goal
+
+abbrev pub invariant-loop-k : goal.invariant-loop-k
+invariant-loop-k l = record {
+  marked : l.self.now ≡ record l.initial.self.now {
+    marks = l.initial.self.now.marks ++ next_addrs l.initial.self.now.taken l.k;
+  };
+  owned : (k : ℕ) → k < l.k → get l.self.owners (addr_after l.initial.self.now.taken k) ≡ Some l.owner;
+  others : (other of : ℕ) → other < next_addr l.initial.self.now.taken → get l.initial.self.owners other ≡ Some of
+      → get l.self.owners other ≡ Some of;
+  begun : l.self.begun ≡ l.initial.self.begun;
+  touched : l.self.touched ≡ l.initial.self.touched;
+  noted : l.self.noted ≡ l.initial.self.noted;
+  saved : l.self.saved ≡ l.initial.self.saved;
+  first : l.first ≡ next_addr l.initial.self.now.taken;
+}

@@ -1,0 +1,10 @@
+//! A world in memory that can be put back to what it was at the begin of the open transaction.
+//!
+//! 1. Contracts see the world at the begin and the world now, and which addresses were touched since.
+//! 2. Want of memory leaves the world now as before.
+//! 3. What a call costs is told by what it changes: nothing is summed over all things.
+#![tactic(auto)]
+
+mod undoable;
+
+pub use undoable::Undoable;

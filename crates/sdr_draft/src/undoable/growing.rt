@@ -1,0 +1,194 @@
+// Components that are added to the objects of a world in the making, which stay where they are.
+ghost use Rattle.std.specs.Prelude.{◌≡◌, ◌<◌, ◌+◌, ◌^◌, ℕ, [], Contains, IfErr, IfOk, IfSome, IsSome, OnErr, OnOk};
+ghost use Rattle.std.specs.FinMap as map;
+ghost use Rattle.sdr_undo.specs.Allowed.{HasRoomFor, MayCharge, RefusesCharge};
+ghost use Rattle.sdr_parts.specs.Bounds.{IsBounded};
+ghost use Rattle.sdr_model.specs.Charging.{with_used};
+ghost use Rattle.sdr_parts.specs.Components.{AddsComponent, Grows, KeepsLimits, block_of, component_charges, source_of};
+ghost use Rattle.sdr_model.specs.Dry.{addr_after, next_addr, with_blocks};
+ghost use Rattle.sdr_undo.specs.Owners.{IsOwned};
+ghost use Rattle.sdr_undo.specs.Tallies.{IsAccountOf};
+ghost use Rattle.sdr_model.specs.Zco.{as_object, object_at, source_on};
+
+use sdr_parts::capsules::capsule_bytes;
+use sdr_parts::charges::{bytes_charge, heap_charge};
+use sdr_parts::component::Component;
+use sdr_model::{Pending, Thing};
+use sdr_undo::Store;
+use crate::Undoable;
+use sdr_base::{Acct, Addr, Amounts, Bytes, NoMemory, Refusal};
+
+// Adds a component to the object at an address, and answers its account. Want of memory leaves all as before.
+fn add_at(things: &mut Store, addr: Addr, component: Component) -> Result<Acct, NoMemory>
+    requires there { IsSome (as_object (map.get things.old.now addr)) }
+    requires bounded { IfSome (as_object (map.get things.old.now addr)) IsBounded }
+    requires limits { KeepsLimits component }
+    ensures added { OnOk result (AddsComponent (as_object (map.get things.old.now addr)) addr
+        component things.old.now things.new.now) }
+    ensures account { IfOk result (IsAccountOf (as_object (map.get things.old.now addr))) }
+    ensures begun { things.new.begun ≡ things.old.begun }
+    ensures others { (other : ℕ) → Contains things.old.touched other
+        → Contains things.new.touched other }
+    ensures same { OnErr result (things.new.now ≡ things.old.now) }
+{
+    match things.take(addr)? {
+        Thing::Object(mut object) => {
+            let acct = object.account;
+            let added = add(&mut object, component);
+            things.put(addr, Some(Thing::Object(object)));
+            added?;
+            Ok(acct)
+        }
+        _ => unreachable!(),
+    }
+}
+
+impl Undoable {
+    // What a component charges.
+    fn component_charges(&self, component: &Component) -> Amounts
+        requires limits { KeepsLimits component.now }
+        ensures { result ≡ component_charges self.now.now component.now }
+    {
+        match component {
+            Component::Extent(extent) => {
+                bytes_charge(self.space_of(extent.source), extent.length)
+            }
+            Component::Header(capsule) | Component::Trailer(capsule) => {
+                heap_charge(capsule_bytes(capsule.text.as_slice().len() as u64))
+            }
+        }
+    }
+
+    // Adds a component to the object at an address, and counts so many blocks that were taken, of which it
+    // has one, with no bytes shown. Want of memory leaves the world as before.
+    fn push_component(
+        &mut self,
+        addr: Addr,
+        component: Component,
+        count: u64,
+    ) -> Result<(), NoMemory>
+        requires taken { self.old.now.taken + count < 2 ^ 60 + 2 ^ 30 }
+        requires there { IsSome (object_at self.old.now addr) }
+        requires noted { IfSome (source_of component) (Contains self.old.noted) }
+        requires limits { KeepsLimits component }
+        requires below { IfSome (source_of component) (λ s.
+            s < next_addr (self.old.now.taken + count)) }
+        requires owned { IsOwned self.old.owners (next_addr (self.old.now.taken + count)) addr
+            (block_of component) }
+        requires room { IfSome (object_at self.old.now addr) (λ z.
+            HasRoomFor self.old.now z.account (component_charges self.old.now component)) }
+        ensures added { OnOk result (Grows (object_at self.old.now addr) addr component
+            (record self.old.now { shown = []; taken = self.old.now.taken + count }) self.new.now) }
+        ensures named { OnOk result ((raw : ℕ) →
+            source_on self.new.now raw ≡ source_on self.old.now raw) }
+        ensures begun { self.new.begun ≡ self.old.begun }
+        ensures owners { self.new.owners ≡ self.old.owners }
+        ensures touched { OnOk result ((other : ℕ) →
+            Contains self.old.touched other → Contains self.new.touched other) }
+        ensures noted_stay { self.new.noted ≡ self.old.noted }
+        ensures saved { self.new.saved ≡ self.old.saved }
+        ensures same { OnErr result (self.new.now ≡ self.old.now) }
+    {
+        let charge = self.component_charges(&component);
+        let source = component.source();
+        let acct = add_at(&mut self.things, addr, component)?;
+        self.tally.add_use_of(acct, source);
+        self.tally.charge(acct, &charge);
+        self.shown = Bytes::new(self.alloc);
+        self.taken += count;
+        Ok(())
+    }
+
+    // Takes the next blocks for the object at an address, so many and one more, and adds a component in the
+    // last of them. Want of memory leaves the world as before.
+    fn take_component(
+        &mut self,
+        addr: Addr,
+        component: Component,
+        before: u64,
+    ) -> Result<(), NoMemory>
+        requires taken { self.old.now.taken + before + 1 < 2 ^ 60 + 2 ^ 30 }
+        requires there { IsSome (object_at self.old.now addr) }
+        requires noted { IfSome (source_of component) (Contains self.old.noted) }
+        requires limits { KeepsLimits component }
+        requires below { IfSome (source_of component) (λ s.
+            s < next_addr (self.old.now.taken + (before + 1))) }
+        requires block { block_of component ≡ addr_after self.old.now.taken before }
+        requires room { IfSome (object_at self.old.now addr) (λ z.
+            HasRoomFor self.old.now z.account (component_charges self.old.now component)) }
+        ensures added { OnOk result (Grows (object_at self.old.now addr) addr component
+            (with_blocks self.old.now (before + 1)) self.new.now) }
+        ensures named { OnOk result ((raw : ℕ) →
+            source_on self.new.now raw ≡ source_on self.old.now raw) }
+        ensures begun { self.new.begun ≡ self.old.begun }
+        ensures touched { OnOk result ((other : ℕ) →
+            Contains self.old.touched other → Contains self.new.touched other) }
+        ensures noted { self.new.noted ≡ self.old.noted }
+        ensures saved { self.new.saved ≡ self.old.saved }
+        ensures same { OnErr result (self.new.now ≡ self.old.now) }
+    {
+        let marks = self.marks();
+        self.reserve_blocks(addr, before + 1)?;
+        match self.push_component(addr, component, before + 1) {
+            Ok(()) => Ok(()),
+            Err(error) => {
+                self.unmark(marks);
+                Err(error)
+            }
+        }
+    }
+
+    /// Charges the account of the object at an address by a ticket, 0 for none, for a component, takes the
+    /// next blocks, so many and one more, and adds the component in the last of them. The object isn't
+    /// copied. Where this is refused or finds no memory, the world is as before.
+    pub fn add_component(
+        &mut self,
+        addr: Addr,
+        number: u64,
+        component: Component,
+        before: u64,
+    ) -> Result<Result<Option<Pending>, Refusal>, NoMemory>
+        requires taken { self.old.now.taken + before + 1 < 2 ^ 60 + 2 ^ 30 }
+        requires there { IsSome (object_at self.old.now addr) }
+        requires noted { IfSome (source_of component) (Contains self.old.noted) }
+        requires limits { KeepsLimits component }
+        requires below { IfSome (source_of component) (λ s.
+            s < next_addr (self.old.now.taken + (before + 1))) }
+        requires block { block_of component ≡ addr_after self.old.now.taken before }
+        ensures allowed { IfOk result (λ r. IfOk r (λ p. IfSome (object_at self.old.now addr) (λ z.
+            MayCharge self.old.now z.account number
+            (component_charges self.old.now component) p))) }
+        ensures added { IfOk result (λ r. IfOk r (λ p.
+            Grows (object_at self.old.now addr) addr component
+            (with_blocks (with_used self.old.now p (component_charges self.old.now component))
+            (before + 1)) self.new.now)) }
+        ensures named { IfOk result (λ r. OnOk r ((raw : ℕ) →
+            source_on self.new.now raw ≡ source_on self.old.now raw)) }
+        ensures begun { self.new.begun ≡ self.old.begun }
+        ensures touched { IfOk result (λ r. OnOk r ((other : ℕ) →
+            Contains self.old.touched other → Contains self.new.touched other)) }
+        ensures noted { self.new.noted ≡ self.old.noted }
+        ensures refused { IfOk result (λ r. IfErr r (λ refusal.
+            IfSome (object_at self.old.now addr) (λ z. RefusesCharge self.old.now z.account number
+            (component_charges self.old.now component) refusal))) }
+        ensures same { IfOk result (λ r. OnErr r (self.new.now ≡ self.old.now)) }
+        ensures err { OnErr result (self.new.now ≡ self.old.now) }
+    {
+        let Some(object) = self.object(addr) else {
+            unreachable!()
+        };
+        let acct = object.account;
+        let charge = self.component_charges(&component);
+        let granted = match self.charge(acct, number, &charge)? {
+            Ok(granted) => granted,
+            Err(refusal) => return Ok(Err(refusal)),
+        };
+        match self.take_component(addr, component, before) {
+            Ok(()) => Ok(Ok(granted)),
+            Err(error) => {
+                self.take_back(granted);
+                Err(error)
+            }
+        }
+    }
+}

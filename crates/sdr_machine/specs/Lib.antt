@@ -1,0 +1,5 @@
+pub mod Asking
+pub mod Core
+pub mod Leaving
+pub mod Machine
+pub mod Transaction

@@ -1,9 +1,0 @@
-use Rattle.std.proofs.Common.{ap, ◌∙◌}
-use Rattle.sdr_model.specs.Names.{names_in, without_name}
-use Rattle.sdr_model.proofs.NamesLemmas.{names_in-remove}
-use Rattle.sdr_model.proofs.names.Names.remove.Goals as goal
-
-pub returns : goal.returns
-returns c =
-    ap names_in c.shift_remove.ensures.entries ∙ names_in-remove c.args.name.now c.self.inside.entries.entries
-    ∙ ap (λ names. without_name names c.args.name.now) c.self.view_is

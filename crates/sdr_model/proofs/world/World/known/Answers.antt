@@ -1,7 +1,0 @@
-use Rattle.std.proofs.Common.{subst}
-use Rattle.sdr_model.specs.Allowed.{IsBound}
-use Rattle.sdr_model.specs.Draft.{Draft}
-use Rattle.sdr_model.proofs.world.World.known.Goals as goal
-
-pub returns-clause-bound : goal.returns-clause-bound
-returns-clause-bound c = subst (λ (d : Draft). IsBound d.now) c.self.view_is (λ acct space. c.self.invariant.told.now.bound acct space)

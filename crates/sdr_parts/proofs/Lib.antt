@@ -1,0 +1,3 @@
+pub mod AmountLemmas
+pub mod BoundsLemmas
+pub mod QueueLemmas

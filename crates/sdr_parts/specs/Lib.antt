@@ -1,0 +1,5 @@
+pub mod Bounds
+pub mod Components
+pub mod Grants
+pub mod Sides
+pub mod Trims

@@ -1,0 +1,77 @@
+// What extents, headers and trailers charge.
+ghost use Rattle.std.specs.Prelude.{◌≡◌, ◌≤◌, ◌^◌, sum_by};
+ghost use Rattle.sdr_model.specs.Amounts.{amounts_by, in_space};
+ghost use Rattle.sdr_model.specs.BondSteps.{bond_rise};
+ghost use Rattle.sdr_model.specs.Charges.{bytes_charge, capsule_charge};
+
+use crate::amounts::NOTHING;
+use crate::capsules::capsule_bytes;
+use sdr_model::Capsule;
+use sdr_base::{Amounts, Space};
+
+/// So many bytes of heap space.
+pub fn heap_charge(bytes: u64) -> Amounts
+    ensures { result ≡ amounts_by (in_space Space.Heap bytes) }
+{
+    Amounts {
+        file: 0,
+        bulk: 0,
+        heap: bytes,
+    }
+}
+
+/// So many bytes of a space.
+pub fn space_charge(of: Space, bytes: u64) -> Amounts
+    ensures { result ≡ amounts_by (in_space of bytes) }
+{
+    match of {
+        Space::File => Amounts {
+            file: bytes,
+            ..NOTHING
+        },
+        Space::Bulk => Amounts {
+            bulk: bytes,
+            ..NOTHING
+        },
+        Space::Heap => heap_charge(bytes),
+    }
+}
+
+/// What an extent of so many bytes charges, where they are in this space.
+pub fn bytes_charge(of: Space, bytes: u64) -> Amounts
+    requires small { bytes ≤ 2 ^ 62 }
+    ensures { result ≡ amounts_by (bytes_charge of bytes) }
+{
+    let mut charge = heap_charge(32);
+    match of {
+        Space::File => charge.file = bytes,
+        Space::Bulk => charge.bulk = bytes,
+        Space::Heap => charge.heap += bytes,
+    }
+    charge
+}
+
+/// What these headers or trailers charge of heap space.
+pub fn capsules_charge(capsules: &[Capsule]) -> u64
+    requires small { sum_by (capsule_charge Space.Heap) capsules.now ≤ 2 ^ 41 }
+    ensures { result ≡ sum_by (capsule_charge Space.Heap) capsules.now }
+{
+    let mut bytes = 0;
+    for capsule in capsules {
+        bytes += capsule_bytes(capsule.text.as_slice().len() as u64);
+    }
+    bytes
+}
+
+/// What these headers or trailers charge more of heap space as extents.
+pub fn rise(capsules: &[Capsule]) -> u64
+    requires small { sum_by (capsule_charge Space.Heap) capsules.now ≤ 2 ^ 41 }
+    ensures { result ≡ sum_by (bond_rise Space.Heap) capsules.now }
+{
+    let mut bytes = 0;
+    for capsule in capsules {
+        let text = capsule.text.as_slice().len() as u64;
+        bytes += text + 32 - capsule_bytes(text);
+    }
+    bytes
+}

@@ -1,0 +1,118 @@
+// The queue of an account's tickets.
+ghost use Rattle.std.specs.Prelude.{◌≡◌, ◌≤◌, OnErr, OnOk, Some, None, length, if◌then◌else◌};
+ghost use Rattle.std.specs.List.{prefix_len};
+ghost use Rattle.sdr_base.specs.declared.kind.Space.{Space};
+ghost use Rattle.sdr_model.specs.Accounts.{most_amount};
+ghost use Rattle.sdr_model.specs.Amounts.{amounts_by, are_within, minus, plus};
+ghost use Rattle.sdr_model.specs.Charges.{left_in};
+ghost use Rattle.sdr_model.specs.Queue.{barrier, enqueued, front_waiting, granted, served, stands_before};
+
+use sdr_model::Ticket;
+use crate::amounts::{NOTHING, are_within, is_nothing, minus, plus};
+use sdr_base::{Amounts, Items, NoMemory};
+
+// Whether a ticket stands before another that comes to wait.
+fn stands_before(ticket: &Ticket, new: &Ticket) -> bool
+    ensures { result ≡ stands_before ticket.now new.now }
+{
+    ticket.granted
+        || ticket.coarse > new.coarse
+        || (ticket.coarse == new.coarse && ticket.fine >= new.fine)
+}
+
+// The place of a new ticket: behind those that stand before it.
+fn place_for(tickets: &[Ticket], new: &Ticket) -> usize
+    ensures place { result ≡ prefix_len (λ t. stands_before t new.now) tickets.now }
+    ensures within { result ≤ length tickets.now }
+{
+    for (place, ticket) in tickets.iter().enumerate() {
+        if !stands_before(ticket, new) {
+            return place;
+        }
+    }
+    tickets.len()
+}
+
+/// A new ticket enters a queue, behind those that stand before it. Want of memory leaves the queue as
+/// before.
+pub fn enqueue(tickets: &mut Items<Ticket>, new: Ticket) -> Result<(), NoMemory>
+    ensures ok { OnOk result (tickets.new ≡ enqueued tickets.old new) }
+    ensures err { OnErr result (tickets.new ≡ tickets.old) }
+{
+    let place = place_for(tickets.as_slice(), &new);
+    tickets.insert(place, new)
+}
+
+/// What is left of the grants of tickets.
+pub fn left(tickets: &[Ticket]) -> Amounts
+    requires small { (space : Space) → left_in space tickets.now ≤ most_amount }
+    ensures { result ≡ amounts_by (λ space. left_in space tickets.now) }
+{
+    let mut left = NOTHING;
+    for ticket in tickets {
+        left = plus(&left, &ticket.left);
+    }
+    left
+}
+
+// A ticket with all that it asks granted.
+fn granted(ticket: Ticket) -> Ticket
+    ensures { result ≡ granted ticket }
+{
+    Ticket {
+        left: ticket.asked,
+        granted: true,
+        ..ticket
+    }
+}
+
+// What is occupied with a grant of so much, where that is at most the room.
+fn occupied_with(occupied: Amounts, maxima: Amounts, asked: Amounts) -> Option<Amounts>
+    ensures { result ≡ (if are_within asked (minus maxima occupied) then Some (plus occupied asked) else None) }
+{
+    if !are_within(&asked, &minus(&maxima, &occupied)) {
+        return None;
+    }
+    Some(plus(&occupied, &asked))
+}
+
+/// Serves a queue: the first waiting ticket is granted while each amount that it asks is at most the room,
+/// and a grant is occupied from then on. It is linear in the queue.
+pub fn serve(tickets: &mut Items<Ticket>, maxima: &Amounts, occupied: &Amounts)
+    ensures { tickets.new ≡ served maxima.now occupied.now tickets.old }
+{
+    let mut occupied = *occupied;
+    for place in 0..tickets.len() {
+        let ticket = tickets.as_slice()[place];
+        if ticket.granted {
+            continue;
+        }
+        let Some(with) = occupied_with(occupied, *maxima, ticket.asked) else {
+            return;
+        };
+        occupied = with;
+        tickets.set(place, granted(ticket));
+    }
+}
+
+/// The first ticket that waits.
+pub fn front_waiting(tickets: &[Ticket]) -> Option<Ticket>
+    ensures { result ≡ front_waiting tickets.now }
+{
+    for ticket in tickets {
+        if !ticket.granted {
+            return Some(*ticket);
+        }
+    }
+    None
+}
+
+/// The ticket that is before a charge: the first that waits, where anything isn't covered.
+pub fn barrier(uncovered: &Amounts, tickets: &[Ticket]) -> Option<Ticket>
+    ensures { result ≡ barrier uncovered.now tickets.now }
+{
+    if is_nothing(uncovered) {
+        return None;
+    }
+    front_waiting(tickets)
+}

@@ -1,0 +1,22 @@
+use Rattle.std.proofs.Common.{Some, ap, sym, subst, ◌∙◌, rules, true≢false}
+use Rattle.std.specs.FinMap.{get, insert}
+use Rattle.std.specs.Option.{option_copied_mut}
+use Rattle.std.specs.Prelude.{IsSome}
+use Rattle.sdr_model.proofs.MapLemmas.{get-entries_of, inserted}
+use Rattle.sdr_undo.proofs.places.Places.lift.Goals as goal
+
+pub unreachable-requires : goal.unreachable-requires
+unreachable-requires c =
+    true≢false (sym (subst IsSome
+    (ap (λ m. get m c.args.addr) (sym c.self.view_is) ∙ get-entries_of _ _ ∙ sym c.get_mut.ensures.value ∙ ap option_copied_mut c.in-None.is)
+    c.requires.some))
+
+pub returns-clause-lifted : goal.returns-clause-lifted
+returns-clause-lifted c =
+    ap (λ m. get m c.args.addr) (sym c.self.view_is) ∙ get-entries_of _ _ ∙ sym c.get_mut.ensures.value ∙ ap option_copied_mut c.in-Some.is
+    ∙ ap Some (sym c.replace.ensures.value)
+
+pub returns-clause-empty : goal.returns-clause-empty
+returns-clause-empty c =
+    inserted c.self.inside.inner.entries _ _ _ ((c.get_mut.follows.holds c.replace.new.dest).3 (search rules)).0
+    ∙ ap (λ m. insert m c.args.addr c.replace.new.dest) c.self.view_is ∙ ap (insert c.args.self.now c.args.addr) Prim.search

@@ -1,0 +1,139 @@
+// What the call that adds an extent does to a world.
+ghost use Rattle.std.specs.Prelude.{◌≡◌, ◌<◌, ◌^◌, ◌||◌, ◌+◌, ◌==◌, IsSome, None, nat_lt};
+ghost use Rattle.sdr_calls.specs.Answers.{Answers};
+ghost use Rattle.sdr_model.specs.Zco.{object_at, source_at};
+ghost use Rattle.sdr_parts.specs.declared.component.Component.TheVariants as components;
+
+use sdr_parts::component::Component;
+use crate::object_calls::object;
+use sdr_calls::raw_calls::{in_use, misnamed, raw};
+use sdr_model::{Call, Extent, Reply};
+use sdr_draft::Undoable;
+use sdr_base::{Addr, NoMemory, Refusal};
+
+/// An append that is asked.
+#[derive(Clone, Copy)]
+pub struct Append {
+    pub object: Addr,
+    /// 0 for none.
+    pub ticket: u64,
+    /// The source, or the raw object.
+    pub named: Addr,
+    /// In its bytes.
+    pub offset: u64,
+    pub bytes: u64,
+}
+
+impl Append {
+    // The extent that is asked, of this source.
+    fn extent(&self, block: Addr, source: Addr) -> Component
+        ensures { result ≡ components.Extent (record {
+          block = block;
+          source = source;
+          offset = self.now.offset;
+          length = self.now.bytes;
+        }) }
+    {
+        Component::Extent(Extent {
+            block,
+            source,
+            offset: self.offset,
+            length: self.bytes,
+        })
+    }
+}
+
+// Whether a range has no byte, or isn't within the bytes that are there.
+pub fn is_outside(offset: u64, bytes: u64, have: u64) -> bool
+    ensures { result ≡ (bytes == 0 || nat_lt have (offset + bytes)) }
+{
+    if bytes == 0 {
+        return true;
+    }
+    match offset.checked_add(bytes) {
+        Some(end) => have < end,
+        None => true,
+    }
+}
+
+// The refusal of a range that isn't within the bytes that are there.
+fn bad_range(asked: &Append, have: u64) -> Reply
+    ensures { result ≡ Reply.Refused (Refusal.BadRange asked.now.offset asked.now.bytes have) }
+{
+    Reply::Refused(Refusal::BadRange {
+        offset: asked.offset,
+        length: asked.bytes,
+        have,
+    })
+}
+
+// Appends a part of a source that is there to an object that is there, which isn't copied.
+fn append_source(world: &mut Undoable, asked: &Append) -> Result<Reply, NoMemory>
+    requires taken { world.old.now.taken < 2 ^ 60 }
+    requires object { IsSome (object_at world.old.now asked.now.object) }
+    requires source { IsSome (source_at world.old.now asked.now.named) }
+    ensures { Answers (Call.AppendExtent asked.now.object asked.now.ticket asked.now.named asked.now.offset asked.now.bytes)
+        world.old world.new result }
+{
+    let Some(source) = world.sound_source(asked.named) else {
+        unreachable!()
+    };
+    if source.flagged {
+        return Ok(Reply::Refused(Refusal::NotFound));
+    }
+    if is_outside(asked.offset, asked.bytes, source.length) {
+        return Ok(bad_range(asked, source.length));
+    }
+    world.touch(asked.named)?;
+    let extent = asked.extent(world.next(), asked.named);
+    let _granted = match world.add_component(asked.object, asked.ticket, extent, 0)? {
+        Ok(granted) => granted,
+        Err(refusal) => return Ok(Reply::Refused(refusal)),
+    };
+    Ok(Reply::Done)
+}
+
+// Appends a part of a raw object, which a new source takes over, to an object that is there, which isn't copied.
+fn append_raw(world: &mut Undoable, asked: &Append) -> Result<Reply, NoMemory>
+    requires taken { world.old.now.taken < 2 ^ 60 }
+    requires object { IsSome (object_at world.old.now asked.now.object) }
+    requires no_source { source_at world.old.now asked.now.named ≡ None }
+    ensures { Answers (Call.AppendExtent asked.now.object asked.now.ticket asked.now.named asked.now.offset asked.now.bytes)
+        world.old world.new result }
+{
+    let Some(bytes) = raw(world, asked.named) else {
+        return Ok(misnamed(world, asked.named));
+    };
+    let have = bytes.len() as u64;
+    if let Some(source) = world.source_on(asked.named) {
+        return Ok(in_use(world, asked.named, source));
+    }
+    if is_outside(asked.offset, asked.bytes, have) {
+        return Ok(bad_range(asked, have));
+    }
+    let source = world.next();
+    world.touch(source)?;
+    world.touch(asked.named)?;
+    let extent = asked.extent(source + 8, source);
+    let _granted = match world.add_component(asked.object, asked.ticket, extent, 1)? {
+        Ok(granted) => granted,
+        Err(refusal) => return Ok(Reply::Refused(refusal)),
+    };
+    world.take_over(source, asked.named, have);
+    Ok(Reply::Done)
+}
+
+/// Appends a part of a source, or of a raw object, to an object. It is linear in the object's extents.
+pub fn append_extent(world: &mut Undoable, asked: &Append) -> Result<Reply, NoMemory>
+    requires taken { world.old.now.taken < 2 ^ 60 }
+    ensures { Answers (Call.AppendExtent asked.now.object asked.now.ticket asked.now.named asked.now.offset asked.now.bytes)
+        world.old world.new result }
+{
+    if object(world, asked.object).is_none() {
+        return Ok(misnamed(world, asked.object));
+    }
+    if world.source(asked.named).is_some() {
+        return append_source(world, asked);
+    }
+    append_raw(world, asked)
+}

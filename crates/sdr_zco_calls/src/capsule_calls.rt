@@ -1,0 +1,68 @@
+// What calls that add headers and trailers do to a world.
+ghost use Rattle.std.specs.Prelude.{◌≡◌, ◌<◌, ◌^◌};
+ghost use Rattle.sdr_calls.specs.Answers.{Answers};
+ghost use Rattle.sdr_parts.specs.Sides.{capsule_call};
+
+use sdr_parts::Side;
+use sdr_model::limits::LONGEST_CAPSULE;
+use crate::object_calls::object;
+use sdr_calls::raw_calls::{bad_length, misnamed};
+use sdr_model::{Call, Capsule, Reply};
+use sdr_draft::Undoable;
+use sdr_base::{Addr, Bytes, NoMemory};
+use std::alloc::Global;
+
+// Adds a header or trailer of this text to an object, which isn't copied.
+fn add_capsule(
+    alloc: Global,
+    world: &mut Undoable,
+    side: Side,
+    addr: Addr,
+    number: u64,
+    text: &Bytes,
+) -> Result<Reply, NoMemory>
+    requires taken { world.old.now.taken < 2 ^ 60 }
+    ensures { Answers (capsule_call side addr number text.now) world.old world.new result }
+{
+    if object(world, addr).is_none() {
+        return Ok(misnamed(world, addr));
+    }
+    let length = text.len() as u64;
+    if length < 1 || length > LONGEST_CAPSULE {
+        return Ok(bad_length(length, LONGEST_CAPSULE));
+    }
+    let text = Bytes::copied(alloc, text.as_slice())?;
+    let block = world.next();
+    let capsule = side.component(Capsule { block, text });
+    let _granted = match world.add_component(addr, number, capsule, 0)? {
+        Ok(granted) => granted,
+        Err(refusal) => return Ok(Reply::Refused(refusal)),
+    };
+    Ok(Reply::Done)
+}
+
+pub fn prepend_header(
+    alloc: Global,
+    world: &mut Undoable,
+    addr: Addr,
+    number: u64,
+    text: &Bytes,
+) -> Result<Reply, NoMemory>
+    requires taken { world.old.now.taken < 2 ^ 60 }
+    ensures { Answers (Call.PrependHeader addr number text.now) world.old world.new result }
+{
+    add_capsule(alloc, world, Side::Front, addr, number, text)
+}
+
+pub fn append_trailer(
+    alloc: Global,
+    world: &mut Undoable,
+    addr: Addr,
+    number: u64,
+    text: &Bytes,
+) -> Result<Reply, NoMemory>
+    requires taken { world.old.now.taken < 2 ^ 60 }
+    ensures { Answers (Call.AppendTrailer addr number text.now) world.old world.new result }
+{
+    add_capsule(alloc, world, Side::Back, addr, number, text)
+}

@@ -1,0 +1,16 @@
+//! What calls on sources and zero-copy objects do to a world in memory, and the pieces of the bytes of objects. Each
+//! call's contract is its step of the world.
+#![tactic(auto)]
+
+pub mod append_calls;
+pub mod bond_calls;
+pub mod capsule_calls;
+pub mod clone_calls;
+pub mod destroy_calls;
+mod gone;
+pub mod object_calls;
+pub mod part_calls;
+pub mod source_calls;
+pub mod strip_calls;
+mod wire;
+pub mod wire_calls;
