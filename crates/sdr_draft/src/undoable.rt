@@ -8,7 +8,7 @@ ghost use Rattle.sdr_model.specs.World.{at_rest, block_at, empty_world, is_marke
 ghost use Rattle.sdr_model.specs.Names.{name_of, without_name};
 ghost use Rattle.sdr_undo.specs.Owners.{MayHave, MayPut};
 ghost use Rattle.sdr_model.specs.Steps.{with_thing, without_thing};
-ghost use Rattle.sdr_undo.specs.Tallies.{IsSound, is_plain};
+ghost use Rattle.sdr_tally.specs.Tallies.{IsSound, is_plain};
 ghost use Rattle.sdr_model.specs.Things.{IsWithin, SpotIs, inner_among, inner_blocks};
 ghost use Rattle.sdr_model.specs.declared.things.Thing.{Thing};
 
@@ -26,7 +26,8 @@ mod touching;
 mod trimming;
 
 use sdr_model::{Accounts, Block, Spot, Thing};
-use sdr_undo::{Catalogue, Ledger, Named, Names, Owners, Store, Tally};
+use sdr_undo::{Catalogue, Ledger, Named, Names, Owners, Store};
+use sdr_tally::Tally;
 use sdr_base::{Addr, Bytes, Items, NoMemory};
 use std::alloc::Global;
 use std::marker::Model;
@@ -58,7 +59,7 @@ impl Model for Undoable {
     ghost use Rattle.std.specs.Prelude.{[]};
     ghost use Rattle.sdr_undo.specs.Draft as draft;
     ghost use Rattle.sdr_model.specs.Dry.{next_addr};
-    ghost use Rattle.sdr_undo.specs.Tallies.{IsKept};
+    ghost use Rattle.sdr_tally.specs.Tallies.{IsKept};
 
     ghost Value = { draft.Draft };
 

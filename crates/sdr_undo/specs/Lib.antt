@@ -1,13 +1,6 @@
-pub mod Allowed
 pub mod Catalogue
-pub mod Charged
 pub mod Draft
-pub mod Drops
-pub mod Edits
 pub mod Entries
 pub mod Ledger
-pub mod Notes
 pub mod Owners
 pub mod Store
-pub mod Strips
-pub mod Tallies

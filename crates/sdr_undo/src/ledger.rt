@@ -24,6 +24,7 @@ pub struct Ledger {
 
 impl Model for Ledger {
     ghost use Rattle.std.specs.Prelude.{is_some, unwrap_or};
+    ghost use Rattle.sdr_parts.specs.Grants as grants;
     ghost use Rattle.sdr_undo.specs.Ledger as ledger;
 
     ghost Value = { ledger.Ledger };
@@ -32,7 +33,7 @@ impl Model for Ledger {
 
     ghost view = { λ s. record { begun = unwrap_or s.before s.current; now = s.current; saved = is_some s.before } };
 
-    ghost invariant = { λ s. ledger.KeepGrants (unwrap_or s.before s.current) × ledger.KeepGrants s.current };
+    ghost invariant = { λ s. grants.KeepGrants (unwrap_or s.before s.current) × grants.KeepGrants s.current };
 }
 
 impl Ledger {

@@ -9,14 +9,15 @@ use Rattle.std.specs.Prelude.{Contains}
 use Rattle.sdr_base.specs.declared.account.Amounts.{Amounts}
 use Rattle.sdr_base.specs.declared.kind.Space.{Space}
 use Rattle.sdr_base.specs.declared.kind.Space.TheVariants as spaces
-use Rattle.sdr_model.specs.Accounts.{Pending, most_amount}
-use Rattle.sdr_undo.specs.Allowed.{HasRoomFor}
+use Rattle.sdr_model.specs.Accounts.{most_amount}
+use Rattle.sdr_model.specs.declared.accounts.Pending.{Pending}
+use Rattle.sdr_tally.specs.Allowed.{HasRoomFor}
 use Rattle.sdr_model.specs.Amounts.{amount, amounts_by, in_space, no_amounts}
 use Rattle.sdr_model.specs.BondSteps.{bond_charge, bond_extents, bond_rise, bonded, bonded_extents, capsules_of}
 use Rattle.sdr_model.specs.Charges.{bytes_charge, capsule_charge, extent_charge, object_charge, occupancy, space_in}
 use Rattle.sdr_model.specs.Charging.{with_used}
 use Rattle.sdr_model.specs.Dry.{addr_after, next_addr, next_addrs}
-use Rattle.sdr_undo.specs.Edits.{Differ}
+use Rattle.sdr_tally.specs.Edits.{Differ}
 use Rattle.sdr_model.specs.ObjectSteps.{wire_length}
 use Rattle.sdr_undo.specs.Owners.{IsOwned, Owns, OwnsInside}
 use Rattle.sdr_parts.specs.Bounds.{EndsInTime, IsModest, IsShort}
@@ -29,12 +30,12 @@ use Rattle.sdr_model.specs.declared.zco.Capsule.{Capsule}
 use Rattle.sdr_model.specs.declared.zco.Extent.{Extent}
 use Rattle.sdr_model.specs.declared.zco.ZcoObject.{ZcoObject}
 use Rattle.sdr_parts.proofs.AmountLemmas.{nothing_in}
-use Rattle.sdr_undo.proofs.BondLemmas.{extents-shift}
+use Rattle.sdr_tally.proofs.BondLemmas.{extents-shift}
 use Rattle.sdr_parts.proofs.BoundsLemmas.{amounts_of, capsules_length-charged, extents_length-charged}
-use Rattle.sdr_undo.proofs.CapsuleLemmas.{owned-kept}
-use Rattle.sdr_undo.proofs.ExtentLemmas.{All-back, All-front, amount_of}
+use Rattle.sdr_tally.proofs.CapsuleLemmas.{owned-kept}
+use Rattle.sdr_tally.proofs.ExtentLemmas.{All-back, All-front, amount_of}
 use Rattle.sdr_undo.proofs.TakenLemmas.{addr_after-next}
-use Rattle.sdr_undo.proofs.TallyLemmas.{IsSound-raised}
+use Rattle.sdr_tally.proofs.TallyLemmas.{IsSound-raised}
 
 -- the world after a charge for the next so many blocks, which are marked, with no bytes shown
 abbrev pub with_marks : World → Option Pending → Amounts → ℕ → World

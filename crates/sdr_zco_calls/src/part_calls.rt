@@ -3,7 +3,7 @@ ghost use Rattle.std.specs.Prelude.{◌≡◌, [], IfOk, IfSome, OnErr, OnOk};
 ghost use Rattle.sdr_calls.specs.Answers.{Answers};
 ghost use Rattle.sdr_model.specs.ObjectSteps.{with_object};
 ghost use Rattle.sdr_model.specs.Queue.{with_served};
-ghost use Rattle.sdr_undo.specs.Tallies.{IsAccountOf};
+ghost use Rattle.sdr_tally.specs.Tallies.{IsAccountOf};
 ghost use Rattle.sdr_parts.specs.Trims.{MayTrim, trimmed};
 ghost use Rattle.sdr_model.specs.Zco.{object_at};
 

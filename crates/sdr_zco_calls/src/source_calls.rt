@@ -6,7 +6,7 @@ ghost use Rattle.sdr_model.specs.Limits.{longest_source};
 ghost use Rattle.sdr_model.specs.Zco.{raw_of, source_at, source_on, uses_of};
 ghost use Rattle.sdr_model.specs.SourceSteps.{new_source};
 ghost use Rattle.sdr_model.specs.Steps.{with_thing, without_thing};
-ghost use Rattle.sdr_undo.specs.Tallies.{is_plain};
+ghost use Rattle.sdr_tally.specs.Tallies.{is_plain};
 ghost use Rattle.sdr_model.specs.World.{thing_at};
 ghost use Rattle.sdr_model.specs.declared.things.Thing.TheVariants as things;
 

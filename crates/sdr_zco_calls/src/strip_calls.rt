@@ -5,7 +5,7 @@ ghost use Rattle.sdr_model.specs.Accounts.{most_amount};
 ghost use Rattle.sdr_calls.specs.Answers.{Answers};
 ghost use Rattle.sdr_parts.specs.Bounds.{IsBounded};
 ghost use Rattle.sdr_model.specs.Charges.{object_charge};
-ghost use Rattle.sdr_undo.specs.Strips.{IsStripped, Strips, StripsThere};
+ghost use Rattle.sdr_tally.specs.Strips.{IsStripped, Strips, StripsThere};
 ghost use Rattle.sdr_model.specs.Zco.{object_at};
 
 use sdr_parts::amounts::NOTHING;

@@ -1,7 +1,7 @@
 // The raw objects and sources that the headers and trailers of an object become.
 ghost use Rattle.std.specs.Prelude.{◌≡◌, ◌≤◌, ◌<◌, ◌+◌, ◌*◌, ◌^◌, [], ℕ, Contains, OnOk, length, ◌∷◌, ◌++◌, Some, IfOk, IfErr, OnErr};
 ghost use Rattle.std.specs.FinMap as map;
-ghost use Rattle.sdr_undo.specs.Allowed.{HasRoomFor, MayCharge, RefusesCharge};
+ghost use Rattle.sdr_tally.specs.Allowed.{HasRoomFor, MayCharge, RefusesCharge};
 ghost use Rattle.sdr_model.specs.Charging.{with_used};
 ghost use Rattle.std.specs.List.{All};
 ghost use Rattle.sdr_base.specs.declared.account.Acct.{Acct as GhostAcct};

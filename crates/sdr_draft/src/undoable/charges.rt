@@ -5,7 +5,7 @@ ghost use Rattle.sdr_base.specs.declared.kind.Space.{Space as GhostSpace};
 ghost use Rattle.sdr_model.specs.Amounts.{amount, amounts_by};
 ghost use Rattle.sdr_model.specs.Charges.{extent_charge, object_charge, space_in};
 ghost use Rattle.sdr_model.specs.Cuts.{cut_all};
-ghost use Rattle.sdr_undo.specs.Strips.{left_charge};
+ghost use Rattle.sdr_tally.specs.Strips.{left_charge};
 ghost use Rattle.sdr_parts.specs.Bounds.{EndsInTime};
 ghost use Rattle.sdr_model.specs.Zco.{source_at};
 

@@ -4,7 +4,7 @@ ghost use Rattle.sdr_base.specs.declared.account.Amounts.{Amounts as GhostAmount
 ghost use Rattle.sdr_base.specs.declared.kind.Space.{Space as GhostSpace};
 ghost use Rattle.sdr_model.specs.AccountSteps.{new_ticket, with_amount, with_maximum, with_request, without_ticket};
 ghost use Rattle.sdr_model.specs.Accounts.{Stands, account_of, most_amount, tickets_of, with_account, with_tickets};
-ghost use Rattle.sdr_undo.specs.Allowed.{HasRoomFor, IsBound, IsGrantOf, MayCharge, MayTakeBack, RefusesCharge, refusal_of, with_back};
+ghost use Rattle.sdr_tally.specs.Allowed.{HasRoomFor, IsBound, IsGrantOf, MayCharge, MayTakeBack, RefusesCharge, refusal_of, with_back};
 ghost use Rattle.sdr_model.specs.Amounts.{amount, no_amounts};
 ghost use Rattle.sdr_model.specs.Charges.{occupancies, occupancy};
 ghost use Rattle.sdr_model.specs.Charging.{grant_left, with_used};

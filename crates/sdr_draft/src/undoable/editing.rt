@@ -1,11 +1,11 @@
 // Objects that are changed in a world in the making, at the cost of what changes.
 ghost use Rattle.std.specs.Prelude.{◌≡◌, ℕ, Contains, IfOk, IfSome, IsSome, OnErr, OnOk, Some};
 ghost use Rattle.std.specs.FinMap as map;
-ghost use Rattle.sdr_undo.specs.Edits.{MayChange};
+ghost use Rattle.sdr_tally.specs.Edits.{MayChange};
 ghost use Rattle.sdr_parts.specs.Trims.{edited};
 ghost use Rattle.sdr_model.specs.ObjectSteps.{with_object};
 ghost use Rattle.sdr_model.specs.Things.{with_at};
-ghost use Rattle.sdr_undo.specs.Tallies.{IsAccountOf};
+ghost use Rattle.sdr_tally.specs.Tallies.{IsAccountOf};
 ghost use Rattle.sdr_model.specs.Zco.{as_object, object_at};
 ghost use Rattle.sdr_model.specs.declared.things.Thing.{Thing};
 

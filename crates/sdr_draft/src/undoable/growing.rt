@@ -1,13 +1,13 @@
 // Components that are added to the objects of a world in the making, which stay where they are.
 ghost use Rattle.std.specs.Prelude.{◌≡◌, ◌<◌, ◌+◌, ◌^◌, ℕ, [], Contains, IfErr, IfOk, IfSome, IsSome, OnErr, OnOk};
 ghost use Rattle.std.specs.FinMap as map;
-ghost use Rattle.sdr_undo.specs.Allowed.{HasRoomFor, MayCharge, RefusesCharge};
+ghost use Rattle.sdr_tally.specs.Allowed.{HasRoomFor, MayCharge, RefusesCharge};
 ghost use Rattle.sdr_parts.specs.Bounds.{IsBounded};
 ghost use Rattle.sdr_model.specs.Charging.{with_used};
 ghost use Rattle.sdr_parts.specs.Components.{AddsComponent, Grows, KeepsLimits, block_of, component_charges, source_of};
 ghost use Rattle.sdr_model.specs.Dry.{addr_after, next_addr, with_blocks};
 ghost use Rattle.sdr_undo.specs.Owners.{IsOwned};
-ghost use Rattle.sdr_undo.specs.Tallies.{IsAccountOf};
+ghost use Rattle.sdr_tally.specs.Tallies.{IsAccountOf};
 ghost use Rattle.sdr_model.specs.Zco.{as_object, object_at, source_on};
 
 use sdr_parts::capsules::capsule_bytes;

@@ -9,15 +9,15 @@ ghost use Rattle.sdr_model.specs.Charges.{object_charge, occupancy};
 ghost use Rattle.sdr_model.specs.Dry.{next_addr};
 ghost use Rattle.sdr_undo.specs.Owners.{MayPut};
 ghost use Rattle.sdr_model.specs.Steps.{with_thing, without_thing};
-ghost use Rattle.sdr_undo.specs.Notes.{SameNotes};
-ghost use Rattle.sdr_undo.specs.Tallies.{CountsOut, MayCountOut, is_plain};
+ghost use Rattle.sdr_tally.specs.Notes.{SameNotes};
+ghost use Rattle.sdr_tally.specs.Tallies.{CountsOut, MayCountOut, is_plain};
 ghost use Rattle.sdr_parts.specs.Bounds.{IsModest};
 ghost use Rattle.sdr_model.specs.World.{thing_at};
 ghost use Rattle.sdr_model.specs.Zco.{as_object, object_at, source_on};
 ghost use Rattle.sdr_model.specs.declared.things.Thing.{Thing};
 
 use sdr_parts::amounts::NOTHING;
-use sdr_undo::Tally;
+use sdr_tally::Tally;
 use sdr_undo::Store;
 use sdr_model::{Thing, ZcoObject};
 use crate::Undoable;

@@ -12,7 +12,7 @@ ghost use Rattle.sdr_model.specs.Zco.{raw_of, count_of, object_at, source_at, so
 ghost use Rattle.sdr_model.specs.SourceSteps.{new_source};
 ghost use Rattle.sdr_model.specs.Steps.{with_thing, without_thing};
 ghost use Rattle.sdr_undo.specs.Owners.{MayPut};
-ghost use Rattle.sdr_undo.specs.Tallies.{FlagsSource, charged, is_plain, raw_at};
+ghost use Rattle.sdr_tally.specs.Tallies.{FlagsSource, charged, is_plain, raw_at};
 ghost use Rattle.sdr_parts.specs.Bounds.{IsModest};
 ghost use Rattle.sdr_model.specs.World.{as_raw, thing_at};
 ghost use Rattle.sdr_model.specs.declared.things.Thing.{Thing};

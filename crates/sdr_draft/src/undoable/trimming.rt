@@ -1,11 +1,11 @@
 // Objects that lose headers or trailers, or get another part, in a world in the making.
 ghost use Rattle.std.specs.Prelude.{◌≡◌, ◌≤◌, ℕ, IfSome, OnErr, OnOk, Some, true};
-ghost use Rattle.sdr_undo.specs.Allowed.{IsBound};
+ghost use Rattle.sdr_tally.specs.Allowed.{IsBound};
 ghost use Rattle.sdr_model.specs.Dry.{next_addr};
 ghost use Rattle.sdr_model.specs.ObjectSteps.{with_object};
 ghost use Rattle.sdr_undo.specs.Owners.{MayPut};
 ghost use Rattle.sdr_parts.specs.Bounds.{IsModest};
-ghost use Rattle.sdr_undo.specs.Tallies.{is_plain, raw_at};
+ghost use Rattle.sdr_tally.specs.Tallies.{is_plain, raw_at};
 ghost use Rattle.sdr_parts.specs.Trims.{MayTrim, trim_charge, trimmed};
 ghost use Rattle.sdr_model.specs.World.{thing_at};
 ghost use Rattle.sdr_model.specs.Zco.{naming, object_at, uses_of};

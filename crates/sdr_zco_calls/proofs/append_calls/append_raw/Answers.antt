@@ -8,15 +8,15 @@ use Rattle.sdr_parts.specs.Components.{component_charges, with_component}
 use Rattle.sdr_model.specs.Dry.{next_addr, with_blocks}
 use Rattle.sdr_model.specs.ObjectSteps.{with_object}
 use Rattle.sdr_model.specs.Steps.{with_thing}
-use Rattle.sdr_undo.specs.Tallies.{is_plain}
+use Rattle.sdr_tally.specs.Tallies.{is_plain}
 use Rattle.sdr_model.specs.World.{World, thing_at}
 use Rattle.sdr_model.specs.Zco.{as_object, as_source, object_at}
 use Rattle.sdr_parts.specs.declared.component.Component.{Component}
 use Rattle.sdr_parts.specs.declared.component.Component.TheVariants as components
 use Rattle.sdr_model.specs.declared.things.Thing.TheVariants as things
 use Rattle.sdr_model.proofs.Cases.{some_is}
-use Rattle.sdr_undo.proofs.GrowLemmas.{allowed_at, grown_at, refused_at}
-use Rattle.sdr_undo.proofs.ObjectCallLemmas.{thing_at-blocks}
+use Rattle.sdr_tally.proofs.GrowLemmas.{allowed_at, grown_at, refused_at}
+use Rattle.sdr_tally.proofs.ObjectCallLemmas.{thing_at-blocks}
 use Rattle.sdr_zco_calls.proofs.RawExtentLemmas.{made_behind, plain_still, raw_append-refused, raw_append-step, raw_appended, raw_plain, taking_source}
 use Rattle.sdr_zco_calls.proofs.append_calls.append_raw.Goals as goal
 

@@ -10,8 +10,8 @@ use Rattle.sdr_parts.specs.declared.component.Component.{Component}
 use Rattle.sdr_parts.specs.declared.component.Component.TheVariants as components
 use Rattle.sdr_model.specs.declared.zco.ZcoSource.{ZcoSource}
 use Rattle.sdr_model.proofs.Cases.{some_is}
-use Rattle.sdr_undo.proofs.ExtentLemmas.{append-refused, append-step}
-use Rattle.sdr_undo.proofs.GrowLemmas.{allowed_at, grown_at, refused_at}
+use Rattle.sdr_tally.proofs.ExtentLemmas.{append-refused, append-step}
+use Rattle.sdr_tally.proofs.GrowLemmas.{allowed_at, grown_at, refused_at}
 use Rattle.sdr_zco_calls.proofs.append_calls.append_source.Goals as goal
 
 pub returns-in-Err : goal.returns-in-Err

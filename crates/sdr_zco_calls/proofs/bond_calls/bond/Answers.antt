@@ -4,11 +4,11 @@ use Rattle.std.specs.FinMap.{get}
 use Rattle.std.specs.List.{All}
 use Rattle.std.specs.Prelude.{Contains, IfErr, IfOk, OnErr, OnOk}
 use Rattle.sdr_base.specs.declared.account.Amounts.{Amounts}
-use Rattle.sdr_undo.specs.Allowed.{HasRoomFor, MayCharge, RefusesCharge}
+use Rattle.sdr_tally.specs.Allowed.{HasRoomFor, MayCharge, RefusesCharge}
 use Rattle.sdr_model.specs.Amounts.{amounts_by}
 use Rattle.sdr_model.specs.BondSteps.{bond_charge, bonded, bonded_extents, capsules_of}
 use Rattle.sdr_model.specs.Dry.{addr_after, next_addr}
-use Rattle.sdr_undo.specs.Edits.{MayChange}
+use Rattle.sdr_tally.specs.Edits.{MayChange}
 use Rattle.sdr_model.specs.Few.{most_pieces}
 use Rattle.sdr_model.specs.ObjectSteps.{with_object}
 use Rattle.sdr_undo.specs.Owners.{OwnsInside}
@@ -18,7 +18,7 @@ use Rattle.sdr_model.specs.Zco.{object_at}
 use Rattle.sdr_model.specs.declared.things.Thing.TheVariants as things
 use Rattle.sdr_model.specs.declared.zco.Capsule.{Capsule}
 use Rattle.sdr_model.specs.declared.zco.ZcoObject.{ZcoObject}
-use Rattle.sdr_undo.proofs.BondLemmas.{texts_put}
+use Rattle.sdr_tally.proofs.BondLemmas.{texts_put}
 use Rattle.sdr_zco_calls.proofs.BondCallLemmas.{Differ-bonded, gained-next, heap-texts, modest-bonded, noted-marks, owned-bonded, sources-bonded, taken-marks, there-texts, wire-most, with_marks}
 use Rattle.sdr_zco_calls.proofs.BondRowLemmas.{bond-refused, bond-step, bonded-next}
 use Rattle.sdr_model.proofs.FewLemmas.{few_of_object}

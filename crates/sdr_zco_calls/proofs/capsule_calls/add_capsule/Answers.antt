@@ -12,9 +12,9 @@ use Rattle.sdr_parts.specs.Sides.{component_on}
 use Rattle.sdr_model.specs.Zco.{object_at}
 use Rattle.sdr_parts.specs.declared.component.Component.{Component}
 use Rattle.sdr_model.specs.declared.zco.Capsule.{Capsule}
-use Rattle.sdr_undo.proofs.CapsuleLemmas.{capsule-refused, capsule-step, some_capsule}
+use Rattle.sdr_tally.proofs.CapsuleLemmas.{capsule-refused, capsule-step, some_capsule}
 use Rattle.sdr_model.proofs.Cases.{mapped_some, some_is}
-use Rattle.sdr_undo.proofs.GrowLemmas.{allowed_at, block-on, charges-on, grown_at, limits-on, object-on, refused_at, source-on}
+use Rattle.sdr_tally.proofs.GrowLemmas.{allowed_at, block-on, charges-on, grown_at, limits-on, object-on, refused_at, source-on}
 use Rattle.sdr_zco_calls.proofs.capsule_calls.add_capsule.Goals as goal
 
 pub add_component-requires-clause-noted : goal.add_component-requires-clause-noted

@@ -5,7 +5,7 @@ use Rattle.std.specs.Prelude.{Contains, IfErr, IfOk, OnErr, OnOk, nat_lt}
 use Rattle.sdr_base.specs.declared.account.Amounts.{Amounts}
 use Rattle.sdr_base.specs.declared.kind.Space.{Space}
 use Rattle.sdr_model.specs.Accounts.{most_amount}
-use Rattle.sdr_undo.specs.Allowed.{HasRoomFor, MayCharge, RefusesCharge}
+use Rattle.sdr_tally.specs.Allowed.{HasRoomFor, MayCharge, RefusesCharge}
 use Rattle.sdr_model.specs.Amounts.{amounts_by}
 use Rattle.sdr_model.specs.Charges.{object_charge, occupancy}
 use Rattle.sdr_model.specs.Charging.{with_used}
@@ -25,7 +25,7 @@ use Rattle.sdr_model.specs.declared.zco.Extent.{Extent}
 use Rattle.sdr_model.specs.declared.zco.ZcoObject.{ZcoObject}
 use Rattle.sdr_zco_calls.proofs.CloneCallLemmas.{clone-amounts, clone-less, clone-modest, clone-owned, clone-refused, clone-step, placed-next, room-charged}
 use Rattle.sdr_model.proofs.FewLemmas.{few_of_object, length-cut_all, length-placed}
-use Rattle.sdr_undo.proofs.ObjectCallLemmas.{taken_after}
+use Rattle.sdr_tally.proofs.ObjectCallLemmas.{taken_after}
 use Rattle.sdr_zco_calls.proofs.clone_calls.clone_part.Goals as goal
 
 pub object_charge-charge-requires : goal.object_charge-charge-requires

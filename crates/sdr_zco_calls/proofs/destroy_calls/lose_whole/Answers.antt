@@ -3,13 +3,13 @@ use Rattle.std.proofs.lemmas.List.Elements.{All-weaker}
 use Rattle.std.specs.List.{All}
 use Rattle.std.specs.Prelude.{Contains, IfSome, []}
 use Rattle.sdr_undo.specs.Draft.{Draft}
-use Rattle.sdr_undo.specs.Drops.{Goes, IsNoted, MayGo}
+use Rattle.sdr_tally.specs.Drops.{Goes, IsNoted, MayGo}
 use Rattle.sdr_model.specs.Gone.{gone_things, without_things}
 use Rattle.sdr_model.specs.Queue.{with_served}
 use Rattle.sdr_model.specs.Steps.{without_thing}
 use Rattle.sdr_model.specs.World.{World}
 use Rattle.sdr_model.specs.Zco.{object_at}
-use Rattle.sdr_undo.proofs.DropLemmas.{IsNoted-more, MayGo-lost, gone_go, without_things-swap}
+use Rattle.sdr_tally.proofs.DropLemmas.{IsNoted-more, MayGo-lost, gone_go, without_things-swap}
 use Rattle.sdr_zco_calls.proofs.destroy_calls.lose_whole.Goals as goal
 
 pub lose_object-requires-clause-touched : goal.lose_object-requires-clause-touched

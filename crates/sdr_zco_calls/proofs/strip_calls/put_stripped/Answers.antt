@@ -3,7 +3,7 @@ use Rattle.std.proofs.lemmas.List.Elements.{All-weaker}
 use Rattle.std.specs.List.{All}
 use Rattle.std.specs.Prelude.{Contains, IfSome, []}
 use Rattle.sdr_undo.specs.Draft.{Draft}
-use Rattle.sdr_undo.specs.Drops.{Goes, IsNoted, MayGo}
+use Rattle.sdr_tally.specs.Drops.{Goes, IsNoted, MayGo}
 use Rattle.sdr_model.specs.Dry.{next_addr}
 use Rattle.sdr_parts.specs.Trims.{edited}
 use Rattle.sdr_model.specs.Gone.{gone_things, without_things}
@@ -11,14 +11,14 @@ use Rattle.sdr_model.specs.ObjectSteps.{with_object}
 use Rattle.sdr_undo.specs.Owners.{MayPut}
 use Rattle.sdr_model.specs.PartSteps.{outside_part, part_end, stripped}
 use Rattle.sdr_model.specs.Queue.{with_served}
-use Rattle.sdr_undo.specs.Strips.{IsStripped}
+use Rattle.sdr_tally.specs.Strips.{IsStripped}
 use Rattle.sdr_parts.specs.Bounds.{IsModest}
 use Rattle.sdr_model.specs.World.{World}
 use Rattle.sdr_model.specs.Zco.{naming, object_at, uses_of}
 use Rattle.sdr_model.specs.declared.things.Thing.TheVariants as things
-use Rattle.sdr_undo.proofs.CutLemmas.{MayChange-stripped, strips_there}
-use Rattle.sdr_undo.proofs.DropLemmas.{IsNoted-more, gone_go}
-use Rattle.sdr_undo.proofs.StripLemmas.{MayGo-replaced, all_apart, naming-cut, without_things-with}
+use Rattle.sdr_tally.proofs.CutLemmas.{MayChange-stripped, strips_there}
+use Rattle.sdr_tally.proofs.DropLemmas.{IsNoted-more, gone_go}
+use Rattle.sdr_tally.proofs.StripLemmas.{MayGo-replaced, all_apart, naming-cut, without_things-with}
 use Rattle.sdr_zco_calls.proofs.strip_calls.put_stripped.Goals as goal
 
 pub gone_things-requires : goal.gone_things-requires

@@ -1,12 +1,12 @@
 use Rattle.std.proofs.Common.{◌≡◌, ◌<◌, ◌+◌, ◌∙◌, ap, arith, sym, subst, true}
 use Rattle.std.specs.Prelude.{Contains, IfErr, IfOk, IfSome, IsSome, OnOk}
-use Rattle.sdr_undo.specs.Allowed.{HasRoomFor, MayCharge, RefusesCharge}
+use Rattle.sdr_tally.specs.Allowed.{HasRoomFor, MayCharge, RefusesCharge}
 use Rattle.sdr_model.specs.Charging.{with_used}
 use Rattle.sdr_parts.specs.Components.{Grows, component_charges, source_of}
 use Rattle.sdr_undo.specs.Draft.{Draft}
 use Rattle.sdr_model.specs.Dry.{addr_after, next_addr, with_blocks}
 use Rattle.sdr_model.specs.Zco.{object_at}
-use Rattle.sdr_undo.proofs.GrowLemmas.{charges-used, object_at-used, source_on-used, taken-used}
+use Rattle.sdr_tally.proofs.GrowLemmas.{charges-used, object_at-used, source_on-used, taken-used}
 use Rattle.sdr_draft.proofs.undoable.Undoable.add_component.Goals as goal
 
 pub returns-in-Err-clause-refused : goal.returns-in-Err-clause-refused

@@ -4,17 +4,17 @@ use Rattle.std.specs.Prelude.{◌≤◌, ◌<◌, ◌+◌, ◌^◌}
 use Rattle.sdr_base.specs.declared.kind.Space.{Space}
 use Rattle.sdr_model.specs.Accounts.{most_amount}
 use Rattle.sdr_model.specs.Amounts.{amounts_by, plus}
-use Rattle.sdr_undo.specs.Charged.{charged_to, with_charged}
+use Rattle.sdr_tally.specs.Charged.{charged_to, with_charged}
 use Rattle.sdr_model.specs.Charges.{object_charge, occupancy}
 use Rattle.sdr_model.specs.Dry.{next_addr}
-use Rattle.sdr_undo.specs.Notes.{UsesMore, note_at, noted_count}
+use Rattle.sdr_tally.specs.Notes.{UsesMore, note_at, noted_count}
 use Rattle.sdr_undo.specs.Owners.{MayPut}
 use Rattle.sdr_parts.specs.Bounds.{IsModest}
-use Rattle.sdr_undo.specs.Tallies.{is_plain}
+use Rattle.sdr_tally.specs.Tallies.{is_plain}
 use Rattle.sdr_model.specs.World.{thing_at}
 use Rattle.sdr_model.specs.Zco.{naming, source_on}
 use Rattle.sdr_model.specs.declared.things.Thing.TheVariants as things
-use Rattle.sdr_undo.proofs.ObjectLemmas.{Changes-added, IsKept-changed, uses_small}
+use Rattle.sdr_tally.proofs.ObjectLemmas.{Changes-added, IsKept-changed, uses_small}
 use Rattle.sdr_draft.proofs.undoable.Undoable.add_object.Goals as goal
 
 pub add_uses-requires-clause-touched : goal.add_uses-requires-clause-touched

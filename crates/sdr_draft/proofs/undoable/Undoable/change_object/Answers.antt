@@ -1,9 +1,9 @@
 use Rattle.std.proofs.Common.{sym, subst, refl}
 use Rattle.std.specs.FinMap.{get}
-use Rattle.sdr_undo.specs.Edits.{MayChange}
+use Rattle.sdr_tally.specs.Edits.{MayChange}
 use Rattle.sdr_model.specs.Zco.{object_at}
 use Rattle.sdr_draft.specs.contracts.undoable.Undoable.{the_view}
-use Rattle.sdr_undo.proofs.EditLemmas.{IsKept-edited, changed_there, charged_fits, gained_fits, lost_counted}
+use Rattle.sdr_tally.proofs.EditLemmas.{IsKept-edited, changed_there, charged_fits, gained_fits, lost_counted}
 use Rattle.sdr_draft.proofs.undoable.Undoable.change_object.Goals as goal
 
 pub change-requires-clause-lost_touched : goal.change-requires-clause-lost_touched

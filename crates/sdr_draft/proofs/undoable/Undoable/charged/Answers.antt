@@ -3,8 +3,8 @@ use Rattle.std.specs.Prelude.{◌≤◌}
 use Rattle.sdr_model.specs.Accounts.{most_amount}
 use Rattle.sdr_model.specs.Amounts.{amounts_by}
 use Rattle.sdr_model.specs.Charges.{occupancy}
-use Rattle.sdr_undo.specs.Tallies.{charged}
-use Rattle.sdr_undo.proofs.TallyBounds.{charged_to-told}
+use Rattle.sdr_tally.specs.Tallies.{charged}
+use Rattle.sdr_tally.proofs.TallyBounds.{charged_to-told}
 use Rattle.sdr_draft.proofs.undoable.Undoable.charged.Goals as goal
 
 pub returns-clause-value : goal.returns-clause-value

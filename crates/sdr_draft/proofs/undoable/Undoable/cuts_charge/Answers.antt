@@ -1,9 +1,9 @@
 use Rattle.std.proofs.Common.{◌≡◌, ◌+◌, ap, subst, arith, get_or}
 use Rattle.sdr_base.specs.declared.kind.Space.TheVariants as spaces
 use Rattle.sdr_model.specs.Charges.{extent_charge}
-use Rattle.sdr_undo.specs.Strips.{left_charge}
+use Rattle.sdr_tally.specs.Strips.{left_charge}
 use Rattle.sdr_model.specs.declared.zco.Extent.{Extent}
-use Rattle.sdr_undo.proofs.CutLemmas.{cuts_fit}
+use Rattle.sdr_tally.proofs.CutLemmas.{cuts_fit}
 use Rattle.sdr_draft.proofs.undoable.Undoable.cuts_charge.Goals as goal
 
 pub plus-charge-requires-clause-file : goal.plus-charge-requires-clause-file

@@ -2,10 +2,10 @@ use Rattle.std.proofs.Common.{◌+◌, ap, sym, ◌∙◌, drop, get_or, subst}
 use Rattle.std.proofs.lemmas.List.{drop_more}
 use Rattle.std.proofs.lemmas.List.Elements.{All-head, All-tail, All-weaker}
 use Rattle.std.specs.List.{All}
-use Rattle.sdr_undo.specs.Drops.{MayGo}
+use Rattle.sdr_tally.specs.Drops.{MayGo}
 use Rattle.sdr_model.specs.Gone.{without_things}
 use Rattle.sdr_model.specs.World.{World}
-use Rattle.sdr_undo.proofs.DropLemmas.{MayGo-without}
+use Rattle.sdr_tally.proofs.DropLemmas.{MayGo-without}
 use Rattle.sdr_draft.proofs.undoable.Undoable.drop_all.Goals as goal
 
 pub drop_one-requires : goal.drop_one-requires

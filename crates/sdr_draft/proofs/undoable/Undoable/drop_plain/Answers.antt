@@ -1,9 +1,9 @@
 use Rattle.std.proofs.Common.{None, ap, sym, subst₂, refl, ◌∙◌}
 use Rattle.sdr_undo.specs.Owners.{AllOwnInside}
-use Rattle.sdr_undo.specs.Tallies.{is_plain}
+use Rattle.sdr_tally.specs.Tallies.{is_plain}
 use Rattle.sdr_model.specs.World.{thing_at}
 use Rattle.sdr_undo.proofs.OwnersLemmas.{OwnInside-remove}
-use Rattle.sdr_undo.proofs.TallyLemmas.{AllTallied-plain}
+use Rattle.sdr_tally.proofs.TallyLemmas.{AllTallied-plain}
 use Rattle.sdr_draft.proofs.undoable.Undoable.drop_plain.Goals as goal
 
 pub invariant_of-self : goal.invariant_of-self

@@ -2,10 +2,10 @@ use Rattle.std.proofs.Common.{◌≡◌, None, ap, sym, subst, ◌∙◌}
 use Rattle.std.specs.FinMap.{get}
 use Rattle.std.specs.Option.{option_and_then}
 use Rattle.std.specs.Prelude.{IsSome}
-use Rattle.sdr_undo.specs.Notes.{NameSource}
+use Rattle.sdr_tally.specs.Notes.{NameSource}
 use Rattle.sdr_model.specs.Zco.{raw_of, as_source, source_at, uses_of}
-use Rattle.sdr_undo.specs.Tallies.{raw_at}
-use Rattle.sdr_undo.proofs.SourceLemmas.{IsKept-dropped, source_there}
+use Rattle.sdr_tally.specs.Tallies.{raw_at}
+use Rattle.sdr_tally.proofs.SourceLemmas.{IsKept-dropped, source_there}
 use Rattle.sdr_draft.proofs.undoable.Undoable.drop_source.Goals as goal
 
 pub invariant_of-self : goal.invariant_of-self

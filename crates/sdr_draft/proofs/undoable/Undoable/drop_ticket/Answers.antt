@@ -2,8 +2,8 @@ use Rattle.std.proofs.Common.{ap, subst, sym}
 use Rattle.sdr_model.specs.Accounts.{Stands}
 use Rattle.sdr_undo.specs.Draft.{Draft}
 use Rattle.sdr_undo.specs.Ledger.{Ledger}
-use Rattle.sdr_undo.proofs.AccountLemmas.{AreBound, bound_removed}
-use Rattle.sdr_undo.proofs.TallyLemmas.{IsKept-accounts}
+use Rattle.sdr_tally.proofs.AccountLemmas.{AreBound, bound_removed}
+use Rattle.sdr_tally.proofs.TallyLemmas.{IsKept-accounts}
 use Rattle.sdr_draft.proofs.undoable.Undoable.drop_ticket.Goals as goal
 
 pub invariant_of-self : goal.invariant_of-self

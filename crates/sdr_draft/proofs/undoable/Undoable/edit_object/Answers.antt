@@ -1,14 +1,14 @@
 use Rattle.std.proofs.Common.{◌≡◌, Some, sym, subst, refl}
 use Rattle.std.specs.FinMap.{get}
 use Rattle.std.specs.Prelude.{IfSome}
-use Rattle.sdr_undo.specs.Edits.{MayChange}
+use Rattle.sdr_tally.specs.Edits.{MayChange}
 use Rattle.sdr_parts.specs.Trims.{edited}
 use Rattle.sdr_model.specs.Things.{with_at}
-use Rattle.sdr_undo.specs.Tallies.{IsAccountOf}
+use Rattle.sdr_tally.specs.Tallies.{IsAccountOf}
 use Rattle.sdr_model.specs.Zco.{as_object, object_at}
 use Rattle.sdr_draft.specs.contracts.undoable.Undoable.{the_view}
 use Rattle.sdr_model.specs.declared.things.Thing.TheVariants as things
-use Rattle.sdr_undo.proofs.EditLemmas.{IsKept-edited, changed_there, charged_fits, gained_fits, lost_counted}
+use Rattle.sdr_tally.proofs.EditLemmas.{IsKept-edited, changed_there, charged_fits, gained_fits, lost_counted}
 use Rattle.sdr_draft.proofs.undoable.Undoable.edit_object.Goals as goal
 
 pub change-requires-clause-lost_touched : goal.change-requires-clause-lost_touched

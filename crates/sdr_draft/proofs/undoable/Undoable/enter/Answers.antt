@@ -1,10 +1,10 @@
 use Rattle.std.proofs.Common.{◌+◌, ap, subst, sym}
 use Rattle.sdr_model.specs.Dry.{next_addr}
 use Rattle.sdr_undo.specs.Ledger.{Ledger}
-use Rattle.sdr_undo.specs.Tallies.{IsKept}
-use Rattle.sdr_undo.proofs.AccountLemmas.{AreBound, bound_entered}
+use Rattle.sdr_tally.specs.Tallies.{IsKept}
+use Rattle.sdr_tally.proofs.AccountLemmas.{AreBound, bound_entered}
 use Rattle.sdr_model.proofs.Cases.{in_result}
-use Rattle.sdr_undo.proofs.TallyLemmas.{IsKept-accounts}
+use Rattle.sdr_tally.proofs.TallyLemmas.{IsKept-accounts}
 use Rattle.sdr_draft.proofs.undoable.Undoable.enter.Goals as goal
 
 pub invariant_of-self : goal.invariant_of-self

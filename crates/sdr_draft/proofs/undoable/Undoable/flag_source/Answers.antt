@@ -2,12 +2,12 @@ use Rattle.std.proofs.Common.{◌≡◌, [], Some, ap, sym, subst, ◌∙◌}
 use Rattle.std.specs.FinMap.{insert}
 use Rattle.sdr_model.specs.SourceSteps.{flagged}
 use Rattle.sdr_model.specs.Steps.{with_thing}
-use Rattle.sdr_undo.specs.Tallies.{FlagsSource}
+use Rattle.sdr_tally.specs.Tallies.{FlagsSource}
 use Rattle.sdr_model.specs.World.{World}
 use Rattle.sdr_model.specs.Zco.{as_source, source_at}
 use Rattle.sdr_draft.specs.contracts.undoable.Undoable.{the_view}
 use Rattle.sdr_model.specs.declared.things.Thing.TheVariants as things
-use Rattle.sdr_undo.proofs.SourceLemmas.{IsKept-flagged}
+use Rattle.sdr_tally.proofs.SourceLemmas.{IsKept-flagged}
 use Rattle.sdr_model.proofs.ThingsLemmas.{insert-removed}
 use Rattle.sdr_draft.proofs.undoable.Undoable.flag_source.Goals as goal
 

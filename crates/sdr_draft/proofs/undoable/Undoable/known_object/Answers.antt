@@ -1,15 +1,15 @@
 use Rattle.std.proofs.Common.{◌≡◌, ◌≤◌, ℕ, Some, true, subst}
 use Rattle.std.specs.Prelude.{IfSome}
-use Rattle.sdr_undo.specs.Allowed.{IsBound}
+use Rattle.sdr_tally.specs.Allowed.{IsBound}
 use Rattle.sdr_undo.specs.Draft.{Draft}
 use Rattle.sdr_model.specs.Dry.{next_addr}
 use Rattle.sdr_undo.specs.Owners.{MayPut}
 use Rattle.sdr_parts.specs.Bounds.{IsModest}
-use Rattle.sdr_undo.specs.Tallies.{is_plain, raw_at}
+use Rattle.sdr_tally.specs.Tallies.{is_plain, raw_at}
 use Rattle.sdr_model.specs.World.{thing_at}
 use Rattle.sdr_model.specs.Zco.{naming, object_at, uses_of}
 use Rattle.sdr_model.specs.declared.things.Thing.TheVariants as things
-use Rattle.sdr_undo.proofs.TrimLemmas.{naming-used, of_object}
+use Rattle.sdr_tally.proofs.TrimLemmas.{naming-used, of_object}
 use Rattle.sdr_draft.proofs.undoable.Undoable.known_object.Goals as goal
 
 pub returns-clause-modest : goal.returns-clause-modest

@@ -3,12 +3,12 @@ use Rattle.std.specs.FinMap.{get}
 use Rattle.std.specs.List.{All, Contains}
 use Rattle.std.specs.Prelude.{IfSome, IsSome}
 use Rattle.sdr_model.specs.Amounts.{amounts_by, minus}
-use Rattle.sdr_undo.specs.Charged.{charged_to, with_charged}
+use Rattle.sdr_tally.specs.Charged.{charged_to, with_charged}
 use Rattle.sdr_model.specs.Charges.{object_charge}
-use Rattle.sdr_undo.specs.Tallies.{CountsOut, MayCountOut}
+use Rattle.sdr_tally.specs.Tallies.{CountsOut, MayCountOut}
 use Rattle.sdr_model.specs.Zco.{as_object, object_at}
 use Rattle.sdr_draft.specs.contracts.undoable.Undoable.{the_view}
-use Rattle.sdr_undo.proofs.ObjectLemmas.{Changes-removed, IsKept-changed, object_there, uses_there}
+use Rattle.sdr_tally.proofs.ObjectLemmas.{Changes-removed, IsKept-changed, object_there, uses_there}
 use Rattle.sdr_draft.proofs.undoable.Undoable.lose_object.Goals as goal
 
 pub count_out-requires : goal.count_out-requires

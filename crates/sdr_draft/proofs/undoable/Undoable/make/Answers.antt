@@ -1,9 +1,9 @@
 use Rattle.std.proofs.Common.{◌≡◌, ◌+◌, ◌≤◌, Some, ap, arith, sym, subst₂, ◌∙◌}
 use Rattle.sdr_model.specs.Dry.{next_addr}
 use Rattle.sdr_undo.specs.Owners.{AllOwnInside}
-use Rattle.sdr_undo.specs.Tallies.{is_plain}
+use Rattle.sdr_tally.specs.Tallies.{is_plain}
 use Rattle.sdr_undo.proofs.OwnersLemmas.{OwnInside-insert, OwnInside-raised, owns_nothing}
-use Rattle.sdr_undo.proofs.TallyLemmas.{AllTallied-plain, AllTallied-raised, nothing_next, IsSound-raised}
+use Rattle.sdr_tally.proofs.TallyLemmas.{AllTallied-plain, AllTallied-raised, nothing_next, IsSound-raised}
 use Rattle.sdr_draft.proofs.undoable.Undoable.make.Goals as goal
 
 pub invariant_of-self : goal.invariant_of-self

@@ -1,7 +1,7 @@
 use Rattle.std.proofs.Common.{ap, sym, subst₂}
 use Rattle.sdr_undo.specs.Owners.{AllOwnInside}
 use Rattle.sdr_undo.proofs.OwnersLemmas.{OwnInside-empty}
-use Rattle.sdr_undo.proofs.TallyLemmas.{AllTallied-empty}
+use Rattle.sdr_tally.proofs.TallyLemmas.{AllTallied-empty}
 use Rattle.sdr_draft.proofs.undoable.Undoable.new.Goals as goal
 
 pub invariant_of-result : goal.invariant_of-result

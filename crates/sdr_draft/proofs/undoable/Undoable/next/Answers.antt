@@ -1,10 +1,10 @@
 use Rattle.std.proofs.Common.{◌≡◌, None, arith, ap, subst, ◌∙◌}
-use Rattle.sdr_undo.specs.Tallies.{raw_of_thing, world_of}
+use Rattle.sdr_tally.specs.Tallies.{raw_of_thing, world_of}
 use Rattle.sdr_model.specs.Zco.{source_on, uses_of}
 use Rattle.sdr_draft.specs.contracts.undoable.Undoable.{the_view}
-use Rattle.sdr_undo.proofs.RawLemmas.{own_named}
-use Rattle.sdr_undo.proofs.SourceLemmas.{unused_next}
-use Rattle.sdr_undo.proofs.TallyBounds.{source_on-none}
+use Rattle.sdr_tally.proofs.RawLemmas.{own_named}
+use Rattle.sdr_tally.proofs.SourceLemmas.{unused_next}
+use Rattle.sdr_tally.proofs.TallyBounds.{source_on-none}
 use Rattle.sdr_draft.proofs.undoable.Undoable.next.Goals as goal
 
 pub returns-clause-unused : goal.returns-clause-unused

@@ -7,7 +7,7 @@ use Rattle.sdr_model.specs.Dry.{next_addr}
 use Rattle.sdr_undo.specs.Owners.{MayPut}
 use Rattle.sdr_parts.specs.Bounds.{IsModest}
 use Rattle.sdr_model.specs.declared.things.Thing.TheVariants as things
-use Rattle.sdr_undo.proofs.TallyBounds.{object_charge-small}
+use Rattle.sdr_tally.proofs.TallyBounds.{object_charge-small}
 use Rattle.sdr_draft.proofs.undoable.Undoable.object.Goals as goal
 
 pub returns-in-Some-Object-clause-modest : goal.returns-in-Some-Object-clause-modest

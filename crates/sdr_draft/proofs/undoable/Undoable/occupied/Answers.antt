@@ -4,7 +4,7 @@ use Rattle.sdr_model.specs.Amounts.{amount}
 use Rattle.sdr_model.specs.Accounts.{account_of}
 use Rattle.sdr_model.specs.Charges.{left_in, occupancies, occupancy}
 use Rattle.sdr_undo.specs.Draft.{Draft}
-use Rattle.sdr_undo.specs.Tallies.{world_of}
+use Rattle.sdr_tally.specs.Tallies.{world_of}
 use Rattle.sdr_model.specs.declared.accounts.Account.{Account}
 use Rattle.sdr_model.specs.declared.accounts.Accounts.{Accounts}
 use Rattle.sdr_parts.proofs.AmountLemmas.{amount-by, amount-plus, same_amounts}

@@ -2,24 +2,24 @@ use Rattle.std.proofs.Common.{◌≡◌, Some, arith, ap, sym, subst, ◌∙◌}
 use Rattle.std.specs.FinMap.{get}
 use Rattle.std.specs.Prelude.{◌+◌, ◌<◌, if◌then◌else◌, IfSome, IsSome}
 use Rattle.sdr_base.specs.declared.kind.Space.{Space}
-use Rattle.sdr_undo.specs.Allowed.{HasRoomFor}
+use Rattle.sdr_tally.specs.Allowed.{HasRoomFor}
 use Rattle.sdr_model.specs.Amounts.{plus}
 use Rattle.sdr_parts.specs.Bounds.{IsBounded}
-use Rattle.sdr_undo.specs.Charged.{charged_to, with_charged}
+use Rattle.sdr_tally.specs.Charged.{charged_to, with_charged}
 use Rattle.sdr_parts.specs.Components.{AddsComponent, block_of, component_charge, component_charges, source_of, with_component}
 use Rattle.sdr_model.specs.Dry.{next_addr}
-use Rattle.sdr_undo.specs.Notes.{is_this, more_uses, note_at}
+use Rattle.sdr_tally.specs.Notes.{is_this, more_uses, note_at}
 use Rattle.sdr_undo.specs.Owners.{IsOwned}
-use Rattle.sdr_undo.specs.Tallies.{IsAccountOf, IsKept, world_of}
+use Rattle.sdr_tally.specs.Tallies.{IsAccountOf, IsKept, world_of}
 use Rattle.sdr_model.specs.Zco.{as_object, object_at, source_on}
 use Rattle.sdr_model.specs.declared.things.Thing.TheVariants as things
 use Rattle.sdr_model.specs.declared.zco.ZcoObject.{ZcoObject}
 use Rattle.sdr_model.proofs.Cases.{if_some_always}
 use Rattle.sdr_parts.proofs.BoundsLemmas.{IsModest-bounded}
-use Rattle.sdr_undo.proofs.GrowLemmas.{Changes-grown, account-component, amount-by, charge-component, modest-component, more_uses-source, naming-component, owned-component}
-use Rattle.sdr_undo.proofs.ObjectLemmas.{IsKept-changed, object_there}
-use Rattle.sdr_undo.proofs.TallyBounds.{count_of-small, object_charge-small, source_on-known}
-use Rattle.sdr_undo.proofs.TallyLemmas.{IsKept-raised}
+use Rattle.sdr_tally.proofs.GrowLemmas.{Changes-grown, account-component, amount-by, charge-component, modest-component, more_uses-source, naming-component, owned-component}
+use Rattle.sdr_tally.proofs.ObjectLemmas.{IsKept-changed, object_there}
+use Rattle.sdr_tally.proofs.TallyBounds.{count_of-small, object_charge-small, source_on-known}
+use Rattle.sdr_tally.proofs.TallyLemmas.{IsKept-raised}
 use Rattle.sdr_draft.proofs.undoable.Undoable.push_component.Goals as goal
 
 pub add_at-requires-clause-bounded : goal.add_at-requires-clause-bounded

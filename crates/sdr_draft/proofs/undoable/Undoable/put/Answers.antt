@@ -1,10 +1,10 @@
 use Rattle.std.proofs.Common.{Some, ap, sym, subst, subst₂, ◌∙◌}
 use Rattle.sdr_model.specs.Dry.{next_addr}
 use Rattle.sdr_undo.specs.Owners.{AllOwnInside, MayPut}
-use Rattle.sdr_undo.specs.Tallies.{IsSound, is_plain}
+use Rattle.sdr_tally.specs.Tallies.{IsSound, is_plain}
 use Rattle.sdr_model.specs.World.{thing_at}
 use Rattle.sdr_undo.proofs.OwnersLemmas.{OwnInside-insert}
-use Rattle.sdr_undo.proofs.TallyLemmas.{AllTallied-plain}
+use Rattle.sdr_tally.proofs.TallyLemmas.{AllTallied-plain}
 use Rattle.sdr_draft.proofs.undoable.Undoable.put.Goals as goal
 
 pub invariant_of-self : goal.invariant_of-self

@@ -1,7 +1,7 @@
 use Rattle.std.proofs.Common.{ap, subst, sym}
 use Rattle.sdr_undo.specs.Ledger.{Ledger}
-use Rattle.sdr_undo.proofs.AccountLemmas.{AreBound, bound_maxima}
-use Rattle.sdr_undo.proofs.TallyLemmas.{IsKept-accounts}
+use Rattle.sdr_tally.proofs.AccountLemmas.{AreBound, bound_maxima}
+use Rattle.sdr_tally.proofs.TallyLemmas.{IsKept-accounts}
 use Rattle.sdr_draft.proofs.undoable.Undoable.put_maxima.Goals as goal
 
 pub invariant_of-self : goal.invariant_of-self

@@ -1,11 +1,11 @@
 use Rattle.std.proofs.Common.{◌≡◌, true, Some, None, sym, subst, inl}
 use Rattle.std.specs.Prelude.{◌<◌, IfSome}
 use Rattle.sdr_model.specs.Dry.{next_addr}
-use Rattle.sdr_undo.specs.Notes.{NameSource}
+use Rattle.sdr_tally.specs.Notes.{NameSource}
 use Rattle.sdr_model.specs.Zco.{raw_of, source_on, uses_of}
-use Rattle.sdr_undo.specs.Tallies.{is_plain}
+use Rattle.sdr_tally.specs.Tallies.{is_plain}
 use Rattle.sdr_model.specs.World.{thing_at}
-use Rattle.sdr_undo.proofs.SourceLemmas.{IsKept-put}
+use Rattle.sdr_tally.proofs.SourceLemmas.{IsKept-put}
 use Rattle.sdr_draft.proofs.undoable.Undoable.put_source.Goals as goal
 
 pub invariant_of-self : goal.invariant_of-self

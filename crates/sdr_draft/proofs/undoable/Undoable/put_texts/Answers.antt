@@ -6,7 +6,7 @@ use Rattle.std.specs.Vec.Iter.{into_iter_items}
 use Rattle.sdr_model.specs.Dry.{addr_after, next_addr}
 use Rattle.sdr_parts.specs.Bounds.{IsShort}
 use Rattle.sdr_model.specs.World.{World}
-use Rattle.sdr_undo.proofs.BondLemmas.{texts_put, texts_put-cons}
+use Rattle.sdr_tally.proofs.BondLemmas.{texts_put, texts_put-cons}
 use Rattle.sdr_undo.proofs.TakenLemmas.{addr_after-next}
 use Rattle.sdr_draft.proofs.undoable.Undoable.put_texts.Goals as goal
 

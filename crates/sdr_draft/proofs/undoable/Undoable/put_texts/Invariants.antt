@@ -8,7 +8,7 @@ use Rattle.sdr_model.specs.Charges.{occupancy, space_in}
 use Rattle.sdr_model.specs.Dry.{addr_after, next_addr}
 use Rattle.sdr_parts.specs.Bounds.{IsShort}
 use Rattle.sdr_model.specs.Zco.{object_at, source_at}
-use Rattle.sdr_undo.proofs.BondLemmas.{texts_put}
+use Rattle.sdr_tally.proofs.BondLemmas.{texts_put}
 use Rattle.sdr_draft.proofs.undoable.Undoable.put_texts.Given as goal
 
 abbrev pub invariant-loop-capsule : goal.invariant-loop-capsule

@@ -2,7 +2,7 @@ use Rattle.std.proofs.Common.{◌≡◌, ℕ, true, Option, Some, None, ap, sym,
 use Rattle.std.specs.FinMap.{get}
 use Rattle.std.specs.Option.{option_copied}
 use Rattle.std.specs.Prelude.{IfSome}
-use Rattle.sdr_undo.specs.Tallies.{RawsArePlain, is_plain, raw_of_thing}
+use Rattle.sdr_tally.specs.Tallies.{RawsArePlain, is_plain, raw_of_thing}
 use Rattle.sdr_model.specs.Things.{Things}
 use Rattle.sdr_model.specs.World.{thing_at}
 use Rattle.sdr_draft.proofs.undoable.Undoable.raw_at.Goals as goal

@@ -1,7 +1,7 @@
 use Rattle.std.proofs.Common.{ap, ◌∙◌}
 use Rattle.sdr_model.specs.Zco.{source_on}
 use Rattle.sdr_draft.specs.contracts.undoable.Undoable.{the_view}
-use Rattle.sdr_undo.proofs.TallyBounds.{source_on-known}
+use Rattle.sdr_tally.proofs.TallyBounds.{source_on-known}
 use Rattle.sdr_draft.proofs.undoable.Undoable.source_on.Goals as goal
 
 pub returns : goal.returns

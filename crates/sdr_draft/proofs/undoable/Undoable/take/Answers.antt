@@ -3,13 +3,13 @@ use Rattle.std.proofs.lemmas.Result.{on_ok_weaker}
 use Rattle.std.specs.FinMap.{get, insert}
 use Rattle.sdr_model.specs.Steps.{with_thing}
 use Rattle.sdr_model.specs.Things.{Things}
-use Rattle.sdr_undo.specs.Tallies.{is_plain}
+use Rattle.sdr_tally.specs.Tallies.{is_plain}
 use Rattle.sdr_model.specs.World.{World, thing_at}
 use Rattle.sdr_draft.specs.contracts.undoable.Undoable.{the_view}
 use Rattle.sdr_model.proofs.Cases.{in_ok}
 use Rattle.sdr_undo.proofs.OwnersLemmas.{AllOwnInside-taken}
 use Rattle.sdr_model.proofs.ThingsLemmas.{get-removed, insert-removed, with_at-again}
-use Rattle.sdr_undo.proofs.TallyLemmas.{AllTallied-taken}
+use Rattle.sdr_tally.proofs.TallyLemmas.{AllTallied-taken}
 use Rattle.sdr_draft.proofs.undoable.Undoable.take.Goals as goal
 
 abbrev with_things : World → Things → World

@@ -1,9 +1,9 @@
 use Rattle.std.proofs.Common.{Some, ap, subst, sym}
-use Rattle.sdr_undo.specs.Allowed.{IsBound, with_back}
+use Rattle.sdr_tally.specs.Allowed.{IsBound, with_back}
 use Rattle.sdr_undo.specs.Draft.{Draft}
 use Rattle.sdr_undo.specs.Ledger.{Ledger}
-use Rattle.sdr_undo.proofs.AccountLemmas.{AreBound}
-use Rattle.sdr_undo.proofs.TallyLemmas.{IsKept-accounts}
+use Rattle.sdr_tally.proofs.AccountLemmas.{AreBound}
+use Rattle.sdr_tally.proofs.TallyLemmas.{IsKept-accounts}
 use Rattle.sdr_draft.proofs.undoable.Undoable.take_back.Goals as goal
 
 pub invariant_of-self : goal.invariant_of-self

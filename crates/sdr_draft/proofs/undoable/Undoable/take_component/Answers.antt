@@ -2,7 +2,7 @@ use Rattle.std.proofs.Common.{◌≡◌, ◌<◌, ◌+◌, ◌++◌, ◌∙◌, 
 use Rattle.std.proofs.Math.Seq.{take-append_seam}
 use Rattle.std.specs.FinMap.{get}
 use Rattle.std.specs.Prelude.{Contains, IfSome, IsSome}
-use Rattle.sdr_undo.specs.Allowed.{HasRoomFor}
+use Rattle.sdr_tally.specs.Allowed.{HasRoomFor}
 use Rattle.sdr_parts.specs.Components.{Grows, component_charges, source_of}
 use Rattle.sdr_model.specs.Dry.{next_addr, next_addrs}
 use Rattle.sdr_model.specs.World.{World}

@@ -2,11 +2,11 @@ use Rattle.std.proofs.Common.{◌≡◌, true, None, sym, subst, inr, refl}
 use Rattle.std.specs.Prelude.{◌<◌}
 use Rattle.sdr_model.specs.Dry.{next_addr}
 use Rattle.sdr_model.specs.SourceSteps.{new_source}
-use Rattle.sdr_undo.specs.Tallies.{is_plain}
+use Rattle.sdr_tally.specs.Tallies.{is_plain}
 use Rattle.sdr_model.specs.World.{thing_at}
 use Rattle.sdr_model.specs.Zco.{source_on}
 use Rattle.sdr_model.specs.declared.zco.Subject.TheVariants as subjects
-use Rattle.sdr_undo.proofs.SourceLemmas.{IsKept-put}
+use Rattle.sdr_tally.proofs.SourceLemmas.{IsKept-put}
 use Rattle.sdr_draft.proofs.undoable.Undoable.take_over.Goals as goal
 
 pub invariant_of-self : goal.invariant_of-self

@@ -3,10 +3,10 @@ use Rattle.std.proofs.lemmas.List.{take_all, take_more}
 use Rattle.std.proofs.lemmas.List.Elements.{All-append, All-cons, All-nil, All-weaker}
 use Rattle.std.specs.List.{All}
 use Rattle.std.specs.Prelude.{Contains, IfSome}
-use Rattle.sdr_undo.specs.Drops.{IsNoted}
-use Rattle.sdr_undo.specs.Tallies.{raw_at}
+use Rattle.sdr_tally.specs.Drops.{IsNoted}
+use Rattle.sdr_tally.specs.Tallies.{raw_at}
 use Rattle.sdr_model.specs.World.{World}
-use Rattle.sdr_undo.proofs.DropLemmas.{IsNoted-more}
+use Rattle.sdr_tally.proofs.DropLemmas.{IsNoted-more}
 use Rattle.sdr_draft.proofs.undoable.Undoable.touch_all.Goals as goal
 
 pub loop-addr-preserved : goal.loop-addr-preserved

@@ -1,7 +1,7 @@
 use Rattle.std.proofs.Common.{◌≡◌, ℕ, take}
 use Rattle.std.specs.List.{All}
 use Rattle.std.specs.Prelude.{Contains}
-use Rattle.sdr_undo.specs.Drops.{IsNoted}
+use Rattle.sdr_tally.specs.Drops.{IsNoted}
 use Rattle.sdr_draft.proofs.undoable.Undoable.touch_all.Given as goal
 
 abbrev pub invariant-loop-addr : goal.invariant-loop-addr

@@ -1,4 +1,4 @@
-use Rattle.sdr_undo.proofs.DropLemmas.{on_ok}
+use Rattle.sdr_tally.proofs.DropLemmas.{on_ok}
 use Rattle.sdr_draft.proofs.undoable.Undoable.touch_going.Goals as goal
 
 pub returns-in-Some-clause-others : goal.returns-in-Some-clause-others

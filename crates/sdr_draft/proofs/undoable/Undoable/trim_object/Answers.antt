@@ -3,7 +3,7 @@ use Rattle.sdr_base.specs.declared.account.Amounts.{Amounts}
 use Rattle.sdr_model.specs.Amounts.{no_amounts}
 use Rattle.sdr_model.specs.Zco.{object_at}
 use Rattle.sdr_parts.specs.declared.edits.Change.{Change}
-use Rattle.sdr_undo.proofs.TrimLemmas.{MayChange-trimmed}
+use Rattle.sdr_tally.proofs.TrimLemmas.{MayChange-trimmed}
 use Rattle.sdr_draft.proofs.undoable.Undoable.trim_object.Goals as goal
 
 pub edit_object-requires : goal.edit_object-requires

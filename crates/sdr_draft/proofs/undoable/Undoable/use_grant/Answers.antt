@@ -2,9 +2,9 @@ use Rattle.std.proofs.Common.{IfSome, ap, subst, sym, ◌∙◌}
 use Rattle.sdr_model.specs.Accounts.{Stands, with_ticket}
 use Rattle.sdr_undo.specs.Draft.{Draft}
 use Rattle.sdr_undo.specs.Ledger.{Ledger}
-use Rattle.sdr_undo.proofs.AccountLemmas.{AreBound}
-use Rattle.sdr_undo.proofs.ChargeLemmas.{bound_used}
-use Rattle.sdr_undo.proofs.TallyLemmas.{IsKept-accounts}
+use Rattle.sdr_tally.proofs.AccountLemmas.{AreBound}
+use Rattle.sdr_tally.proofs.ChargeLemmas.{bound_used}
+use Rattle.sdr_tally.proofs.TallyLemmas.{IsKept-accounts}
 use Rattle.sdr_draft.proofs.undoable.Undoable.use_grant.Goals as goal
 
 pub invariant_of-self : goal.invariant_of-self

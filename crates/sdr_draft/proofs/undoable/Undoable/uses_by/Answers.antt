@@ -1,8 +1,8 @@
 use Rattle.std.proofs.Common.{ap, sym, subst, ◌∙◌}
 use Rattle.std.specs.Prelude.{◌≤◌}
 use Rattle.sdr_model.specs.Accounts.{most_amount}
-use Rattle.sdr_undo.specs.Notes.{noted_count}
-use Rattle.sdr_undo.proofs.TallyBounds.{count_of-small}
+use Rattle.sdr_tally.specs.Notes.{noted_count}
+use Rattle.sdr_tally.proofs.TallyBounds.{count_of-small}
 use Rattle.sdr_draft.proofs.undoable.Undoable.uses_by.Goals as goal
 
 pub returns-clause-small : goal.returns-clause-small

@@ -1,7 +1,7 @@
 use Rattle.std.proofs.Common.{Some, ap, sym, subst, ◌∙◌}
 use Rattle.std.specs.List.{All, Contains}
 use Rattle.std.specs.Option.{option_copied}
-use Rattle.sdr_undo.specs.Tallies.{MayCountOut}
+use Rattle.sdr_tally.specs.Tallies.{MayCountOut}
 use Rattle.sdr_model.specs.Zco.{as_object}
 use Rattle.sdr_draft.proofs.undoable.objects.count_out.Goals as goal
 

@@ -1,0 +1,70 @@
+-- What an account allows, and what is given back to it.
+use Rattle.std.specs.Prelude.{◌≡◌, ◌≤◌, ◌<◌, ◌+◌, ◌==◌, ℕ, [], true, false, length, Option, None, Some, IfSome}
+use Rattle.std.specs.Option.{option_map}
+use Rattle.sdr_base.specs.declared.account.Acct.{Acct}
+use Rattle.sdr_base.specs.declared.account.Amounts.{Amounts}
+use Rattle.sdr_base.specs.declared.kind.Space.{Space}
+use Rattle.sdr_base.specs.declared.refusal.Refusal.{Refusal}
+use Rattle.sdr_base.specs.declared.refusal.Refusal.TheVariants as refusals
+use Rattle.sdr_model.specs.Accounts.{account_of, most_amount, pending_in, tickets_of, with_ticket}
+use Rattle.sdr_model.specs.declared.accounts.Pending.{Pending}
+use Rattle.sdr_model.specs.Amounts.{amount, first_above, minus}
+use Rattle.sdr_model.specs.Charges.{occupancy, rooms}
+use Rattle.sdr_model.specs.Charging.{Charges, grant_left}
+use Rattle.sdr_model.specs.Queue.{barrier}
+use Rattle.sdr_model.specs.World.{World}
+use Rattle.sdr_model.specs.declared.accounts.Accounts.{Accounts}
+use Rattle.sdr_model.specs.declared.accounts.Ticket.{Ticket}
+use Rattle.sdr_model.specs.declared.answer.Reply.TheVariants as replies
+
+-- the ticket that a charge names is there, and granted; the number 0 names none
+abbrev pub IsGrantOf : Accounts → Acct → ℕ → Option Pending → Type 0
+IsGrantOf accounts acct number None = number ≡ 0
+IsGrantOf accounts acct number (Some p) =
+    ((number == 0) ≡ false) × (pending_in accounts acct number ≡ Some p) × (p.ticket.granted ≡ true)
+
+-- why a ticket before a charge, or else what there is no room for, refuses it
+abbrev pub refusal_by : Option Ticket → Option Refusal → Option Refusal
+refusal_by (Some t) other = Some (refusals.Queue t.number)
+refusal_by None other = other
+
+-- the refusal of amounts above the room of an account
+abbrev pub space_refusal : World → Acct → Amounts → Space → Refusal
+space_refusal w acct uncovered space =
+    refusals.NoSpace space (occupancy w acct space) (amount uncovered space) (amount (account_of w.accounts acct).maxima space)
+
+-- why an account refuses amounts that no grant covers, where it does
+abbrev pub refusal_of : World → Acct → Amounts → Option Refusal
+refusal_of w acct uncovered =
+    refusal_by (barrier uncovered (tickets_of w.accounts acct))
+    (option_map (space_refusal w acct uncovered) (first_above uncovered (rooms w acct)))
+
+-- an account may be charged these amounts, of which the grant of a ticket covers what it can
+pub record MayCharge (w : World) (acct : Acct) (number : ℕ) (amounts : Amounts) (p : Option Pending) : Type 0 where
+  pub ticket : IsGrantOf w.accounts acct number p
+  pub allowed : refusal_of w acct (minus amounts (grant_left p)) ≡ None
+
+-- an account refuses to be charged these amounts
+abbrev pub RefusesCharge : World → Acct → ℕ → Amounts → Refusal → Type 0
+RefusesCharge w acct number amounts refusal =
+    Charges w (record { moves = []; after = w; reply = replies.Refused refusal }) acct number (amount amounts) (λ used. ⊥)
+
+-- the world with a ticket as it was before a charge
+abbrev pub with_back : World → Option Pending → World
+with_back w None = w
+with_back w (Some p) = record w { accounts = with_ticket w.accounts p p.ticket }
+
+-- no more is occupied in either account than the greatest amount
+abbrev pub IsBound : World → Type 0
+IsBound w = (acct : Acct) (space : Space) → occupancy w acct space ≤ most_amount
+
+-- What a charge used of a grant may be given back: the ticket has its place and is granted, and no more is occupied after it
+-- than the greatest amount.
+pub record MayTakeBack (w : World) (p : Option Pending) : Type 0 where
+  pub there : IfSome p (λ p. p.place < length (tickets_of w.accounts p.acct))
+  pub granted : IfSome p (λ p. p.ticket.granted ≡ true)
+  pub bound : IsBound (with_back w p)
+
+-- there is room for these amounts in an account
+abbrev pub HasRoomFor : World → Acct → Amounts → Type 0
+HasRoomFor w acct amounts = (space : Space) → occupancy w acct space + amount amounts space ≤ most_amount
