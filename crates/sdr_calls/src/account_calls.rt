@@ -1,13 +1,13 @@
 // What calls on accounts and their tickets do to a world.
 ghost use Rattle.std.specs.Prelude.{◌≡◌, ◌<◌, ◌^◌};
+ghost use Rattle.sdr_calls.specs.Answers.{Answers};
 ghost use Rattle.sdr_model.specs.AccountSteps.{is_granted};
 ghost use Rattle.sdr_model.specs.Accounts.{pending_in};
-ghost use Rattle.sdr_calls.specs.Answers.{Answers};
 
-use sdr_parts::amounts::{amount, first_above};
-use sdr_model::{Call, MOST_AMOUNT, Reply};
-use sdr_draft::Undoable;
 use sdr_base::{Acct, Amounts, NoMemory, Refusal, Space};
+use sdr_draft::Undoable;
+use sdr_model::{Call, MOST_AMOUNT, Reply};
+use sdr_parts::amounts::{amount, first_above};
 
 /// What a ticket asks for.
 #[derive(Clone, Copy)]

@@ -2,14 +2,14 @@
 ghost use Rattle.std.specs.Prelude.{◌≡◌, OnErr, OnOk, remove, set};
 ghost use Rattle.sdr_calls.specs.Answers.{Answers, HasElement, SetsList};
 ghost use Rattle.sdr_model.specs.ListSteps.{as_list, datum_at};
-ghost use Rattle.sdr_undo.specs.Owners.{MayHave};
 ghost use Rattle.sdr_model.specs.World.{thing_at};
+ghost use Rattle.sdr_undo.specs.Owners.{MayHave};
 
 use crate::list_calls::element_addr;
 use crate::raw_calls::misnamed;
-use sdr_model::{Call, Element, Reply, Thing};
-use sdr_draft::Undoable;
 use sdr_base::{Addr, Items, NoMemory};
+use sdr_draft::Undoable;
+use sdr_model::{Call, Element, Reply, Thing};
 
 // The data at a place, 0 where there is none.
 fn datum_at(elements: &Items<Element>, place: usize) -> u64

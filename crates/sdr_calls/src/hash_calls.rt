@@ -1,18 +1,18 @@
 // What calls on hashes do to a world.
-ghost use Rattle.std.specs.Prelude.{◌≡◌, ◌<◌, ◌^◌, IfOk, OnErr, OnOk, Some, length, nat_lt, remove, set, ◌||◌};
 ghost use Rattle.std.specs.FinMap as map;
 ghost use Rattle.std.specs.Option.{option_copied};
+ghost use Rattle.std.specs.Prelude.{◌≡◌, ◌<◌, ◌^◌, IfOk, OnErr, OnOk, Some, length, nat_lt, remove, set, ◌||◌};
 ghost use Rattle.sdr_calls.specs.Answers.{Answers};
 ghost use Rattle.sdr_model.specs.Dry.{next_addr};
 ghost use Rattle.sdr_model.specs.HashChanges.{HasEntry, HasKey, InsertsEntry, IsThere, PutsEntry, SetsHash, place_in};
 ghost use Rattle.sdr_model.specs.HashSteps.{as_hash, entry_addr, value_at};
 ghost use Rattle.sdr_model.specs.World.{thing_at};
 
-use sdr_model::limits::{LONGEST_KEY, MOST_BUCKETS};
 use crate::raw_calls::misnamed;
-use sdr_model::{Call, HashEntry, Reply, SdrHash, Thing};
-use sdr_draft::Undoable;
 use sdr_base::{Addr, Bytes, Items, NoMemory, Refusal};
+use sdr_draft::Undoable;
+use sdr_model::limits::{LONGEST_KEY, MOST_BUCKETS};
+use sdr_model::{Call, HashEntry, Reply, SdrHash, Thing};
 use std::alloc::Global;
 
 // The hash at an address.

@@ -6,9 +6,9 @@ ghost use Rattle.sdr_model.specs.World.{thing_at};
 
 use crate::list_calls::{list, put_element};
 use crate::raw_calls::misnamed;
-use sdr_model::{Call, Element, Reply};
-use sdr_draft::Undoable;
 use sdr_base::{Addr, NoMemory};
+use sdr_draft::Undoable;
+use sdr_model::{Call, Element, Reply};
 
 /// Makes an element of this data at a place of the list at an address.
 pub fn insert_at(world: &mut Undoable, list: Addr, place: usize, datum: u64) -> Result<Reply, NoMemory>

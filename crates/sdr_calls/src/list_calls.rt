@@ -1,16 +1,16 @@
 // What calls on lists do to a world.
-ghost use Rattle.std.specs.Prelude.{◌≡◌, ◌<◌, ◌≤◌, ◌-◌, ◌^◌, IfOk, OnErr, OnOk, Some, length, remove, set};
 ghost use Rattle.std.specs.FinMap as map;
 ghost use Rattle.std.specs.Option.{option_copied};
+ghost use Rattle.std.specs.Prelude.{◌≡◌, ◌<◌, ◌≤◌, ◌-◌, ◌^◌, IfOk, OnErr, OnOk, Some, length, remove, set};
 ghost use Rattle.sdr_calls.specs.Answers.{Answers, HasElement, HasPlace, InsertsAt, PutsElement, SetsList};
 ghost use Rattle.sdr_model.specs.Dry.{next_addr};
 ghost use Rattle.sdr_model.specs.ListSteps.{as_list, datum_at, element_addr};
 ghost use Rattle.sdr_model.specs.World.{thing_at};
 
 use crate::raw_calls::misnamed;
-use sdr_model::{Call, Element, Reply, SdrList, Thing};
-use sdr_draft::Undoable;
 use sdr_base::{Addr, Items, NoMemory};
+use sdr_draft::Undoable;
+use sdr_model::{Call, Element, Reply, SdrList, Thing};
 use std::alloc::Global;
 
 /// The list at an address.

@@ -3,11 +3,11 @@ ghost use Rattle.std.specs.Prelude.{◌≡◌, ◌<◌, ◌^◌, length};
 ghost use Rattle.sdr_calls.specs.Answers.{Answers};
 ghost use Rattle.sdr_model.specs.Limits.{is_no_name};
 
-use sdr_model::limits::LONGEST_NAME;
 use crate::raw_calls::bad_length;
-use sdr_model::{Call, Reply};
-use sdr_draft::Undoable;
 use sdr_base::{Bytes, NoMemory, Refusal};
+use sdr_draft::Undoable;
+use sdr_model::limits::LONGEST_NAME;
+use sdr_model::{Call, Reply};
 use std::alloc::Global;
 
 // Whether a name has no byte or too many.

@@ -1,16 +1,16 @@
 // What calls that compare keys do to a world.
-ghost use Rattle.std.specs.Prelude.{◌≡◌, ◌<◌, ◌≤◌, ◌+◌, ◌^◌, cond, length, position, not};
 ghost use Rattle.std.specs.Ordering.{is_eq, is_gt};
+ghost use Rattle.std.specs.Prelude.{◌≡◌, ◌<◌, ◌≤◌, ◌+◌, ◌^◌, cond, length, position, not};
 ghost use Rattle.sdr_calls.specs.Answers.{Answers};
 ghost use Rattle.sdr_model.specs.ListSteps.{compare_keys, ordered_place, sort_key};
 
 use crate::insert_calls::insert_at;
-use sdr_model::limits::LONGEST_SORT_KEY;
 use crate::list_calls::{element_addr, list};
 use crate::raw_calls::{misnamed, raw};
-use sdr_model::{Call, Keys, Reply, SdrList};
-use sdr_draft::Undoable;
 use sdr_base::{Addr, NoMemory};
+use sdr_draft::Undoable;
+use sdr_model::limits::LONGEST_SORT_KEY;
+use sdr_model::{Call, Keys, Reply, SdrList};
 use std::cmp::Ordering;
 
 // The key of data in a list's comparison.

@@ -1,16 +1,16 @@
 // What calls on raw objects do to a world.
-ghost use Rattle.std.specs.Prelude.{◌≡◌, ◌<◌, ◌≤◌, ◌+◌, ◌^◌, IfSome, OnErr, OnOk, length, nat_lt};
 ghost use Rattle.std.specs.Option.{option_copied};
+ghost use Rattle.std.specs.Prelude.{◌≡◌, ◌<◌, ◌≤◌, ◌+◌, ◌^◌, IfSome, OnErr, OnOk, length, nat_lt};
 ghost use Rattle.sdr_calls.specs.Answers.{Answers, HasRoom, Overwrites};
 ghost use Rattle.sdr_model.specs.Dry.{next_addr};
 ghost use Rattle.sdr_model.specs.Limits.{longest_raw};
 ghost use Rattle.sdr_model.specs.World.{as_raw, misnamed, thing_at};
 ghost use Rattle.sdr_model.specs.Zco.{uses_of};
 
+use sdr_base::{Addr, Bytes, Kind, NoMemory, Refusal};
+use sdr_draft::Undoable;
 use sdr_model::limits::{LONGEST_RAW, LONGEST_READ};
 use sdr_model::{Call, Reply, Thing};
-use sdr_draft::Undoable;
-use sdr_base::{Addr, Bytes, Kind, NoMemory, Refusal};
 use std::alloc::Global;
 
 /// The refusal of a length outside a call's range.

@@ -1,15 +1,15 @@
 // What calls on tables do to a world.
-ghost use Rattle.std.specs.Prelude.{◌≡◌, ◌<◌, ◌^◌, OnErr, OnOk, length};
 ghost use Rattle.std.specs.Option.{option_copied};
+ghost use Rattle.std.specs.Prelude.{◌≡◌, ◌<◌, ◌^◌, OnErr, OnOk, length};
 ghost use Rattle.sdr_calls.specs.Answers.{Answers, HasRow, SetsRow};
 ghost use Rattle.sdr_model.specs.TableSteps.{as_table};
 ghost use Rattle.sdr_model.specs.World.{thing_at};
 
-use sdr_model::limits::{LONGEST_RAW, LONGEST_READ};
 use crate::raw_calls::{bad_length, misnamed};
-use sdr_model::{Call, Reply, SdrTable, Thing};
-use sdr_draft::Undoable;
 use sdr_base::{Addr, Bytes, NoMemory, Refusal};
+use sdr_draft::Undoable;
+use sdr_model::limits::{LONGEST_RAW, LONGEST_READ};
+use sdr_model::{Call, Reply, SdrTable, Thing};
 use std::alloc::Global;
 
 // The table at an address.

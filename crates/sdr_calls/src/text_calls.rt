@@ -1,14 +1,14 @@
 // What calls on strings do to a world.
-ghost use Rattle.std.specs.Prelude.{◌≡◌, ◌<◌, ◌^◌};
 ghost use Rattle.std.specs.Option.{option_copied};
+ghost use Rattle.std.specs.Prelude.{◌≡◌, ◌<◌, ◌^◌};
 ghost use Rattle.sdr_calls.specs.Answers.{Answers};
 ghost use Rattle.sdr_model.specs.World.{as_text, thing_at};
 
-use sdr_model::limits::LONGEST_STRING;
 use crate::raw_calls::{bad_length, misnamed};
-use sdr_model::{Call, Reply, Thing};
-use sdr_draft::Undoable;
 use sdr_base::{Addr, Bytes, NoMemory};
+use sdr_draft::Undoable;
+use sdr_model::limits::LONGEST_STRING;
+use sdr_model::{Call, Reply, Thing};
 use std::alloc::Global;
 
 // The text of the string at an address.

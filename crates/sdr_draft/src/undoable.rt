@@ -1,16 +1,16 @@
 // A world in the making.
-ghost use Rattle.std.specs.Prelude.{◌≡◌, ◌<◌, ◌+◌, ◌^◌, ◌++◌, length, take, ◌∷◌, [], IfOk, IfSome, OnOk, OnErr, IsSome, None, Some, Contains, true, false};
 ghost use Rattle.std.specs.FinMap as map;
 ghost use Rattle.std.specs.List.{list_any};
 ghost use Rattle.std.specs.Option.{option_copied};
+ghost use Rattle.std.specs.Prelude.{◌≡◌, ◌<◌, ◌+◌, ◌^◌, ◌++◌, length, take, ◌∷◌, [], IfOk, IfSome, OnOk, OnErr, IsSome, None, Some, Contains, true, false};
 ghost use Rattle.sdr_model.specs.Dry.{with_taken, next_addr};
-ghost use Rattle.sdr_model.specs.World.{at_rest, block_at, empty_world, is_marked, spot_of, thing_at};
 ghost use Rattle.sdr_model.specs.Names.{name_of, without_name};
-ghost use Rattle.sdr_undo.specs.Owners.{MayHave, MayPut};
 ghost use Rattle.sdr_model.specs.Steps.{with_thing, without_thing};
-ghost use Rattle.sdr_tally.specs.Tallies.{IsSound, is_plain};
 ghost use Rattle.sdr_model.specs.Things.{IsWithin, SpotIs, inner_among, inner_blocks};
+ghost use Rattle.sdr_model.specs.World.{at_rest, block_at, empty_world, is_marked, spot_of, thing_at};
 ghost use Rattle.sdr_model.specs.declared.things.Thing.{Thing};
+ghost use Rattle.sdr_tally.specs.Tallies.{IsSound, is_plain};
+ghost use Rattle.sdr_undo.specs.Owners.{MayHave, MayPut};
 
 mod blocks;
 mod bonding;
@@ -25,10 +25,10 @@ mod taking;
 mod touching;
 mod trimming;
 
-use sdr_model::{Accounts, Block, Spot, Thing};
-use sdr_undo::{Catalogue, Ledger, Named, Names, Owners, Store};
-use sdr_tally::Tally;
 use sdr_base::{Addr, Bytes, Items, NoMemory};
+use sdr_model::{Accounts, Block, Spot, Thing};
+use sdr_tally::Tally;
+use sdr_undo::{Catalogue, Ledger, Named, Names, Owners, Store};
 use std::alloc::Global;
 use std::marker::Model;
 

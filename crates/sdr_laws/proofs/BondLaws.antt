@@ -19,8 +19,7 @@ use Rattle.sdr_laws.proofs.SourceViews.{AllLie, Fits, Unnamed, apart_at, by_addr
 use Rattle.sdr_laws.specs.Fresh.{AreFresh}
 use Rattle.sdr_model.specs.BondSteps.{bond_moves, bonded_extents, with_bonded}
 use Rattle.sdr_model.specs.SourceSteps.{new_source}
-use Rattle.sdr_model.specs.Store.{with_at}
-use Rattle.sdr_model.specs.Things.{Things}
+use Rattle.sdr_model.specs.Things.{with_at, Things}
 use Rattle.sdr_model.specs.Valid.{HasBytes, HasSubject, LiesInside}
 use Rattle.sdr_model.specs.World.{World, as_raw}
 use Rattle.sdr_model.specs.Zco.{as_source, is_of_raw, naming, source_at}

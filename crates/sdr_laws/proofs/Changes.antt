@@ -12,17 +12,16 @@ use Rattle.sdr_laws.specs.Fresh.{AreFresh}
 use Rattle.sdr_laws.specs.Marks.{MarksTaken}
 use Rattle.sdr_laws.specs.MovesBlocks.{MovesBlocks, taken_needs, given_addresses}
 use Rattle.sdr_model.specs.Steps.{Outcome, taken_addresses}
-use Rattle.sdr_model.proofs.StoreLemmas.{get-with_at}
+use Rattle.sdr_model.proofs.ThingsLemmas.{get-with_at}
 use Rattle.sdr_model.specs.Blocks.{thing_blocks, things_blocks, blocks_of, addresses_of}
 use Rattle.sdr_base.specs.declared.moves.Move.{Move}
 use Rattle.sdr_model.specs.Accounts.{ticket_blocks}
 use Rattle.sdr_model.specs.Limits.{longest_name}
 use Rattle.sdr_model.specs.Step.{is_answer}
-use Rattle.sdr_model.specs.Store.{with_at}
-use Rattle.sdr_model.specs.Things.{Things, name_block}
+use Rattle.sdr_model.specs.Things.{with_at, Things, name_block}
 use Rattle.sdr_model.specs.Valid.{IsBetween, AreDistinct, FitTogether, IsValid, IsValidThing, names_of}
 use Rattle.sdr_model.specs.World.{World, thing_at}
-use Rattle.sdr_model.specs.declared.names.Name.{Name}
+use Rattle.sdr_model.specs.declared.name.Name.{Name}
 use Rattle.sdr_model.specs.declared.things.Block.{Block}
 use Rattle.sdr_model.specs.declared.things.Thing.{Thing}
 

@@ -25,7 +25,7 @@ use Rattle.sdr_model.specs.Charges.{bytes_charge, capsule_charge, extent_charge}
 use Rattle.sdr_model.specs.ObjectSteps.{with_extent}
 use Rattle.sdr_model.specs.Rows.{ByRow}
 use Rattle.sdr_model.specs.Steps.{Outcome, taken_at}
-use Rattle.sdr_model.specs.Store.{with_at}
+use Rattle.sdr_model.specs.Things.{with_at}
 use Rattle.sdr_model.specs.Valid.{FitTogether, IsValid}
 use Rattle.sdr_model.specs.World.{World, thing_at}
 use Rattle.sdr_model.specs.declared.call.Call.{Call}

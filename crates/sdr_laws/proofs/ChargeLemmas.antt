@@ -14,13 +14,12 @@ use Rattle.sdr_laws.proofs.DistinctLemmas.{on_test}
 use Rattle.sdr_laws.proofs.Effects.{IsNoZco}
 use Rattle.sdr_laws.proofs.SourceViews.{AllLie, Fits, apart_at, by_addr, here_at, names_apart, of, same_view, source_there, sum_by-with_at, uses_there}
 use Rattle.sdr_model.proofs.SumLemmas.{counted_at, sum_by-removed}
-use Rattle.sdr_model.proofs.StoreLemmas.{same_address}
+use Rattle.sdr_model.proofs.ThingsLemmas.{same_address}
 use Rattle.sdr_model.specs.Accounts.{is_same_account}
 use Rattle.sdr_model.specs.Charges.{bytes_charge, extent_charge, object_charge, space_in, thing_charge}
 use Rattle.std.specs.Option.{option_map}
 use Rattle.sdr_model.specs.SourceSteps.{flagged}
-use Rattle.sdr_model.specs.Store.{with_at}
-use Rattle.sdr_model.specs.Things.{Things}
+use Rattle.sdr_model.specs.Things.{with_at, Things}
 use Rattle.sdr_model.specs.Valid.{LiesInside}
 use Rattle.sdr_model.specs.World.{World}
 use Rattle.sdr_model.specs.Zco.{as_object, as_source, object_at, source_at, uses_of}

@@ -16,8 +16,7 @@ use Rattle.sdr_laws.specs.Charged.{charge_in}
 use Rattle.sdr_model.specs.Accounts.{is_same_account}
 use Rattle.sdr_model.specs.BondSteps.{bond_charge, bond_rise, bonded_extents}
 use Rattle.sdr_model.specs.Charges.{bytes_charge, capsule_charge, extent_charge, object_charge, space_in}
-use Rattle.sdr_model.specs.Store.{with_at}
-use Rattle.sdr_model.specs.Things.{Things}
+use Rattle.sdr_model.specs.Things.{with_at, Things}
 use Rattle.sdr_model.specs.Zco.{as_source, source_at}
 use Rattle.sdr_model.specs.declared.things.Thing.TheVariants as things
 use Rattle.sdr_model.specs.declared.zco.Capsule.{Capsule}

@@ -25,8 +25,7 @@ use Rattle.sdr_model.specs.Queue.{barrier}
 use Rattle.sdr_model.specs.Step.{Step, StopsWith, is_answer}
 use Rattle.sdr_model.specs.Steps.{DoesWith, Outcome, Refuses, taken_at, takes_from}
 use Rattle.sdr_model.specs.Cuts.{placed}
-use Rattle.sdr_model.specs.Store.{with_at}
-use Rattle.sdr_model.specs.Things.{extent_need, object_need}
+use Rattle.sdr_model.specs.Things.{with_at, extent_need, object_need}
 use Rattle.sdr_model.specs.World.{World, as_raw, thing_at}
 use Rattle.sdr_model.specs.Zco.{object_at}
 use Rattle.sdr_model.specs.declared.answer.Reply.{Reply}

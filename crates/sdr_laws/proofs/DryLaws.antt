@@ -9,7 +9,7 @@ use Rattle.sdr_base.specs.declared.moves.Move.TheVariants.{Took, Gave, Short}
 use Rattle.sdr_laws.proofs.BlockLaws.{counted_after, row_goes, same_addr, differ}
 use Rattle.sdr_laws.proofs.DistinctLemmas.{absent, count_by-cons, none_counted, not_contained, on_test, others, others_counted, weight_of}
 use Rattle.sdr_laws.proofs.WholeLaws.{whole_kept, whole_same}
-use Rattle.sdr_laws.specs.Whole.{IsWhole}
+use Rattle.sdr_model.specs.Whole.{IsWhole}
 use Rattle.sdr_laws.specs.Fresh.{AreFresh}
 use Rattle.sdr_model.specs.Steps.{taken_addresses, Outcome}
 use Rattle.sdr_laws.specs.ValidDry.{IsValidDry}

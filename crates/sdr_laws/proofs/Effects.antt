@@ -5,7 +5,7 @@ use Rattle.sdr_base.specs.declared.moves.Move.TheVariants.{Took, Gave, Short}
 use Rattle.sdr_laws.specs.Fresh.{AreFresh}
 use Rattle.sdr_model.specs.Blocks.{addresses_of, blocks_of}
 use Rattle.sdr_model.specs.Steps.{Outcome, TakesOne, with_thing}
-use Rattle.sdr_model.specs.Store.{with_at}
+use Rattle.sdr_model.specs.Things.{with_at}
 use Rattle.sdr_model.specs.Valid.{HasBytes}
 use Rattle.sdr_model.specs.World.{World, as_raw, thing_at}
 use Rattle.sdr_model.specs.Zco.{source_on}

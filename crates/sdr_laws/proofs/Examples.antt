@@ -13,7 +13,7 @@ use Rattle.sdr_base.specs.declared.refusal.Refusal.TheVariants as refusals
 use Rattle.sdr_laws.proofs.DistinctLemmas.{not_contained}
 use Rattle.sdr_laws.specs.Example.{example, example_accounts, example_blocks, example_extent, example_hash, example_list, example_longer, example_object, example_raw, example_source, example_things}
 use Rattle.sdr_laws.specs.Fresh.{AreFresh}
-use Rattle.sdr_model.proofs.StoreLemmas.{same_address}
+use Rattle.sdr_model.proofs.ThingsLemmas.{same_address}
 use Rattle.sdr_model.specs.Accounts.{ticket_blocks}
 use Rattle.sdr_model.specs.Blocks.{addresses_of, blocks_of, thing_blocks}
 use Rattle.sdr_model.specs.Gone.{source_blocks}

@@ -17,13 +17,13 @@ use Rattle.sdr_laws.proofs.AccountLemmas.{pending_stands}
 use Rattle.sdr_laws.proofs.DistinctLemmas.{on_test}
 use Rattle.sdr_laws.proofs.ThingChanges.{in_takes}
 use Rattle.sdr_model.specs.Steps.{DoesWith, Outcome, Refuses, TakesOne, taken_addresses, taken_at, with_thing}
-use Rattle.sdr_model.proofs.StoreLemmas.{get-with_at, same_address}
+use Rattle.sdr_model.proofs.ThingsLemmas.{get-with_at, same_address}
 use Rattle.sdr_model.specs.Accounts.{account_of, no_ticket, pending_in, tickets_of, with_tickets}
 use Rattle.sdr_model.specs.Amounts.{amounts_by, are_within, first_above, minus, plus}
 use Rattle.sdr_model.specs.Charges.{occupancies, rooms}
 use Rattle.sdr_model.specs.Charging.{Charges, RefusesSpace, grant_left, with_used}
 use Rattle.sdr_model.specs.Fields.{AreBytes, FitsFields, FitsName, FitsThing, FitsTicket, IsWord}
-use Rattle.sdr_model.specs.Store.{with_at}
+use Rattle.sdr_model.specs.Things.{with_at}
 use Rattle.sdr_model.specs.World.{World, thing_at}
 use Rattle.sdr_model.specs.Queue.{barrier, granted, served, with_served}
 use Rattle.sdr_model.specs.declared.accounts.Accounts.{Accounts}

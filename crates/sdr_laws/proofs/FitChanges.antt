@@ -7,8 +7,7 @@ use Rattle.sdr_laws.proofs.Effects.{IsNoZco, KeepsBytes}
 use Rattle.sdr_laws.proofs.ThingLemmas.{source_is}
 use Rattle.sdr_model.specs.Gone.{is_passing}
 use Rattle.sdr_model.specs.SourceSteps.{flagged}
-use Rattle.sdr_model.specs.Store.{with_at}
-use Rattle.sdr_model.specs.Things.{Things}
+use Rattle.sdr_model.specs.Things.{with_at, Things}
 use Rattle.sdr_model.specs.Valid.{HasBytes, HasSubject, LiesInside}
 use Rattle.sdr_model.specs.World.{as_raw}
 use Rattle.sdr_model.specs.Zco.{as_object, as_source, is_of_raw, object_at, source_at, uses_of}

@@ -10,7 +10,7 @@ use Rattle.std.proofs.lemmas.List.Sums.{sum_by-append}
 use Rattle.sdr_laws.proofs.DistinctLemmas.{count_by-cons, on_test, once, weight, weight_of}
 use Rattle.sdr_laws.proofs.EditLemmas.{count_by-map}
 use Rattle.sdr_laws.proofs.ThingChanges.{own_addr}
-use Rattle.sdr_model.proofs.StoreLemmas.{same_address}
+use Rattle.sdr_model.proofs.ThingsLemmas.{same_address}
 use Rattle.sdr_model.specs.Accounts.{ticket_blocks}
 use Rattle.sdr_model.specs.Blocks.{addresses_of, blocks_of, thing_blocks}
 use Rattle.sdr_model.specs.Things.{block_among, inner_among, inner_blocks, name_block, own_block}

@@ -13,12 +13,10 @@ use Rattle.sdr_laws.proofs.DistinctLemmas.{on_test, weight}
 use Rattle.sdr_laws.proofs.Effects.{IsNoZco}
 use Rattle.sdr_laws.proofs.FitChanges.{fits_dropped, fits_plain}
 use Rattle.sdr_laws.proofs.SourceViews.{Fits, NoSpare, Unnamed, apart_at, by_addr, fits_more, here_at, of, same_view, uses-with_at, uses_at}
-use Rattle.sdr_laws.proofs.ThingLemmas.{raw_is}
-use Rattle.sdr_laws.proofs.ThingLemmas.{source_is}
-use Rattle.sdr_model.proofs.StoreLemmas.{same_things}
+use Rattle.sdr_laws.proofs.ThingLemmas.{raw_is, source_is}
+use Rattle.sdr_model.proofs.ThingsLemmas.{same_things}
 use Rattle.sdr_model.specs.Gone.{gone_things, gone_with, is_last_use, is_passing, names_source, source_blocks, without_things}
-use Rattle.sdr_model.specs.Store.{with_at}
-use Rattle.sdr_model.specs.Things.{Things}
+use Rattle.sdr_model.specs.Things.{with_at, Things}
 use Rattle.sdr_model.specs.Valid.{HasBytes, HasSubject}
 use Rattle.sdr_model.specs.World.{World, as_raw, thing_at}
 use Rattle.sdr_model.specs.Zco.{as_source, is_of_raw, naming, owned_raw, source_at, taken_over, uses_of}

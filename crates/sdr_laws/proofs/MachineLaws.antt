@@ -11,11 +11,12 @@ use Rattle.sdr_model.proofs.Cases.{in_bool, in_option}
 use Rattle.sdr_model.specs.AccountSteps.{pending_of}
 use Rattle.sdr_model.specs.Accounts.{ticket_blocks}
 use Rattle.sdr_model.specs.Blocks.{addresses_of, blocks_of, things_blocks}
-use Rattle.sdr_model.specs.Core.{Core, Made, RunsCore, first_core}
+use Rattle.sdr_machine.specs.Core.{Core, RunsCore, first_core}
+use Rattle.sdr_model.specs.Made.{Made}
 use Rattle.sdr_model.specs.Dry.{StepsDry, StopsReading}
-use Rattle.sdr_model.specs.Machine.{Machine, MachineStep, Comes, Holds, Leaving, Looks, LooksAt, Waits, Serves, event_moves, is_outside, is_stalled, may_come, served_number, waits_for, with_drawn, with_next, without_served}
+use Rattle.sdr_machine.specs.Machine.{Machine, MachineStep, Comes, Holds, Leaving, Looks, LooksAt, Waits, Serves, event_moves, is_outside, is_stalled, may_come, served_number, waits_for, with_drawn, with_next, without_served}
 use Rattle.sdr_model.specs.Things.{name_block}
-use Rattle.sdr_model.specs.Transaction.{Transaction, Transacts, Replies, transaction_of, left_by, closing, is_opening, is_closing, deepest}
+use Rattle.sdr_machine.specs.Transaction.{Transaction, Transacts, Replies, transaction_of, left_by, closing, is_opening, is_closing, deepest}
 use Rattle.sdr_model.specs.World.{World, empty_world}
 use Rattle.sdr_model.specs.declared.answer.Answer.{Answer}
 use Rattle.sdr_model.specs.declared.answer.Answer.TheVariants as answers

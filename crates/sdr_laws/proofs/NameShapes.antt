@@ -27,7 +27,7 @@ use Rattle.sdr_model.specs.Valid.{AreDistinct, IsBetween, names_of}
 use Rattle.sdr_model.specs.World.{World}
 use Rattle.sdr_model.specs.declared.answer.Reply.TheVariants as replies
 use Rattle.sdr_model.specs.declared.call.Call.TheVariants as calls
-use Rattle.sdr_model.specs.declared.names.Name.{Name}
+use Rattle.sdr_model.specs.declared.name.Name.{Name}
 
 -- a name of no catalogue
 pub no_name : Name

@@ -27,8 +27,7 @@ use Rattle.sdr_model.specs.Gone.{gone_things}
 use Rattle.sdr_model.specs.ObjectSteps.{with_extent}
 use Rattle.sdr_model.specs.SourceSteps.{new_source}
 use Rattle.sdr_model.specs.Steps.{Outcome, taken_at}
-use Rattle.sdr_model.specs.Store.{with_at}
-use Rattle.sdr_model.specs.Things.{Things, source_need}
+use Rattle.sdr_model.specs.Things.{with_at, Things, source_need}
 use Rattle.sdr_model.specs.Valid.{AreInside, FitTogether, HasBytes, IsValid, LiesInside}
 use Rattle.sdr_model.specs.World.{World, as_raw, thing_at}
 use Rattle.sdr_model.specs.Zco.{as_object, as_source, names_raw, naming, source_at, source_on, uses_of}

@@ -13,11 +13,10 @@ use Rattle.sdr_base.specs.declared.account.Acct.TheVariants as accts
 use Rattle.sdr_laws.proofs.DistinctLemmas.{on_test, weight}
 use Rattle.sdr_model.proofs.SumLemmas.{counted_at, sum_by-inserted, sum_by-removed}
 use Rattle.sdr_laws.proofs.ThingLemmas.{object_is, source_is}
-use Rattle.sdr_model.proofs.StoreLemmas.{at_itself, get-with_at, same_address}
+use Rattle.sdr_model.proofs.ThingsLemmas.{at_itself, get-with_at, same_address}
 use Rattle.sdr_model.specs.Accounts.{fresh_accounts, is_same_account}
 use Rattle.sdr_model.specs.Gone.{is_passing}
-use Rattle.sdr_model.specs.Store.{with_at}
-use Rattle.sdr_model.specs.Things.{Things}
+use Rattle.sdr_model.specs.Things.{with_at, Things}
 use Rattle.sdr_model.specs.Valid.{AreInside, FitTogether, HasBytes, HasSubject, IsUsed, LiesInside}
 use Rattle.sdr_model.specs.World.{World, as_raw, thing_at}
 use Rattle.sdr_model.specs.Zco.{as_object, as_source, is_of_raw, names_raw, naming, object_at, source_at, uses_in, uses_of}

@@ -7,7 +7,7 @@ use Rattle.std.specs.Ordering.{nat_cmp}
 use Rattle.sdr_model.specs.Things.{Spot, Things, spot_among, spot_in_thing}
 use Rattle.sdr_model.specs.declared.things.Thing.{Thing}
 use Rattle.sdr_model.specs.declared.things.Thing.TheVariants as things
-use Rattle.sdr_model.proofs.StoreLemmas.{at_itself, same_address}
+use Rattle.sdr_model.proofs.ThingsLemmas.{at_itself, same_address}
 
 left_of : (a b : Bool) → T (a && b) → T a
 left_of true b h = tt

@@ -7,7 +7,7 @@ use Rattle.sdr_laws.proofs.QueueLaws.{queues_kept}
 use Rattle.sdr_laws.proofs.SourceLaws.{sources_kept}
 use Rattle.sdr_laws.proofs.SourceViews.{fit_same}
 use Rattle.sdr_laws.specs.Fresh.{AreFresh}
-use Rattle.sdr_laws.specs.Whole.{IsWhole}
+use Rattle.sdr_model.specs.Whole.{IsWhole}
 use Rattle.sdr_model.specs.Blocks.{addresses_of, blocks_of}
 use Rattle.sdr_model.specs.Step.{Step}
 use Rattle.sdr_model.specs.Valid.{IsValid, KeepQueues}

@@ -8,13 +8,12 @@ use Rattle.sdr_laws.proofs.Alike.{Alike}
 use Rattle.sdr_laws.proofs.Changes.{Changes, IsFresh, KeepsLimits, blocks_at, moves_blocks, same_limits, sum_by-blocks_of, things_blocks-with_at}
 use Rattle.sdr_laws.specs.MovesBlocks.{given_addresses, taken_needs}
 use Rattle.sdr_laws.proofs.DistinctLemmas.{on_test}
-use Rattle.sdr_model.proofs.StoreLemmas.{get-with_at, same_address}
+use Rattle.sdr_model.proofs.ThingsLemmas.{get-with_at, same_address}
 use Rattle.sdr_model.specs.Accounts.{ticket_blocks}
 use Rattle.sdr_model.specs.Blocks.{addresses_of, blocks_of, things_blocks}
 use Rattle.sdr_model.specs.Step.{is_answer}
 use Rattle.sdr_model.specs.Steps.{Outcome, taken_addresses}
-use Rattle.sdr_model.specs.Store.{with_at}
-use Rattle.sdr_model.specs.Things.{name_block}
+use Rattle.sdr_model.specs.Things.{with_at, name_block}
 use Rattle.sdr_model.specs.Valid.{IsValid, IsValidThing}
 use Rattle.sdr_model.specs.World.{World, thing_at}
 use Rattle.sdr_model.specs.declared.things.Block.{Block}

@@ -15,7 +15,7 @@ use Rattle.sdr_laws.proofs.QueueOrder.{pairs}
 use Rattle.sdr_laws.proofs.SourceViews.{AllLie, fits_to}
 use Rattle.sdr_laws.specs.Fresh.{AreFresh}
 use Rattle.sdr_laws.specs.ZcoExample.{file_source, first_ticket, grown_world, raw_source, second_ticket, small_object, small_things, small_world}
-use Rattle.sdr_model.proofs.StoreLemmas.{same_address}
+use Rattle.sdr_model.proofs.ThingsLemmas.{same_address}
 use Rattle.sdr_model.specs.Accounts.{ticket_blocks}
 use Rattle.sdr_model.specs.Amounts.{amounts_by, are_within, first_above, no_amounts}
 use Rattle.sdr_model.specs.Blocks.{addresses_of, blocks_of, thing_blocks}

@@ -24,7 +24,7 @@ use Rattle.sdr_model.specs.SourceSteps.{flagged, new_source}
 use Rattle.sdr_model.specs.Step.{is_answer}
 use Rattle.sdr_model.specs.declared.call.Call.{Call}
 use Rattle.sdr_model.specs.Steps.{Outcome, taken_at}
-use Rattle.sdr_model.specs.Store.{with_at}
+use Rattle.sdr_model.specs.Things.{with_at}
 use Rattle.sdr_model.specs.Valid.{AreInside, HasSubject}
 use Rattle.sdr_model.specs.World.{World, as_raw, thing_at}
 use Rattle.sdr_model.specs.Zco.{is_of_raw, naming, object_at, source_at, source_on, uses_of}

@@ -9,5 +9,4 @@ pub mod Refused
 pub mod Shows
 pub mod TakesAt
 pub mod ValidDry
-pub mod Whole
 pub mod ZcoExample

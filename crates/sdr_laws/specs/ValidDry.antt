@@ -1,6 +1,6 @@
 -- Valid worlds of a machine that has no heap.
 use Rattle.std.specs.Prelude.{◌≤◌, ◌*◌, All}
-use Rattle.sdr_laws.specs.Whole.{IsWhole}
+use Rattle.sdr_model.specs.Whole.{IsWhole}
 use Rattle.sdr_model.specs.Blocks.{addresses_of, blocks_of}
 use Rattle.sdr_model.specs.World.{World}
 

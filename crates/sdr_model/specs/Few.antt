@@ -1,4 +1,4 @@
--- How much a machine has after so many events.
+-- How many headers, extents and trailers objects have.
 use Rattle.sdr_model.specs.Things.{Things}
 use Rattle.sdr_model.specs.declared.things.Thing.TheVariants as things
 use Rattle.sdr_model.specs.declared.zco.ZcoObject.{ZcoObject}

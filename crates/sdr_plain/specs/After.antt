@@ -1,4 +1,5 @@
 -- How much a machine has after so many events.
+use Rattle.sdr_model.specs.Few.{pieces, HasFewPieces}
 use Rattle.sdr_machine.specs.Machine.{Machine}
 use Rattle.sdr_model.specs.declared.things.Thing.TheVariants as things
 use Rattle.std.specs.Prelude.{◌≤◌, ℕ, ◌*◌, ◌^◌, length}

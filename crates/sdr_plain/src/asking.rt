@@ -4,12 +4,12 @@ ghost use Rattle.sdr_machine.specs.Asking.{HasPieces};
 ghost use Rattle.sdr_model.specs.Pieces.{AsksBytes};
 ghost use Rattle.sdr_model.specs.Reading.{reads_media};
 
+use sdr_base::{Items, NoMemory};
+use sdr_draft::Undoable;
 use sdr_model::limits::LONGEST_READ;
+use sdr_model::{Call, Piece};
 use sdr_zco_calls::object_calls::object;
 use sdr_zco_calls::wire_calls::{asked, parts};
-use sdr_model::{Call, Piece};
-use sdr_draft::Undoable;
-use sdr_base::{Items, NoMemory};
 use std::alloc::Global;
 
 /// The pieces of the bytes by which a call is answered, where it asks bytes of an object that is there, and

@@ -1,19 +1,19 @@
 // The lock of a plain machine: numbers are drawn, and the least that isn't done is served.
-ghost use Rattle.std.specs.Prelude.{◌≡◌, ◌<◌, ◌+◌, ◌^◌, ◌==◌, ◌&&◌, ◌||◌, not, IfOk, IfSome, None, Ok, OnErr, OnOk, filter, find, length, drop, true, [], ◌∷◌, ◌++◌};
 ghost use Rattle.std.specs.List.{list_all, list_any};
+ghost use Rattle.std.specs.Prelude.{◌≡◌, ◌<◌, ◌+◌, ◌^◌, ◌==◌, ◌&&◌, ◌||◌, not, IfOk, IfSome, None, Ok, OnErr, OnOk, filter, find, length, drop, true, [], ◌∷◌, ◌++◌};
+ghost use Rattle.sdr_machine.specs.Asking.{Asks, AsksNothing, makes_calls, settled};
+ghost use Rattle.sdr_machine.specs.Leaving.{holding, staying};
+ghost use Rattle.sdr_machine.specs.Machine.{MachineStep, Goes, Draws, Comes, ComesLooking, ComesLeaving, LooksAt, Leaving, Looks, Opens, Serves, Closes, Waits, Holds, event_moves, says_moves, first_machine, served_number, is_outside, is_stalled, may_come, with_entry, with_wait, with_left, with_holder};
+ghost use Rattle.sdr_machine.specs.Transaction.{refused};
 ghost use Rattle.sdr_model.specs.AccountSteps.{is_granted};
 ghost use Rattle.sdr_model.specs.Accounts.{pending_among};
-ghost use Rattle.sdr_machine.specs.Asking.{Asks, AsksNothing, makes_calls, settled};
 ghost use Rattle.sdr_model.specs.Few.{HasFewPieces, most_pieces};
-ghost use Rattle.sdr_machine.specs.Leaving.{holding, staying};
-ghost use Rattle.sdr_machine.specs.Transaction.{refused};
-ghost use Rattle.sdr_machine.specs.Machine.{MachineStep, Goes, Draws, Comes, ComesLooking, ComesLeaving, LooksAt, Leaving, Looks, Opens, Serves, Closes, Waits, Holds, event_moves, says_moves, first_machine, served_number, is_outside, is_stalled, may_come, with_entry, with_wait, with_left, with_holder};
 
 use crate::asking::pieces_of;
 use crate::transaction::{close, deepen, refused, retreat, rise, say};
-use sdr_model::{Accounts, Answer, Call, Event, Holder, Piece, Reply, Waiting};
-use sdr_draft::Undoable;
 use sdr_base::{Bytes, Items, NoMemory, Refusal};
+use sdr_draft::Undoable;
+use sdr_model::{Accounts, Answer, Call, Event, Holder, Piece, Reply, Waiting};
 use std::alloc::Global;
 use std::marker::Model;
 

@@ -4,9 +4,9 @@ ghost use Rattle.sdr_machine.specs.Asking.{Asks, AsksNothing, settled};
 ghost use Rattle.sdr_machine.specs.Leaving.{AllLeave, LeaveInTurn};
 ghost use Rattle.sdr_machine.specs.Machine.{MachineStep, event_moves, first_machine};
 
-use sdr_model::{Answer, Event, Leave, Piece};
 use crate::Lock;
 use sdr_base::{Bytes, Items, NoMemory};
+use sdr_model::{Answer, Event, Leave, Piece};
 use std::alloc::Global;
 use std::marker::Model;
 

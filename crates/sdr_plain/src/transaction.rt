@@ -1,14 +1,14 @@
 // The events of an open transaction.
 ghost use Rattle.std.specs.Prelude.{◌≡◌, ◌<◌, ◌≤◌, ◌^◌, IfOk, OnErr, None, Some, unwrap_or, [], true, false};
-ghost use Rattle.sdr_model.specs.Few.{HasFewPieces, most_pieces};
-ghost use Rattle.sdr_machine.specs.Transaction.{transaction_of, Deepens, Rises, Retreats, Says, after_reply, refused, close_of, closing, left_by};
 ghost use Rattle.sdr_machine.specs.Machine.{says_moves};
+ghost use Rattle.sdr_machine.specs.Transaction.{transaction_of, Deepens, Rises, Retreats, Says, after_reply, refused, close_of, closing, left_by};
+ghost use Rattle.sdr_model.specs.Few.{HasFewPieces, most_pieces};
 ghost use Rattle.sdr_model.specs.World.{World as PlainWorld};
 
-use sdr_model::{Answer, Call, Close, Event, Holder, Reply};
-use sdr_draft::Undoable;
 use crate::apply;
 use sdr_base::{NoMemory, Reason, Refusal};
+use sdr_draft::Undoable;
+use sdr_model::{Answer, Call, Close, Event, Holder, Reply};
 use std::alloc::Global;
 
 /// Transactions are nested to this depth at most.

@@ -3,8 +3,8 @@ use Rattle.std.proofs.Common.{◌≡◌, ℕ, List, false, Result, Ok, Err, IfOk
 use Rattle.sdr_base.specs.declared.moves.Move.{Move}
 use Rattle.sdr_base.specs.declared.refusal.Refusal.TheVariants as refusals
 use Rattle.sdr_laws.proofs.StepLemmas.{row_is_no_stop}
-use Rattle.sdr_model.specs.Asking.{AsksNothing, IsUnstopped, is_gap}
-use Rattle.sdr_model.specs.Machine.{Machine, MachineStep}
+use Rattle.sdr_machine.specs.Asking.{AsksNothing, IsUnstopped, is_gap}
+use Rattle.sdr_machine.specs.Machine.{Machine, MachineStep}
 use Rattle.sdr_model.specs.declared.answer.Answer.{Answer}
 use Rattle.sdr_model.specs.declared.answer.Answer.TheVariants as answers
 use Rattle.sdr_model.specs.declared.answer.Reply.{Reply}

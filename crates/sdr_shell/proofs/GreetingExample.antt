@@ -3,10 +3,10 @@ use Rattle.std.proofs.Common.{inl}
 use Rattle.std.specs.Prelude.{◌≡◌, List, [], ◌∷◌, None, true, false, codes, length, refl}
 use Rattle.std.specs.FinMap as map
 use Rattle.std.specs.Fmt.{digits}
-use Rattle.sdr_model.specs.Core.{Core, Made, CoreStep, first_core, core_after}
-use Rattle.sdr_model.specs.Machine.{Machine, first_machine}
-use Rattle.sdr_model.specs.Draft.{at_rest}
-use Rattle.sdr_model.specs.World.{World, empty_world}
+use Rattle.sdr_machine.specs.Core.{Core, CoreStep, first_core, core_after}
+use Rattle.sdr_model.specs.Made.{Made}
+use Rattle.sdr_machine.specs.Machine.{Machine, first_machine}
+use Rattle.sdr_model.specs.World.{at_rest, World, empty_world}
 use Rattle.sdr_model.specs.declared.answer.Answer.TheVariants as answers
 use Rattle.sdr_model.specs.declared.answer.Close.TheVariants as closes
 use Rattle.sdr_model.specs.declared.answer.Reply.TheVariants as replies

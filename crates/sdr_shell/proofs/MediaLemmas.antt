@@ -2,7 +2,7 @@
 use Rattle.std.proofs.Common.{◌≡◌, ◌+◌, ℕ, List, [], ◌∷◌, ◌++◌, refl, sym, ◌∙◌, subst, arith}
 use Rattle.std.specs.List.{sum_by}
 use Rattle.std.proofs.lemmas.List.Sums.{sum_by-append, sum_by-cons}
-use Rattle.sdr_model.specs.Core.{Made}
+use Rattle.sdr_model.specs.Made.{Made}
 use Rattle.sdr_shell.specs.Schedule.{AreCaused, HaveFailed, IsCaused, MediaChange, RoseBy, SeenMedia, from_to, is_media_fault, is_short, media_faults, once, short_answers}
 
 -- a count that rose so often, and so often more

@@ -4,10 +4,11 @@ use Rattle.std.specs.declared.option.Option.{Option}
 use Rattle.std.specs.Io.KnownBytes.{Appends, Keeps}
 use Rattle.std.proofs.KnownBytes.{Appends-nil, Appends-trans, Appends-kept}
 use Rattle.sdr_base.specs.Written.{AppendsPart}
-use Rattle.sdr_model.specs.Core.{Core, CoreStep, Made, RunsCore, first_core, core_after, given_bytes}
+use Rattle.sdr_machine.specs.Core.{Core, CoreStep, RunsCore, first_core, core_after, given_bytes}
+use Rattle.sdr_model.specs.Made.{Made}
 use Rattle.sdr_base.specs.Media.{Told}
-use Rattle.sdr_model.specs.Asking.{AgreesWith}
-use Rattle.sdr_model.specs.Machine.{Machine, MachineStep, event_moves, first_machine}
+use Rattle.sdr_machine.specs.Asking.{AgreesWith}
+use Rattle.sdr_machine.specs.Machine.{Machine, MachineStep, event_moves, first_machine}
 use Rattle.sdr_model.specs.declared.answer.Answer.{Answer}
 use Rattle.sdr_model.specs.declared.answer.Answer.TheVariants as answers
 use Rattle.sdr_model.specs.declared.answer.Reply.TheVariants as replies

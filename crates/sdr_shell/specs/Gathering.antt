@@ -1,10 +1,10 @@
 -- What is gathered of the pieces that a call asks for.
 use Rattle.std.specs.Prelude.{◌≡◌, ◌<◌, ◌≤◌, ℕ, List, ◌++◌, length, Option, IfSome, ⊤}
 use Rattle.sdr_base.specs.Media.{Told}
-use Rattle.sdr_model.specs.Asking.{IsFirstShort}
+use Rattle.sdr_machine.specs.Asking.{IsFirstShort}
 use Rattle.sdr_model.specs.Pieces.{bytes_by, media_bytes, piece_length, piece_told, pieces_told}
 use Rattle.sdr_model.specs.Wire.{Spells}
-use Rattle.sdr_model.specs.declared.wire.Piece.{Piece}
+use Rattle.sdr_model.specs.declared.piece.Piece.{Piece}
 use Rattle.sdr_shell.specs.declared.media.Gap.{Gap}
 use Rattle.sdr_shell.specs.declared.media.Gap.TheVariants as gaps
 

@@ -3,9 +3,10 @@ use Rattle.std.specs.Prelude.{◌≡◌, ◌≤◌, ℕ, ◌+◌, ◌-◌, ◌^�
 use Rattle.std.specs.List.{list_any, range_with_len}
 use Rattle.sdr_base.specs.Media.{Told}
 use Rattle.sdr_base.specs.declared.refusal.Refusal.TheVariants as refusals
-use Rattle.sdr_model.specs.Asking.{AgreesWith}
-use Rattle.sdr_model.specs.Core.{Core, Made, RunsCore, first_core, given_bytes}
-use Rattle.sdr_model.specs.Machine.{Machine, MachineStep, event_moves}
+use Rattle.sdr_machine.specs.Asking.{AgreesWith}
+use Rattle.sdr_machine.specs.Core.{Core, RunsCore, first_core, given_bytes}
+use Rattle.sdr_model.specs.Made.{Made}
+use Rattle.sdr_machine.specs.Machine.{Machine, MachineStep, event_moves}
 use Rattle.sdr_model.specs.declared.answer.Answer.{Answer}
 use Rattle.sdr_model.specs.declared.answer.Answer.TheVariants as answers
 use Rattle.sdr_model.specs.declared.answer.Reply.TheVariants as replies

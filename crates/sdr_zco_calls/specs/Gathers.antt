@@ -1,4 +1,5 @@
 -- What is gathered of pieces.
+use Rattle.sdr_model.specs.Pieces.{cut_pieces}
 use Rattle.sdr_zco_calls.specs.declared.wire.Gathering.{Gathering}
 use Rattle.sdr_model.specs.declared.piece.Piece.TheVariants as pieces
 use Rattle.sdr_model.specs.declared.piece.Piece.{Piece}

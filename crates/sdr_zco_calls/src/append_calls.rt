@@ -4,12 +4,12 @@ ghost use Rattle.sdr_calls.specs.Answers.{Answers};
 ghost use Rattle.sdr_model.specs.Zco.{object_at, source_at};
 ghost use Rattle.sdr_parts.specs.declared.component.Component.TheVariants as components;
 
-use sdr_parts::component::Component;
 use crate::object_calls::object;
-use sdr_calls::raw_calls::{in_use, misnamed, raw};
-use sdr_model::{Call, Extent, Reply};
-use sdr_draft::Undoable;
 use sdr_base::{Addr, NoMemory, Refusal};
+use sdr_calls::raw_calls::{in_use, misnamed, raw};
+use sdr_draft::Undoable;
+use sdr_model::{Call, Extent, Reply};
+use sdr_parts::component::Component;
 
 /// An append that is asked.
 #[derive(Clone, Copy)]

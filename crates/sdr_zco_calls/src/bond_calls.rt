@@ -1,20 +1,21 @@
 // Objects whose headers and trailers become extents.
 ghost use Rattle.std.specs.Prelude.{◌≡◌, ◌≤◌, ◌<◌, ◌+◌, ◌*◌, ◌^◌, ◌++◌, [], ℕ, IfOk, OnOk, length, sum_by};
-ghost use Rattle.sdr_model.specs.Amounts.{amounts_by, no_amounts};
 ghost use Rattle.sdr_calls.specs.Answers.{Answers};
+ghost use Rattle.sdr_model.specs.Amounts.{amounts_by, no_amounts};
 ghost use Rattle.sdr_model.specs.BondSteps.{bond_charge, bonded, bonded_extents, capsules_of};
 ghost use Rattle.sdr_model.specs.Charges.{capsule_charge};
 ghost use Rattle.sdr_model.specs.Few.{HasFewPieces, most_pieces, pieces};
 ghost use Rattle.sdr_model.specs.ObjectSteps.{wire_length};
 
-use sdr_parts::amounts::NOTHING;
-use sdr_parts::charges::{heap_charge, rise};
 use crate::object_calls::object;
+use sdr_base::{Addr, Items, NoMemory, Space};
 use sdr_calls::raw_calls::misnamed;
+use sdr_draft::Undoable;
 use sdr_model::{Call, Capsule, Extent, Reply, ZcoObject};
 use sdr_parts::Change;
-use sdr_draft::Undoable;
-use sdr_base::{Addr, Items, NoMemory, Space};
+use sdr_parts::amounts::NOTHING;
+use sdr_parts::charges::{heap_charge, rise};
+use sdr_parts::object::object_of;
 use std::alloc::Global;
 
 // Adds copies of headers or trailers.

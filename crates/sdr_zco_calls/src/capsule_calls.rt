@@ -3,13 +3,13 @@ ghost use Rattle.std.specs.Prelude.{◌≡◌, ◌<◌, ◌^◌};
 ghost use Rattle.sdr_calls.specs.Answers.{Answers};
 ghost use Rattle.sdr_parts.specs.Sides.{capsule_call};
 
-use sdr_parts::Side;
-use sdr_model::limits::LONGEST_CAPSULE;
 use crate::object_calls::object;
-use sdr_calls::raw_calls::{bad_length, misnamed};
-use sdr_model::{Call, Capsule, Reply};
-use sdr_draft::Undoable;
 use sdr_base::{Addr, Bytes, NoMemory};
+use sdr_calls::raw_calls::{bad_length, misnamed};
+use sdr_draft::Undoable;
+use sdr_model::limits::LONGEST_CAPSULE;
+use sdr_model::{Call, Capsule, Reply};
+use sdr_parts::Side;
 use std::alloc::Global;
 
 // Adds a header or trailer of this text to an object, which isn't copied.

@@ -1,17 +1,18 @@
 // What the call that clones a part of an object does to a world.
 ghost use Rattle.std.specs.Prelude.{◌≡◌, ◌≤◌, ◌<◌, ◌+◌, ◌*◌, ◌^◌, ℕ, length, IfOk};
 ghost use Rattle.sdr_calls.specs.Answers.{Answers};
-ghost use Rattle.sdr_parts.specs.Bounds.{IsBounded};
 ghost use Rattle.sdr_model.specs.Cuts.{placed};
 ghost use Rattle.sdr_model.specs.Few.{HasFewPieces, most_pieces};
 ghost use Rattle.sdr_model.specs.PartSteps.{asked_extents, object_of};
+ghost use Rattle.sdr_parts.specs.Bounds.{IsBounded};
 
 use crate::append_calls::is_outside;
 use crate::object_calls::object;
-use sdr_calls::raw_calls::misnamed;
-use sdr_model::{Call, Extent, Reply, ZcoObject};
-use sdr_draft::Undoable;
 use sdr_base::{Addr, Items, NoMemory, Refusal};
+use sdr_calls::raw_calls::misnamed;
+use sdr_draft::Undoable;
+use sdr_model::{Call, Extent, Reply, ZcoObject};
+use sdr_parts::object::{asked_extents, object_of};
 use std::alloc::Global;
 
 // These extents, each in a block of its own, one after the other behind the block at an address. It is

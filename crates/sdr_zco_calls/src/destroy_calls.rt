@@ -8,10 +8,10 @@ ghost use Rattle.sdr_model.specs.Zco.{object_at};
 
 use crate::gone::gone_things;
 use crate::object_calls::object;
-use sdr_calls::raw_calls::misnamed;
-use sdr_model::{Call, Reply, ZcoObject};
-use sdr_draft::Undoable;
 use sdr_base::{Addr, NoMemory};
+use sdr_calls::raw_calls::misnamed;
+use sdr_draft::Undoable;
+use sdr_model::{Call, Reply, ZcoObject};
 use std::alloc::Global;
 
 // Lets the object at an address go, of which this is a copy, with what goes with its extents, and serves the

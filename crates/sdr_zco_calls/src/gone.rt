@@ -1,13 +1,13 @@
 // What goes with extents.
-ghost use Rattle.std.specs.Prelude.{◌≡◌, ◌≤◌, ◌<◌, ◌+◌, ◌^◌, ◌++◌, ◌==◌, ℕ, unwrap_or, [], IfOk, OnOk, if◌then◌else◌};
 ghost use Rattle.std.specs.BTreeMap.{get};
 ghost use Rattle.std.specs.Ordering.{nat_cmp};
+ghost use Rattle.std.specs.Prelude.{◌≡◌, ◌≤◌, ◌<◌, ◌+◌, ◌^◌, ◌++◌, ◌==◌, ℕ, unwrap_or, [], IfOk, OnOk, if◌then◌else◌};
 ghost use Rattle.sdr_model.specs.Gone.{gone_things, source_blocks};
 ghost use Rattle.sdr_model.specs.Zco.{naming, source_at, uses_of};
 
-use sdr_model::{Extent, Subject, Thing};
-use sdr_draft::Undoable;
 use sdr_base::{Addr, Items, NoMemory};
+use sdr_draft::Undoable;
+use sdr_model::{Extent, Subject, Thing};
 use std::alloc::Global;
 use std::collections::BTreeMap;
 

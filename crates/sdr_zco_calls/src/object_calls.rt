@@ -1,23 +1,24 @@
 // What calls on objects do to a world.
-ghost use Rattle.std.specs.Prelude.{◌≡◌, ◌≤◌, ◌<◌, ◌+◌, ◌^◌, IfSome, nat_lt};
 ghost use Rattle.std.specs.Option.{option_copied};
-ghost use Rattle.sdr_calls.specs.Answers.{Answers};
+ghost use Rattle.std.specs.Prelude.{◌≡◌, ◌≤◌, ◌<◌, ◌+◌, ◌^◌, IfSome, nat_lt};
 ghost use Rattle.sdr_base.specs.declared.kind.Space.{Space};
+ghost use Rattle.sdr_calls.specs.Answers.{Answers};
 ghost use Rattle.sdr_model.specs.Accounts.{most_amount};
-ghost use Rattle.sdr_parts.specs.Bounds.{IsBounded, IsModest};
 ghost use Rattle.sdr_model.specs.Charges.{object_charge, occupancy};
 ghost use Rattle.sdr_model.specs.Dry.{next_addr};
-ghost use Rattle.sdr_undo.specs.Owners.{MayPut};
-ghost use Rattle.sdr_model.specs.declared.things.Thing.{Thing};
 ghost use Rattle.sdr_model.specs.Zco.{object_at};
+ghost use Rattle.sdr_model.specs.declared.things.Thing.{Thing};
+ghost use Rattle.sdr_parts.specs.Bounds.{IsBounded, IsModest};
+ghost use Rattle.sdr_undo.specs.Owners.{MayPut};
 
-use sdr_parts::charges::heap_charge;
-use sdr_parts::cuts::extents_length;
+use sdr_base::{Acct, Addr, NoMemory, Refusal};
 use sdr_calls::raw_calls::misnamed;
+use sdr_draft::Undoable;
 use sdr_model::{Call, Part, Reply, ZcoObject};
 use sdr_parts::Trim;
-use sdr_draft::Undoable;
-use sdr_base::{Acct, Addr, NoMemory, Refusal};
+use sdr_parts::charges::heap_charge;
+use sdr_parts::cuts::extents_length;
+use sdr_parts::object::{empty_object, wire_length};
 use std::alloc::Global;
 
 /// The object at an address.

@@ -3,16 +3,16 @@ ghost use Rattle.std.specs.Prelude.{◌≡◌, [], IfOk, IfSome, OnErr, OnOk};
 ghost use Rattle.sdr_calls.specs.Answers.{Answers};
 ghost use Rattle.sdr_model.specs.ObjectSteps.{with_object};
 ghost use Rattle.sdr_model.specs.Queue.{with_served};
-ghost use Rattle.sdr_tally.specs.Tallies.{IsAccountOf};
-ghost use Rattle.sdr_parts.specs.Trims.{MayTrim, trimmed};
 ghost use Rattle.sdr_model.specs.Zco.{object_at};
+ghost use Rattle.sdr_parts.specs.Trims.{MayTrim, trimmed};
+ghost use Rattle.sdr_tally.specs.Tallies.{IsAccountOf};
 
 use crate::object_calls::object;
+use sdr_base::{Acct, Addr, NoMemory, Refusal};
 use sdr_calls::raw_calls::misnamed;
+use sdr_draft::Undoable;
 use sdr_model::{Call, Reply};
 use sdr_parts::Trim;
-use sdr_draft::Undoable;
-use sdr_base::{Acct, Addr, NoMemory, Refusal};
 
 // Trims an object of an account, and serves the queue of the account.
 fn put_trimmed(world: &mut Undoable, addr: Addr, acct: Acct, trim: Trim) -> Result<Reply, NoMemory>

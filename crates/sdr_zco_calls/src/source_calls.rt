@@ -3,19 +3,18 @@ ghost use Rattle.std.specs.Prelude.{◌≡◌, ◌≤◌, ◌<◌, ◌^◌, ◌+
 ghost use Rattle.sdr_calls.specs.Answers.{Answers};
 ghost use Rattle.sdr_model.specs.Dry.{with_taken, next_addr};
 ghost use Rattle.sdr_model.specs.Limits.{longest_source};
-ghost use Rattle.sdr_model.specs.Zco.{raw_of, source_at, source_on, uses_of};
 ghost use Rattle.sdr_model.specs.SourceSteps.{new_source};
 ghost use Rattle.sdr_model.specs.Steps.{with_thing, without_thing};
-ghost use Rattle.sdr_tally.specs.Tallies.{is_plain};
 ghost use Rattle.sdr_model.specs.World.{thing_at};
+ghost use Rattle.sdr_model.specs.Zco.{raw_of, source_at, source_on, uses_of};
 ghost use Rattle.sdr_model.specs.declared.things.Thing.TheVariants as things;
+ghost use Rattle.sdr_tally.specs.Tallies.{is_plain};
 
-use sdr_model::limits::{LONGEST_PATH, LONGEST_SOURCE};
-use sdr_calls::raw_calls::{bad_length, in_use, misnamed, raw};
-use sdr_model::zco::Subject;
-use sdr_model::{Call, Reply, ZcoSource};
-use sdr_draft::Undoable;
 use sdr_base::{Addr, Bytes, Kind, NoMemory, Refusal};
+use sdr_calls::raw_calls::{bad_length, in_use, misnamed, raw};
+use sdr_draft::Undoable;
+use sdr_model::limits::{LONGEST_PATH, LONGEST_SOURCE};
+use sdr_model::{Call, Reply, Subject, ZcoSource};
 use std::alloc::Global;
 
 // Takes note that what names a raw object, if there is one, may be changed.

@@ -1,23 +1,23 @@
 // What a call that strips an object does to a world.
 ghost use Rattle.std.specs.Prelude.{◌≡◌, ◌≤◌, IfOk, IfSome, OnErr, OnOk};
 ghost use Rattle.sdr_base.specs.declared.kind.Space.{Space as GhostSpace};
-ghost use Rattle.sdr_model.specs.Accounts.{most_amount};
 ghost use Rattle.sdr_calls.specs.Answers.{Answers};
-ghost use Rattle.sdr_parts.specs.Bounds.{IsBounded};
+ghost use Rattle.sdr_model.specs.Accounts.{most_amount};
 ghost use Rattle.sdr_model.specs.Charges.{object_charge};
-ghost use Rattle.sdr_tally.specs.Strips.{IsStripped, Strips, StripsThere};
 ghost use Rattle.sdr_model.specs.Zco.{object_at};
+ghost use Rattle.sdr_parts.specs.Bounds.{IsBounded};
+ghost use Rattle.sdr_tally.specs.Strips.{IsStripped, Strips, StripsThere};
 
-use sdr_parts::amounts::NOTHING;
-use sdr_parts::cuts::{cut_all, whole_of};
 use crate::gone::gone_things;
 use crate::object_calls::object;
+use sdr_base::{Acct, Addr, Items, NoMemory};
 use sdr_calls::raw_calls::misnamed;
+use sdr_draft::Undoable;
 use sdr_model::{Call, Reply, ZcoObject};
+use sdr_parts::amounts::NOTHING;
+use sdr_parts::cuts::{cut_all, whole_of};
 use sdr_parts::object::{outside_part, part_end};
 use sdr_parts::{Change, Edit, Stripping};
-use sdr_draft::Undoable;
-use sdr_base::{Acct, Addr, Items, NoMemory};
 use std::alloc::Global;
 
 // How an object is cut to its part, which is then the whole.

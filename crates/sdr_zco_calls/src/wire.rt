@@ -1,17 +1,17 @@
 // The bytes of objects, in pieces.
-ghost use Rattle.std.specs.Prelude.{◌≡◌, true, ◌≢◌, ◌≤◌, ◌<◌, ◌+◌, ◌-◌, ◌^◌, [], ◌∷◌, length, min, OnOk, IfOk};
 ghost use Rattle.std.specs.List.{All};
-ghost use Rattle.sdr_parts.specs.Bounds.{IsBounded, EndsInTime};
-ghost use Rattle.sdr_zco_calls.specs.Gathers.{Gathers};
+ghost use Rattle.std.specs.Prelude.{◌≡◌, true, ◌≢◌, ◌≤◌, ◌<◌, ◌+◌, ◌-◌, ◌^◌, [], ◌∷◌, length, min, OnOk, IfOk};
 ghost use Rattle.sdr_model.specs.Pieces.{capsule_pieces, cut_pieces, extent_piece, extent_pieces, missing_piece, part_pieces, piece_length, raw_piece, wire_pieces};
 ghost use Rattle.sdr_model.specs.Reading.{reads_media};
 ghost use Rattle.sdr_model.specs.World.{as_raw, thing_at};
+ghost use Rattle.sdr_parts.specs.Bounds.{IsBounded, EndsInTime};
+ghost use Rattle.sdr_zco_calls.specs.Gathers.{Gathers};
 
-use sdr_parts::object::part_end;
-use sdr_calls::raw_calls::raw as raw_at;
-use sdr_model::{Call, Piece, Capsule, Extent, Part, Subject, Thing, ZcoObject};
-use sdr_draft::Undoable;
 use sdr_base::{Addr, Bytes, Items, NoMemory};
+use sdr_calls::raw_calls::raw as raw_at;
+use sdr_draft::Undoable;
+use sdr_model::{Call, Capsule, Extent, Part, Piece, Subject, Thing, ZcoObject};
+use sdr_parts::object::part_end;
 use std::alloc::Global;
 
 /// Pieces, gathered one after another.

@@ -4,13 +4,13 @@ ghost use Rattle.sdr_calls.specs.Answers.{Answers};
 ghost use Rattle.sdr_model.specs.Pieces.{AsksBytes, asked_addr, asked_count, filled, piece_told, pieces_asked, pieces_told};
 ghost use Rattle.sdr_model.specs.Reading.{reads_media};
 
-use sdr_model::limits::LONGEST_READ;
 use crate::object_calls::object;
-use sdr_calls::raw_calls::{bad_length, misnamed};
 use crate::wire::object_pieces;
-use sdr_model::{Call, Piece, Reply};
-use sdr_draft::Undoable;
 use sdr_base::{Addr, Bytes, Items, NoMemory};
+use sdr_calls::raw_calls::{bad_length, misnamed};
+use sdr_draft::Undoable;
+use sdr_model::limits::LONGEST_READ;
+use sdr_model::{Call, Piece, Reply};
 use std::alloc::Global;
 
 /// The address of the object of which a call asks bytes, and how many it asks at most.

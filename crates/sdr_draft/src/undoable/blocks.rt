@@ -1,6 +1,6 @@
 // The blocks that a call takes in a world in the making.
-ghost use Rattle.std.specs.Prelude.{◌≡◌, ◌≤◌, ◌<◌, ◌+◌, ◌^◌, ◌++◌, ◌∷◌, [], ℕ, length, take, Some, OnErr, OnOk};
 ghost use Rattle.std.specs.FinMap as map;
+ghost use Rattle.std.specs.Prelude.{◌≡◌, ◌≤◌, ◌<◌, ◌+◌, ◌^◌, ◌++◌, ◌∷◌, [], ℕ, length, take, Some, OnErr, OnOk};
 ghost use Rattle.sdr_model.specs.Dry.{addr_after, next_addr, next_addrs};
 
 use crate::Undoable;

@@ -1,21 +1,21 @@
 // The raw objects and sources that the headers and trailers of an object become.
-ghost use Rattle.std.specs.Prelude.{◌≡◌, ◌≤◌, ◌<◌, ◌+◌, ◌*◌, ◌^◌, [], ℕ, Contains, OnOk, length, ◌∷◌, ◌++◌, Some, IfOk, IfErr, OnErr};
 ghost use Rattle.std.specs.FinMap as map;
-ghost use Rattle.sdr_tally.specs.Allowed.{HasRoomFor, MayCharge, RefusesCharge};
-ghost use Rattle.sdr_model.specs.Charging.{with_used};
 ghost use Rattle.std.specs.List.{All};
+ghost use Rattle.std.specs.Prelude.{◌≡◌, ◌≤◌, ◌<◌, ◌+◌, ◌*◌, ◌^◌, [], ℕ, Contains, OnOk, length, ◌∷◌, ◌++◌, Some, IfOk, IfErr, OnErr};
 ghost use Rattle.sdr_base.specs.declared.account.Acct.{Acct as GhostAcct};
 ghost use Rattle.sdr_base.specs.declared.kind.Space.{Space as GhostSpace};
 ghost use Rattle.sdr_model.specs.BondSteps.{with_bonded};
 ghost use Rattle.sdr_model.specs.Charges.{occupancy, space_in};
+ghost use Rattle.sdr_model.specs.Charging.{with_used};
 ghost use Rattle.sdr_model.specs.Dry.{addr_after, next_addr, next_addrs};
 ghost use Rattle.sdr_model.specs.Limits.{longest_capsule};
-ghost use Rattle.sdr_parts.specs.Bounds.{IsShort};
 ghost use Rattle.sdr_model.specs.Zco.{object_at, source_at};
+ghost use Rattle.sdr_parts.specs.Bounds.{IsShort};
+ghost use Rattle.sdr_tally.specs.Allowed.{HasRoomFor, MayCharge, RefusesCharge};
 
-use sdr_model::{Capsule, Pending, Subject, Thing, ZcoSource};
 use crate::Undoable;
 use sdr_base::{Acct, Addr, Amounts, NoMemory, Refusal};
+use sdr_model::{Capsule, Pending, Subject, Thing, ZcoSource};
 
 impl Undoable {
     /// Takes note that things may be put at the next so many addresses. After it that needs no memory. Want

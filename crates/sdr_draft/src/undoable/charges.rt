@@ -1,19 +1,20 @@
 // What objects charge in a world in the making.
-ghost use Rattle.std.specs.Prelude.{◌≡◌, ◌≤◌, ◌+◌, ◌^◌, sum_by};
 ghost use Rattle.std.specs.List.{All};
+ghost use Rattle.std.specs.Prelude.{◌≡◌, ◌≤◌, ◌+◌, ◌^◌, sum_by};
 ghost use Rattle.sdr_base.specs.declared.kind.Space.{Space as GhostSpace};
 ghost use Rattle.sdr_model.specs.Amounts.{amount, amounts_by};
 ghost use Rattle.sdr_model.specs.Charges.{extent_charge, object_charge, space_in};
 ghost use Rattle.sdr_model.specs.Cuts.{cut_all};
-ghost use Rattle.sdr_tally.specs.Strips.{left_charge};
-ghost use Rattle.sdr_parts.specs.Bounds.{EndsInTime};
 ghost use Rattle.sdr_model.specs.Zco.{source_at};
+ghost use Rattle.sdr_parts.specs.Bounds.{EndsInTime};
+ghost use Rattle.sdr_tally.specs.Strips.{left_charge};
 
-use sdr_parts::amounts::{NOTHING, plus};
-use sdr_parts::charges::{bytes_charge, capsules_charge, space_charge};
-use sdr_model::{Extent, ZcoObject};
 use crate::Undoable;
 use sdr_base::{Addr, Amounts, Space};
+use sdr_model::{Extent, ZcoObject};
+use sdr_parts::amounts::{NOTHING, plus};
+use sdr_parts::charges::{bytes_charge, capsules_charge, space_charge};
+use sdr_parts::cuts::cut;
 
 impl Undoable {
     /// The space that the bytes of a source are in, heap space where there is no such source.

@@ -4,19 +4,19 @@ ghost use Rattle.sdr_base.specs.declared.account.Amounts.{Amounts as GhostAmount
 ghost use Rattle.sdr_base.specs.declared.kind.Space.{Space as GhostSpace};
 ghost use Rattle.sdr_model.specs.AccountSteps.{new_ticket, with_amount, with_maximum, with_request, without_ticket};
 ghost use Rattle.sdr_model.specs.Accounts.{Stands, account_of, most_amount, tickets_of, with_account, with_tickets};
-ghost use Rattle.sdr_tally.specs.Allowed.{HasRoomFor, IsBound, IsGrantOf, MayCharge, MayTakeBack, RefusesCharge, refusal_of, with_back};
 ghost use Rattle.sdr_model.specs.Amounts.{amount, no_amounts};
 ghost use Rattle.sdr_model.specs.Charges.{occupancies, occupancy};
 ghost use Rattle.sdr_model.specs.Charging.{grant_left, with_used};
 ghost use Rattle.sdr_model.specs.Dry.{with_taken, next_addr};
-ghost use Rattle.sdr_parts.specs.Grants.{KeepGrants};
 ghost use Rattle.sdr_model.specs.Queue.{enqueued, with_served};
+ghost use Rattle.sdr_parts.specs.Grants.{KeepGrants};
+ghost use Rattle.sdr_tally.specs.Allowed.{HasRoomFor, IsBound, IsGrantOf, MayCharge, MayTakeBack, RefusesCharge, refusal_of, with_back};
 
-use sdr_parts::amounts::{NOTHING, amount, first_above, minus, plus, with_amount};
-use sdr_parts::queue::{barrier, left};
-use sdr_model::{Accounts, Pending, Ticket};
 use crate::Undoable;
 use sdr_base::{Acct, Amounts, NoMemory, Refusal, Space};
+use sdr_model::{Accounts, Pending, Ticket};
+use sdr_parts::amounts::{NOTHING, amount, first_above, minus, plus, with_amount};
+use sdr_parts::queue::{barrier, left};
 
 // What is left of the grant of a ticket, nothing where there is none.
 fn grant_left(granted: &Option<Pending>) -> Amounts

@@ -1,9 +1,9 @@
 // What goes from a world in the making, without memory.
-ghost use Rattle.std.specs.Prelude.{◌≡◌, ℕ, Contains, IfSome, OnOk};
 ghost use Rattle.std.specs.List.{All};
-ghost use Rattle.sdr_tally.specs.Drops.{IsNoted, MayGo};
+ghost use Rattle.std.specs.Prelude.{◌≡◌, ℕ, Contains, IfSome, OnOk};
 ghost use Rattle.sdr_model.specs.Gone.{without_things};
 ghost use Rattle.sdr_model.specs.Steps.{without_thing};
+ghost use Rattle.sdr_tally.specs.Drops.{IsNoted, MayGo};
 ghost use Rattle.sdr_tally.specs.Tallies.{raw_at};
 
 use crate::Undoable;

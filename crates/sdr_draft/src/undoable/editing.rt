@@ -1,19 +1,20 @@
 // Objects that are changed in a world in the making, at the cost of what changes.
-ghost use Rattle.std.specs.Prelude.{◌≡◌, ℕ, Contains, IfOk, IfSome, IsSome, OnErr, OnOk, Some};
 ghost use Rattle.std.specs.FinMap as map;
-ghost use Rattle.sdr_tally.specs.Edits.{MayChange};
-ghost use Rattle.sdr_parts.specs.Trims.{edited};
+ghost use Rattle.std.specs.Prelude.{◌≡◌, ℕ, Contains, IfOk, IfSome, IsSome, OnErr, OnOk, Some};
 ghost use Rattle.sdr_model.specs.ObjectSteps.{with_object};
 ghost use Rattle.sdr_model.specs.Things.{with_at};
-ghost use Rattle.sdr_tally.specs.Tallies.{IsAccountOf};
 ghost use Rattle.sdr_model.specs.Zco.{as_object, object_at};
 ghost use Rattle.sdr_model.specs.declared.things.Thing.{Thing};
+ghost use Rattle.sdr_parts.specs.Trims.{edited};
+ghost use Rattle.sdr_tally.specs.Edits.{MayChange};
+ghost use Rattle.sdr_tally.specs.Tallies.{IsAccountOf};
 
-use sdr_parts::{Change, Edit};
-use sdr_undo::Store;
-use sdr_model::{Thing, ZcoObject};
 use crate::Undoable;
 use sdr_base::{Acct, Addr, NoMemory};
+use sdr_model::{Thing, ZcoObject};
+use sdr_parts::edits::make_edit;
+use sdr_parts::{Change, Edit};
+use sdr_undo::Store;
 
 // Changes the object at an address, and answers its account. Want of memory leaves all as before.
 fn edit_at(things: &mut Store, addr: Addr, edit: Edit) -> Result<Acct, NoMemory>

@@ -1,22 +1,22 @@
 // Components that are added to the objects of a world in the making, which stay where they are.
-ghost use Rattle.std.specs.Prelude.{◌≡◌, ◌<◌, ◌+◌, ◌^◌, ℕ, [], Contains, IfErr, IfOk, IfSome, IsSome, OnErr, OnOk};
 ghost use Rattle.std.specs.FinMap as map;
-ghost use Rattle.sdr_tally.specs.Allowed.{HasRoomFor, MayCharge, RefusesCharge};
-ghost use Rattle.sdr_parts.specs.Bounds.{IsBounded};
+ghost use Rattle.std.specs.Prelude.{◌≡◌, ◌<◌, ◌+◌, ◌^◌, ℕ, [], Contains, IfErr, IfOk, IfSome, IsSome, OnErr, OnOk};
 ghost use Rattle.sdr_model.specs.Charging.{with_used};
-ghost use Rattle.sdr_parts.specs.Components.{AddsComponent, Grows, KeepsLimits, block_of, component_charges, source_of};
 ghost use Rattle.sdr_model.specs.Dry.{addr_after, next_addr, with_blocks};
-ghost use Rattle.sdr_undo.specs.Owners.{IsOwned};
-ghost use Rattle.sdr_tally.specs.Tallies.{IsAccountOf};
 ghost use Rattle.sdr_model.specs.Zco.{as_object, object_at, source_on};
+ghost use Rattle.sdr_parts.specs.Bounds.{IsBounded};
+ghost use Rattle.sdr_parts.specs.Components.{AddsComponent, Grows, KeepsLimits, block_of, component_charges, source_of};
+ghost use Rattle.sdr_tally.specs.Allowed.{HasRoomFor, MayCharge, RefusesCharge};
+ghost use Rattle.sdr_tally.specs.Tallies.{IsAccountOf};
+ghost use Rattle.sdr_undo.specs.Owners.{IsOwned};
 
-use sdr_parts::capsules::capsule_bytes;
-use sdr_parts::charges::{bytes_charge, heap_charge};
-use sdr_parts::component::Component;
-use sdr_model::{Pending, Thing};
-use sdr_undo::Store;
 use crate::Undoable;
 use sdr_base::{Acct, Addr, Amounts, Bytes, NoMemory, Refusal};
+use sdr_model::{Pending, Thing};
+use sdr_parts::capsules::capsule_bytes;
+use sdr_parts::charges::{bytes_charge, heap_charge};
+use sdr_parts::component::{Component, add};
+use sdr_undo::Store;
 
 // Adds a component to the object at an address, and answers its account. Want of memory leaves all as before.
 fn add_at(things: &mut Store, addr: Addr, component: Component) -> Result<Acct, NoMemory>

@@ -1,27 +1,27 @@
 // The objects of a world in the making.
-ghost use Rattle.std.specs.Prelude.{◌≡◌, ◌≤◌, ◌+◌, true, None, IfSome, IsSome, Some, Contains};
 ghost use Rattle.std.specs.FinMap as map;
 ghost use Rattle.std.specs.List.{All};
+ghost use Rattle.std.specs.Prelude.{◌≡◌, ◌≤◌, ◌+◌, true, None, IfSome, IsSome, Some, Contains};
 ghost use Rattle.sdr_base.specs.declared.kind.Space.{Space as GhostSpace};
 ghost use Rattle.sdr_model.specs.Accounts.{most_amount};
 ghost use Rattle.sdr_model.specs.Amounts.{amounts_by};
 ghost use Rattle.sdr_model.specs.Charges.{object_charge, occupancy};
 ghost use Rattle.sdr_model.specs.Dry.{next_addr};
-ghost use Rattle.sdr_undo.specs.Owners.{MayPut};
 ghost use Rattle.sdr_model.specs.Steps.{with_thing, without_thing};
-ghost use Rattle.sdr_tally.specs.Notes.{SameNotes};
-ghost use Rattle.sdr_tally.specs.Tallies.{CountsOut, MayCountOut, is_plain};
-ghost use Rattle.sdr_parts.specs.Bounds.{IsModest};
 ghost use Rattle.sdr_model.specs.World.{thing_at};
 ghost use Rattle.sdr_model.specs.Zco.{as_object, object_at, source_on};
 ghost use Rattle.sdr_model.specs.declared.things.Thing.{Thing};
+ghost use Rattle.sdr_parts.specs.Bounds.{IsModest};
+ghost use Rattle.sdr_tally.specs.Notes.{SameNotes};
+ghost use Rattle.sdr_tally.specs.Tallies.{CountsOut, MayCountOut, is_plain};
+ghost use Rattle.sdr_undo.specs.Owners.{MayPut};
 
+use crate::Undoable;
+use sdr_base::{Addr, Amounts};
+use sdr_model::{Thing, ZcoObject};
 use sdr_parts::amounts::NOTHING;
 use sdr_tally::Tally;
 use sdr_undo::Store;
-use sdr_model::{Thing, ZcoObject};
-use crate::Undoable;
-use sdr_base::{Addr, Amounts};
 
 // Counts the extents of the object at an address no more, and charges so much less for it.
 fn count_out(things: &Store, tally: &mut Tally, addr: Addr, charge: &Amounts)

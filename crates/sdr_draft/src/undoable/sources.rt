@@ -1,6 +1,6 @@
 // The sources of a world in the making, what names them, and what is charged.
-ghost use Rattle.std.specs.Prelude.{◌≡◌, ◌≤◌, ◌<◌, ◌+◌, ◌^◌, ℕ, IfSome, IsSome, OnOk, OnErr, None, Some, Contains, true, length};
 ghost use Rattle.std.specs.Option.{option_copied};
+ghost use Rattle.std.specs.Prelude.{◌≡◌, ◌≤◌, ◌<◌, ◌+◌, ◌^◌, ℕ, IfSome, IsSome, OnOk, OnErr, None, Some, Contains, true, length};
 ghost use Rattle.sdr_base.specs.declared.account.Acct.{Acct as GhostAcct};
 ghost use Rattle.sdr_base.specs.declared.kind.Space.{Space};
 ghost use Rattle.sdr_model.specs.Accounts.{most_amount};
@@ -8,19 +8,19 @@ ghost use Rattle.sdr_model.specs.Amounts.{amounts_by};
 ghost use Rattle.sdr_model.specs.Charges.{object_charge, occupancy};
 ghost use Rattle.sdr_model.specs.Dry.{next_addr};
 ghost use Rattle.sdr_model.specs.Limits.{longest_raw, longest_source};
-ghost use Rattle.sdr_model.specs.Zco.{raw_of, count_of, object_at, source_at, source_on, uses_of};
 ghost use Rattle.sdr_model.specs.SourceSteps.{new_source};
 ghost use Rattle.sdr_model.specs.Steps.{with_thing, without_thing};
-ghost use Rattle.sdr_undo.specs.Owners.{MayPut};
-ghost use Rattle.sdr_tally.specs.Tallies.{FlagsSource, charged, is_plain, raw_at};
-ghost use Rattle.sdr_parts.specs.Bounds.{IsModest};
 ghost use Rattle.sdr_model.specs.World.{as_raw, thing_at};
+ghost use Rattle.sdr_model.specs.Zco.{raw_of, count_of, object_at, source_at, source_on, uses_of};
 ghost use Rattle.sdr_model.specs.declared.things.Thing.{Thing};
 ghost use Rattle.sdr_model.specs.declared.zco.Subject.{Subject};
+ghost use Rattle.sdr_parts.specs.Bounds.{IsModest};
+ghost use Rattle.sdr_tally.specs.Tallies.{FlagsSource, charged, is_plain, raw_at};
+ghost use Rattle.sdr_undo.specs.Owners.{MayPut};
 
-use sdr_model::{Subject, Thing, ZcoObject, ZcoSource};
 use crate::Undoable;
 use sdr_base::{Acct, Addr, Amounts, Bytes, NoMemory};
+use sdr_model::{Subject, Thing, ZcoObject, ZcoSource};
 
 impl Undoable {
     /// The bytes of the raw object at an address.

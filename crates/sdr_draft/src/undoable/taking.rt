@@ -1,13 +1,13 @@
 // What is charged for blocks that are taken.
-ghost use Rattle.std.specs.Prelude.{◌≡◌, ◌<◌, ◌+◌, ◌^◌, ◌++◌, [], ℕ, true, Some, IfOk, IfErr, OnErr, OnOk};
 ghost use Rattle.std.specs.FinMap as map;
-ghost use Rattle.sdr_tally.specs.Allowed.{HasRoomFor, MayCharge, RefusesCharge};
+ghost use Rattle.std.specs.Prelude.{◌≡◌, ◌<◌, ◌+◌, ◌^◌, ◌++◌, [], ℕ, true, Some, IfOk, IfErr, OnErr, OnOk};
 ghost use Rattle.sdr_model.specs.Charging.{with_used};
 ghost use Rattle.sdr_model.specs.Dry.{addr_after, next_addr, with_blocks};
+ghost use Rattle.sdr_tally.specs.Allowed.{HasRoomFor, MayCharge, RefusesCharge};
 
-use sdr_model::Pending;
 use crate::Undoable;
 use sdr_base::{Acct, Addr, Amounts, NoMemory, Refusal};
+use sdr_model::Pending;
 
 impl Undoable {
     /// Charges an account by a ticket, 0 for none, and takes the next so many blocks, inside the thing at an

@@ -1,14 +1,14 @@
 // Sources that are looked up, and notes of what is to be changed.
-ghost use Rattle.std.specs.Prelude.{◌≡◌, ◌≤◌, ◌<◌, ℕ, Contains, IfSome, OnOk};
 ghost use Rattle.std.specs.List.{All};
 ghost use Rattle.std.specs.Option.{option_copied};
-ghost use Rattle.sdr_model.specs.Limits.{longest_source};
+ghost use Rattle.std.specs.Prelude.{◌≡◌, ◌≤◌, ◌<◌, ℕ, Contains, IfSome, OnOk};
 ghost use Rattle.sdr_model.specs.Dry.{next_addr};
+ghost use Rattle.sdr_model.specs.Limits.{longest_source};
 ghost use Rattle.sdr_model.specs.Zco.{source_at};
 
-use sdr_model::{Extent, Thing, ZcoObject, ZcoSource};
 use crate::Undoable;
 use sdr_base::{Addr, NoMemory};
+use sdr_model::{Extent, Thing, ZcoObject, ZcoSource};
 
 impl Undoable {
     /// The source at an address, which is below the next, and as long as a source may be.

@@ -1,20 +1,21 @@
 // Objects that lose headers or trailers, or get another part, in a world in the making.
 ghost use Rattle.std.specs.Prelude.{◌≡◌, ◌≤◌, ℕ, IfSome, OnErr, OnOk, Some, true};
-ghost use Rattle.sdr_tally.specs.Allowed.{IsBound};
 ghost use Rattle.sdr_model.specs.Dry.{next_addr};
 ghost use Rattle.sdr_model.specs.ObjectSteps.{with_object};
-ghost use Rattle.sdr_undo.specs.Owners.{MayPut};
-ghost use Rattle.sdr_parts.specs.Bounds.{IsModest};
-ghost use Rattle.sdr_tally.specs.Tallies.{is_plain, raw_at};
-ghost use Rattle.sdr_parts.specs.Trims.{MayTrim, trim_charge, trimmed};
 ghost use Rattle.sdr_model.specs.World.{thing_at};
 ghost use Rattle.sdr_model.specs.Zco.{naming, object_at, uses_of};
 ghost use Rattle.sdr_model.specs.declared.things.Thing.{Thing};
+ghost use Rattle.sdr_parts.specs.Bounds.{IsModest};
+ghost use Rattle.sdr_parts.specs.Trims.{MayTrim, trim_charge, trimmed};
+ghost use Rattle.sdr_tally.specs.Allowed.{IsBound};
+ghost use Rattle.sdr_tally.specs.Tallies.{is_plain, raw_at};
+ghost use Rattle.sdr_undo.specs.Owners.{MayPut};
 
-use sdr_parts::charges::heap_charge;
-use sdr_parts::{Change, Edit, Trim};
 use crate::Undoable;
 use sdr_base::{Addr, NoMemory};
+use sdr_parts::charges::heap_charge;
+use sdr_parts::edits::trim_charge;
+use sdr_parts::{Change, Edit, Trim};
 
 impl Undoable {
     /// What is always known of the object at an address: it keeps to the limits, may be put there again,

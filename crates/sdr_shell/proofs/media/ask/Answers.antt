@@ -2,7 +2,7 @@ use Rattle.std.proofs.Common.{◌≡◌, length, sym, ap, ◌∙◌, subst, IfOk
 use Rattle.sdr_base.specs.Causes.{Rose}
 use Rattle.sdr_base.specs.Media.{GivesFrom, file_bytes}
 use Rattle.sdr_model.specs.Pieces.{piece_length}
-use Rattle.sdr_model.specs.declared.wire.Piece.TheVariants as pieces
+use Rattle.sdr_model.specs.declared.piece.Piece.TheVariants as pieces
 use Rattle.sdr_shell.specs.Gathering.{HasGiven}
 use Rattle.sdr_shell.proofs.GatheringLemmas.{file_read_given, item_read_given, known_given}
 use Rattle.sdr_shell.proofs.media.ask.Goals as goal

@@ -39,4 +39,4 @@ returns c =
     ∙ ap₂ (λ (a : List Extent) (t : List Capsule). a ++ bonded_extents (λ k. behind + 8 * k) 0 t) two c.as_slice-3.ensures
     ∙ ap (λ (l : List Extent). bonded_extents at 0 z.headers ++ z.extents ++ l)
     (extents-shift (λ k. behind + 8 * k) at z.trailers 0 (3 * length z.headers) (λ k. omega (arith, c.len.ensures))) in
-    c.of.ensures ∙ ap (object_of z.account) all
+    c.object_of.ensures ∙ ap (object_of z.account) all

@@ -19,7 +19,7 @@ pub add_object-requires-clause-room : goal.add_object-requires-clause-room
 add_object-requires-clause-room c =
     let amounts = c.heap_charge.result in
     let room = subst (λ r. OnOk r (HasRoomFor c.charge_blocks.new.self.now c.args.acct amounts)) c.in-Ok.is c.in_ok-granted.ensures.room in
-    room_made c.charge_blocks.new.self.now c.empty.result c.args.acct amounts c.empty.ensures c.heap_charge.ensures room
+    room_made c.charge_blocks.new.self.now c.empty_object.result c.args.acct amounts c.empty_object.ensures c.heap_charge.ensures room
 
 pub returns : goal.returns
 returns c =
@@ -33,9 +33,9 @@ returns c =
     c.in-Ok.is c.in_ok-granted.ensures.taken in
     let put : c.add_object.new.self.now ≡ with_object (with_blocks (with_used w c.in-Ok.granted amounts) 1) addr (empty_object c.args.acct) =
     c.add_object.ensures.put
-    ∙ ap (λ v. with_object v c.next-addr.result c.empty.result)
+    ∙ ap (λ v. with_object v c.next-addr.result c.empty_object.result)
     (taken ∙ ap (λ v. with_blocks (with_used v c.in-Ok.granted amounts) 1) c.touch.ensures.now)
-    ∙ ap₂ (λ a z. with_object (with_blocks (with_used w c.in-Ok.granted amounts) 1) a z) c.next-addr.ensures.value c.empty.ensures in
+    ∙ ap₂ (λ a z. with_object (with_blocks (with_used w c.in-Ok.granted amounts) 1) a z) c.next-addr.ensures.value c.empty_object.ensures in
     record {
       step = subst (λ a. StepsDry w call (dry_moves w call (replies.At a)) c.add_object.new.self.now (replies.At a)) (sym c.next-addr.ensures.value) (record {
         step = charged_one w c.add_object.new.self.now (λ a. a) (λ a. empty_object c.args.acct) c.args.acct c.args.number object_need
