@@ -7,8 +7,8 @@ use Rattle.sdr_model.specs.declared.zco.Extent.{Extent}
 use Rattle.sdr_tally.proofs.BondLemmas.{extents-shift, extents_length-bond}
 use Rattle.sdr_zco_calls.proofs.bond_calls.bonded.Goals as goal
 
-pub of-requires : goal.of-requires
-of-requires c =
+pub object_of-requires : goal.object_of-requires
+object_of-requires c =
     let z = c.args.object.now in
     let at = λ (k : ℕ). c.args.first + 8 * k in
     let behind : ℕ = c.args.first + 24 * c.len.result in

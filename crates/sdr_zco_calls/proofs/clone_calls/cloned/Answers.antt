@@ -20,8 +20,8 @@ placed_behind-requires c =
       );
     }
 
-pub of-requires : goal.of-requires
-of-requires c =
+pub object_of-requires : goal.object_of-requires
+object_of-requires c =
     let z : ZcoObject = c.args.object.now in
     let from : ℕ = z.part.offset + c.args.offset in
     record {
