@@ -19,7 +19,7 @@ use Rattle.sdr_base.specs.declared.stop.Stop.{Stop}
 use Rattle.sdr_base.specs.declared.stop.Stop.TheVariants.{Refused, DiskFault, MediaFault, Failed}
 use Rattle.sdr_base.proofs.MovesLemmas.{Moves-none, Moves-one}
 use Rattle.sdr_heap.specs.Calls.{Chooses, ChoosesBy, ChoosesBlock, GivesBack, Labels}
-use Rattle.sdr_heap.specs.Kept.{KeepsHeap, KeepsRegion, KeepsSomeHeap, block_in}
+use Rattle.sdr_base.specs.KeptHeap.{KeepsHeap, KeepsRegion, KeepsSomeHeap, block_in}
 use Rattle.sdr_heap.specs.Noted.{Held}
 use Rattle.sdr_heap.proofs.FewLemmas.{block_in-few}
 use Rattle.sdr_heap.proofs.MarkLemmas.{HasMark, has_mark}

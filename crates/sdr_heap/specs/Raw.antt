@@ -2,7 +2,7 @@
 use Rattle.std.specs.Prelude.{◌≡◌, ◌≢◌, ◌≤◌, ◌<◌, ◌+◌, ◌-◌, ◌⊎◌, ℕ, true, false, List, length, Option, Some, None, ⊤}
 use Rattle.sdr_base.specs.Blocks.{Block, HasBytes, IsKind, Reaches}
 use Rattle.sdr_base.specs.Kinds.{kind_number}
-use Rattle.sdr_base.specs.Objects.{Heap, Takes, OnlyFull, OnlyFault, OnlyShort, with_bytes, with_given}
+use Rattle.sdr_base.specs.Objects.{Heap, TakesZeros, OnlyFull, OnlyFault, OnlyShort, with_bytes, with_given}
 use Rattle.sdr_base.specs.Stored.{number_at}
 use Rattle.sdr_base.specs.declared.kind.Kind.{Kind}
 use Rattle.sdr_base.specs.declared.kind.Kind.TheVariants as kinds
@@ -100,7 +100,7 @@ WriteStops found addr place count old new stop = MissesRaw found addr stop (Only
 -- a raw object of so many zero bytes was made, which no source names
 pub record Makes (bytes addr : ℕ) (old new : Heap) : Type 0 where
   pub short : bytes ≤ LONGEST_RAW
-  pub taken : Takes kinds.Raw (BYTES + bytes) addr old new
+  pub taken : TakesZeros kinds.Raw (BYTES + bytes) addr old new
 
 -- a raw object or a string was given back
 pub record Frees (addr : ℕ) (old new : Heap) : Type 0 where

@@ -12,14 +12,14 @@ impl<C: Cells> Objects for Heap<C> {
     ghost use Rattle.std.proofs.Common.{◌∙◌};
     ghost use Rattle.sdr_base.specs.Moves as moves;
     ghost use Rattle.sdr_base.proofs.MovesLemmas as lemmas;
-    ghost use Rattle.sdr_heap.specs.Kept as kept;
+    ghost use Rattle.sdr_base.specs.KeptHeap as kept;
     ghost use Rattle.sdr_heap.specs.Noted as noted;
 
     ghost heap = { λ s. record {
       size = s.size;
       blocks = kept.block_in (C.bytes s.cells);
       roots = kept.root_in (C.bytes s.cells);
-      marks = noted.is_marked s.marks;
+      marks = noted.marked_in s.marks;
       moves = s.moves;
       spare = s.spare;
     } };

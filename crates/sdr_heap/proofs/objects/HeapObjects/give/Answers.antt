@@ -4,7 +4,7 @@ use Rattle.std.proofs.lemmas.Result.{err_from_is_err_and}
 use Rattle.sdr_base.specs.Moves.{Moves}
 use Rattle.sdr_base.specs.declared.moves.Move.{Move}
 use Rattle.sdr_base.proofs.MovesLemmas.{Moves-kept}
-use Rattle.sdr_heap.specs.Kept.{KeepsRegion}
+use Rattle.sdr_base.specs.KeptHeap.{KeepsRegion}
 use Rattle.sdr_heap.specs.Noted.{moves_in}
 use Rattle.sdr_heap.proofs.HeldLemmas.{held_moved, moved_gave, stopped}
 use Rattle.sdr_heap.proofs.objects.HeapObjects.give.Goals as goal

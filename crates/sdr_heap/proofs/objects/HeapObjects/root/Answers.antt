@@ -2,7 +2,7 @@
 use Rattle.std.proofs.Common.{◌≡◌, ◌*◌, ◌∙◌, ap}
 use Rattle.std.proofs.lemmas.Result.{IfOk-weaker}
 use Rattle.sdr_base.specs.Stored.{number_at}
-use Rattle.sdr_heap.specs.Kept.{root_in}
+use Rattle.sdr_base.specs.KeptHeap.{root_in}
 use Rattle.sdr_heap.specs.Noted.{Held}
 use Rattle.sdr_heap.proofs.HeldLemmas.{held_moved, moved_same}
 use Rattle.sdr_heap.proofs.RootLemmas.{root_is}

@@ -5,8 +5,8 @@ use Rattle.sdr_base.specs.Moves.{Moves}
 use Rattle.sdr_base.specs.Rules.{words_for}
 use Rattle.sdr_base.specs.declared.moves.Move.{Move}
 use Rattle.sdr_base.proofs.MovesLemmas.{Moves-kept}
-use Rattle.sdr_heap.specs.Kept.{KeepsRegion}
-use Rattle.sdr_heap.specs.Noted.{is_marked, moves_in}
+use Rattle.sdr_base.specs.KeptHeap.{KeepsRegion}
+use Rattle.sdr_heap.specs.Noted.{marked_in, moves_in}
 use Rattle.sdr_heap.proofs.HeldLemmas.{full_short, held_moved, kept_inside, moved_short, moved_took, none_same, stopped}
 use Rattle.sdr_heap.proofs.MarkLemmas.{marked-set}
 use Rattle.sdr_heap.proofs.SeenLemmas.{chosen_for, heap_took, some_bare, takes_steps, took_mark}
@@ -89,7 +89,7 @@ returns-clause-taken g c =
     c.self.view_is
     (takes_steps _ _ _ c.args.kind c.args.need c.in-Some.addr kept.pools kept.keeps chooses
     c.in_ok-label.ensures.labelled)
-    (ap is_marked c.mark.ensures ∙ marked-set c.self.inside.marks.words.items c.in-Some.addr m.whole m.inside)
+    (ap marked_in c.mark.ensures ∙ marked-set c.self.inside.marks.words.items c.in-Some.addr m.whole m.inside)
     c.push-2.ensures.noted c.push-2.ensures.spare
 
 pub returns-clause-moved : goal.returns-clause-moved
