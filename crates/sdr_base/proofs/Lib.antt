@@ -18,6 +18,7 @@ pub mod SmallPoolLemmas
 pub mod StandingLemmas
 pub mod StartBitsLemmas
 pub mod StoredLemmas
+pub mod TransactionLemmas
 pub mod WorksLemmas
 pub mod WritingLemmas
 pub mod WrittenLemmas

@@ -47,6 +47,7 @@ module _ (x y : List ℕ) (P : Pools) (keeps : KeepsHeap x P) (size : length y �
   small = record {
     tiles = keeps.small.tiles;
     size = size ∙ keeps.small.size;
+    region = number_at-same 0 x y (λ i ge lt. stays i (inl (omega (arith, lt)))) ∙ keeps.small.region;
     start = number_at-same 8 x y (λ i ge lt. stays i (inl (omega (arith, lt)))) ∙ keeps.small.start;
     low = number_at-same 16 x y (λ i ge lt. stays i (inl (omega (arith, lt)))) ∙ keeps.small.low;
     high = number_at-same 24 x y (λ i ge lt. stays i (inl (omega (arith, lt)))) ∙ keeps.small.high;
