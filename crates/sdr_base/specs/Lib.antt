@@ -3,11 +3,15 @@ pub mod Causes
 pub mod Cells
 pub mod Entries
 pub mod FreshHeap
+pub mod KeptHeap
 pub mod KeptLarge
 pub mod KeptPools
 pub mod Kinds
 pub mod LargeGiving
 pub mod LargePool
+pub mod Linked
+pub mod Lists
+pub mod Making
 pub mod Media
 pub mod MemorySink
 pub mod MemorySource
@@ -17,8 +21,11 @@ pub mod Parts
 pub mod Pools
 pub mod Refusal
 pub mod Rules
+pub mod Section
 pub mod SmallPool
 pub mod Stored
+pub mod Strings
 pub mod Transaction
 pub mod Words
+pub mod Works
 pub mod Written

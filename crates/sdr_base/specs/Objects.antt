@@ -1,5 +1,5 @@
 -- What a heap holds, and what the calls of `Objects` do to it.
-use Rattle.std.specs.Prelude.{◌≡◌, ◌≢◌, ◌-◌, ◌<◌, ◌^◌, ℕ, Bool, true, List, [], ◌∷◌, ◌++◌, replicate, ⊤}
+use Rattle.std.specs.Prelude.{◌≡◌, ◌≢◌, ◌-◌, ◌<◌, ◌^◌, ℕ, Bool, true, List, [], ◌∷◌, ◌++◌, length, replicate, ⊤}
 use Rattle.std.specs.Prelude.{Option, Some, None, Result, Ok, Err}
 use Rattle.sdr_base.specs.Blocks.{Block, Blocks, IsOther, with_block, with_at, overwritten}
 use Rattle.sdr_base.specs.declared.kind.Kind.{Kind}
@@ -24,7 +24,7 @@ abbrev pub with_move : Heap → Move → Heap
 with_move heap move = record heap { moves = heap.moves ++ move ∷ []; spare = heap.spare - 1 }
 
 -- a marked block of so many zero bytes stands where none was, and all else is as before
-pub record Takes (kind : Kind) (need addr : ℕ) (old new : Heap) : Type 0 where
+pub record TakesZeros (kind : Kind) (need addr : ℕ) (old new : Heap) : Type 0 where
   pub nonzero : addr ≢ 0
   pub small : addr < 2 ^ 32
   pub fresh : old.blocks addr ≡ None
@@ -58,6 +58,7 @@ UnlessStop DiskFault P = ⊤
 UnlessStop MediaFault P = ⊤
 UnlessStop Failed P = ⊤
 
+-- P holds of the state after a call, unless the call was stopped so
 abbrev pub Settled : {T : Type 0} → Result T Stop → Type 0 → Type 0
 Settled (Ok value) P = P
 Settled (Err stop) P = UnlessStop stop P
@@ -70,6 +71,19 @@ OnlyFull DiskFault = ⊤
 OnlyFull MediaFault = ⊥
 OnlyFull Failed = ⊤
 
+-- no move was made, and there is room for as many more as before
+pub record IsUnmoved (old new : Heap) : Type 0 where
+  pub moves : new.moves ≡ old.moves
+  pub spare : new.spare ≡ old.spare
+
+-- the same, and where log room was wanting, no move was made
+abbrev pub OnlyUnmoved : Heap → Heap → Stop → Type 0
+OnlyUnmoved old new (Refused (LogFull lines room)) = IsUnmoved old new
+OnlyUnmoved old new (Refused refusal) = ⊥
+OnlyUnmoved old new DiskFault = ⊤
+OnlyUnmoved old new MediaFault = ⊥
+OnlyUnmoved old new Failed = ⊤
+
 -- the call stopped by a fault
 abbrev pub OnlyFault : Stop → Type 0
 OnlyFault (Refused refusal) = ⊥
@@ -77,23 +91,28 @@ OnlyFault DiskFault = ⊤
 OnlyFault MediaFault = ⊥
 OnlyFault Failed = ⊤
 
--- it may also have stopped for want of a block of so many bytes: then that is noted, and all else is as before
+-- these moves are some first ones of all
+pub record AreFirstOf (all moves : List Move) : Type 0 where
+  pub rest : List Move
+  pub whole : all ≡ moves ++ rest
+
+-- no move was made, or a block for so many bytes was taken and that was all
+pub record TookNoMore (need : ℕ) (old new : Heap) : Type 0 where
+  pub addr : ℕ
+  pub made : List Move
+  pub first : AreFirstOf (Took need addr ∷ []) made
+  pub moves : new.moves ≡ old.moves ++ made
+  pub spare : new.spare ≡ old.spare - length made
+
+-- the call stopped for want of a block of so many bytes, which is noted, and all else is as before; or for want of log
+-- room, and no more than the one block was taken; or by a fault
 abbrev pub OnlyShort : ℕ → Heap → Heap → Stop → Type 0
 OnlyShort need old new (Refused (NoBlock missing)) = (missing ≡ need) × (new ≡ with_move old (Short need))
-OnlyShort need old new (Refused (LogFull lines room)) = ⊤
+OnlyShort need old new (Refused (LogFull lines room)) = TookNoMore need old new
 OnlyShort need old new (Refused refusal) = ⊥
 OnlyShort need old new DiskFault = ⊤
 OnlyShort need old new MediaFault = ⊥
 OnlyShort need old new Failed = ⊤
-
--- the same, where nothing is said of what was changed before
-abbrev pub OnlyWant : ℕ → Stop → Type 0
-OnlyWant need (Refused (NoBlock missing)) = missing ≡ need
-OnlyWant need (Refused (LogFull lines room)) = ⊤
-OnlyWant need (Refused refusal) = ⊥
-OnlyWant need DiskFault = ⊤
-OnlyWant need MediaFault = ⊥
-OnlyWant need Failed = ⊤
 
 -- why a call that wants a block of a kind at an address stops: none begins there, or one of another kind, whose
 -- number it tells; or a fault

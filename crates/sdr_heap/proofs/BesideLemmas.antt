@@ -19,7 +19,7 @@ use Rattle.sdr_base.proofs.PartsLemmas.{length-part, get_or-part}
 use Rattle.sdr_base.proofs.StoredLemmas.{leader_kind-same, leader_length-same, number_at-same}
 use Rattle.sdr_large.proofs.PlacesLemmas.{used_of-le-at}
 use Rattle.sdr_heap.specs.Calls.{KeepsBeside}
-use Rattle.sdr_heap.specs.Kept.{KeepsHeap, LabelledBut, block_of, block_in, root_in}
+use Rattle.sdr_base.specs.KeptHeap.{KeepsHeap, LabelledBut, block_of, block_in, root_in}
 use Rattle.sdr_heap.proofs.BlockInLemmas.{small_block, large_block, small_in, large_in, none_in}
 use Rattle.sdr_heap.proofs.LabelsLemmas.{labelled_all}
 use Rattle.sdr_heap.proofs.UsedLemmas.{small_at, large_at, used_words}

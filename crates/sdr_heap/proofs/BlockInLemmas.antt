@@ -20,7 +20,7 @@ use Rattle.sdr_base.proofs.SmallPoolLemmas.{words_at-is}
 use Rattle.sdr_large.proofs.PartedLemmas.{IsBeside}
 use Rattle.sdr_large.proofs.PlacesLemmas.{in_order as large_order, at_block}
 use Rattle.sdr_large.proofs.WalkLemmas.{tiles_whole}
-use Rattle.sdr_heap.specs.Kept.{block_of, block_led, led_block, may_begin, block_in, place_in}
+use Rattle.sdr_base.specs.KeptHeap.{block_of, block_led, led_block, may_begin, block_in, leader_place}
 
 -- a block may begin at an address
 pub record MayBegin (x : List ℕ) (addr : ℕ) : Type 0 where
@@ -54,16 +54,16 @@ module _ (x : List ℕ) (addr : ℕ) where
       ]
 
   -- the leader of a small block stands a word before it
-  place_in-low : MayBegin x addr → addr - 8 < number_at 16 x → place_in x addr ≡ Some (addr - 8)
-  place_in-low m low = rw (may m, test (addr - 8) (number_at 16 x) low) refl
+  leader_place-low : MayBegin x addr → addr - 8 < number_at 16 x → leader_place x addr ≡ Some (addr - 8)
+  leader_place-low m low = rw (may m, test (addr - 8) (number_at 16 x) low) refl
     where
       test : (a b : ℕ) → a < b → nat_lt a b ≡ true
       test a b lt = grind (arith, nat_tests)
 
   -- and that of a large one two words before it
-  place_in-high : MayBegin x addr → number_at 16 x ≤ addr - 8 → number_at 24 x ≤ addr - 16 →
-      place_in x addr ≡ Some (addr - 16)
-  place_in-high m low high =
+  leader_place-high : MayBegin x addr → number_at 16 x ≤ addr - 8 → number_at 24 x ≤ addr - 16 →
+      leader_place x addr ≡ Some (addr - 16)
+  leader_place-high m low high =
       rw (may m, below (addr - 8) (number_at 16 x) low, upto (number_at 24 x) (addr - 16) high) refl
     where
       below : (a b : ℕ) → b ≤ a → nat_lt a b ≡ false
@@ -73,7 +73,7 @@ module _ (x : List ℕ) (addr : ℕ) where
       upto a b le = grind (arith, nat_tests)
 
   -- the block is the one that the leader there has
-  pub block_in-at : (place : ℕ) → place_in x addr ≡ Some place → block_in x addr ≡ led_block x place addr
+  pub block_in-at : (place : ℕ) → leader_place x addr ≡ Some place → block_in x addr ≡ led_block x place addr
   unfolding block_in
   block_in-at place is = ap (block_led x addr) is
 
@@ -120,10 +120,10 @@ module _ (x : List ℕ) (P : Pools) (small : KeepsSmall x P) (large : KeepsLarge
       (words_at-is addr P.large used.used)
 
   -- where the leader of a small block in use stands
-  pub small_place : (addr : ℕ) → IsUsed P.small addr → place_in x addr ≡ Some (addr - 8)
+  pub small_place : (addr : ℕ) → IsUsed P.small addr → leader_place x addr ≡ Some (addr - 8)
   small_place addr used =
       let b = small_block addr used in
-      place_in-low x addr (record {
+      leader_place-low x addr (record {
         whole = omega (arith, b.whole);
         least = omega (arith, small.start, b.first);
         inside = omega (arith, b.last, b.some, o.order, o.end);
@@ -146,11 +146,11 @@ module _ (x : List ℕ) (P : Pools) (small : KeepsSmall x P) (large : KeepsLarge
       ))
 
   -- where the leader of a large one stands
-  pub large_place : (addr : ℕ) → IsUsed P.large addr → place_in x addr ≡ Some (addr - 16)
+  pub large_place : (addr : ℕ) → IsUsed P.large addr → leader_place x addr ≡ Some (addr - 16)
   large_place addr used =
       let b = large_block addr used in
       let q = large_order P P.end P.end (tiles_whole P large.tiles) in
-      place_in-high x addr (record {
+      leader_place-high x addr (record {
         whole = b.whole q.whole q.end;
         least = omega (arith, small.start, b.first, o.small, o.order);
         inside = omega (arith, b.last, b.some, small.size);
@@ -184,7 +184,7 @@ module _ (x : List ℕ) (P : Pools) (small : KeepsSmall x P) (large : KeepsLarge
     | inl m ↦ elim (cases_lt (addr - 8) (number_at 16 x)) [
       | inl low ↦
           let here : 8 * ((addr - 8) / 8) + 8 ≡ addr = omega (arith, m.whole, m.least, small.start, o.control) in
-          block_in-at x addr (addr - 8) (place_in-low x addr m low)
+          block_in-at x addr (addr - 8) (leader_place-low x addr m low)
           ∙ led-clear x (addr - 8) addr
           (small.bits ((addr - 8) / 8) (omega (arith, o.bits (addr - 8) (omega (arith, m.inside, here))))
           (omega (arith, here, low, small.low, o.order))
@@ -193,7 +193,7 @@ module _ (x : List ℕ) (P : Pools) (small : KeepsSmall x P) (large : KeepsLarge
         | inl between ↦ block_in-between x addr m above between
         | inr high ↦
             let here : 8 * ((addr - 16) / 8) + 16 ≡ addr = omega (arith, m.whole, m.least, small.start, o.control) in
-            block_in-at x addr (addr - 16) (place_in-high x addr m above high)
+            block_in-at x addr (addr - 16) (leader_place-high x addr m above high)
             ∙ led-clear x (addr - 16) addr
             (large.holds.bits ((addr - 16) / 8) (omega (arith, o.bits (addr - 16) (omega (arith, m.inside, here))))
             (omega (arith, here, high, small.high, o.order))

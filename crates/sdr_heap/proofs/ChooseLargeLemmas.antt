@@ -14,7 +14,7 @@ use Rattle.sdr_base.specs.Pools.{PoolBlock, Pools, is_of, is_used_at}
 use Rattle.sdr_base.specs.SmallPool.{Taken, take_small}
 use Rattle.sdr_base.proofs.PoolsLemmas.{free-used-le-at}
 use Rattle.sdr_large.specs.Gap.{IsFree}
-use Rattle.sdr_large.specs.Calls.{TakesBlock, TakesBy, Takes}
+use Rattle.sdr_large.specs.Calls.{TakesBlock, TakesBy, TakesLarge}
 use Rattle.sdr_large.proofs.BlocksLemmas.{count_by-placed, without-le}
 use Rattle.sdr_large.proofs.BothPoolsLemmas.{SameSmall, cut_same, new_same}
 use Rattle.sdr_large.proofs.FoundLemmas.{IsFound, found_is}
@@ -22,9 +22,9 @@ use Rattle.sdr_large.proofs.GapLemmas.{not_put}
 use Rattle.sdr_large.proofs.PartedLemmas.{IsBeside}
 use Rattle.sdr_large.proofs.PlacesLemmas.{at_block, free_of, used_of-le-of}
 use Rattle.sdr_large.proofs.WalkLemmas.{tiles_whole}
-use Rattle.sdr_small.specs.Calls.{TakesBy as SmallTakesBy, Takes as SmallTakes}
+use Rattle.sdr_small.specs.Calls.{TakesBy as SmallTakesBy, TakesSmall}
 use Rattle.sdr_heap.specs.Calls.{ChoosesBlock, ChoosesBy, Chooses}
-use Rattle.sdr_heap.specs.Kept.{KeepsHeap, LabelledBut}
+use Rattle.sdr_base.specs.KeptHeap.{KeepsHeap, LabelledBut}
 use Rattle.sdr_heap.proofs.BesideLemmas.{labels_beside, beside_kept}
 use Rattle.sdr_heap.proofs.BlockInLemmas.{none_in}
 use Rattle.sdr_heap.proofs.LabelsLemmas.{labelled_but}
@@ -198,8 +198,8 @@ module _ (P : Pools) (words : ℕ) (found : Option ℕ) (x y : List ℕ) (keeps 
       cut_chosen b (found_is P words b keeps.large.tiles (λ w a f. (free_at w a f).some) is) by
 
 -- where the small pool gives none, what the large pool answers is what the rule gives
-pub large_chooses : (x y z : List ℕ) (words : ℕ) (found : Option ℕ) → SmallTakes words None x y →
-    Takes words found y z → Chooses words found x z
+pub large_chooses : (x y z : List ℕ) (words : ℕ) (found : Option ℕ) → TakesSmall words None x y →
+    TakesLarge words found y z → Chooses words found x z
 large_chooses x y z words found none takes =
     record { rule = λ P keeps. small P keeps (take_small P words) (none.rule P keeps.small) }
   where

@@ -14,10 +14,10 @@ use Rattle.sdr_base.proofs.KeptPoolsLemmas.{is_block, in_order, free_is, front_f
 use Rattle.sdr_base.proofs.PoolsLemmas.{free-used-le-at}
 use Rattle.sdr_base.proofs.PoolsLemmas.{count_by-append, count_by-yes, count_by-no}
 use Rattle.sdr_base.proofs.SmallPoolLemmas.{of-with_used}
-use Rattle.sdr_small.specs.Calls.{TakesBlock, TakesBy, Takes}
+use Rattle.sdr_small.specs.Calls.{TakesBlock, TakesBy, TakesSmall}
 use Rattle.sdr_large.proofs.PlacesLemmas.{used_of-le-of}
 use Rattle.sdr_heap.specs.Calls.{ChoosesBlock, ChoosesBy, Chooses}
-use Rattle.sdr_heap.specs.Kept.{KeepsHeap, LabelledBut}
+use Rattle.sdr_base.specs.KeptHeap.{KeepsHeap, LabelledBut}
 use Rattle.sdr_heap.proofs.BesideLemmas.{labels_beside, beside_kept}
 use Rattle.sdr_heap.proofs.BlockInLemmas.{none_in}
 use Rattle.sdr_heap.proofs.LabelsLemmas.{labelled_but}
@@ -151,7 +151,7 @@ module _ (P : Pools) (words addr : ℕ) (x y : List ℕ) (keeps : KeepsHeap x P)
   few false by = listed (P.small_lists words) refl by
 
 -- what the small pool answers is what the rule gives
-pub small_chooses : (x y : List ℕ) (words addr : ℕ) → 1 ≤ words → Takes words (Some addr) x y →
+pub small_chooses : (x y : List ℕ) (words addr : ℕ) → 1 ≤ words → TakesSmall words (Some addr) x y →
     Chooses words (Some addr) x y
 small_chooses x y words addr some takes =
     record { rule = λ P keeps. few P words addr x y keeps some (nat_lt 64 words) (takes.rule P keeps.small) }

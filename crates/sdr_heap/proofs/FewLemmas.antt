@@ -11,7 +11,7 @@ use Rattle.sdr_base.specs.Pools.{PoolBlock, Pools, is_at}
 use Rattle.sdr_base.proofs.FewLemmas.{Tiles-few}
 use Rattle.sdr_base.proofs.PoolsLemmas.{count_by-append, count_by-yes, count_by-no, used-le-at}
 use Rattle.sdr_large.proofs.BlocksLemmas.{without-other, at_is}
-use Rattle.sdr_heap.specs.Kept.{KeepsHeap, block_in}
+use Rattle.sdr_base.specs.KeptHeap.{KeepsHeap, block_in}
 use Rattle.sdr_heap.proofs.BlockInLemmas.{none_in}
 
 -- the blocks without those at an address are as many fewer

@@ -10,7 +10,7 @@ use Rattle.sdr_log.specs.Log.{put_back_of}
 use Rattle.sdr_log.specs.declared.frame.Frame.{Frame}
 use Rattle.sdr_image.specs.Format.{formatted}
 use Rattle.sdr_image.proofs.FormattedLemmas.{put_back_of-formatted}
-use Rattle.sdr_heap.specs.Kept.{KeepsHeap}
+use Rattle.sdr_base.specs.KeptHeap.{KeepsHeap}
 
 -- a fresh heap has no block, and so each has its label
 pub fresh_kept : (lines : ℕ) → 32 ≤ lines → lines ≤ 262144 → KeepsHeap (fresh_heap lines) (fresh_pools lines)

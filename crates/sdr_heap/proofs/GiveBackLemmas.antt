@@ -16,7 +16,7 @@ use Rattle.sdr_base.proofs.ObjectsLemmas.{with_block-here, with_block-apart}
 use Rattle.sdr_small.specs.Calls.{Gives as SmallGives, KeepsUsedSmall}
 use Rattle.sdr_large.specs.Calls.{Gives, KeepsUsedLarge}
 use Rattle.sdr_heap.specs.Calls.{GivesBack}
-use Rattle.sdr_heap.specs.Kept.{KeepsHeap, KeepsSomeHeap, block_in}
+use Rattle.sdr_base.specs.KeptHeap.{KeepsHeap, KeepsSomeHeap, block_in}
 use Rattle.sdr_heap.proofs.BesideLemmas.{IsWithout}
 use Rattle.sdr_heap.proofs.BlockInLemmas.{small_block, large_block, in_use}
 use Rattle.sdr_heap.proofs.UsedLemmas.{none_small}

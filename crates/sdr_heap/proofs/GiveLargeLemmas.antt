@@ -12,7 +12,7 @@ use Rattle.sdr_large.specs.Calls.{Gives}
 use Rattle.sdr_large.proofs.BlocksLemmas.{without-le, without-here, used_at_is}
 use Rattle.sdr_large.proofs.BothPoolsLemmas.{give_same}
 use Rattle.sdr_large.proofs.GapLemmas.{not_put}
-use Rattle.sdr_heap.specs.Kept.{KeepsHeap}
+use Rattle.sdr_base.specs.KeptHeap.{KeepsHeap}
 use Rattle.sdr_heap.proofs.BesideLemmas.{IsWithout, without_kept}
 use Rattle.sdr_heap.proofs.BlockInLemmas.{large_block}
 use Rattle.sdr_heap.proofs.LabelsLemmas.{labelled_but}

@@ -1,13 +1,14 @@
 -- How moves lead from heap to heap, and what holds where a call was stopped.
 use Rattle.std.proofs.Common.{◌≡◌, ℕ, ◌/◌, List, [], ◌∷◌, ◌++◌}
-use Rattle.std.proofs.Common.{length, refl, sym, ap, ◌∙◌, subst}
+use Rattle.std.proofs.Common.{length, refl, sym, ap, ◌∙◌, subst, arith}
 use Rattle.std.specs.Prelude.{Option, Some, None, Result, Ok, Err, IfErr, OnOk}
 use Rattle.std.specs.Option.{option_or}
+use Rattle.std.proofs.lemmas.List.{append-nil}
 use Rattle.sdr_base.specs.Blocks.{Uses}
 use Rattle.sdr_base.specs.Entries.{Few}
 use Rattle.sdr_base.specs.LargePool.{take_large}
 use Rattle.sdr_base.specs.Moves.{KeepsSome, Moves}
-use Rattle.sdr_base.specs.Objects.{Heap, OnlyFull, OnlyShort, Settled, UnlessStop}
+use Rattle.sdr_base.specs.Objects.{Heap, IsUnmoved, OnlyFull, OnlyShort, OnlyUnmoved, Settled, UnlessStop}
 use Rattle.sdr_base.specs.Pools.{Pools}
 use Rattle.sdr_base.specs.Rules.{give_of, take_of, words_for}
 use Rattle.sdr_base.specs.SmallPool.{Taken, take_small}
@@ -19,7 +20,7 @@ use Rattle.sdr_base.specs.declared.stop.Stop.{Stop}
 use Rattle.sdr_base.specs.declared.stop.Stop.TheVariants.{Refused, DiskFault, MediaFault, Failed}
 use Rattle.sdr_base.proofs.MovesLemmas.{Moves-none, Moves-one}
 use Rattle.sdr_heap.specs.Calls.{Chooses, ChoosesBy, ChoosesBlock, GivesBack, Labels}
-use Rattle.sdr_heap.specs.Kept.{KeepsHeap, KeepsRegion, KeepsSomeHeap, block_in}
+use Rattle.sdr_base.specs.KeptHeap.{KeepsHeap, KeepsRegion, KeepsSomeHeap, block_in}
 use Rattle.sdr_heap.specs.Noted.{Held}
 use Rattle.sdr_heap.proofs.FewLemmas.{block_in-few}
 use Rattle.sdr_heap.proofs.MarkLemmas.{HasMark, has_mark}
@@ -161,10 +162,24 @@ stopped P DiskFault full = tt
 stopped P MediaFault full = tt
 stopped P Failed full = tt
 
--- nor that a block was wanting
-pub full_short : (need : ℕ) (old new : Heap) (stop : Stop) → OnlyFull stop → OnlyShort need old new stop
-full_short need old new (Refused (LogFull lines room)) full = tt
-full_short need old new (Refused refusal) full = absurd full
-full_short need old new DiskFault full = tt
-full_short need old new MediaFault full = absurd full
-full_short need old new Failed full = tt
+-- a call that was stopped before its first move, by want of log room or by a fault
+pub full_short : (need : ℕ) {old new : Heap} (stop : Stop) → IsUnmoved old new → OnlyFull stop →
+    OnlyShort need old new stop
+full_short need {old} {new} (Refused (LogFull lines room)) same full = record {
+  addr = 0;
+  made = [];
+  first = record { rest = Took need 0 ∷ []; whole = refl };
+  moves = same.moves ∙ sym (append-nil old.moves);
+  spare = let is = same.spare in omega (arith, is);
+}
+full_short need (Refused refusal) same full = absurd full
+full_short need DiskFault same full = tt
+full_short need MediaFault same full = absurd full
+full_short need Failed same full = tt
+
+pub full_unmoved : {old new : Heap} (stop : Stop) → IsUnmoved old new → OnlyFull stop → OnlyUnmoved old new stop
+full_unmoved (Refused (LogFull lines room)) same full = same
+full_unmoved (Refused refusal) same full = absurd full
+full_unmoved DiskFault same full = tt
+full_unmoved MediaFault same full = absurd full
+full_unmoved Failed same full = tt

@@ -74,6 +74,7 @@ module _ (x y : List ℕ) (P : Pools) (words addr : ℕ) (small : KeepsSmall x P
   small_inside = record {
     tiles = small.tiles;
     size = change.size ∙ small.size;
+    region = number_at-same 0 x y (λ i ge lt. front i (omega (arith, lt, o.control))) ∙ small.region;
     start = number_at-same 8 x y (λ i ge lt. front i (omega (arith, lt, o.control))) ∙ small.start;
     low = number_at-same 16 x y (λ i ge lt. front i (omega (arith, lt, o.control))) ∙ small.low;
     high = number_at-same 24 x y (λ i ge lt. front i (omega (arith, lt, o.control))) ∙ small.high;

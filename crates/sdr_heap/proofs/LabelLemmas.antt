@@ -20,7 +20,7 @@ use Rattle.sdr_base.proofs.StoredLemmas.{leader_kind-same, leader_words-same, le
 use Rattle.sdr_large.proofs.PlacesLemmas.{InOrder, in_order as large_order, used_of-le-of}
 use Rattle.sdr_large.proofs.WalkLemmas.{tiles_whole}
 use Rattle.sdr_heap.specs.Calls.{IsBare, IsSomeBare, KeepsBeside, Labels}
-use Rattle.sdr_heap.specs.Kept.{KeepsHeap, block_in, block_of, used_place}
+use Rattle.sdr_base.specs.KeptHeap.{KeepsHeap, block_in, block_of, used_place}
 use Rattle.sdr_heap.proofs.BlockInLemmas.{small_block, large_block}
 use Rattle.sdr_heap.proofs.InsideLemmas.{ChangesInside}
 use Rattle.sdr_heap.proofs.LeaderLemmas.{leader_kind-with_leader, leader_words-with_leader}

@@ -6,7 +6,7 @@ use Rattle.sdr_base.specs.KeptLarge.{KeepsLarge}
 use Rattle.sdr_base.specs.KeptPools.{KeepsSmall}
 use Rattle.sdr_base.specs.Pools.{Pools, is_used_at}
 use Rattle.sdr_large.proofs.PlacesLemmas.{used_of-le-at}
-use Rattle.sdr_heap.specs.Kept.{LabelledBut}
+use Rattle.sdr_base.specs.KeptHeap.{LabelledBut}
 use Rattle.sdr_heap.proofs.UsedLemmas.{small_at, large_at}
 
 -- no block begins at 0, so where all have labels, all but one have

@@ -9,6 +9,7 @@ pub mod GiveBackLemmas
 pub mod GiveLargeLemmas
 pub mod GiveSmallLemmas
 pub mod HeldLemmas
+pub mod HeldWorksLemmas
 pub mod InsideLargeLemmas
 pub mod InsideLemmas
 pub mod LabelLemmas

@@ -9,8 +9,8 @@ use Rattle.sdr_base.specs.Pools.{Pools}
 use Rattle.sdr_base.proofs.KeptPoolsLemmas.{in_order}
 use Rattle.sdr_large.proofs.PlacesLemmas.{in_order as large_order}
 use Rattle.sdr_large.proofs.WalkLemmas.{tiles_whole}
-use Rattle.sdr_heap.specs.Kept.{KeepsHeap, KeepsRegion, block_in}
-use Rattle.sdr_heap.specs.Noted.{is_marked}
+use Rattle.sdr_base.specs.KeptHeap.{KeepsHeap, KeepsRegion, block_in}
+use Rattle.sdr_heap.specs.Noted.{marked_in}
 use Rattle.sdr_heap.proofs.BlockInLemmas.{in_use, small_block, large_block}
 
 -- the address of a block in use is that of a whole word of the region
@@ -44,23 +44,23 @@ has_mark n x marks P addr region many uses =
 
 -- an address marked
 pub marked-set : (marks : List Bool) (addr : ℕ) → addr % 8 ≡ 0 → addr / 8 < length marks →
-    is_marked (set marks (addr / 8) true) ≡ with_at (is_marked marks) addr true
+    marked_in (set marks (addr / 8) true) ≡ with_at (marked_in marks) addr true
 unfolding with_at
 marked-set marks addr whole inside = fun_ext (λ other. elim (cases_eq other addr) [
-  | inl is ↦ subst (λ (a : ℕ). is_marked (set marks (addr / 8) true) a ≡ cond (a == addr) true (is_marked marks a))
+  | inl is ↦ subst (λ (a : ℕ). marked_in (set marks (addr / 8) true) a ≡ cond (a == addr) true (marked_in marks a))
       (sym is)
-      (here ∙ sym (ap (λ (b : Bool). cond b true (is_marked marks addr)) (eq-eqb addr addr refl)))
+      (here ∙ sym (ap (λ (b : Bool). cond b true (marked_in marks addr)) (eq-eqb addr addr refl)))
   | inr differ ↦
-      apart other differ ∙ sym (ap (λ (b : Bool). cond b true (is_marked marks other)) (ne_eqb other addr differ))
+      apart other differ ∙ sym (ap (λ (b : Bool). cond b true (marked_in marks other)) (ne_eqb other addr differ))
 ])
   where
     test : (n : ℕ) → n ≡ 0 → (n == 0) ≡ true
     test n is = grind (arith, nat_tests)
 
-    here : is_marked (set marks (addr / 8) true) addr ≡ true
+    here : marked_in (set marks (addr / 8) true) addr ≡ true
     here = rw (test (addr % 8) whole, get_or-set_same marks (addr / 8) true false inside) refl
 
-    apart : (other : ℕ) → other ≢ addr → is_marked (set marks (addr / 8) true) other ≡ is_marked marks other
+    apart : (other : ℕ) → other ≢ addr → marked_in (set marks (addr / 8) true) other ≡ marked_in marks other
     apart other differ = elim (cases_eq (other / 8) (addr / 8)) [
       | inr word ↦ ap (λ (v : Bool). other % 8 == 0 && v)
           (get_or-set_other marks (addr / 8) (other / 8) true false word)

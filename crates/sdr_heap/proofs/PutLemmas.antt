@@ -19,8 +19,8 @@ use Rattle.sdr_base.proofs.ObjectsLemmas.{with_block-here, with_block-apart}
 use Rattle.sdr_base.proofs.PartsLemmas.{length-overwrite, length-part, get_or-part, get_or-overwrite_inside}
 use Rattle.sdr_base.proofs.PartsLemmas.{get_or-overwrite_outside, sides}
 use Rattle.sdr_base.proofs.StoredLemmas.{leader_kind-same, leader_words-same, leader_length-same}
-use Rattle.sdr_heap.specs.Calls.{KeepsBeside, Writes}
-use Rattle.sdr_heap.specs.Kept.{KeepsHeap, KeepsSomeHeap, block_in, block_of}
+use Rattle.sdr_heap.specs.Calls.{KeepsBeside, WritesBlock}
+use Rattle.sdr_base.specs.KeptHeap.{KeepsHeap, KeepsSomeHeap, block_in, block_of}
 use Rattle.sdr_heap.proofs.BlockInLemmas.{in_use, small_block, large_block, small_in, large_in}
 use Rattle.sdr_heap.proofs.InsideLemmas.{ChangesInside}
 use Rattle.sdr_heap.proofs.LabelsLemmas.{labelled_but}
@@ -149,7 +149,7 @@ module _ (x : List ℕ) (addr place : ℕ) (from : List ℕ) (within : UsesRange
       ]
 
   -- what a write into the block does
-  pub writes : KeepsSomeHeap x → Writes addr place from x (overwrite (addr + place) from x)
+  pub writes : KeepsSomeHeap x → WritesBlock addr place from x (overwrite (addr + place) from x)
   writes kept =
       let puts = puts_in kept.pools kept.keeps in
       record {

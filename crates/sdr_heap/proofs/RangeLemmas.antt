@@ -12,7 +12,7 @@ use Rattle.sdr_base.specs.Stored.{leader_kind, leader_length, start_bit}
 use Rattle.sdr_base.specs.declared.kind.Kind.{Kind}
 use Rattle.sdr_base.proofs.KeptPoolsLemmas.{in_order}
 use Rattle.sdr_base.proofs.PartsLemmas.{length-part, get_or-part}
-use Rattle.sdr_heap.specs.Kept.{KeepsHeap, KeepsSomeHeap, block_in, block_led, block_of, place_in}
+use Rattle.sdr_base.specs.KeptHeap.{KeepsHeap, KeepsSomeHeap, block_in, block_led, block_of, leader_place}
 use Rattle.sdr_heap.proofs.BlockInLemmas.{small_block, large_block, small_place, large_place, in_use, block_in-at}
 use Rattle.sdr_heap.proofs.BlockInLemmas.{small_in, large_in}
 use Rattle.sdr_heap.proofs.UsedLemmas.{used_words}
@@ -36,7 +36,7 @@ pub record LiesIn (x : List ℕ) (place addr : ℕ) : Type 0 where
   pub fits : leader_length place x ≤ 8 * words
   pub inside : addr + 8 * words ≤ length x
 
-module _ (x : List ℕ) (P : Pools) (keeps : KeepsHeap x P) (addr place : ℕ) (at : place_in x addr ≡ Some place) where
+module _ (x : List ℕ) (P : Pools) (keeps : KeepsHeap x P) (addr place : ℕ) (at : leader_place x addr ≡ Some place) where
   -- the bytes that the leader tells of are there
   pub lies_in : Uses (block_in x) addr → LiesIn x place addr
   lies_in uses = elim (in_use x P keeps.small keeps.large addr uses) [
@@ -67,12 +67,12 @@ module _ (x : List ℕ) (P : Pools) (keeps : KeepsHeap x P) (addr place : ℕ) (
       some_of same = cc
 
 -- where no block begins, none is told of
-pub told_nowhere : (x : List ℕ) (addr : ℕ) → place_in x addr ≡ None → kind_length (block_in x addr) ≡ None
+pub told_nowhere : (x : List ℕ) (addr : ℕ) → leader_place x addr ≡ None → kind_length (block_in x addr) ≡ None
 unfolding block_in
 told_nowhere x addr is = ap (λ (o : Option ℕ). kind_length (block_led x addr o)) is
 
 -- nor where the start bit is clear
-pub told_clear : (x : List ℕ) (addr place : ℕ) → place_in x addr ≡ Some place → (start_bit (place / 8) x == 1) ≡ false →
+pub told_clear : (x : List ℕ) (addr place : ℕ) → leader_place x addr ≡ Some place → (start_bit (place / 8) x == 1) ≡ false →
     kind_length (block_in x addr) ≡ None
 told_clear x addr place at clear =
     ap kind_length (block_in-at x addr place at)
@@ -80,7 +80,7 @@ told_clear x addr place at clear =
     (cond b (block_of (kind_of (leader_kind place x)) (part addr (leader_length place x) x)) None)) clear
 
 -- else the kind and the length are those of the leader
-pub told_set : (x : List ℕ) (addr place : ℕ) → KeepsSomeHeap x → place_in x addr ≡ Some place →
+pub told_set : (x : List ℕ) (addr place : ℕ) → KeepsSomeHeap x → leader_place x addr ≡ Some place →
     (start_bit (place / 8) x == 1) ≡ true →
     kind_length (block_in x addr) ≡ option_map (λ (kind : Kind). (kind, leader_length place x))
     (kind_of (leader_kind place x))
@@ -103,7 +103,7 @@ told_set x addr place kept at set =
 
 -- so it is for the kind and the length that were read
 pub told_read : (x : List ℕ) (addr place count : ℕ) (kind : Option Kind) → KeepsSomeHeap x →
-    place_in x addr ≡ Some place → (start_bit (place / 8) x == 1) ≡ true → kind ≡ kind_of (leader_kind place x) →
+    leader_place x addr ≡ Some place → (start_bit (place / 8) x == 1) ≡ true → kind ≡ kind_of (leader_kind place x) →
     count ≡ leader_length place x → option_map (λ (k : Kind). (k, count)) kind ≡ kind_length (block_in x addr)
 told_read x addr place count kind kept at set kind_is count_is =
     ap (λ (n : ℕ). option_map (λ (k : Kind). (k, n)) kind) count_is
@@ -119,7 +119,7 @@ pub record IsRange (x : List ℕ) (addr place count : ℕ) : Type 0 where
 -- where the leader of a block in use stands
 pub record HasLeader (x : List ℕ) (addr : ℕ) : Type 0 where
   pub place : ℕ
-  pub at : place_in x addr ≡ Some place
+  pub at : leader_place x addr ≡ Some place
   pub is : block_in x addr ≡ block_of (kind_of (leader_kind place x)) (part addr (leader_length place x) x)
 
 pub has_leader : (x : List ℕ) (P : Pools) → KeepsHeap x P → (addr : ℕ) → Uses (block_in x) addr → HasLeader x addr

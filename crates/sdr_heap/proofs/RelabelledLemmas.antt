@@ -11,7 +11,7 @@ use Rattle.sdr_base.specs.Pools.{Pools}
 use Rattle.sdr_base.specs.Stored.{leader_kind, leader_length}
 use Rattle.sdr_large.proofs.PlacesLemmas.{used_of-le-at, used_of-le-of}
 use Rattle.sdr_heap.specs.Calls.{KeepsBeside}
-use Rattle.sdr_heap.specs.Kept.{HasLabel, HasLargeLabel, KeepsHeap, LabelledBut, block_in, block_of}
+use Rattle.sdr_base.specs.KeptHeap.{HasLabel, HasLargeLabel, KeepsHeap, LabelledBut, block_in, block_of}
 use Rattle.sdr_heap.proofs.BesideLemmas.{beside_kept, labels_beside}
 use Rattle.sdr_heap.proofs.BlockInLemmas.{small_in, large_in}
 use Rattle.sdr_heap.proofs.InsideLargeLemmas.{large_stays_kept}

@@ -23,7 +23,7 @@ use Rattle.sdr_large.proofs.LinksLemmas.{Links-same}
 use Rattle.sdr_large.proofs.PartedLemmas.{IsBeside}
 use Rattle.sdr_large.proofs.PlacesLemmas.{InOrder, in_order as large_order, at_block, entered_free, free_of, used_of}
 use Rattle.sdr_large.proofs.WalkLemmas.{tiles_whole}
-use Rattle.sdr_heap.specs.Kept.{KeepsHeap, KeepsSomeHeap, block_in, root_in}
+use Rattle.sdr_base.specs.KeptHeap.{KeepsHeap, KeepsSomeHeap, block_in, root_in}
 use Rattle.sdr_heap.proofs.BesideLemmas.{BlocksStay, blocks_beside, labels_stay}
 use Rattle.sdr_heap.proofs.BlockInLemmas.{none_in}
 use Rattle.sdr_heap.proofs.UsedLemmas.{small_at, large_at}
@@ -47,6 +47,7 @@ module _ (x y : List ℕ) (P : Pools) (keeps : KeepsHeap x P) (size : length y �
   small = record {
     tiles = keeps.small.tiles;
     size = size ∙ keeps.small.size;
+    region = number_at-same 0 x y (λ i ge lt. stays i (inl (omega (arith, lt)))) ∙ keeps.small.region;
     start = number_at-same 8 x y (λ i ge lt. stays i (inl (omega (arith, lt)))) ∙ keeps.small.start;
     low = number_at-same 16 x y (λ i ge lt. stays i (inl (omega (arith, lt)))) ∙ keeps.small.low;
     high = number_at-same 24 x y (λ i ge lt. stays i (inl (omega (arith, lt)))) ∙ keeps.small.high;

@@ -6,7 +6,7 @@ use Rattle.std.proofs.Math.Path.{fun_ext}
 use Rattle.std.proofs.lemmas.Bool.{cases_eq}
 use Rattle.sdr_base.specs.Blocks.{Block, Blocks, Reaches, with_at, with_block}
 use Rattle.sdr_base.specs.Moves.{KeepsSome}
-use Rattle.sdr_base.specs.Objects.{Heap, Takes, with_mark, with_root}
+use Rattle.sdr_base.specs.Objects.{Heap, TakesZeros, with_mark, with_root}
 use Rattle.sdr_base.specs.Pools.{Pools}
 use Rattle.sdr_base.specs.Rules.{words_for}
 use Rattle.sdr_base.specs.declared.kind.Kind.{Kind}
@@ -15,8 +15,8 @@ use Rattle.sdr_base.specs.declared.moves.Move.TheVariants.{Took}
 use Rattle.sdr_base.proofs.KeptPoolsLemmas.{in_order}
 use Rattle.sdr_base.proofs.ObjectsLemmas.{with_block-here, with_block-apart}
 use Rattle.sdr_heap.specs.Calls.{Chooses, IsSomeBare, Labels}
-use Rattle.sdr_heap.specs.Kept.{KeepsHeap, KeepsRegion, KeepsSomeHeap, block_in, root_in}
-use Rattle.sdr_heap.specs.Noted.{Held, is_marked}
+use Rattle.sdr_base.specs.KeptHeap.{KeepsHeap, KeepsRegion, KeepsSomeHeap, block_in, root_in}
+use Rattle.sdr_heap.specs.Noted.{Held, marked_in}
 use Rattle.sdr_heap.proofs.LabelLemmas.{bare_place}
 use Rattle.sdr_heap.proofs.MarkLemmas.{HasMark, has_mark}
 use Rattle.sdr_heap.proofs.RootLemmas.{PutsRoot}
@@ -28,7 +28,7 @@ heap_of bytes held = record {
   size = held.size;
   blocks = block_in (bytes held.cells);
   roots = root_in (bytes held.cells);
-  marks = is_marked held.marks;
+  marks = marked_in held.marks;
   moves = held.moves;
   spare = held.spare;
 }
@@ -45,7 +45,7 @@ heap_root {C = C} bytes inside seen cells word value is puts =
 -- a heap with an address marked
 pub heap_mark : {C : Type 0} (bytes : C → List ℕ) (inside seen : Held C) (marks : List Bool) (addr : ℕ) →
     inside ≡ seen →
-    is_marked marks ≡ with_at (is_marked inside.marks) addr true →
+    marked_in marks ≡ with_at (marked_in inside.marks) addr true →
     heap_of bytes (record inside { marks = marks }) ≡ with_mark (heap_of bytes seen) addr
 heap_mark {C = C} bytes inside seen marks addr is marked =
     ap (λ (m : ℕ → Bool). record (heap_of bytes inside) { marks = m }) marked
@@ -62,16 +62,16 @@ pub record TakesSteps (kind : Kind) (need addr : ℕ) (x y : List ℕ) : Type 0 
 pub heap_took : {C : Type 0} (bytes : C → List ℕ) (inside seen : Held C) (cells : C) (marks : List Bool)
     (moves : List Move) (spare : ℕ) (kind : Kind) (need addr : ℕ) → inside ≡ seen →
     TakesSteps kind need addr (bytes inside.cells) (bytes cells) →
-    is_marked marks ≡ with_at (is_marked inside.marks) addr true → moves ≡ inside.moves ++ Took need addr ∷ [] →
+    marked_in marks ≡ with_at (marked_in inside.marks) addr true → moves ≡ inside.moves ++ Took need addr ∷ [] →
     spare ≡ inside.spare - 1 →
-    Takes kind need addr (heap_of bytes seen) (heap_of bytes (record inside {
+    TakesZeros kind need addr (heap_of bytes seen) (heap_of bytes (record inside {
       cells = cells;
       marks = marks;
       moves = moves;
       spare = spare;
     }))
 heap_took {C = C} bytes inside seen cells marks moves spare kind need addr is steps marked moved left =
-    subst (λ (h : Held C). Takes kind need addr (heap_of bytes h) (heap_of bytes (record inside {
+    subst (λ (h : Held C). TakesZeros kind need addr (heap_of bytes h) (heap_of bytes (record inside {
       cells = cells;
       marks = marks;
       moves = moves;
@@ -81,16 +81,16 @@ heap_took {C = C} bytes inside seen cells marks moves spare kind need addr is st
       small = steps.small;
       fresh = steps.fresh;
       taken =
-          ap (λ (b : Blocks). record (after (root_in (bytes cells)) (is_marked marks) moves spare) { blocks = b })
+          ap (λ (b : Blocks). record (after (root_in (bytes cells)) (marked_in marks) moves spare) { blocks = b })
           steps.blocks
-          ∙ ap (λ (r : ℕ → ℕ). after r (is_marked marks) moves spare) steps.roots
+          ∙ ap (λ (r : ℕ → ℕ). after r (marked_in marks) moves spare) steps.roots
           ∙ ap (λ (m : ℕ → Bool). after (root_in (bytes inside.cells)) m moves spare) marked
           ∙ ap (λ (l : List Move). after (root_in (bytes inside.cells)) marks' l spare) moved
           ∙ ap (λ (n : ℕ). after (root_in (bytes inside.cells)) marks' (inside.moves ++ Took need addr ∷ []) n) left;
     })
   where
     marks' : ℕ → Bool
-    marks' = with_at (is_marked inside.marks) addr true
+    marks' = with_at (marked_in inside.marks) addr true
 
     after : (ℕ → ℕ) → (ℕ → Bool) → List Move → ℕ → Heap
     after roots marks moves spare = record {

@@ -9,7 +9,7 @@ use Rattle.sdr_base.specs.Pools.{Pools}
 use Rattle.sdr_base.specs.Rules.{IsInUse, give_of, words_for}
 use Rattle.sdr_base.specs.SmallPool.{Taken, take_small}
 use Rattle.sdr_base.specs.declared.kind.Kind.{Kind}
-use Rattle.sdr_heap.specs.Kept.{KeepsHeap, LabelledBut, block_in, root_in}
+use Rattle.sdr_base.specs.KeptHeap.{KeepsHeap, LabelledBut, block_in, root_in}
 
 -- all blocks but the one at an address, and the control words that belong to what they keep, are as before
 pub record KeepsBeside (addr : ℕ) (old new : List ℕ) : Type 0 where
@@ -51,7 +51,7 @@ pub record GivesBack (addr : ℕ) (old new : List ℕ) : Type 0 where
   pub roots : root_in new ≡ root_in old
 
 -- bytes were written into a block, whatever pools the heap has
-pub record Writes (addr place : ℕ) (from : List ℕ) (old new : List ℕ) : Type 0 where
+pub record WritesBlock (addr place : ℕ) (from : List ℕ) (old new : List ℕ) : Type 0 where
   pub kept : (P : Pools) → KeepsHeap old P → KeepsHeap new P
   pub blocks : block_in new ≡ with_block (block_in old) addr (overwritten (block_in old addr) place from)
   pub roots : root_in new ≡ root_in old

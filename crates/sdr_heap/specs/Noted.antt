@@ -4,8 +4,8 @@ use Rattle.sdr_base.specs.declared.line.TheConstants.{WORD}
 use Rattle.sdr_base.specs.declared.moves.Move.{Move}
 
 -- whether an address is marked, where there is a mark for each word
-abbrev pub is_marked : List Bool → ℕ → Bool
-is_marked marks addr = addr % WORD == 0 && get_or marks (addr / WORD) false
+abbrev pub marked_in : List Bool → ℕ → Bool
+marked_in marks addr = addr % WORD == 0 && get_or marks (addr / WORD) false
 
 -- the moves in the first so many places
 abbrev pub moves_in : List Move → ℕ → List Move
@@ -25,6 +25,6 @@ pub record Held (C : Type 0) : Type 0 where
   pub spare : ℕ
 
 -- there is a mark for each word, and room for the moves of a call
-pub record IsReady (size : ℕ) (marks : List Bool) (places : ℕ) : Type 0 where
+pub record FitsRegion (size : ℕ) (marks : List Bool) (places : ℕ) : Type 0 where
   pub words : length marks ≡ size / WORD
   pub room : size / 4 + 4 ≤ places

@@ -1,9 +1,13 @@
 -- The calls on raw objects: what they answer, and when they are refused.
-use Rattle.std.specs.Prelude.{◌≡◌, ◌≢◌, ◌≤◌, ◌<◌, ◌+◌, ◌-◌, ◌⊎◌, ℕ, true, false, List, length, Option, Some, None, ⊤}
+use Rattle.std.specs.Prelude.{◌≡◌, ◌≢◌, ◌≤◌, ◌<◌, ◌+◌, ◌-◌, ◌⊎◌, ℕ, true, false, List, length, Option, Some, None, Result, ⊤}
 use Rattle.sdr_base.specs.Blocks.{Block, HasBytes, IsKind, Reaches}
 use Rattle.sdr_base.specs.Kinds.{kind_number}
-use Rattle.sdr_base.specs.Objects.{Heap, Takes, OnlyFull, OnlyFault, OnlyShort, with_bytes, with_given}
+use Rattle.sdr_base.specs.Moves.{KeepsSome}
+use Rattle.sdr_base.specs.Objects.{Heap, TakesZeros, OnlyUnmoved, OnlyFault, OnlyShort, with_bytes, with_given}
 use Rattle.sdr_base.specs.Stored.{number_at}
+use Rattle.sdr_base.specs.Transaction.{HasReason, TouchesAtMost}
+use Rattle.sdr_base.specs.Works.{LeadsOn, StaysQuiet}
+use Rattle.sdr_base.specs.declared.has_heap.HasHeap.{Ghosts}
 use Rattle.sdr_base.specs.declared.kind.Kind.{Kind}
 use Rattle.sdr_base.specs.declared.kind.Kind.TheVariants as kinds
 use Rattle.sdr_base.specs.declared.layout.raw.TheConstants.{BYTES}
@@ -58,20 +62,22 @@ MissesRaw (Some block) addr (Refused (refusals.WrongKind bad number)) other =
     (bad ≡ addr) × (number ≡ kind_number block.kind) × (block.kind ≢ kinds.Raw)
 MissesRaw found addr stop other = other
 
--- why `malloc` stops: the object would be too long, and all is as before; or there is no block for it
+-- why `malloc` stops: the object would be too long, and all is as before; or there is no block or no log room for it,
+-- and no more than its block was taken; or a fault
 abbrev pub MallocStops : ℕ → Heap → Heap → Stop → Type 0
 MallocStops bytes old new (Refused (refusals.BadLength length most)) =
     (length ≡ bytes) × (most ≡ LONGEST_RAW) × (LONGEST_RAW < bytes) × (new ≡ old)
-MallocStops bytes old new (Refused (refusals.NoBlock need)) =
-    (bytes ≤ LONGEST_RAW) × OnlyShort (BYTES + bytes) old new (Refused (refusals.NoBlock need))
-MallocStops bytes old new stop = OnlyShort (BYTES + bytes) old new stop
+MallocStops bytes old new (Refused refusal) =
+    (bytes ≤ LONGEST_RAW) × OnlyShort (BYTES + bytes) old new (Refused refusal)
+MallocStops bytes old new stop = OnlyFault stop
 
--- why `free` stops: for the address, and all is as before; or for want of log room or by a fault
+-- why `free` stops: for the address, and all is as before; or for want of log room, and no move was made; or a fault
 abbrev pub FreeStops : Option Block → ℕ → Heap → Heap → Stop → Type 0
 FreeStops found addr old new (Refused (refusals.BadAddress bad)) = (bad ≡ addr) × (found ≡ None) × (new ≡ old)
 FreeStops found addr old new (Refused (refusals.WrongKind bad number)) =
     (bad ≡ addr) × IsNeither found number × (new ≡ old)
-FreeStops found addr old new stop = OnlyFull stop
+FreeStops found addr old new (Refused refusal) = IsRawOrText found × OnlyUnmoved old new (Refused refusal)
+FreeStops found addr old new stop = OnlyFault stop
 
 -- why the length of a block isn't told: none begins at the address; or a fault
 abbrev pub IsMissing : Option Block → ℕ → Stop → Type 0
@@ -88,19 +94,25 @@ ReadStops found addr place count (Refused (refusals.OutOfBounds bad at length)) 
 ReadStops found addr place count stop = MissesRaw found addr stop (OnlyFault stop)
 
 -- why a write of so many bytes from a place on stops: for the address, for the place, or because the object was
--- neither taken nor staged; then all is as before
+-- neither taken nor staged, and then all is as before, the control words too; or for want of log room, and no move was
+-- made; or a fault
 abbrev pub WriteStops : Option Block → ℕ → ℕ → ℕ → Heap → Heap → Stop → Type 0
 WriteStops found addr place count old new (Refused (refusals.OutOfBounds bad at length)) =
     (bad ≡ addr) × (at ≡ place) × (length ≡ count) × Exceeds found (place + count) × IsKind found kinds.Raw
     × (new ≡ old)
 WriteStops found addr place count old new (Refused (refusals.NotStaged bad)) =
     (bad ≡ addr) × (old.marks addr ≡ false) × HasRoom found (place + count) × IsKind found kinds.Raw × (new ≡ old)
-WriteStops found addr place count old new stop = MissesRaw found addr stop (OnlyFull stop)
+WriteStops found addr place count old new (Refused (refusals.LogFull lines room)) =
+    (old.marks addr ≡ true) × HasRoom found (place + count) × IsKind found kinds.Raw
+    × OnlyUnmoved old new (Refused (refusals.LogFull lines room))
+WriteStops found addr place count old new (Refused refusal) =
+    MissesRaw found addr (Refused refusal) ⊥ × (new ≡ old)
+WriteStops found addr place count old new stop = OnlyFault stop
 
 -- a raw object of so many zero bytes was made, which no source names
 pub record Makes (bytes addr : ℕ) (old new : Heap) : Type 0 where
   pub short : bytes ≤ LONGEST_RAW
-  pub taken : Takes kinds.Raw (BYTES + bytes) addr old new
+  pub taken : TakesZeros kinds.Raw (BYTES + bytes) addr old new
 
 -- a raw object or a string was given back
 pub record Frees (addr : ℕ) (old new : Heap) : Type 0 where
@@ -119,3 +131,12 @@ pub record WritesRaw (addr place : ℕ) (from : List ℕ) (old new : Heap) : Typ
   pub inside : HasRoom (old.blocks addr) (place + length from)
   pub marked : old.marks addr ≡ true
   pub written : new ≡ with_bytes old addr (BYTES + place) from
+
+-- the call reads and marks alone: no line is touched, there is a heap still, and each answer has its cause
+pub record Stages {S T : Type 0} (m : Ghosts S) (old new : S) (result : Result T Stop) : Type 0 where
+  pub kept : KeepsSome (m.keeps new)
+  pub moved : LeadsOn m old new
+  pub touched : (m.transaction new).touched ≡ (m.transaction old).touched
+  pub room : TouchesAtMost 0 (m.transaction old) (m.transaction new) result
+  pub cause : HasReason (m.transaction old) (m.transaction new) result
+  pub quiet : StaysQuiet m old new

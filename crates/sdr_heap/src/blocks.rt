@@ -6,8 +6,8 @@ ghost use Rattle.sdr_base.specs.Blocks.{HasBytes, UsesRange, kind_length};
 ghost use Rattle.sdr_base.specs.Cells.{IsRegionSize};
 ghost use Rattle.sdr_base.specs.Transaction.{HasReason, TouchesNone, TouchesAtMost};
 ghost use Rattle.sdr_base.specs.declared.line.TheConstants.{START_BITS};
-ghost use Rattle.sdr_heap.specs.Calls.{IsSomeBare, Labels, Writes};
-ghost use Rattle.sdr_heap.specs.Kept.{KeepsSomeHeap, block_in, place_in, used_place};
+ghost use Rattle.sdr_heap.specs.Calls.{IsSomeBare, Labels, WritesBlock};
+ghost use Rattle.sdr_base.specs.KeptHeap.{KeepsSomeHeap, block_in, leader_place, used_place};
 
 use sdr_base::control::{HIGH, LOW, START};
 use sdr_base::{
@@ -19,7 +19,7 @@ use sdr_base::{
 // large pool. `None` where no block can begin there.
 fn leader_place<C: Cells>(c: &mut C, addr: Addr) -> Result<Option<u64>, Stop>
     requires kept { KeepsSomeHeap (C.bytes c.old) }
-    ensures place { IfOk result (λ place. place ≡ place_in (C.bytes c.old) addr) }
+    ensures place { IfOk result (λ place. place ≡ leader_place (C.bytes c.old) addr) }
     ensures same { C.bytes c.new ≡ C.bytes c.old }
     ensures room { TouchesNone (C.transaction c.old) (C.transaction c.new) result }
     ensures cause { HasReason (C.transaction c.old) (C.transaction c.new) result }
@@ -78,7 +78,7 @@ pub fn get<C: Cells>(c: &mut C, addr: Addr, place: u64, into: &mut [u8]) -> Resu
 pub fn put<C: Cells>(c: &mut C, addr: Addr, place: u64, from: &[u8]) -> Result<(), Stop>
     requires kept { KeepsSomeHeap (C.bytes c.old) }
     requires inside { UsesRange (block_in (C.bytes c.old)) addr place (length from.now) }
-    ensures written { OnOk result (Writes addr place from.now (C.bytes c.old) (C.bytes c.new)) }
+    ensures written { OnOk result (WritesBlock addr place from.now (C.bytes c.old) (C.bytes c.new)) }
     ensures refused { IfErr result OnlyFull }
     ensures size { length (C.bytes c.new) ≡ length (C.bytes c.old) }
     ensures room { TouchesAtMost (2 + length from.now / 64)

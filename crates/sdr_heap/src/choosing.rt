@@ -3,7 +3,7 @@ ghost use Rattle.std.specs.Prelude.{◌≡◌, ◌≤◌, length, IfOk, IfErr};
 ghost use Rattle.sdr_base.specs.Objects.{OnlyFull};
 ghost use Rattle.sdr_base.specs.Transaction.{HasReason, TouchesAtMost};
 ghost use Rattle.sdr_heap.specs.Calls.{Chooses};
-ghost use Rattle.sdr_heap.specs.Kept.{KeepsSomeHeap};
+ghost use Rattle.sdr_base.specs.KeptHeap.{KeepsSomeHeap};
 
 use sdr_base::{Addr, Cells, Stop};
 

@@ -4,7 +4,7 @@ ghost use Rattle.sdr_base.specs.Blocks.{Uses};
 ghost use Rattle.sdr_base.specs.Objects.{OnlyFull};
 ghost use Rattle.sdr_base.specs.Transaction.{HasReason, TouchesAtMost};
 ghost use Rattle.sdr_heap.specs.Calls.{GivesBack};
-ghost use Rattle.sdr_heap.specs.Kept.{KeepsSomeHeap, block_in};
+ghost use Rattle.sdr_base.specs.KeptHeap.{KeepsSomeHeap, block_in};
 
 use sdr_base::control::LOW;
 use sdr_base::{Addr, Cells, Stop, WORD, read_number};

@@ -34,7 +34,7 @@ impl<C: Cells> Model for Heap<C> {
       spare = noted.spare_in s.moves.places.items s.moves.used;
     } };
 
-    ghost invariant = { λ s. noted.IsReady s.size s.marks.words.items (length s.moves.places.items) };
+    ghost invariant = { λ s. noted.FitsRegion s.size s.marks.words.items (length s.moves.places.items) };
 }
 
 /// A heap that wasn't made, for want of memory.

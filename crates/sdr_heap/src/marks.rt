@@ -1,6 +1,6 @@
 // The marks of a transaction.
 ghost use Rattle.std.specs.Prelude.{◌≡◌, ◌*◌, ◌/◌, ◌%◌, ◌<◌, true, false, length, replicate, set, IfOk};
-ghost use Rattle.sdr_heap.specs.Noted.{is_marked};
+ghost use Rattle.sdr_heap.specs.Noted.{marked_in};
 
 use sdr_base::{Addr, NoMemory, WORD};
 use std::alloc::Global;
@@ -31,7 +31,7 @@ impl Marks {
 
     /// Whether an address is marked.
     pub fn is_marked(&self, addr: Addr) -> bool
-        ensures { result ≡ is_marked self.now.words.items addr }
+        ensures { result ≡ marked_in self.now.words.items addr }
     {
         addr % WORD == 0 && self.words.get((addr / WORD) as usize) == Some(&true)
     }

@@ -5,21 +5,21 @@ use crate::Heap;
 use crate::blocks::{get, kind_of, label, put};
 use crate::choosing::choose;
 use crate::giving::give_back;
-use sdr_base::{Addr, Cells, Kind, Move, Objects, Refusal, Stop, WORD, read_number, write_number};
+use sdr_base::{
+    Addr, Cells, HasHeap, Kind, Move, Objects, Refusal, Stop, WORD, read_number, write_number,
+};
 
-impl<C: Cells> Objects for Heap<C> {
-    ghost use Rattle.std.specs.Prelude.{◌≡◌, refl};
-    ghost use Rattle.std.proofs.Common.{◌∙◌};
+impl<C: Cells> HasHeap for Heap<C> {
+    ghost use Rattle.std.specs.Prelude.{◌≡◌};
     ghost use Rattle.sdr_base.specs.Moves as moves;
-    ghost use Rattle.sdr_base.proofs.MovesLemmas as lemmas;
-    ghost use Rattle.sdr_heap.specs.Kept as kept;
+    ghost use Rattle.sdr_base.specs.KeptHeap as kept;
     ghost use Rattle.sdr_heap.specs.Noted as noted;
 
     ghost heap = { λ s. record {
       size = s.size;
       blocks = kept.block_in (C.bytes s.cells);
       roots = kept.root_in (C.bytes s.cells);
-      marks = noted.is_marked s.marks;
+      marks = noted.marked_in s.marks;
       moves = s.moves;
       spare = s.spare;
     } };
@@ -32,6 +32,14 @@ impl<C: Cells> Objects for Heap<C> {
 
     ghost moved = { λ a b. moves.Moves (kept.KeepsRegion a.size (C.bytes a.cells))
         (kept.KeepsRegion b.size (C.bytes b.cells)) a.moves b.moves };
+}
+
+impl<C: Cells> Objects for Heap<C> {
+    ghost use Rattle.std.specs.Prelude.{refl};
+    ghost use Rattle.std.proofs.Common.{◌∙◌};
+    ghost use Rattle.sdr_base.proofs.MovesLemmas as lemmas;
+    ghost use Rattle.sdr_base.specs.KeptHeap as kept;
+    ghost use Rattle.sdr_base.proofs.FewLemmas as few_lemmas;
 
     fn take(&mut self, kind: Kind, need: u64) -> Result<Addr, Stop> {
         let words = need.div_ceil(WORD).max(1);
@@ -95,4 +103,6 @@ impl<C: Cells> Objects for Heap<C> {
     ghost moved_leads = { λ a b f. f };
 
     ghost few = { λ a kept. kept.keeps.few };
+
+    ghost small = { λ a kept. few_lemmas.region_small a.size (C.bytes a.cells) kept.pools kept.keeps };
 }

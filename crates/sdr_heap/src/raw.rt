@@ -1,16 +1,15 @@
 // The calls on raw objects, over any `Objects`.
 ghost use Rattle.std.specs.Prelude.{◌≡◌, ◌+◌, ◌/◌, ◌≤◌, ◌<◌, length, IfOk, IfErr, OnErr, OnOk};
 ghost use Rattle.sdr_base.specs.Moves.{KeepsSome};
-ghost use Rattle.sdr_base.specs.Objects.{OnlyFault, Settled, with_mark};
-ghost use Rattle.sdr_base.specs.Transaction.{HasReason, TouchesAtMost, TouchesNone};
+ghost use Rattle.sdr_base.specs.Objects.{with_mark};
+ghost use Rattle.sdr_base.specs.Works.{Looks, Works};
 ghost use Rattle.sdr_base.specs.declared.layout.raw.TheConstants.{BYTES};
 ghost use Rattle.sdr_heap.specs.Raw.{HasTold, IsMissing, IsUnnamed, IsWhole};
 ghost use Rattle.sdr_heap.specs.Raw.{Makes, MallocStops, Frees, FreeStops};
-ghost use Rattle.sdr_heap.specs.Raw.{ReadsRaw, ReadStops, WritesRaw, WriteStops};
+ghost use Rattle.sdr_heap.specs.Raw.{ReadsRaw, ReadStops, Stages, WritesRaw, WriteStops};
 
-use sdr_base::control::FIRST_NAME;
 use sdr_base::layout::raw::BYTES;
-use sdr_base::{Addr, Kind, Objects, Refusal, Stop, expect_kind};
+use sdr_base::{Addr, Kind, Objects, Refusal, Stop, check_failed, expect_kind};
 
 /// The most bytes of a raw object.
 pub const LONGEST_RAW: u64 = 1_048_576;
@@ -18,33 +17,13 @@ pub const LONGEST_RAW: u64 = 1_048_576;
 /// The most bytes that one read gives.
 pub const LONGEST_READ: u64 = 4096;
 
-// Goes on where no call has answered `DiskFault`.
-fn check_failed<O: Objects>(o: &mut O) -> Result<(), Stop>
-    requires kept { KeepsSome (O.keeps o.old) }
-    ensures refused { IfErr result OnlyFault }
-    ensures same { O.heap o.new ≡ O.heap o.old }
-    ensures kept { KeepsSome (O.keeps o.new) }
-    ensures moved { O.moved o.old o.new }
-    ensures room { TouchesNone (O.transaction o.old) (O.transaction o.new) result }
-    ensures cause { HasReason (O.transaction o.old) (O.transaction o.new) result }
-    ensures quiet { O.quiet o.old o.new }
-{
-    o.root(FIRST_NAME)?;
-    Ok(())
-}
-
 /// Makes a raw object of so many zero bytes, which no source names.
 pub fn malloc<O: Objects>(o: &mut O, bytes: u64) -> Result<Addr, Stop>
     requires kept { KeepsSome (O.keeps o.old) }
     requires spare { 1 ≤ (O.heap o.old).spare }
     ensures made { IfOk result (λ addr. Makes bytes addr (O.heap o.old) (O.heap o.new)) }
     ensures refused { IfErr result (MallocStops bytes (O.heap o.old) (O.heap o.new)) }
-    ensures kept { Settled result (KeepsSome (O.keeps o.new)) }
-    ensures moved { Settled result (O.moved o.old o.new) }
-    ensures room { TouchesAtMost (24 + (BYTES + bytes) / 64)
-        (O.transaction o.old) (O.transaction o.new) result }
-    ensures cause { HasReason (O.transaction o.old) (O.transaction o.new) result }
-    ensures quiet { O.quiet o.old o.new }
+    ensures works { Works O.HasHeap (24 + (BYTES + bytes) / 64) o.old o.new result }
 {
     check_failed(o)?;
     if bytes > LONGEST_RAW {
@@ -64,11 +43,7 @@ pub fn free<O: Objects>(o: &mut O, addr: Addr) -> Result<(), Stop>
     ensures given { OnOk result (Frees addr (O.heap o.old) (O.heap o.new)) }
     ensures refused { IfErr result
         (FreeStops ((O.heap o.old).blocks addr) addr (O.heap o.old) (O.heap o.new)) }
-    ensures kept { Settled result (KeepsSome (O.keeps o.new)) }
-    ensures moved { Settled result (O.moved o.old o.new) }
-    ensures room { TouchesAtMost 24 (O.transaction o.old) (O.transaction o.new) result }
-    ensures cause { HasReason (O.transaction o.old) (O.transaction o.new) result }
-    ensures quiet { O.quiet o.old o.new }
+    ensures works { Works O.HasHeap 24 o.old o.new result }
 {
     match o.kind(addr)? {
         None => Err(Stop::Refused(Refusal::BadAddress { addr })),
@@ -86,12 +61,7 @@ pub fn length<O: Objects>(o: &mut O, addr: Addr) -> Result<u64, Stop>
     requires kept { KeepsSome (O.keeps o.old) }
     ensures given { IfOk result (λ value. HasTold ((O.heap o.old).blocks addr) value) }
     ensures refused { IfErr result (IsMissing ((O.heap o.old).blocks addr) addr) }
-    ensures same { O.heap o.new ≡ O.heap o.old }
-    ensures kept { KeepsSome (O.keeps o.new) }
-    ensures moved { O.moved o.old o.new }
-    ensures room { TouchesAtMost 0 (O.transaction o.old) (O.transaction o.new) result }
-    ensures cause { HasReason (O.transaction o.old) (O.transaction o.new) result }
-    ensures quiet { O.quiet o.old o.new }
+    ensures looks { Looks O.HasHeap o.old o.new result }
 {
     match o.kind(addr)? {
         None => Err(Stop::Refused(Refusal::BadAddress { addr })),
@@ -140,12 +110,7 @@ pub fn read<O: Objects>(o: &mut O, addr: Addr, place: u64, into: &mut [u8]) -> R
         (ReadsRaw ((O.heap o.old).blocks addr) place (length into.old) into.new) }
     ensures refused { IfErr result
         (ReadStops ((O.heap o.old).blocks addr) addr place (length into.old)) }
-    ensures same { O.heap o.new ≡ O.heap o.old }
-    ensures kept { KeepsSome (O.keeps o.new) }
-    ensures moved { O.moved o.old o.new }
-    ensures room { TouchesAtMost 0 (O.transaction o.old) (O.transaction o.new) result }
-    ensures cause { HasReason (O.transaction o.old) (O.transaction o.new) result }
-    ensures quiet { O.quiet o.old o.new }
+    ensures looks { Looks O.HasHeap o.old o.new result }
 {
     let bytes = expect_kind(o, addr, Kind::Raw)?;
     check_count(into.len() as u64)?;
@@ -161,15 +126,10 @@ pub fn write<O: Objects>(o: &mut O, addr: Addr, place: u64, from: &[u8]) -> Resu
         (WritesRaw addr place from.now (O.heap o.old) (O.heap o.new)) }
     ensures refused { IfErr result (WriteStops ((O.heap o.old).blocks addr) addr place
         (length from.now) (O.heap o.old) (O.heap o.new)) }
-    ensures kept { Settled result (KeepsSome (O.keeps o.new)) }
-    ensures moved { Settled result (O.moved o.old o.new) }
-    ensures room { TouchesAtMost (2 + length from.now / 64)
-        (O.transaction o.old) (O.transaction o.new) result }
-    ensures cause { HasReason (O.transaction o.old) (O.transaction o.new) result }
-    ensures quiet { O.quiet o.old o.new }
+    ensures works { Works O.HasHeap (2 + length from.now / 64) o.old o.new result }
 {
-    let bytes = expect_kind(o, addr, Kind::Raw)?;
-    check_range(addr, place, from.len() as u64, bytes)?;
+    let have = expect_kind(o, addr, Kind::Raw)?;
+    check_range(addr, place, from.len() as u64, have)?;
     if !o.marked(addr) {
         return Err(Stop::Refused(Refusal::NotStaged { addr }));
     }
@@ -187,11 +147,7 @@ pub fn stage<O: Objects>(o: &mut O, addr: Addr, into: &mut [u8]) -> Result<(), S
     ensures refused { IfErr result
         (ReadStops ((O.heap o.old).blocks addr) addr 0 (length into.old)) }
     ensures same { OnErr result (O.heap o.new ≡ O.heap o.old) }
-    ensures kept { KeepsSome (O.keeps o.new) }
-    ensures moved { O.moved o.old o.new }
-    ensures room { TouchesAtMost 0 (O.transaction o.old) (O.transaction o.new) result }
-    ensures cause { HasReason (O.transaction o.old) (O.transaction o.new) result }
-    ensures quiet { O.quiet o.old o.new }
+    ensures stages { Stages O.HasHeap o.old o.new result }
 {
     read(o, addr, 0, into)?;
     o.mark(addr);

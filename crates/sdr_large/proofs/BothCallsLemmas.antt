@@ -20,9 +20,9 @@ use Rattle.sdr_log.specs.Log.{put_back_of}
 use Rattle.sdr_log.specs.declared.frame.Frame.{Frame}
 use Rattle.sdr_image.specs.Format.{formatted}
 use Rattle.sdr_image.proofs.FormattedLemmas.{put_back_of-formatted}
-use Rattle.sdr_small.specs.Calls.{TakesBy as SmallTakesBy, Takes as SmallTakes, Gives as SmallGives, KeepsUsedSmall}
+use Rattle.sdr_small.specs.Calls.{TakesBy as SmallTakesBy, TakesSmall, Gives as SmallGives, KeepsUsedSmall}
 use Rattle.sdr_large.specs.Both.{KeepsBoth}
-use Rattle.sdr_large.specs.Calls.{Becomes, TakesBy, Takes, KeepsUsedLarge, KeepsOthers, Gives}
+use Rattle.sdr_large.specs.Calls.{Becomes, TakesBy, TakesLarge, KeepsUsedLarge, KeepsOthers, Gives}
 use Rattle.sdr_large.proofs.BothPoolsLemmas.{SameSmall, SameLarge, small_kept, large_kept, cut_same, new_same, give_same}
 use Rattle.sdr_large.proofs.CallsLemmas.{used_in}
 
@@ -71,7 +71,7 @@ after_small Q x y words addr k same small first last stays = record {
 }
 
 -- so it is where a block was taken from the small pool
-after_taking : (x y : List ℕ) (words : ℕ) (found : Option ℕ) (k : KeepsBoth x) → SmallTakes words found x y →
+after_taking : (x y : List ℕ) (words : ℕ) (found : Option ℕ) (k : KeepsBoth x) → TakesSmall words found x y →
     AfterSmall k.pools y
 after_taking x y words found k takes = few (nat_lt 64 words) (takes.rule k.pools k.small)
   where
@@ -149,12 +149,12 @@ AfterSmall-others x y k a = record {
 }
 
 -- taking from the small pool keeps both
-pub small_taken : (x y : List ℕ) (words : ℕ) (found : Option ℕ) → KeepsBoth x → SmallTakes words found x y → KeepsBoth y
+pub small_taken : (x y : List ℕ) (words : ℕ) (found : Option ℕ) → KeepsBoth x → TakesSmall words found x y → KeepsBoth y
 small_taken x y words found k takes =
     let a = after_taking x y words found k takes in record { pools = a.pools; small = a.small; large = a.large }
 
 -- and the large blocks in use
-pub small_taken-others : (x y : List ℕ) (words : ℕ) (found : Option ℕ) → KeepsBoth x → SmallTakes words found x y →
+pub small_taken-others : (x y : List ℕ) (words : ℕ) (found : Option ℕ) → KeepsBoth x → TakesSmall words found x y →
     KeepsOthers 0 x y
 small_taken-others x y words found k takes = AfterSmall-others x y k (after_taking x y words found k takes)
 
@@ -178,7 +178,7 @@ after_large Q addr x y k same becomes = record {
 }
 
 -- taking from the large pool keeps both
-pub large_taken : (x y : List ℕ) (words : ℕ) (found : Option ℕ) → KeepsBoth x → Takes words found x y → KeepsBoth y
+pub large_taken : (x y : List ℕ) (words : ℕ) (found : Option ℕ) → KeepsBoth x → TakesLarge words found x y → KeepsBoth y
 large_taken x y words found k takes = either (found_large k.pools words) (takes.rule k.pools k.large)
   where
     new : (full : Bool) → TakesBy k.pools (cond full None (Some (record {

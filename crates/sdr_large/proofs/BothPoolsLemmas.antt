@@ -114,6 +114,7 @@ module _ (P Q : Pools) (x y : List ℕ) (keeps : KeepsSmall x P) (stays : StaysS
       listed = keeps.tiles.listed;
     };
     size = stays.size ∙ keeps.size;
+    region = number_at-same 0 x y (λ i ge lt. stays.front i (omega (arith, lt))) ∙ keeps.region;
     start = number_at-same 8 x y (λ i ge lt. stays.front i (omega (arith, lt))) ∙ keeps.start;
     low = number_at-same 16 x y (λ i ge lt. stays.front i (omega (arith, lt))) ∙ keeps.low;
     high = high;

@@ -15,7 +15,7 @@ use Rattle.sdr_base.specs.SmallPool.{Taken}
 use Rattle.sdr_base.specs.LargePool.{take_found, take_large, with_cut}
 use Rattle.sdr_base.specs.KeptLarge.{KeepsLarge, KeepsSomeLarge}
 use Rattle.sdr_large.specs.declared.block.Block.{Block}
-use Rattle.sdr_large.specs.Calls.{Becomes, TakesBlock, TakesBy, Takes, TakesNew, KeepsUsedLarge, KeepsOthers, IsGiveable}
+use Rattle.sdr_large.specs.Calls.{Becomes, TakesBlock, TakesBy, TakesLarge, TakesNew, KeepsUsedLarge, KeepsOthers, IsGiveable}
 use Rattle.sdr_large.specs.Calls.{CanCut, Cuts}
 use Rattle.sdr_large.specs.Steps.{Finds}
 use Rattle.sdr_large.proofs.FoundLemmas.{IsFound, found_is}
@@ -41,7 +41,7 @@ found_cut x y words block k finds same some =
 
 -- the block that was found was cut
 pub takes_cut : (x y z : List ℕ) (words : ℕ) (block : Block) → Finds words (Some block) x → y ≡ x → 1 ≤ words →
-    Cuts words block.words block.addr y z → Takes words (Some block.addr) x z
+    Cuts words block.words block.addr y z → TakesLarge words (Some block.addr) x z
 takes_cut x y z words block finds same some cuts = record {
   rule = λ P keeps.
       let f = found_free x words block P keeps finds in
@@ -55,7 +55,7 @@ takes_cut x y z words block finds same some cuts = record {
 
 -- none was found, and a new one was taken, or none
 pub takes_new : (x y z : List ℕ) (words : ℕ) (found : Option ℕ) → Finds words None x → y ≡ x → 1 ≤ words →
-    TakesNew words found y z → Takes words found x z
+    TakesNew words found y z → TakesLarge words found x z
 takes_new x y z words found finds same some takes = record {
   rule = λ P keeps.
       subst (λ (o : Option (ℕ × ℕ)). TakesBy P (take_found P words o) found x z) (finds.rule P keeps)
@@ -64,19 +64,19 @@ takes_new x y z words found finds same some takes = record {
 }
 
 -- after a take the bytes keep a pool
-pub Takes-kept : (x y : List ℕ) (words : ℕ) (found : Option ℕ) → KeepsSomeLarge x → Takes words found x y →
+pub TakesLarge-kept : (x y : List ℕ) (words : ℕ) (found : Option ℕ) → KeepsSomeLarge x → TakesLarge words found x y →
     KeepsSomeLarge y
-Takes-kept x y words found k takes = cases (take_large k.pools words) (takes.rule k.pools k.keeps)
+TakesLarge-kept x y words found k takes = cases (take_large k.pools words) (takes.rule k.pools k.keeps)
   where
     cases : (t : Option Taken) → TakesBy k.pools t found x y → KeepsSomeLarge y
     cases None by = subst KeepsSomeLarge (sym by.1) k
     cases (Some taken) by = record { pools = taken.pools; keeps = by.becomes.keeps }
 
 -- and the block that was answered is in use there
-pub Takes-used : (x y : List ℕ) (words : ℕ) (found : Option ℕ) → KeepsSomeLarge x → Takes words found x y →
+pub TakesLarge-used : (x y : List ℕ) (words : ℕ) (found : Option ℕ) → KeepsSomeLarge x → TakesLarge words found x y →
     IsGiveable found y
-Takes-used x y words None k takes = tt
-Takes-used x y words (Some addr) k takes = cases (take_large k.pools words) (takes.rule k.pools k.keeps)
+TakesLarge-used x y words None k takes = tt
+TakesLarge-used x y words (Some addr) k takes = cases (take_large k.pools words) (takes.rule k.pools k.keeps)
   where
     cases : (t : Option Taken) → TakesBy k.pools t (Some addr) x y → KeepsUsedLarge addr y
     cases None by = let none : Some addr ≡ None = by.0 in cc
@@ -121,8 +121,8 @@ Becomes-others P Q addr other x y becomes keeps used differ = record {
   };
 }
 
-pub Takes-others : (x y : List ℕ) (words : ℕ) (found : Option ℕ) → Takes words found x y → KeepsOthers 0 x y
-Takes-others x y words found takes = record {
+pub TakesLarge-others : (x y : List ℕ) (words : ℕ) (found : Option ℕ) → TakesLarge words found x y → KeepsOthers 0 x y
+TakesLarge-others x y words found takes = record {
   still = λ other some k. cases other k (take_large k.pools words) (takes.rule k.pools k.keeps);
 }
   where

@@ -32,7 +32,7 @@ TakesBy P None found old new = (found ≡ None) × (new ≡ old)
 TakesBy P (Some taken) found old new = TakesBlock P taken found old new
 
 -- so it is for whatever pools the bytes keep
-pub record Takes (words : ℕ) (found : Option ℕ) (old new : List ℕ) : Type 0 where
+pub record TakesLarge (words : ℕ) (found : Option ℕ) (old new : List ℕ) : Type 0 where
   pub rule : (P : Pools) → KeepsLarge old P → TakesBy P (take_large P words) found old new
 
 -- the bytes keep a large pool in which this block is in use

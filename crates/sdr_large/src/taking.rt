@@ -3,7 +3,7 @@ ghost use Rattle.std.specs.Prelude.{◌≡◌, ◌+◌, ◌*◌, ◌-◌, ◌≤
 ghost use Rattle.sdr_base.specs.Objects.{OnlyFull};
 ghost use Rattle.sdr_base.specs.Transaction.{HasReason, TouchesAtMost};
 ghost use Rattle.sdr_base.specs.KeptLarge.{KeepsSomeLarge};
-ghost use Rattle.sdr_large.specs.Calls.{Takes, TakesNew, IsGiveable, KeepsOthers, CanCut, Cuts};
+ghost use Rattle.sdr_large.specs.Calls.{TakesLarge, TakesNew, IsGiveable, KeepsOthers, CanCut, Cuts};
 
 use crate::block::Block;
 use crate::finding::find;
@@ -20,7 +20,7 @@ const TOO_MANY: u64 = 1 << 24;
 pub fn take<C: Cells>(c: &mut C, words: u64) -> Result<Option<Addr>, Stop>
     requires some { 1 ≤ words }
     requires pools { KeepsSomeLarge (C.bytes c.old) }
-    ensures taken { IfOk result (λ found. Takes words found (C.bytes c.old) (C.bytes c.new)) }
+    ensures taken { IfOk result (λ found. TakesLarge words found (C.bytes c.old) (C.bytes c.new)) }
     ensures used { IfOk result (λ found. IsGiveable found (C.bytes c.new)) }
     ensures kept { OnOk result (KeepsSomeLarge (C.bytes c.new)) }
     ensures others { OnOk result (KeepsOthers 0 (C.bytes c.old) (C.bytes c.new)) }

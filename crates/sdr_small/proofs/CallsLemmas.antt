@@ -11,7 +11,7 @@ use Rattle.sdr_base.specs.KeptPools.{Chain, KeepsSmall, KeepsSomeSmall, list_pla
 use Rattle.sdr_base.specs.Stored.{number_at, with_number, leader_words, with_bare_leader, SetsStartBit}
 use Rattle.sdr_base.proofs.SmallPoolLemmas.{words_at-is}
 use Rattle.sdr_base.proofs.KeptPoolsLemmas.{in_order, is_block, free_is, front_free}
-use Rattle.sdr_small.specs.Calls.{TakesBlock, TakesBy, Takes, TakesListed, TakesNew, KeepsUsedSmall, IsGiveable, Gives}
+use Rattle.sdr_small.specs.Calls.{TakesBlock, TakesBy, TakesSmall, TakesListed, TakesNew, KeepsUsedSmall, IsGiveable, Gives}
 use Rattle.sdr_small.specs.Calls.{PutsFront}
 use Rattle.sdr_small.proofs.TakeLemmas.{takes_listed}
 use Rattle.sdr_small.proofs.NewLemmas.{takes_new}
@@ -90,7 +90,7 @@ take_small-empty P words full most is fits =
 
 -- the front was taken
 pub takes_front : (x z y : List ℕ) (words front : ℕ) → z ≡ x → 1 ≤ words → words ≤ 64 →
-    front ≡ number_at (list_place words) x → front ≢ 0 → TakesListed words front z y → Takes words (Some front) x y
+    front ≡ number_at (list_place words) x → front ≢ 0 → TakesListed words front z y → TakesSmall words (Some front) x y
 takes_front x z y words front same some most given there takes = record {
   rule = λ P keeps.
       let f = has_front x P words front keeps some most given there in
@@ -102,7 +102,7 @@ takes_front x z y words front same some most given there takes = record {
 
 -- the list was empty: a new block was taken, or none
 pub takes_cut : (x z y : List ℕ) (words low : ℕ) (found : Option ℕ) → z ≡ x → 1 ≤ words → words ≤ 64 →
-    low ≡ number_at 16 x → number_at (list_place words) x ≡ 0 → TakesNew words low found z y → Takes words found x y
+    low ≡ number_at 16 x → number_at (list_place words) x ≡ 0 → TakesNew words low found z y → TakesSmall words found x y
 takes_cut x z y words low None same some most given none takes = record {
   rule = λ P keeps.
       let empty = empty_list x P words keeps some most none in
@@ -166,19 +166,19 @@ gives_back x z y words addr same given puts = record {
 }
 
 -- after a take the bytes keep a pool
-pub Takes-kept : (x y : List ℕ) (words : ℕ) (found : Option ℕ) → KeepsSomeSmall x → Takes words found x y →
+pub TakesSmall-kept : (x y : List ℕ) (words : ℕ) (found : Option ℕ) → KeepsSomeSmall x → TakesSmall words found x y →
     KeepsSomeSmall y
-Takes-kept x y words found k takes = cases (take_small k.pools words) (takes.rule k.pools k.keeps)
+TakesSmall-kept x y words found k takes = cases (take_small k.pools words) (takes.rule k.pools k.keeps)
   where
     cases : (t : Option Taken) → TakesBy k.pools words t found x y → KeepsSomeSmall y
     cases None by = subst KeepsSomeSmall (sym by.1) k
     cases (Some taken) by = record { pools = taken.pools; keeps = by.keeps }
 
 -- and the block that was answered is in use there
-pub Takes-used : (x y : List ℕ) (words : ℕ) (found : Option ℕ) → KeepsSomeSmall x → Takes words found x y →
+pub TakesSmall-used : (x y : List ℕ) (words : ℕ) (found : Option ℕ) → KeepsSomeSmall x → TakesSmall words found x y →
     IsGiveable found y
-Takes-used x y words None k takes = tt
-Takes-used x y words (Some addr) k takes = cases (take_small k.pools words) (takes.rule k.pools k.keeps)
+TakesSmall-used x y words None k takes = tt
+TakesSmall-used x y words (Some addr) k takes = cases (take_small k.pools words) (takes.rule k.pools k.keeps)
   where
     cases : (t : Option Taken) → TakesBy k.pools words t (Some addr) x y → KeepsUsedSmall addr y
     cases None by = let none : Some addr ≡ None = by.0 in cc

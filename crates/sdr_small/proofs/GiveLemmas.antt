@@ -280,6 +280,7 @@ module _ (x y : List ℕ) (P : Pools) (words addr : ℕ) (keeps : KeepsSmall x P
   given_keeps = record {
     tiles = tiles;
     size = size ∙ keeps.size;
+    region = control 0 (omega arith) (inl (omega (arith, block.some))) ∙ keeps.region;
     start = control 8 (omega arith) (inl (omega (arith, block.some))) ∙ keeps.start;
     low = control 16 (omega arith) (inl (omega (arith, block.some))) ∙ keeps.low;
     high = control 24 (omega arith) (inl (omega (arith, block.some))) ∙ keeps.high;

@@ -218,6 +218,7 @@ module _ (x y : List ℕ) (P : Pools) (words : ℕ) (keeps : KeepsSmall x P) (so
     keeps = record {
       tiles = tiles;
       size = size ∙ keeps.size;
+      region = control 0 (omega arith) (inl (omega arith)) ∙ keeps.region;
       start = control 8 (omega arith) (inl (omega arith)) ∙ keeps.start;
       low = low;
       high = control 24 (omega arith) (inr (omega arith)) ∙ keeps.high;

@@ -234,6 +234,7 @@ module _ (x y : List ℕ) (P : Pools) (words addr : ℕ) (rest : List ℕ) (keep
     keeps = record {
       tiles = tiles;
       size = size ∙ keeps.size;
+      region = control 0 (omega arith) (inl (omega arith)) ∙ keeps.region;
       start = control 8 (omega arith) (inl (omega arith)) ∙ keeps.start;
       low = control 16 (omega arith) (inl (omega arith)) ∙ keeps.low;
       high = control 24 (omega arith) (inl (omega arith)) ∙ keeps.high;

@@ -23,7 +23,7 @@ TakesBy P words None found old new = (found ≡ None) × (new ≡ old)
 TakesBy P words (Some taken) found old new = TakesBlock P words taken found old new
 
 -- so it is for whatever pools the bytes keep
-pub record Takes (words : ℕ) (found : Option ℕ) (old new : List ℕ) : Type 0 where
+pub record TakesSmall (words : ℕ) (found : Option ℕ) (old new : List ℕ) : Type 0 where
   pub rule : (P : Pools) → KeepsSmall old P → TakesBy P words (take_small P words) found old new
 
 -- the bytes keep a small pool in which this block is in use

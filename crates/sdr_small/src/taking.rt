@@ -5,7 +5,7 @@ ghost use Rattle.sdr_base.specs.Stored.{number_at};
 ghost use Rattle.sdr_base.specs.declared.line.TheConstants.{START_BITS};
 ghost use Rattle.sdr_base.specs.Transaction.{HasReason, TouchesAtMost};
 ghost use Rattle.sdr_base.specs.KeptPools.{KeepsSomeSmall};
-ghost use Rattle.sdr_small.specs.Calls.{TakesListed, TakesNew, Takes, IsGiveable};
+ghost use Rattle.sdr_small.specs.Calls.{TakesListed, TakesNew, TakesSmall, IsGiveable};
 
 use sdr_base::control::{HIGH, LOW, MOST_SMALL, SMALL_LISTS};
 use sdr_base::{
@@ -18,7 +18,7 @@ use sdr_base::{
 pub fn take<C: Cells>(c: &mut C, words: u64) -> Result<Option<Addr>, Stop>
     requires some { 1 ≤ words }
     requires pools { KeepsSomeSmall (C.bytes c.old) }
-    ensures taken { IfOk result (λ found. Takes words found (C.bytes c.old) (C.bytes c.new)) }
+    ensures taken { IfOk result (λ found. TakesSmall words found (C.bytes c.old) (C.bytes c.new)) }
     ensures used { IfOk result (λ found. IsGiveable found (C.bytes c.new)) }
     ensures kept { OnOk result (KeepsSomeSmall (C.bytes c.new)) }
     ensures refused { IfErr result OnlyFull }

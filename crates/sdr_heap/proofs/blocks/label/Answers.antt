@@ -6,7 +6,7 @@ use Rattle.sdr_base.specs.Parts.{overwrite}
 use Rattle.sdr_base.specs.Stored.{leader_words, with_leader}
 use Rattle.sdr_base.specs.declared.kind.Kind.{Kind}
 use Rattle.sdr_heap.specs.Calls.{Labels}
-use Rattle.sdr_heap.specs.Kept.{used_place}
+use Rattle.sdr_base.specs.KeptHeap.{used_place}
 use Rattle.sdr_heap.proofs.LabelLemmas.{bare_place, labels}
 use Rattle.sdr_heap.proofs.blocks.label.Goals as goal
 

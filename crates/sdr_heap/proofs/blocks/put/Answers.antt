@@ -4,7 +4,7 @@ use Rattle.std.proofs.lemmas.Result.{on_ok_weaker}
 use Rattle.sdr_base.specs.Cells.{lines_of}
 use Rattle.sdr_base.proofs.CellsLemmas.{TouchesAtMost-from_lines, length-lines_of}
 use Rattle.sdr_heap.proofs.RangeLemmas.{uses_range}
-use Rattle.sdr_heap.specs.Calls.{Writes}
+use Rattle.sdr_heap.specs.Calls.{WritesBlock}
 use Rattle.sdr_heap.proofs.PutLemmas.{writes}
 use Rattle.sdr_heap.proofs.blocks.put.Goals as goal
 
@@ -21,7 +21,7 @@ write-requires g c =
 pub returns-clause-written : goal.returns-clause-written
 returns-clause-written g c =
     on_ok_weaker c.write.result
-    (λ is. subst (Writes c.args.addr c.args.place c.args.from.now _) (sym is)
+    (λ is. subst (WritesBlock c.args.addr c.args.place c.args.from.now _) (sym is)
     (writes _ c.args.addr c.args.place c.args.from.now c.requires.inside c.requires.kept)) c.write.ensures.written
 
 pub returns-clause-room : goal.returns-clause-room

@@ -2,8 +2,8 @@
 use Rattle.std.proofs.Common.{ℕ, subst}
 use Rattle.std.specs.Prelude.{Option}
 use Rattle.std.proofs.lemmas.Result.{IfOk-weaker}
-use Rattle.sdr_small.specs.Calls.{Takes as SmallTakes}
-use Rattle.sdr_large.specs.Calls.{Takes}
+use Rattle.sdr_small.specs.Calls.{TakesSmall}
+use Rattle.sdr_large.specs.Calls.{TakesLarge}
 use Rattle.sdr_heap.specs.Calls.{Chooses}
 use Rattle.sdr_heap.proofs.ChooseSmallLemmas.{small_chooses}
 use Rattle.sdr_heap.proofs.ChooseLargeLemmas.{large_chooses}
@@ -16,10 +16,10 @@ returns-in-Some-clause-chosen g c =
 pub returns-in-None-clause-chosen : goal.returns-in-None-clause-chosen
 returns-in-None-clause-chosen g c =
     IfOk-weaker c.take-in-None.result
-    (λ found. Takes c.args.words found (g.C.Cells.bytes c.take.new.c) (g.C.Cells.bytes c.take-in-None.new.c))
+    (λ found. TakesLarge c.args.words found (g.C.Cells.bytes c.take.new.c) (g.C.Cells.bytes c.take-in-None.new.c))
     (λ found. Chooses c.args.words found (g.C.Cells.bytes c.args.c.now) (g.C.Cells.bytes c.take-in-None.new.c))
     (λ found takes. large_chooses (g.C.Cells.bytes c.args.c.now) (g.C.Cells.bytes c.take.new.c)
     (g.C.Cells.bytes c.take-in-None.new.c) c.args.words found
-    (subst (λ (o : Option ℕ). SmallTakes c.args.words o (g.C.Cells.bytes c.args.c.now) (g.C.Cells.bytes c.take.new.c))
+    (subst (λ (o : Option ℕ). TakesSmall c.args.words o (g.C.Cells.bytes c.args.c.now) (g.C.Cells.bytes c.take.new.c))
     c.in-None.is c.in_ok-addr.ensures.taken) takes)
     c.take-in-None.ensures.taken

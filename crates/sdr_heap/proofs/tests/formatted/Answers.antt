@@ -5,7 +5,7 @@ use Rattle.sdr_base.specs.Pools.{fresh_pools}
 use Rattle.sdr_disk.specs.History.{bytes_of}
 use Rattle.sdr_image.specs.Format.{formatted}
 use Rattle.sdr_log.specs.Log.{put_back_of}
-use Rattle.sdr_heap.specs.Kept.{KeepsHeap, KeepsRegion}
+use Rattle.sdr_base.specs.KeptHeap.{KeepsHeap, KeepsRegion}
 use Rattle.sdr_heap.proofs.FreshLemmas.{formatted_kept}
 use Rattle.sdr_heap.proofs.HeldLemmas.{keeps_region}
 use Rattle.sdr_heap.proofs.tests.formatted.Goals as goal

@@ -3,9 +3,9 @@ use Rattle.std.proofs.Common.{subst}
 use Rattle.std.specs.Prelude.{Option}
 use Rattle.std.proofs.lemmas.Result.{IfOk-weaker}
 use Rattle.sdr_large.specs.declared.block.Block.{Block}
-use Rattle.sdr_large.specs.Calls.{Takes, TakesNew, IsGiveable}
+use Rattle.sdr_large.specs.Calls.{TakesLarge, TakesNew, IsGiveable}
 use Rattle.sdr_large.specs.Steps.{Finds}
-use Rattle.sdr_large.proofs.CallsLemmas.{found_cut, takes_cut, takes_new, Takes-kept, Takes-used, Takes-others, OnOk-from}
+use Rattle.sdr_large.proofs.CallsLemmas.{found_cut, takes_cut, takes_new, TakesLarge-kept, TakesLarge-used, TakesLarge-others, OnOk-from}
 use Rattle.sdr_large.proofs.taking.take.Goals as goal
 
 pub take_cut-requires : goal.take_cut-requires
@@ -25,17 +25,17 @@ returns-in_ok-take_cut-in-Some-clause-taken g c =
 
 pub returns-in_ok-take_cut-in-Some-clause-used : goal.returns-in_ok-take_cut-in-Some-clause-used
 returns-in_ok-take_cut-in-Some-clause-used g c =
-    Takes-used _ _ c.args.words _ c.requires.pools (returns-in_ok-take_cut-in-Some-clause-taken g c)
+    TakesLarge-used _ _ c.args.words _ c.requires.pools (returns-in_ok-take_cut-in-Some-clause-taken g c)
 
 pub returns-in_ok-take_cut-in-Some-clause-kept : goal.returns-in_ok-take_cut-in-Some-clause-kept
 returns-in_ok-take_cut-in-Some-clause-kept g c =
-    Takes-kept _ _ c.args.words _ c.requires.pools (returns-in_ok-take_cut-in-Some-clause-taken g c)
+    TakesLarge-kept _ _ c.args.words _ c.requires.pools (returns-in_ok-take_cut-in-Some-clause-taken g c)
 
 pub returns-in-None-clause-taken : goal.returns-in-None-clause-taken
 returns-in-None-clause-taken g c =
     IfOk-weaker c.take_new.result
     (λ found. TakesNew c.args.words found (g.C.Cells.bytes c.find.new.c) (g.C.Cells.bytes c.take_new.new.c))
-    (λ found. Takes c.args.words found (g.C.Cells.bytes c.args.c.now) (g.C.Cells.bytes c.take_new.new.c))
+    (λ found. TakesLarge c.args.words found (g.C.Cells.bytes c.args.c.now) (g.C.Cells.bytes c.take_new.new.c))
     (λ found takes. takes_new (g.C.Cells.bytes c.args.c.now) (g.C.Cells.bytes c.find.new.c)
     (g.C.Cells.bytes c.take_new.new.c) c.args.words found
     (subst (λ (o : Option Block). Finds c.args.words o (g.C.Cells.bytes c.args.c.now)) c.in-None.is
@@ -45,23 +45,23 @@ returns-in-None-clause-taken g c =
 pub returns-in-None-clause-used : goal.returns-in-None-clause-used
 returns-in-None-clause-used g c =
     IfOk-weaker c.take_new.result
-    (λ found. Takes c.args.words found (g.C.Cells.bytes c.args.c.now) (g.C.Cells.bytes c.take_new.new.c))
+    (λ found. TakesLarge c.args.words found (g.C.Cells.bytes c.args.c.now) (g.C.Cells.bytes c.take_new.new.c))
     (λ found. IsGiveable found (g.C.Cells.bytes c.take_new.new.c))
-    (λ found takes. Takes-used _ _ c.args.words found c.requires.pools takes)
+    (λ found takes. TakesLarge-used _ _ c.args.words found c.requires.pools takes)
     (returns-in-None-clause-taken g c)
 
 pub returns-in-None-clause-kept : goal.returns-in-None-clause-kept
 returns-in-None-clause-kept g c =
-    OnOk-from (λ found. Takes c.args.words found (g.C.Cells.bytes c.args.c.now) (g.C.Cells.bytes c.take_new.new.c))
-    c.take_new.result (λ found takes. Takes-kept _ _ c.args.words found c.requires.pools takes)
+    OnOk-from (λ found. TakesLarge c.args.words found (g.C.Cells.bytes c.args.c.now) (g.C.Cells.bytes c.take_new.new.c))
+    c.take_new.result (λ found takes. TakesLarge-kept _ _ c.args.words found c.requires.pools takes)
     (returns-in-None-clause-taken g c)
 
 pub returns-in_ok-take_cut-in-Some-clause-others : goal.returns-in_ok-take_cut-in-Some-clause-others
 returns-in_ok-take_cut-in-Some-clause-others g c =
-    Takes-others _ _ c.args.words _ (returns-in_ok-take_cut-in-Some-clause-taken g c)
+    TakesLarge-others _ _ c.args.words _ (returns-in_ok-take_cut-in-Some-clause-taken g c)
 
 pub returns-in-None-clause-others : goal.returns-in-None-clause-others
 returns-in-None-clause-others g c =
-    OnOk-from (λ found. Takes c.args.words found (g.C.Cells.bytes c.args.c.now) (g.C.Cells.bytes c.take_new.new.c))
-    c.take_new.result (λ found takes. Takes-others _ _ c.args.words found takes)
+    OnOk-from (λ found. TakesLarge c.args.words found (g.C.Cells.bytes c.args.c.now) (g.C.Cells.bytes c.take_new.new.c))
+    c.take_new.result (λ found takes. TakesLarge-others _ _ c.args.words found takes)
     (returns-in-None-clause-taken g c)

@@ -1,18 +1,19 @@
 -- The pools stay, and the block has the bytes.
+use Rattle.std.proofs.Common.{refl}
 use Rattle.std.proofs.lemmas.Result.{on_ok_weaker}
-use Rattle.sdr_base.proofs.MovesLemmas.{Moves-kept}
-use Rattle.sdr_base.proofs.ObjectsLemmas.{Settled-then}
-use Rattle.sdr_heap.proofs.HeldLemmas.{Settled-from, held_moved, moved_kept}
+use Rattle.sdr_heap.proofs.HeldLemmas.{Settled-from, moved_kept}
+use Rattle.sdr_heap.proofs.HeldWorksLemmas.{full_stays, held_unmoved, held_works}
 use Rattle.sdr_heap.proofs.objects.HeapObjects.put.Goals as goal
 
-pub returns-clause-moved : goal.returns-clause-moved
-returns-clause-moved g c =
-    Settled-from _ c.put.result
-    (on_ok_weaker c.put.result
-    (λ writes. held_moved g.C.Cells.bytes _ _ _ _ _ c.self.view_is
-    (moved_kept _ _ _ _ c.put.ensures.size writes.kept)) c.put.ensures.written)
-    c.put.ensures.refused
+pub returns-clause-refused : goal.returns-clause-refused
+returns-clause-refused g c =
+    full_stays c.put.result (held_unmoved g.C.Cells.bytes _ _ c.put.new.c c.self.view_is) c.put.ensures.refused
 
-pub returns-clause-kept : goal.returns-clause-kept
-returns-clause-kept g c =
-    Settled-then c.put.result (λ moved. Moves-kept _ _ _ _ moved c.requires.kept) (returns-clause-moved g c)
+pub returns-clause-works : goal.returns-clause-works
+returns-clause-works g c =
+    held_works g.C.Cells.bytes g.C.Cells.transaction g.C.Cells.quiet g.met.C.Cells.quiet_trans
+    _ _ _ _ c.put.result c.self.view_is refl c.requires.kept
+    (Settled-from _ c.put.result
+    (on_ok_weaker c.put.result (λ writes. moved_kept _ _ _ _ c.put.ensures.size writes.kept) c.put.ensures.written)
+    c.put.ensures.refused)
+    c.put.ensures.room c.put.ensures.cause c.put.ensures.quiet

@@ -2,9 +2,9 @@
 use Rattle.std.proofs.Common.{◌≡◌, ◌*◌, ◌∙◌, ap}
 use Rattle.std.proofs.lemmas.Result.{IfOk-weaker}
 use Rattle.sdr_base.specs.Stored.{number_at}
-use Rattle.sdr_heap.specs.Kept.{root_in}
+use Rattle.sdr_base.specs.KeptHeap.{root_in}
 use Rattle.sdr_heap.specs.Noted.{Held}
-use Rattle.sdr_heap.proofs.HeldLemmas.{held_moved, moved_same}
+use Rattle.sdr_heap.proofs.HeldWorksLemmas.{held_looks}
 use Rattle.sdr_heap.proofs.RootLemmas.{root_is}
 use Rattle.sdr_heap.proofs.objects.HeapObjects.root.Goals as goal
 
@@ -17,6 +17,8 @@ returns-clause-given g c =
     ∙ ap (λ (h : Held g.row.C.Denot). root_in (g.C.Cells.bytes h.cells) c.args.word) c.self.view_is)
     c.read_number.ensures.given
 
-pub returns-clause-moved : goal.returns-clause-moved
-returns-clause-moved g c =
-    held_moved g.C.Cells.bytes _ _ _ _ _ c.self.view_is (moved_same _ _ _ _ c.read_number.ensures.same)
+pub returns-clause-looks : goal.returns-clause-looks
+returns-clause-looks g c =
+    held_looks g.C.Cells.bytes g.C.Cells.transaction g.C.Cells.quiet g.met.C.Cells.quiet_trans
+    _ _ c.read_number.new.c c.read_number.result c.self.view_is c.requires.kept c.read_number.ensures.same c.read_number.ensures.room
+    c.read_number.ensures.cause c.read_number.ensures.quiet

@@ -28,8 +28,8 @@ led_block bytes place addr =
     None
 
 -- the place of the leader of a block at an address, which is small below `low`, and large from `high` up
-abbrev pub leader_place : List ℕ → ℕ → Option ℕ
-leader_place bytes addr =
+abbrev pub pool_place : List ℕ → ℕ → Option ℕ
+pool_place bytes addr =
     cond (nat_lt (addr - WORD) (number_at (WORD * LOW) bytes))
     (Some (addr - WORD))
     (cond (nat_le (number_at (WORD * HIGH) bytes) (addr - 2 * WORD)) (Some (addr - 2 * WORD)) None)
@@ -45,8 +45,8 @@ block_led bytes addr None = None
 block_led bytes addr (Some place) = led_block bytes place addr
 
 -- where the leader of a block at an address would stand, if one may begin there
-abbrev pub place_in : List ℕ → ℕ → Option ℕ
-place_in bytes addr = cond (may_begin bytes addr) (leader_place bytes addr) None
+abbrev pub leader_place : List ℕ → ℕ → Option ℕ
+leader_place bytes addr = cond (may_begin bytes addr) (pool_place bytes addr) None
 
 -- where the leader of the block in use at an address stands
 abbrev pub used_place : List ℕ → ℕ → ℕ
@@ -54,7 +54,7 @@ used_place bytes addr = cond (nat_lt (addr - WORD) (number_at (WORD * LOW) bytes
 
 -- the block in use at each address of a heap region
 unfoldable pub block_in : List ℕ → Blocks
-block_in bytes addr = block_led bytes addr (place_in bytes addr)
+block_in bytes addr = block_led bytes addr (leader_place bytes addr)
 
 -- the control words of a heap region that belong to what its blocks keep, and 0 for any other
 unfoldable pub root_in : List ℕ → ℕ → ℕ

@@ -1,0 +1,54 @@
+-- Calls one after another.
+use Rattle.std.proofs.Common.{◌+◌, ◌≤◌, ℕ, rules, arith}
+use Rattle.std.specs.Prelude.{Result, Ok, Err}
+use Rattle.sdr_base.specs.Objects.{Settled}
+use Rattle.sdr_base.specs.Works.{Looks, Works}
+use Rattle.sdr_base.specs.declared.has_heap.HasHeap.{Ghosts}
+use Rattle.sdr_base.specs.declared.refusal.Refusal.TheVariants.{LogFull}
+use Rattle.sdr_base.specs.declared.stop.Stop.{Stop}
+use Rattle.sdr_base.specs.declared.stop.Stop.TheVariants.{Refused}
+use Rattle.sdr_base.proofs.ObjectsLemmas.{Settled-then}
+use Rattle.sdr_base.proofs.TransactionLemmas.{reason_then, touches_more, touches_then}
+
+-- a call after another
+pub works_then : {S T U : Type 0} {m : Ghosts S} {i j : ℕ} {a b c : S} {v : U} {r : Result T Stop} →
+    Works m i a b (Ok v) → Works m j b c r → Works m (i + j) a c r
+works_then {S} {T} {U} {m} {i} {j} {a} {b} {c} {v} {r} f s = record {
+  kept = s.kept;
+  moved = Settled-then r (λ go begin led. go begin (f.moved begin led)) s.moved;
+  room = touches_then f.room s.room;
+  cause = reason_then f.cause s.cause;
+  quiet = λ begin q. s.quiet begin (f.quiet begin q);
+}
+
+always : {T : Type 0} (r : Result T Stop) (P : Type 0) → P → Settled r P
+always (Ok v) P p = p
+always (Err (Refused (LogFull lines room))) P p = search rules
+always (Err (Refused refusal)) P p = p
+always (Err stop) P p = search rules
+
+-- a call that only reads, as one that touches no line
+pub looks_works : {S T : Type 0} {m : Ghosts S} {a b : S} {r : Result T Stop} → Looks m a b r → Works m 0 a b r
+looks_works {S} {T} {m} {a} {b} {r} l = record {
+  kept = always r _ l.kept;
+  moved = always r _ l.moved;
+  room = l.room;
+  cause = l.cause;
+  quiet = l.quiet;
+}
+
+-- so many lines at most are more at most
+pub works_more : {S T : Type 0} {m : Ghosts S} {i j : ℕ} {a b : S} {r : Result T Stop} → Works m i a b r → i ≤ j →
+    Works m j a b r
+works_more {S} {T} {m} {i} {j} {a} {b} {r} w le = record {
+  kept = w.kept;
+  moved = w.moved;
+  room = touches_more w.room le;
+  cause = w.cause;
+  quiet = w.quiet;
+}
+
+-- a call after one that only read
+pub looks_then : {S T U : Type 0} {m : Ghosts S} {j : ℕ} {a b c : S} {v : U} {r : Result T Stop} →
+    Looks m a b (Ok v) → Works m j b c r → Works m j a c r
+looks_then l w = works_more (works_then (looks_works l) w) (omega arith)
