@@ -33,8 +33,6 @@ mod source;
 mod start_bits;
 mod stop;
 mod stored;
-#[cfg(test)]
-mod tests;
 
 pub use account::{Acct, Amounts};
 pub use bytes::{Bytes, NoMemory};
