@@ -32,7 +32,9 @@ fn formatted(alloc: Global, frame: Frame) -> Option<Heap<Image<MemoryDisk>>>
 {
     let bytes = vec![in alloc; 7; frame.disk_bytes() as usize].ok()?;
     let mut disk = MemoryDisk::new(bytes, Vec::new(alloc));
-    format(&mut disk, frame).ok()?;
+    let Ok(()) = format(&mut disk, frame) else {
+        return None;
+    };
     let image = match Image::open(alloc, disk) {
         Ok(image) => image,
         Err(_) => return None,
@@ -244,11 +246,7 @@ fn marked<O: Objects>(o: &mut O, at: Addr) -> Result<([bool; 3], Option<(Kind, u
 }
 
 // What is seen of a block of ten bytes: its bytes, a control word, marks, and what begins in its middle.
-type Seen = (
-    [[u8; 10]; 2],
-    [u64; 2],
-    ([bool; 3], Option<(Kind, u64)>),
-);
+type Seen = ([[u8; 10]; 2], [u64; 2], ([bool; 3], Option<(Kind, u64)>));
 
 // The same, of the first block of a heap, which is committed then; whether its move alone was noted, and
 // none after that was forgotten; and how many lines are touched at last.
@@ -263,7 +261,11 @@ fn seen(alloc: Global) -> Option<(Seen, [bool; 2], u64)> {
     heap.fresh();
     let none = heap.moves().is_empty();
     heap.cells().commit().ok()?;
-    Some(((bytes, words, marks), [one, none], heap.into_cells().touched()))
+    Some((
+        (bytes, words, marks),
+        [one, none],
+        heap.into_cells().touched(),
+    ))
 }
 
 const TAKEN: [Move; 1] = [Move::Took {

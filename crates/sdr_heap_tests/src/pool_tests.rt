@@ -18,7 +18,9 @@ fn formatted(alloc: Global, frame: Frame) -> Option<Image<MemoryDisk>>
 {
     let bytes = vec![in alloc; 7; frame.disk_bytes() as usize].ok()?;
     let mut disk = MemoryDisk::new(bytes, Vec::new(alloc));
-    format(&mut disk, frame).ok()?;
+    let Ok(()) = format(&mut disk, frame) else {
+        return None;
+    };
     match Image::open(alloc, disk) {
         Ok(image) => Some(image),
         Err(_) => None,
@@ -160,7 +162,10 @@ const SMALL: [Case; 7] = [
     ),
     // A block of 65 words is not the small pool's.
     (1024, &[(Step::Small(65), None)]),
-    (64, &[(Step::Small(64), Some(1096)), (Step::Small(65), None)]),
+    (
+        64,
+        &[(Step::Small(64), Some(1096)), (Step::Small(65), None)],
+    ),
     // A block that is given back is taken again.
     (
         32,
@@ -310,7 +315,9 @@ fn opened_again(alloc: Global, mut image: Image<MemoryDisk>) -> Option<Image<Mem
     requires { KeepsBoth image.bytes }
     ensures { IfSome result (λ again. KeepsBoth again.bytes) }
 {
-    image.commit().ok()?;
+    let Ok(()) = image.commit() else {
+        return None;
+    };
     match Image::open(alloc, image.into_disk()) {
         Ok(image) => Some(image),
         Err(_) => None,
@@ -367,9 +374,7 @@ fn wrong_rule() -> Option<usize> {
 }
 
 #[test]
-fn pools_are_there_again_after_a_commit_and_the_plain_rule_gives_the_same_blocks(
-    rt: HostRuntime,
-) {
+fn pools_are_there_again_after_a_commit_and_the_plain_rule_gives_the_same_blocks(rt: HostRuntime) {
     assert_eq!(rt; committed(rt.alloc()), Some([None, None]));
     assert_eq!(rt; wrong_rule(), None);
 }

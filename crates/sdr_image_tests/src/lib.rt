@@ -9,9 +9,13 @@
 #![tactic(auto)]
 
 #[cfg(test)]
+mod commit_tests;
+#[cfg(test)]
 mod disk_tests;
 #[cfg(test)]
 mod frame_tests;
+#[cfg(test)]
+mod image_tests;
 #[cfg(test)]
 mod outside_tests;
 #[cfg(test)]

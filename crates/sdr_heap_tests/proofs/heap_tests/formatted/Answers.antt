@@ -14,14 +14,14 @@ pub returns-in-Ok-new-clause-kept : goal.returns-in-Ok-new-clause-kept
 returns-in-Ok-new-clause-kept c =
     let x = bytes_of c.new-disk.result.history in
     let y = bytes_of c.format.new.disk.history in
-    let bytes = c.in-Ok.image.bytes in
-    let both : Some y ≡ Some (formatted c.args.frame x) = c.in_some-ok.ensures.formatted x refl in
+    let bytes = c.in-Ok-open.image.bytes in
+    let both : Some y ≡ Some (formatted c.args.frame x) = c.in-Ok.ensures.formatted x refl in
     let is : y ≡ formatted c.args.frame x = cc in
     let keeps : KeepsHeap bytes (fresh_pools c.args.frame.heap_lines) =
     formatted_heap c.args.frame x bytes (record {
       limits = c.requires;
-      long = c.in_some-ok.ensures.cause.explained;
-      gives = subst (λ (l : List ℕ). put_back_of l ≡ Some bytes) is (c.in-Ok.ensures.opened.heap y refl);
+      long = c.in-Ok.ensures.cause.explained;
+      gives = subst (λ (l : List ℕ). put_back_of l ≡ Some bytes) is (c.in-Ok-open.ensures.opened.heap y refl);
     }) in
     let region : KeepsSome (KeepsRegion (length bytes) bytes) = record {
       pools = fresh_pools c.args.frame.heap_lines;

@@ -6,14 +6,14 @@ use Rattle.sdr_image.specs.Format.{formatted}
 use Rattle.sdr_log.specs.Log.{put_back_of}
 use Rattle.sdr_heap_tests.proofs.pool_tests.formatted.Goals as goal
 
-pub returns-in-Ok : goal.returns-in-Ok
-returns-in-Ok c =
+pub returns-in-Ok-open : goal.returns-in-Ok-open
+returns-in-Ok-open c =
     let x = bytes_of c.new-disk.result.history in
     let y = bytes_of c.format.new.disk.history in
-    let both : Some y ≡ Some (formatted c.args.frame x) = c.in_some-ok.ensures.formatted x refl in
+    let both : Some y ≡ Some (formatted c.args.frame x) = c.in-Ok.ensures.formatted x refl in
     let is : y ≡ formatted c.args.frame x = cc in
-    formatted_both c.args.frame x c.in-Ok.image.bytes (record {
+    formatted_both c.args.frame x c.in-Ok-open.image.bytes (record {
       limits = c.requires;
-      long = c.in_some-ok.ensures.cause.explained;
-      gives = subst (λ (l : List ℕ). put_back_of l ≡ Some c.in-Ok.image.bytes) is (c.in-Ok.ensures.opened.heap y refl);
+      long = c.in-Ok.ensures.cause.explained;
+      gives = subst (λ (l : List ℕ). put_back_of l ≡ Some c.in-Ok-open.image.bytes) is (c.in-Ok-open.ensures.opened.heap y refl);
     })
