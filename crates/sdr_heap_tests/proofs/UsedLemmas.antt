@@ -1,5 +1,6 @@
 -- A block whose start bit is set is in use.
-use Rattle.std.proofs.Common.{◌≡◌, ◌≤◌, ◌<◌, ◌==◌, ℕ, ◌+◌, ◌-◌, ◌*◌, ◌/◌, ◌%◌, true, List, length, subst, arith}
+use Rattle.std.proofs.Common.{◌≡◌, ◌≤◌, ◌<◌, ◌==◌, ℕ, ◌+◌, ◌-◌, ◌*◌, ◌/◌, ◌%◌, ◌∙◌, Bool, true, List, length}
+use Rattle.std.proofs.Common.{ap, sym, subst, arith}
 use Rattle.std.proofs.lemmas.Bool.Decides.{nat_tests}
 use Rattle.std.specs.List.{count_by}
 use Rattle.sdr_base.specs.KeptLarge.{KeepsLarge}
@@ -49,3 +50,21 @@ large_used x addr k whole least above inside set =
         used = subst (λ (n : ℕ). 0 < count_by (is_used_at n) k.pools.large) at (omega (arith, one, set));
       };
     }
+
+-- so a read of `low` and of the start bit finds a small block in use
+pub small_found : (x y z : List ℕ) (addr low : ℕ) (set : Bool) → KeepsBoth x → y ≡ x → z ≡ y → addr % 8 ≡ 0 →
+    8 ≤ addr → low ≡ number_at 16 x → addr - 8 < low → set ≡ (start_bit ((addr - 8) / 8) y == 1) → set ≡ true →
+    KeepsUsedSmall addr z
+small_found x y z addr low set k same again whole least is below given is_set =
+    subst (λ (l : List ℕ). KeepsUsedSmall addr l) (sym (again ∙ same))
+    (small_used x addr k whole least (omega (arith, is, below))
+    (subst (λ (l : List ℕ). start_bit ((addr - 8) / 8) l ≡ 1) same (is_one _ (sym given ∙ is_set))))
+
+-- and of the region's size, a large one
+pub large_found : (x y z : List ℕ) (addr low size : ℕ) (set : Bool) → KeepsBoth x → y ≡ x → z ≡ y → addr % 8 ≡ 0 →
+    16 ≤ addr → low ≡ number_at 16 x → low ≤ addr - 16 → size ≡ length y → addr < size →
+    set ≡ (start_bit ((addr - 16) / 8) y == 1) → set ≡ true → KeepsUsedLarge addr z
+large_found x y z addr low size set k same again whole least is above long inside given is_set =
+    subst (λ (l : List ℕ). KeepsUsedLarge addr l) (sym (again ∙ same))
+    (large_used x addr k whole least (omega (arith, is, above)) (omega (arith, long, inside, ap length same))
+    (subst (λ (l : List ℕ). start_bit ((addr - 16) / 8) l ≡ 1) same (is_one _ (sym given ∙ is_set))))
