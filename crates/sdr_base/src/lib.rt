@@ -34,8 +34,6 @@ mod source;
 mod start_bits;
 mod stop;
 mod stored;
-#[cfg(test)]
-mod tests;
 
 pub use account::{Acct, Amounts};
 pub use bytes::{Bytes, NoMemory, put_at};

@@ -17,8 +17,6 @@ mod history;
 mod image;
 mod memory;
 mod put;
-#[cfg(test)]
-mod tests;
 mod torn;
 
 pub use disk::{Disk, DiskFault};

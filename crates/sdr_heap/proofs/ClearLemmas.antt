@@ -10,7 +10,7 @@ use Rattle.sdr_base.specs.Parts.{overwrite}
 use Rattle.sdr_base.specs.Transaction.{Transaction, TouchesAtMost}
 use Rattle.sdr_base.proofs.CellsLemmas.{TouchesAtMost-from_lines}
 use Rattle.sdr_base.specs.declared.stop.Stop.{Stop}
-use Rattle.sdr_image.proofs.FormatLemmas.{take_zeros}
+use Rattle.sdr_base.proofs.PartsLemmas.{take_zeros}
 
 -- bytes within a line touch that line alone
 pub length-lines_of_one : (place count : ℕ) → 1 ≤ count → place % 64 + count ≤ 64 → length (lines_of place count) ≤ 1

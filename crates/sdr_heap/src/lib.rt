@@ -22,8 +22,6 @@ mod marks;
 mod moves;
 mod objects;
 mod raw;
-#[cfg(test)]
-mod tests;
 
 pub use heap::{Heap, HeapShut};
 pub use raw::{LONGEST_RAW, LONGEST_READ, free, length, malloc, read, stage, write};

@@ -2,7 +2,6 @@
 use Rattle.std.proofs.Common.{◌≡◌, ℕ, ◌+◌, ◌-◌, ◌*◌, ◌≤◌, List, [], ◌∷◌, ◌++◌, length, take, sym, ◌∙◌}
 use Rattle.std.proofs.Common.{ap, subst, arith}
 use Rattle.std.specs.Prelude.{Option, Some, replicate}
-use Rattle.std.proofs.lemmas.List.{length-replicate, take-replicate, replicate-append-replicate}
 use Rattle.sdr_base.specs.FreshHeap.{fresh_control, fresh_heap}
 use Rattle.sdr_base.specs.Parts.{overwrite}
 use Rattle.sdr_base.proofs.FreshHeapLemmas.{length-fresh_control, fresh_heap-zeros, length-fresh_heap}
@@ -17,20 +16,6 @@ use Rattle.sdr_image.specs.Format.{formatted}
 pub told_length : (bytes : Option (List ℕ)) (size : ℕ) (x : List ℕ) → IsLong bytes size → bytes ≡ Some x →
     length x ≡ size
 told_length bytes size x long is = subst (λ (b : Option (List ℕ)). IsLong b size) is long
-
--- fewer zeros
-pub take_zeros : (n count : ℕ) → count ≤ n → take {A = ℕ} count (replicate n 0) ≡ replicate count 0
-take_zeros n count le = take-replicate count n 0 le
-
--- zeros behind zeros
-pub zeros_behind : (p done more : ℕ) (x : List ℕ) → p + done ≤ length x →
-    overwrite (p + done) (replicate more 0) (overwrite p (replicate done 0) x) ≡ overwrite p
-    (replicate (done + more) 0) x
-zeros_behind p done more x le =
-    let long = length-replicate {A = ℕ} done 0 in
-    ap (λ (k : ℕ). overwrite (p + k) (replicate more 0) (overwrite p (replicate done 0) x)) (sym long)
-    ∙ overwrite-behind p (replicate done 0) (replicate more 0) x (omega (arith, long))
-    ∙ ap (λ (l : List ℕ). overwrite p l x) (replicate-append-replicate done more 0)
 
 -- the control words, and zeros behind them
 pub fresh_heap_behind : (p q : ℕ) (f : Frame) (control x : List ℕ) → p ≡ heap_place f → q ≡ heap_place f →

@@ -92,13 +92,3 @@ module _ (f : Frame) (x : List ℕ) (limits : IsInLimits f) (le : disk_bytes f �
       put_back_of-closed f (formatted f x) (ap frame_of head-formatted ∙ frame_of-head_of f limits)
       (omega (arith, limits.least_log)) (omega (arith, length-formatted, le)) gate-formatted
       ∙ ap Some heap_of-formatted
-
-  -- which keeps a small pool
-  pub formatted_keeps : (bytes : List ℕ) → put_back_of (formatted f x) ≡ Some bytes → KeepsSomeSmall bytes
-  formatted_keeps bytes is =
-      let gives = put_back_of-formatted in
-      let fresh : fresh_heap f.heap_lines ≡ bytes = cc in
-      subst KeepsSomeSmall fresh (record {
-        pools = fresh_pools f.heap_lines;
-        keeps = fresh_keeps f.heap_lines limits.least_heap limits.most_heap;
-      })

@@ -18,8 +18,6 @@
 #![tactic(auto)]
 
 mod changing;
-#[cfg(test)]
-mod crash_tests;
 mod empty;
 mod error;
 mod fresh;
@@ -27,8 +25,6 @@ mod image;
 mod opening;
 mod region;
 mod saving;
-#[cfg(test)]
-mod tests;
 mod undo;
 mod zeros;
 

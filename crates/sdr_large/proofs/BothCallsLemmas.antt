@@ -15,11 +15,6 @@ use Rattle.sdr_base.proofs.FreshPoolsLemmas.{fresh_keeps}
 use Rattle.sdr_base.proofs.FreshLargeLemmas.{fresh_keeps_large}
 use Rattle.sdr_base.proofs.KeptPoolsLemmas.{in_order, is_block, free_is, front_free, large_stays}
 use Rattle.sdr_base.proofs.SmallPoolLemmas.{words_at-is}
-use Rattle.sdr_log.specs.Frame.{IsInLimits, disk_bytes}
-use Rattle.sdr_log.specs.Log.{put_back_of}
-use Rattle.sdr_log.specs.declared.frame.Frame.{Frame}
-use Rattle.sdr_image.specs.Format.{formatted}
-use Rattle.sdr_image.proofs.FormattedLemmas.{put_back_of-formatted}
 use Rattle.sdr_small.specs.Calls.{TakesBy as SmallTakesBy, TakesSmall, Gives as SmallGives, KeepsUsedSmall}
 use Rattle.sdr_large.specs.Both.{KeepsBoth}
 use Rattle.sdr_large.specs.Calls.{Becomes, TakesBy, TakesLarge, KeepsUsedLarge, KeepsOthers, Gives}
@@ -33,14 +28,6 @@ fresh_both lines least most = record {
   small = fresh_keeps lines least most;
   large = fresh_keeps_large lines least most;
 }
-
--- so does a disk that was formatted
-pub formatted_both : (f : Frame) (x : List ℕ) → IsInLimits f → disk_bytes f ≤ length x → (bytes : List ℕ) →
-    put_back_of (formatted f x) ≡ Some bytes → KeepsBoth bytes
-formatted_both f x limits le bytes is =
-    let gives = put_back_of-formatted f x limits le in
-    let fresh : fresh_heap f.heap_lines ≡ bytes = cc in
-    subst KeepsBoth fresh (fresh_both f.heap_lines limits.least_heap limits.most_heap)
 
 -- both pools are kept after a call of the small one, and the large one is the same
 record AfterSmall (P : Pools) (y : List ℕ) : Type 0 where

@@ -38,12 +38,8 @@
 mod block;
 mod finding;
 mod giving;
-#[cfg(test)]
-mod image_tests;
 mod links;
 mod taking;
-#[cfg(test)]
-mod tests;
 
 pub use giving::give;
 pub use taking::take;

@@ -27,11 +27,7 @@ mod noted;
 mod reading;
 mod record;
 mod recovery;
-#[cfg(test)]
-mod recovery_tests;
 mod saving;
-#[cfg(test)]
-mod tests;
 
 pub use batch::write_batch;
 pub use closing::close;

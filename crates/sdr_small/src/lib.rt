@@ -14,13 +14,7 @@
 #![tactic(auto)]
 
 mod giving;
-#[cfg(test)]
-mod image_tests;
-#[cfg(test)]
-mod plain;
 mod taking;
-#[cfg(test)]
-mod tests;
 
 pub use giving::give;
 pub use taking::take;

@@ -2,7 +2,7 @@
 use Rattle.std.proofs.Common.{◌+◌, ap, ◌∙◌, arith}
 use Rattle.std.specs.Prelude.{replicate}
 use Rattle.sdr_base.specs.Parts.{overwrite}
-use Rattle.sdr_image.proofs.FormatLemmas.{zeros_behind}
+use Rattle.sdr_base.proofs.PartsLemmas.{zeros_behind}
 use Rattle.sdr_heap.proofs.blocks.clear.Goals as goal
 
 pub loop-done-preserved : goal.loop-done-preserved

@@ -1,7 +1,7 @@
 use Rattle.std.proofs.Common.{◌∙◌, ap, List, ℕ}
 use Rattle.std.specs.Prelude.{Some}
 use Rattle.sdr_base.specs.Parts.{overwrite}
-use Rattle.sdr_image.proofs.FormatLemmas.{take_zeros}
+use Rattle.sdr_base.proofs.PartsLemmas.{take_zeros}
 use Rattle.sdr_image.proofs.zeros.write_few_zeros.Goals as goal
 
 pub returns-clause-written : goal.returns-clause-written

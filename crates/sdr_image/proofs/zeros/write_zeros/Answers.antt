@@ -1,6 +1,7 @@
 use Rattle.std.proofs.Common.{◌∙◌, ap, arith}
 use Rattle.std.specs.Prelude.{Some}
-use Rattle.sdr_image.proofs.FormatLemmas.{told_length, zeros_behind}
+use Rattle.sdr_base.proofs.PartsLemmas.{zeros_behind}
+use Rattle.sdr_image.proofs.FormatLemmas.{told_length}
 use Rattle.sdr_image.proofs.zeros.write_zeros.Goals as goal
 
 pub loop-done-preserved : goal.loop-done-preserved

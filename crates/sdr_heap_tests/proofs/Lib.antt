@@ -1,0 +1,2 @@
+pub mod FormattedLemmas
+pub mod UsedLemmas

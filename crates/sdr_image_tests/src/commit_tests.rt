@@ -1,0 +1,148 @@
+// What a crash leaves of a commit: which bytes are pending at each moment, and what opening makes of each
+// image.
+use sdr_base::Cells;
+use sdr_disk::{Disk, MemoryDisk, Torn};
+use sdr_image::{Image, format};
+use sdr_log::Frame;
+use std::alloc::Global;
+use std::ops::Range;
+
+const FRAME: Frame = Frame {
+    log_lines: 256,
+    heap_lines: 1024,
+};
+
+// A disk with a heap, opened.
+fn formatted(alloc: Global) -> Option<Image<MemoryDisk>> {
+    let mut disk = MemoryDisk::new(vec![in alloc; 7; 81_984].ok()?, Vec::new(alloc));
+    format(&mut disk, FRAME).ok()?;
+    Image::open(alloc, disk).ok()
+}
+
+// Changes the lines 0, 16 and 32.
+fn change<D: Disk>(image: &mut Image<D>) -> Option<()> {
+    if image.size() == 65_536 {
+        image.write(16, &[1]).ok()?;
+        image.write(1056, &[2]).ok()?;
+        image.write(2048, &[3]).ok()?;
+    }
+    image.commit().ok()
+}
+
+// A disk on which these lines were changed, and its moment before.
+fn changed(alloc: Global) -> Option<(MemoryDisk, u64)> {
+    let mut image = formatted(alloc)?;
+    let begun = image.now();
+    change(&mut image)?;
+    Some((image.into_disk(), begun))
+}
+
+// The image of a crash so many moments after another.
+fn image_after(disk: &MemoryDisk, begun: u64, after: u64, torn: Torn) -> Option<Vec<u8>> {
+    disk.image_at(begun.checked_add(after)?, torn).ok()
+}
+
+// Whether just the bytes of these ranges are filled.
+fn are_filled(image: &[u8], ranges: &[Range<usize>]) -> bool {
+    image.iter().enumerate().all(|(place, byte)| {
+        (*byte == 0xEE) == ranges.iter().any(|range| range.contains(&place))
+    })
+}
+
+// From a moment on and up to another, which bytes are pending in a commit of three lines: those of the
+// batch, of its gate, of the lines, and of the first gate.
+const PENDING: [(u64, u64, &[Range<usize>]); 11] = [
+    (0, 1, &[]),
+    (1, 4, &[65..274]),
+    (4, 5, &[]),
+    (5, 8, &[64..65]),
+    (8, 9, &[]),
+    (9, 11, &[16_448..16_512]),
+    (11, 13, &[16_448..16_512, 17_472..17_536]),
+    (13, 16, &[16_448..16_512, 17_472..17_536, 18_496..18_560]),
+    (16, 17, &[]),
+    (17, 20, &[64..65]),
+    (20, 21, &[]),
+];
+
+// The moment at the end of a commit of three lines, and the first at which other bytes are pending.
+fn pending(alloc: Global) -> Option<(u64, Option<u64>)> {
+    let (disk, begun) = changed(alloc)?;
+    let end = disk.now().checked_sub(begun)?;
+    for (first, behind, ranges) in &PENDING {
+        for after in *first..*behind {
+            let image = image_after(&disk, begun, after, Torn::Filled(0xEE))?;
+            if !are_filled(&image, ranges) {
+                return Some((end, Some(after)));
+            }
+        }
+    }
+    Some((end, None))
+}
+
+// How many lines opening puts back, and what the three bytes are then.
+type Opened = (u64, [u8; 3]);
+
+// The same, of the image of a crash.
+fn opened(alloc: Global, image: Vec<u8>) -> Option<Opened> {
+    let mut image = Image::open(alloc, MemoryDisk::new(image, Vec::new(alloc))).ok()?;
+    let mut heap = [9; 2049];
+    if image.size() == 65_536 {
+        image.read(0, &mut heap).ok()?;
+    }
+    Some((image.restored(), [heap[16], heap[1056], heap[2048]]))
+}
+
+const OLD: Opened = (0, [0, 0, 0]);
+
+const BACK: Opened = (3, [0, 0, 0]);
+
+const NEW: Opened = (0, [1, 2, 3]);
+
+// From a moment on and up to another, what opening makes of a tear.
+const CRASHES: [(u64, u64, Torn, Opened); 20] = [
+    // The batch is written and synced.
+    (0, 5, Torn::Old, OLD),
+    (0, 5, Torn::New, OLD),
+    (0, 5, Torn::Filled(0), OLD),
+    (0, 5, Torn::Filled(0xEE), OLD),
+    // The gate is opened.
+    (5, 8, Torn::Old, OLD),
+    (5, 8, Torn::New, BACK),
+    (5, 8, Torn::Filled(0), OLD),
+    (5, 8, Torn::Filled(0xEE), BACK),
+    // The lines are written and synced.
+    (8, 17, Torn::Old, BACK),
+    (8, 17, Torn::New, BACK),
+    (8, 17, Torn::Filled(0), BACK),
+    (8, 17, Torn::Filled(0xEE), BACK),
+    // The gate is closed.
+    (17, 20, Torn::Old, BACK),
+    (17, 20, Torn::New, NEW),
+    (17, 20, Torn::Filled(0), NEW),
+    (17, 20, Torn::Filled(0xEE), BACK),
+    (20, 21, Torn::Old, NEW),
+    (20, 21, Torn::New, NEW),
+    (20, 21, Torn::Filled(0), NEW),
+    (20, 21, Torn::Filled(0xEE), NEW),
+];
+
+// The first row and moment of which opening makes something else.
+fn wrong_crash(alloc: Global) -> Option<Option<(usize, u64)>> {
+    let (disk, begun) = changed(alloc)?;
+    for (row, (first, behind, torn, want)) in CRASHES.iter().enumerate() {
+        for after in *first..*behind {
+            let image = image_after(&disk, begun, after, *torn)?;
+            if opened(alloc, image) != Some(*want) {
+                return Some(Some((row, after)));
+            }
+        }
+    }
+    Some(None)
+}
+
+#[test]
+fn a_crash_in_a_commit_of_ten_calls_leaves_the_old_bytes_or_the_new(rt: HostRuntime) {
+    assert_eq!(rt; pending(rt.alloc()), Some((20, None)));
+    assert_eq!(rt; wrong_crash(rt.alloc()), Some(None));
+}
