@@ -2,14 +2,14 @@
 use sdr_base::Bytes;
 
 /// How a write or a sync ended.
-#[derive(Clone, Copy, Debug, PartialEq, Eq)]
+#[derive(Clone, Copy, PartialEq, Eq)]
 pub enum Outcome {
     Done,
     Failed,
 }
 
 /// A write or a sync that was made, and how it ended.
-#[derive(Drop, Debug)]
+#[derive(Drop)]
 pub enum Change {
     Write {
         place: u64,
@@ -20,7 +20,7 @@ pub enum Change {
 }
 
 /// A change, with what stood where it wrote.
-#[derive(Drop, Debug)]
+#[derive(Drop)]
 pub struct Kept {
     pub change: Change,
     pub before: Bytes,

@@ -1,7 +1,7 @@
 // How a crash tears what was written.
 
 /// How much a crash leaves of each write that no sync has made last.
-#[derive(Clone, Copy, Debug, PartialEq, Eq)]
+#[derive(Clone, Copy)]
 pub enum Torn {
     /// Nothing: what stood in its range at the last good sync.
     Old,

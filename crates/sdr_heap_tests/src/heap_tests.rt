@@ -6,11 +6,12 @@ ghost use Rattle.sdr_base.specs.KeptHeap.{KeepsRegion};
 ghost use Rattle.sdr_heap.specs.Raw.{IsUnnamed, IsWhole};
 ghost use Rattle.sdr_log.specs.Frame.{IsInLimits};
 
+use crate::disks::formatted;
 use sdr_base::control::FIRST_NAME;
-use sdr_base::{Addr, Kind, Move, Objects, Refusal, Stop, expect_kind};
+use sdr_base::{Addr, Cells, Kind, Move, Objects, Refusal, Stop, expect_kind};
 use sdr_disk::MemoryDisk;
 use sdr_heap::{Heap, free, length, malloc, read, stage, write};
-use sdr_image::{Image, format};
+use sdr_image::Image;
 use sdr_log::Frame;
 use std::alloc::Global;
 
@@ -25,20 +26,12 @@ const LARGE: Frame = Frame {
 };
 
 // The heap of a disk in memory with these regions, formatted and opened.
-fn formatted(alloc: Global, frame: Frame) -> Option<Heap<Image<MemoryDisk>>>
+fn fresh(alloc: Global, frame: Frame) -> Option<Heap<Image<MemoryDisk>>>
     requires { IsInLimits frame }
     ensures kept { IfSome result (λ heap. KeepsSome (KeepsRegion heap.size heap.cells.bytes)) }
     ensures spare { IfSome result (λ heap. 16 ≤ heap.spare) }
 {
-    let bytes = vec![in alloc; 7; frame.disk_bytes() as usize].ok()?;
-    let mut disk = MemoryDisk::new(bytes, Vec::new(alloc));
-    let Ok(()) = format(&mut disk, frame) else {
-        return None;
-    };
-    let image = match Image::open(alloc, disk) {
-        Ok(image) => image,
-        Err(_) => return None,
-    };
+    let image = formatted(alloc, frame)?;
     match Heap::new(alloc, image) {
         Ok(heap) => Some(heap),
         Err(_) => None,
@@ -108,7 +101,7 @@ fn wrong_move(alloc: Global, frame: Frame, moves: &[Move]) -> Option<usize>
     requires limits { IsInLimits frame }
     requires few { length moves.now ≤ 16 }
 {
-    let Some(mut heap) = formatted(alloc, frame) else {
+    let Some(mut heap) = fresh(alloc, frame) else {
         return Some(moves.len());
     };
     match play(&mut heap, moves) {
@@ -248,24 +241,35 @@ fn marked<O: Objects>(o: &mut O, at: Addr) -> Result<([bool; 3], Option<(Kind, u
 // What is seen of a block of ten bytes: its bytes, a control word, marks, and what begins in its middle.
 type Seen = ([[u8; 10]; 2], [u64; 2], ([bool; 3], Option<(Kind, u64)>));
 
-// The same, of the first block of a heap, which is committed then; whether its move alone was noted, and
-// none after that was forgotten; and how many lines are touched at last.
-fn seen(alloc: Global) -> Option<(Seen, [bool; 2], u64)> {
-    let mut heap = formatted(alloc, SMALL)?;
-    let addr = take(&mut heap, 10).ok()??;
-    let bytes = written(&mut heap, addr).ok()?;
-    let words = set(&mut heap).ok()?;
-    heap.unmark();
-    let marks = marked(&mut heap, 1096).ok()?;
+// The bytes of a new block of ten bytes, and a control word, each before and behind a write.
+fn filled<O: Objects>(o: &mut O) -> Result<([[u8; 10]; 2], [u64; 2]), Stop>
+    requires kept { KeepsSome (O.keeps o.old) }
+    requires spare { 1 ≤ (O.heap o.old).spare }
+    ensures kept { OnOk result (KeepsSome (O.keeps o.new)) }
+{
+    match take(o, 10)? {
+        Some(addr) => Ok((written(o, addr)?, set(o)?)),
+        None => Err(Stop::Refused(Refusal::NotFound)),
+    }
+}
+
+// Whether the move of that block alone was noted, and none after it was forgotten.
+fn noted<C: Cells>(heap: &mut Heap<C>) -> [bool; 2] {
     let one = heap.moves() == TAKEN.as_slice();
     heap.fresh();
-    let none = heap.moves().is_empty();
+    [one, heap.moves().is_empty()]
+}
+
+// What is seen of the first block of a heap, and what was noted of it; and how many lines are touched once it is
+// committed.
+fn seen(alloc: Global) -> Option<(Seen, [bool; 2], u64)> {
+    let mut heap = fresh(alloc, SMALL)?;
+    let (bytes, words) = filled(&mut heap).ok()?;
+    heap.unmark();
+    let marks = marked(&mut heap, 1096).ok()?;
+    let notes = noted(&mut heap);
     heap.cells().commit().ok()?;
-    Some((
-        (bytes, words, marks),
-        [one, none],
-        heap.into_cells().touched(),
-    ))
+    Some(((bytes, words, marks), notes, heap.into_cells().touched()))
 }
 
 const TAKEN: [Move; 1] = [Move::Took {
@@ -330,7 +334,7 @@ fn read_raw<O: Objects>(o: &mut O) -> Result<Read, Stop>
 
 // A raw object that was written, and one that was read.
 fn raws(alloc: Global) -> Option<([u8; 13], Read)> {
-    let mut heap = formatted(alloc, SMALL)?;
+    let mut heap = fresh(alloc, SMALL)?;
     let written = written_raw(&mut heap).ok()?;
     Some((written, read_raw(&mut heap).ok()?))
 }

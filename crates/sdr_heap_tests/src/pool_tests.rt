@@ -1,31 +1,15 @@
 // Both pools of a formatted disk: that calls on an image succeed, with the addresses of worked rows.
 ghost use Rattle.std.specs.Prelude.{◌≤◌, IfSome, OnOk};
-ghost use Rattle.sdr_log.specs.Frame.{IsInLimits};
 ghost use Rattle.sdr_large.specs.Both.{KeepsBoth};
 
+use crate::disks::formatted;
 use crate::plain::{Free, plain_take};
 use sdr_base::control::LOW;
 use sdr_base::{Addr, Cells, Stop, WORD, read_number, read_start_bit};
 use sdr_disk::MemoryDisk;
-use sdr_image::{Image, format};
+use sdr_image::Image;
 use sdr_log::Frame;
 use std::alloc::Global;
-
-// A disk in memory with these regions, formatted and opened.
-fn formatted(alloc: Global, frame: Frame) -> Option<Image<MemoryDisk>>
-    requires { IsInLimits frame }
-    ensures { IfSome result (λ image. KeepsBoth image.bytes) }
-{
-    let bytes = vec![in alloc; 7; frame.disk_bytes() as usize].ok()?;
-    let mut disk = MemoryDisk::new(bytes, Vec::new(alloc));
-    let Ok(()) = format(&mut disk, frame) else {
-        return None;
-    };
-    match Image::open(alloc, disk) {
-        Ok(image) => Some(image),
-        Err(_) => None,
-    }
-}
 
 /// A call of a pool: a block of so many words, of the small pool, of the large one, or of the first of both
 /// that gives one; or a block that is given back to the small pool or the large one.

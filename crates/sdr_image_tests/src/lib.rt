@@ -1,22 +1,14 @@
-//! Tests of the crates from `sdr_base` to `sdr_image`, and of `sdr_media`, as rows of literals.
+//! Tests of `sdr_image`, as rows of literals.
 //!
 //! 1. A row is what is called, and what is answered then. Its literals come from worked rows, and not
 //!    from the code.
 //! 2. A function plays rows in a loop, with one call of what is tested in it, and answers the first
 //!    row that got something else. A test wants that there is none.
 //! 3. Here stands what no clause says: that calls succeed with ample memory, which device calls are
-//!    made in which order, and what the clauses' definitions come to in numbers.
+//!    made in which order, and what opening makes of the image of a crash at each moment.
 #![tactic(auto)]
 
 #[cfg(test)]
 mod commit_tests;
 #[cfg(test)]
-mod disk_tests;
-#[cfg(test)]
-mod frame_tests;
-#[cfg(test)]
 mod image_tests;
-#[cfg(test)]
-mod outside_tests;
-#[cfg(test)]
-mod recovery_tests;

@@ -1,7 +1,7 @@
 // What the log keeps of a line.
 
 /// A line of the heap region and its bytes.
-#[derive(Clone, Copy, Debug)]
+#[derive(Clone, Copy)]
 pub struct Record {
     /// The line's number, from 0.
     pub line: u32,

@@ -10,8 +10,6 @@
 mod counts;
 mod folder;
 mod memory;
-#[cfg(test)]
-mod tests;
 
-pub use folder::FolderMedia;
+pub use folder::{FolderMedia, fill};
 pub use memory::MemoryMedia;
