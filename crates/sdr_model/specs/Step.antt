@@ -1,5 +1,6 @@
 -- One step of the machine: a call comes to what its row allows, or stops on its way there.
 use Rattle.std.specs.Prelude.{◌≡◌, ◌<◌, ◌⊎◌, ℕ, Bool, true, false, List, [], ◌∷◌, ◌++◌}
+use Rattle.sdr_base.specs.Objects.{AreFirstOf}
 use Rattle.sdr_base.specs.declared.moves.Move.{Move}
 use Rattle.sdr_base.specs.declared.moves.Move.TheVariants.{Took, Short}
 use Rattle.sdr_base.specs.declared.refusal.Refusal.TheVariants as refusals
@@ -18,11 +19,6 @@ is_answer replies.MediaFault = false
 is_answer replies.DiskFault = false
 is_answer (replies.Failed moment) = false
 is_answer reply = true
-
--- the moves are some first ones of these
-pub record AreFirstOf (all moves : List Move) : Type 0 where
-  pub rest : List Move
-  pub whole : all ≡ moves ++ rest
 
 -- the moves are some first ones of these, and then no block of this need was left for the next one
 pub record LackBlock (all moves : List Move) (need : ℕ) : Type 0 where
