@@ -5,6 +5,7 @@ ghost use Rattle.sdr_model.specs.AccountSteps.{is_granted};
 ghost use Rattle.sdr_model.specs.Accounts.{pending_in};
 
 use sdr_base::{Acct, Amounts, NoMemory, Refusal, Space};
+use sdr_changes::charging;
 use sdr_draft::Undoable;
 use sdr_model::{Call, MOST_AMOUNT, Reply};
 use sdr_parts::amounts::{amount, first_above};
@@ -22,7 +23,7 @@ pub struct Asking {
 pub fn occupancy(world: &mut Undoable, acct: Acct, space: Space) -> Result<Reply, NoMemory>
     ensures { Answers (Call.Occupancy acct space) world.old world.new result }
 {
-    let value = world.occupancy(acct, space);
+    let value = charging::occupancy(world, acct, space);
     world.hide();
     Ok(Reply::Value { value })
 }
@@ -60,7 +61,7 @@ pub fn set_maximum(
     if value > MOST_AMOUNT {
         return Ok(too_large(space, value, MOST_AMOUNT));
     }
-    world.set_maximum(acct, space, value)?;
+    charging::set_maximum(world, acct, space, value)?;
     Ok(Reply::Done)
 }
 
@@ -84,11 +85,11 @@ pub fn request(world: &mut Undoable, acct: Acct, asking: Asking) -> Result<Reply
         let asked = amount(&asking.amounts, space);
         return Ok(too_large(space, asked, amount(&maxima, space)));
     }
-    let number = world.next_ticket();
+    let number = charging::next_ticket(world);
     if number == MOST_AMOUNT {
         return Ok(bad_ticket(MOST_AMOUNT));
     }
-    world.request(acct, asking.amounts, asking.coarse, asking.fine)?;
+    charging::request(world, acct, asking.amounts, asking.coarse, asking.fine)?;
     let granted = is_granted(world, acct, number);
     Ok(Reply::Ticket { number, granted })
 }
@@ -112,6 +113,6 @@ pub fn shred(world: &mut Undoable, ticket: u64) -> Result<Reply, NoMemory>
     let Some(pending) = world.accounts().pending(ticket) else {
         return Ok(bad_ticket(ticket));
     };
-    world.shred(&pending)?;
+    charging::shred(world, &pending)?;
     Ok(Reply::Done)
 }

@@ -16,12 +16,10 @@ mod blocks;
 mod bonding;
 mod charges;
 mod charging;
-mod dropping;
 mod editing;
 mod growing;
 mod objects;
 mod sources;
-mod taking;
 mod touching;
 mod trimming;
 

@@ -6,8 +6,8 @@ ghost use Rattle.sdr_model.specs.Charges.{bytes_charge, capsule_charge};
 
 use crate::amounts::NOTHING;
 use crate::capsules::capsule_bytes;
-use sdr_model::Capsule;
 use sdr_base::{Amounts, Space};
+use sdr_model::Capsule;
 
 /// So many bytes of heap space.
 pub fn heap_charge(bytes: u64) -> Amounts

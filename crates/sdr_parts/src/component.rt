@@ -5,8 +5,8 @@ ghost use Rattle.sdr_parts.specs.Components.{KeepsLimits, source_of, with_compon
 ghost use Rattle.sdr_parts.specs.Sides.{component_on};
 
 use crate::object::push_extent;
-use sdr_model::{Capsule, Extent, ZcoObject};
 use sdr_base::{Addr, NoMemory};
+use sdr_model::{Capsule, Extent, ZcoObject};
 
 /// What is added to an object.
 #[derive(Drop)]

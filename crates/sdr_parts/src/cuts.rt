@@ -5,8 +5,8 @@ ghost use Rattle.sdr_parts.specs.Bounds.{AreFewBytes, EndsInTime};
 ghost use Rattle.sdr_model.specs.Cuts.{cut, cut_all, left_out};
 ghost use Rattle.sdr_model.specs.Zco.{extents_length, whole_of};
 
-use sdr_model::{Extent, Part};
 use sdr_base::{Items, NoMemory};
+use sdr_model::{Extent, Part};
 use std::alloc::Global;
 
 /// An extent, cut to its bytes from one place on and before another.

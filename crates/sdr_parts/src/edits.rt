@@ -7,8 +7,8 @@ ghost use Rattle.sdr_parts.specs.Bounds.{IsBounded};
 
 use crate::amounts::NOTHING;
 use crate::capsules::capsule_bytes;
-use sdr_model::{Capsule, Extent, Part, ZcoObject};
 use sdr_base::{Acct, Amounts, Items};
+use sdr_model::{Capsule, Extent, Part, ZcoObject};
 use std::alloc::Global;
 
 /// How an object is changed, whose extents all stay.

@@ -7,8 +7,8 @@ ghost use Rattle.sdr_model.specs.Zco.{empty_object};
 
 use crate::capsules::capsules_length;
 use crate::cuts::{cut_all, extents_length, left_out, whole_of};
-use sdr_model::{Extent, Part, ZcoObject};
 use sdr_base::{Acct, Items, NoMemory};
+use sdr_model::{Extent, Part, ZcoObject};
 use std::alloc::Global;
 
 /// An object with nothing in it. It takes no memory.

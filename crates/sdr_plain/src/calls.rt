@@ -5,17 +5,23 @@ ghost use Rattle.sdr_model.specs.Few.{HasFewPieces, most_pieces};
 
 use sdr_base::{Amounts, NoMemory};
 use sdr_calls::account_calls::{Asking, awarded, maximum, occupancy, request, set_maximum, shred};
-use sdr_calls::element_calls::{datum, delete, next, prev, set_datum};
-use sdr_calls::hash_calls::{hash_count, hash_destroy, hash_insert, hash_remove, hash_retrieve, hash_revise, make_hash};
-use sdr_calls::insert_calls::{insert_after, insert_before, insert_first, insert_last};
-use sdr_calls::list_calls::{first, last, list_destroy, list_length, list_user, make_list, set_list_user};
 use sdr_calls::name_calls::{catlg, entry, find, uncatlg};
-use sdr_calls::ordered_calls::{insert_ordered, search};
 use sdr_calls::raw_calls::{free, length, malloc, read, stage, write};
-use sdr_calls::table_calls::{dimensions, make_table, row, set_row, table_destroy, table_user};
 use sdr_calls::text_calls::{string, string_dup, string_length, string_read};
 use sdr_draft::Undoable;
+use sdr_list_calls::element_calls::{datum, delete, next, prev, set_datum};
+use sdr_list_calls::insert_calls::{insert_after, insert_before, insert_first, insert_last};
+use sdr_list_calls::list_calls::{
+    first, last, list_destroy, list_length, list_user, make_list, set_list_user,
+};
+use sdr_list_calls::ordered_calls::{insert_ordered, search};
 use sdr_model::{Call, Reply};
+use sdr_table_calls::hash_calls::{
+    hash_count, hash_destroy, hash_insert, hash_remove, hash_retrieve, hash_revise, make_hash,
+};
+use sdr_table_calls::table_calls::{
+    dimensions, make_table, row, set_row, table_destroy, table_user,
+};
 use sdr_zco_calls::append_calls::{Append, append_extent};
 use sdr_zco_calls::bond_calls::bond;
 use sdr_zco_calls::capsule_calls::{append_trailer, prepend_header};

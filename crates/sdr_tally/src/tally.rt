@@ -8,11 +8,11 @@ ghost use Rattle.sdr_tally.specs.Charged.{charged_to, no_charges, with_charged};
 ghost use Rattle.sdr_model.specs.Zco.{naming};
 ghost use Rattle.sdr_tally.specs.Notes.{NameSource, SameNotes, UsesMore, is_this, more_uses, note_at, noted_count};
 
-use sdr_parts::amounts::{minus, plus};
 use crate::notes::Notes;
-use sdr_parts::Change;
-use sdr_model::Extent;
 use sdr_base::{Acct, Addr, Amounts, NoMemory};
+use sdr_model::Extent;
+use sdr_parts::Change;
+use sdr_parts::amounts::{minus, plus};
 use std::alloc::Global;
 
 /// What names an address.

@@ -6,9 +6,9 @@ ghost use Rattle.sdr_model.specs.Amounts.{amount};
 ghost use Rattle.sdr_parts.specs.Grants.{KeepGrants, WaitsEmpty};
 ghost use Rattle.sdr_model.specs.Queue.{enqueued, served};
 
-use sdr_parts::queue::{enqueue, serve};
-use sdr_model::{Accounts, Pending, Ticket};
 use sdr_base::{Acct, Amounts, NoMemory};
+use sdr_model::{Accounts, Pending, Ticket};
+use sdr_parts::queue::{enqueue, serve};
 use std::alloc::Global;
 use std::marker::Model;
 

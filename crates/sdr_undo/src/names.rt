@@ -7,9 +7,9 @@ ghost use Rattle.sdr_model.specs.Names.{name_of, without_name};
 ghost use Rattle.sdr_undo.specs.Entries.{named_of};
 ghost use Rattle.sdr_model.specs.Things.{block_among, name_block};
 
-use sdr_model::Block;
 use indexmap::IndexMap;
 use sdr_base::{Addr, Kind, NoMemory};
+use sdr_model::Block;
 use std::alloc::Global;
 use std::marker::Model;
 

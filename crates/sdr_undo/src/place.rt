@@ -3,8 +3,8 @@ ghost use Rattle.std.specs.Prelude.{◌≡◌, true, false, IfOk, OnErr, OnOk, I
 ghost use Rattle.std.specs.Option.{option_copied};
 ghost use Rattle.sdr_undo.specs.Store.{begun_at};
 
-use sdr_model::Thing;
 use sdr_base::NoMemory;
+use sdr_model::Thing;
 use std::alloc::Global;
 use std::mem;
 

@@ -5,10 +5,10 @@ ghost use Rattle.std.specs.Option.{option_copied};
 ghost use Rattle.sdr_model.specs.Things.{with_at};
 ghost use Rattle.sdr_undo.specs.Store.{with_place};
 
-use sdr_model::Thing;
 use crate::place::Place;
 use crate::places::Places;
 use sdr_base::{Addr, NoMemory};
+use sdr_model::Thing;
 use std::alloc::Global;
 use std::marker::Model;
 

@@ -7,6 +7,7 @@ ghost use Rattle.sdr_parts.specs.declared.component.Component.TheVariants as com
 use crate::object_calls::object;
 use sdr_base::{Addr, NoMemory, Refusal};
 use sdr_calls::raw_calls::{in_use, misnamed, raw};
+use sdr_changes::growing::add_component;
 use sdr_draft::Undoable;
 use sdr_model::{Call, Extent, Reply};
 use sdr_parts::component::Component;
@@ -86,7 +87,7 @@ fn append_source(world: &mut Undoable, asked: &Append) -> Result<Reply, NoMemory
     }
     world.touch(asked.named)?;
     let extent = asked.extent(world.next(), asked.named);
-    let _granted = match world.add_component(asked.object, asked.ticket, extent, 0)? {
+    let _granted = match add_component(world, asked.object, asked.ticket, extent, 0)? {
         Ok(granted) => granted,
         Err(refusal) => return Ok(Reply::Refused(refusal)),
     };
@@ -115,7 +116,7 @@ fn append_raw(world: &mut Undoable, asked: &Append) -> Result<Reply, NoMemory>
     world.touch(source)?;
     world.touch(asked.named)?;
     let extent = asked.extent(source + 8, source);
-    let _granted = match world.add_component(asked.object, asked.ticket, extent, 1)? {
+    let _granted = match add_component(world, asked.object, asked.ticket, extent, 1)? {
         Ok(granted) => granted,
         Err(refusal) => return Ok(Reply::Refused(refusal)),
     };

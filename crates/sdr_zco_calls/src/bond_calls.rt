@@ -10,6 +10,7 @@ ghost use Rattle.sdr_model.specs.ObjectSteps.{wire_length};
 use crate::object_calls::object;
 use sdr_base::{Addr, Items, NoMemory, Space};
 use sdr_calls::raw_calls::misnamed;
+use sdr_changes::bonding::{charge_marks, put_texts};
 use sdr_draft::Undoable;
 use sdr_model::{Call, Capsule, Extent, Reply, ZcoObject};
 use sdr_parts::Change;
@@ -127,11 +128,11 @@ pub fn bond(alloc: Global, world: &mut Undoable, addr: Addr, number: u64) -> Res
     let by = bond_change(alloc, first, capsules.as_slice())?;
     world.touch(addr)?;
     world.touch_next(blocks)?;
-    let _granted = match world.charge_marks(acct, number, &by.charged, addr, blocks)? {
+    let _granted = match charge_marks(world, acct, number, &by.charged, addr, blocks)? {
         Ok(granted) => granted,
         Err(refusal) => return Ok(Reply::Refused(refusal)),
     };
-    world.put_texts(capsules);
+    put_texts(world, capsules);
     world.change_object(addr, changed, &by);
     Ok(Reply::Done)
 }

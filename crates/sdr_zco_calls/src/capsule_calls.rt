@@ -6,6 +6,7 @@ ghost use Rattle.sdr_parts.specs.Sides.{capsule_call};
 use crate::object_calls::object;
 use sdr_base::{Addr, Bytes, NoMemory};
 use sdr_calls::raw_calls::{bad_length, misnamed};
+use sdr_changes::growing::add_component;
 use sdr_draft::Undoable;
 use sdr_model::limits::LONGEST_CAPSULE;
 use sdr_model::{Call, Capsule, Reply};
@@ -34,7 +35,7 @@ fn add_capsule(
     let text = Bytes::copied(alloc, text.as_slice())?;
     let block = world.next();
     let capsule = side.component(Capsule { block, text });
-    let _granted = match world.add_component(addr, number, capsule, 0)? {
+    let _granted = match add_component(world, addr, number, capsule, 0)? {
         Ok(granted) => granted,
         Err(refusal) => return Ok(Reply::Refused(refusal)),
     };

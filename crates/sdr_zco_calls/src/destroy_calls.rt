@@ -10,6 +10,8 @@ use crate::gone::gone_things;
 use crate::object_calls::object;
 use sdr_base::{Addr, NoMemory};
 use sdr_calls::raw_calls::misnamed;
+use sdr_changes::dropping::{drop_all, touch_all};
+use sdr_changes::touching::touch_object;
 use sdr_draft::Undoable;
 use sdr_model::{Call, Reply, ZcoObject};
 use std::alloc::Global;
@@ -31,11 +33,11 @@ fn lose_whole(
 {
     world.known_object(addr);
     let gone = gone_things(alloc, world, object.extents.as_slice())?;
-    world.touch_object(addr, object)?;
-    world.touch_all(gone.as_slice())?;
+    touch_object(world, addr, object)?;
+    touch_all(world, gone.as_slice())?;
     world.save_accounts()?;
     world.lose_object(addr);
-    world.drop_all(gone.as_slice());
+    drop_all(world, gone.as_slice());
     world.serve(object.account);
     world.hide();
     Ok(Reply::Done)

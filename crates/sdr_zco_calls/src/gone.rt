@@ -42,7 +42,12 @@ fn add_passing(world: &Undoable, addr: Addr, gone: &mut Items<Addr>) -> Result<(
 }
 
 // Adds it where it loses its last extent, as so many that go name it.
-fn add_last(world: &Undoable, addr: Addr, count: u64, gone: &mut Items<Addr>) -> Result<(), NoMemory>
+fn add_last(
+    world: &Undoable,
+    addr: Addr,
+    count: u64,
+    gone: &mut Items<Addr>,
+) -> Result<(), NoMemory>
     ensures { OnOk result (gone.new ≡ gone.old ++
         (if count == uses_of world.now.now addr then source_blocks addr (source_at world.now.now addr) else [])) }
 {

@@ -13,6 +13,7 @@ ghost use Rattle.sdr_undo.specs.Owners.{MayPut};
 
 use sdr_base::{Acct, Addr, NoMemory, Refusal};
 use sdr_calls::raw_calls::misnamed;
+use sdr_changes::taking::charge_blocks;
 use sdr_draft::Undoable;
 use sdr_model::{Call, Part, Reply, ZcoObject};
 use sdr_parts::Trim;
@@ -57,13 +58,18 @@ pub fn source_length(world: &mut Undoable, addr: Addr) -> Result<Reply, NoMemory
 }
 
 /// Makes an object with nothing in it.
-pub fn create(alloc: Global, world: &mut Undoable, acct: Acct, number: u64) -> Result<Reply, NoMemory>
+pub fn create(
+    alloc: Global,
+    world: &mut Undoable,
+    acct: Acct,
+    number: u64,
+) -> Result<Reply, NoMemory>
     requires taken { world.old.now.taken < 2 ^ 60 }
     ensures { Answers (Call.Create acct number) world.old world.new result }
 {
     let addr = world.next();
     world.touch(addr)?;
-    let _granted = match world.charge_blocks(acct, number, &heap_charge(72), addr, 1)? {
+    let _granted = match charge_blocks(world, acct, number, &heap_charge(72), addr, 1)? {
         Ok(granted) => granted,
         Err(refusal) => return Ok(Reply::Refused(refusal)),
     };

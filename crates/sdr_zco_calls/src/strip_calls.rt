@@ -12,6 +12,9 @@ use crate::gone::gone_things;
 use crate::object_calls::object;
 use sdr_base::{Acct, Addr, Items, NoMemory};
 use sdr_calls::raw_calls::misnamed;
+use sdr_changes::cutting::cuts_charge;
+use sdr_changes::dropping::{drop_all, touch_all};
+use sdr_changes::touching::touch_sources;
 use sdr_draft::Undoable;
 use sdr_model::{Call, Reply, ZcoObject};
 use sdr_parts::amounts::NOTHING;
@@ -33,7 +36,7 @@ fn cut_to_part(alloc: Global, world: &Undoable, object: &ZcoObject) -> Result<St
     let by = Change {
         lost: outside_part(object, alloc)?,
         gained: Items::new(alloc),
-        released: world.cuts_charge(from, to, object.extents.as_slice()),
+        released: cuts_charge(world, from, to, object.extents.as_slice()),
         charged: NOTHING,
     };
     Ok(Stripping {
@@ -61,11 +64,11 @@ fn put_stripped(
     let Stripping { account, edit, by } = so;
     world.known_object(addr);
     let gone = gone_things(alloc, world, by.lost.as_slice())?;
-    world.touch_sources(by.lost.as_slice())?;
-    world.touch_all(gone.as_slice())?;
+    touch_sources(world, by.lost.as_slice())?;
+    touch_all(world, gone.as_slice())?;
     world.save_accounts()?;
     world.edit_object(addr, edit, &by)?;
-    world.drop_all(gone.as_slice());
+    drop_all(world, gone.as_slice());
     world.serve(account);
     world.hide();
     Ok(Reply::Done)

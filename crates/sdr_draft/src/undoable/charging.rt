@@ -1,32 +1,20 @@
 // What a world in the making charges its accounts, and grants.
-ghost use Rattle.std.specs.Prelude.{◌≡◌, ◌≤◌, ◌<◌, ◌+◌, ◌^◌, [], IfErr, IfOk, IfSome, OnErr, OnOk, remove, true};
+ghost use Rattle.std.specs.Prelude.{◌≡◌, ◌≤◌, ◌<◌, ◌+◌, IfErr, IfOk, IfSome, OnErr, OnOk, remove, true};
 ghost use Rattle.sdr_base.specs.declared.account.Amounts.{Amounts as GhostAmounts};
 ghost use Rattle.sdr_base.specs.declared.kind.Space.{Space as GhostSpace};
-ghost use Rattle.sdr_model.specs.AccountSteps.{new_ticket, with_amount, with_maximum, with_request, without_ticket};
 ghost use Rattle.sdr_model.specs.Accounts.{Stands, account_of, most_amount, tickets_of, with_account, with_tickets};
 ghost use Rattle.sdr_model.specs.Amounts.{amount, no_amounts};
-ghost use Rattle.sdr_model.specs.Charges.{occupancies, occupancy};
-ghost use Rattle.sdr_model.specs.Charging.{grant_left, with_used};
-ghost use Rattle.sdr_model.specs.Dry.{with_taken, next_addr};
+ghost use Rattle.sdr_model.specs.Charges.{occupancies};
+ghost use Rattle.sdr_model.specs.Charging.{with_used};
 ghost use Rattle.sdr_model.specs.Queue.{enqueued, with_served};
 ghost use Rattle.sdr_parts.specs.Grants.{KeepGrants};
-ghost use Rattle.sdr_tally.specs.Allowed.{HasRoomFor, IsBound, IsGrantOf, MayCharge, MayTakeBack, RefusesCharge, refusal_of, with_back};
+ghost use Rattle.sdr_tally.specs.Allowed.{IsBound, IsGrantOf, MayTakeBack, RefusesCharge, refusal_of, with_back};
 
 use crate::Undoable;
-use sdr_base::{Acct, Amounts, NoMemory, Refusal, Space};
+use sdr_base::{Acct, Amounts, NoMemory, Refusal};
 use sdr_model::{Accounts, Pending, Ticket};
-use sdr_parts::amounts::{NOTHING, amount, first_above, minus, plus, with_amount};
+use sdr_parts::amounts::{amount, first_above, minus, plus};
 use sdr_parts::queue::{barrier, left};
-
-// What is left of the grant of a ticket, nothing where there is none.
-fn grant_left(granted: &Option<Pending>) -> Amounts
-    ensures { result ≡ grant_left granted.now }
-{
-    match granted {
-        Some(pending) => pending.ticket.left,
-        None => NOTHING,
-    }
-}
 
 impl Undoable {
     /// The accounts now.
@@ -63,8 +51,8 @@ impl Undoable {
         self.accounts.serve(acct, &occupied);
     }
 
-    // The ticket that a charge names: it is the account's, and granted. 0 names none.
-    fn grant_of(&self, acct: Acct, number: u64) -> Result<Option<Pending>, Refusal>
+    /// The ticket that a charge names: it is the account's, and granted. 0 names none.
+    pub fn grant_of(&self, acct: Acct, number: u64) -> Result<Option<Pending>, Refusal>
         ensures granted { IfOk result (IsGrantOf self.now.now.accounts acct number) }
         ensures stands { IfOk result (λ p. IfSome p (Stands self.now.now.accounts)) }
         ensures refused { IfErr result (λ refusal. (amounts : GhostAmounts) →
@@ -82,16 +70,16 @@ impl Undoable {
         Ok(Some(pending))
     }
 
-    // What is always known of the accounts: no more is occupied than the greatest amount.
-    fn known(&self)
+    /// What is always known of the accounts: no more is occupied than the greatest amount.
+    pub fn known(&self)
         ensures keep { KeepGrants self.now.now.accounts }
         ensures bound { IsBound self.now.now }
     {
         let _ = self.accounts.now();
     }
 
-    // Why an account refuses amounts that no grant covers.
-    fn refusal(&self, acct: Acct, uncovered: &Amounts) -> Option<Refusal>
+    /// Why an account refuses amounts that no grant covers.
+    pub fn refusal(&self, acct: Acct, uncovered: &Amounts) -> Option<Refusal>
         ensures { result ≡ refusal_of self.now.now acct uncovered.now }
     {
         let account = self.accounts.now().account(acct);
@@ -109,8 +97,8 @@ impl Undoable {
         })
     }
 
-    // The grant of a ticket covers of these amounts what it can.
-    fn use_grant(&mut self, granted: Option<Pending>, amounts: &Amounts)
+    /// The grant of a ticket covers of these amounts what it can.
+    pub fn use_grant(&mut self, granted: Option<Pending>, amounts: &Amounts)
         requires saved { self.old.saved ≡ true }
         requires stands { IfSome granted (Stands self.old.now.accounts) }
         requires granted { IfSome granted (λ p. p.ticket.granted ≡ true) }
@@ -137,61 +125,8 @@ impl Undoable {
         }
     }
 
-    /// Charges an account by a ticket; 0 is none. What is left of its grant covers what it can, and gives
-    /// that up. Want of memory leaves the world as before.
-    ///
-    /// What a charge used may be given back by `take_back`, where the call then finds no memory.
-    pub fn charge(
-        &mut self,
-        acct: Acct,
-        number: u64,
-        amounts: &Amounts,
-    ) -> Result<Result<Option<Pending>, Refusal>, NoMemory>
-        ensures allowed { IfOk result (λ r. IfOk r (MayCharge self.old.now acct number amounts.now)) }
-        ensures charged { IfOk result (λ r. IfOk r (λ p.
-            self.new ≡ record self.old { now = with_used self.old.now p amounts.now; saved = true })) }
-        ensures room { IfOk result (λ r. OnOk r (HasRoomFor self.new.now acct amounts.now)) }
-        ensures back { IfOk result (λ r. IfOk r (λ p. with_back self.new.now p ≡ self.old.now)) }
-        ensures may_take_back { IfOk result (λ r. IfOk r (MayTakeBack self.new.now)) }
-        ensures refused { IfOk result (λ r. IfErr r (RefusesCharge self.old.now acct number amounts.now)) }
-        ensures same { IfOk result (λ r. OnErr r (self.new ≡ self.old)) }
-        ensures err { OnErr result (self.new ≡ self.old) }
-    {
-        self.known();
-        let granted = match self.grant_of(acct, number) {
-            Ok(granted) => granted,
-            Err(refusal) => return Ok(Err(refusal)),
-        };
-        let uncovered = minus(amounts, &grant_left(&granted));
-        match self.refusal(acct, &uncovered) {
-            None => {
-                self.save_accounts()?;
-                self.use_grant(granted, amounts);
-                Ok(Ok(granted))
-            }
-            Some(refusal) => Ok(Err(refusal)),
-        }
-    }
-
-    /// What is occupied of a space in an account. It is linear in the account's queue.
-    pub fn occupancy(&self, acct: Acct, space: Space) -> u64
-        ensures { result ≡ occupancy self.now.now acct space }
-    {
-        amount(&self.occupied(acct), space)
-    }
-
-    // The maxima of an account with this one of a space.
-    fn maxima_with(&self, acct: Acct, space: Space, value: u64) -> Amounts
-        requires small { value ≤ most_amount }
-        ensures value { result ≡ with_amount (account_of self.now.now.accounts acct).maxima space value }
-        ensures small { (other : GhostSpace) → amount result other ≤ most_amount }
-    {
-        self.known();
-        with_amount(&self.accounts().account(acct).maxima, space, value)
-    }
-
-    // Sets the maxima of an account.
-    fn put_maxima(&mut self, acct: Acct, maxima: Amounts)
+    /// Sets the maxima of an account.
+    pub fn put_maxima(&mut self, acct: Acct, maxima: Amounts)
         requires saved { self.old.saved ≡ true }
         requires small { (space : GhostSpace) → amount maxima space ≤ most_amount }
         ensures { let accounts = self.old.now.accounts in self.new ≡ record self.old {
@@ -203,36 +138,8 @@ impl Undoable {
         self.accounts.set_maxima(acct, maxima);
     }
 
-    /// Sets the maximum of a space in an account, and serves its queue. Want of memory leaves the world as
-    /// before.
-    pub fn set_maximum(&mut self, acct: Acct, space: Space, value: u64) -> Result<(), NoMemory>
-        requires small { value ≤ most_amount }
-        ensures ok { OnOk result (let accounts = self.old.now.accounts in self.new.now
-            ≡ record (with_served (record self.old.now {
-              accounts = with_account accounts acct (with_maximum (account_of accounts acct) space value);
-            }) acct) { shown = [] }) }
-        ensures begun { self.new.begun ≡ self.old.begun }
-        ensures same { OnErr result (self.new.now ≡ self.old.now) }
-    {
-        self.save_accounts()?;
-        let maxima = self.maxima_with(acct, space, value);
-        self.put_maxima(acct, maxima);
-        self.serve(acct);
-        self.hide();
-        Ok(())
-    }
-
-    /// The number of the next ticket.
-    pub fn next_ticket(&self) -> u64
-        ensures value { result ≡ self.now.now.accounts.next }
-        ensures small { result ≤ most_amount }
-    {
-        self.known();
-        self.accounts().next
-    }
-
-    // A new ticket enters the queue of an account. Want of memory leaves the world as before.
-    fn enter(&mut self, acct: Acct, ticket: Ticket) -> Result<(), NoMemory>
+    /// A new ticket enters the queue of an account. Want of memory leaves the world as before.
+    pub fn enter(&mut self, acct: Acct, ticket: Ticket) -> Result<(), NoMemory>
         requires saved { self.old.saved ≡ true }
         requires empty { ticket.left ≡ no_amounts }
         requires number { ticket.number < most_amount }
@@ -246,49 +153,8 @@ impl Undoable {
         self.accounts.enqueue(acct, ticket)
     }
 
-    /// A new ticket asks an account for space, and its queue is served. The ticket has the next number and
-    /// address. Want of memory leaves the world as before.
-    pub fn request(
-        &mut self,
-        acct: Acct,
-        asked: Amounts,
-        coarse: u8,
-        fine: u8,
-    ) -> Result<(), NoMemory>
-        requires taken { self.old.now.taken < 2 ^ 60 }
-        requires number { self.old.now.accounts.next < most_amount }
-        ensures ok { OnOk result (let addr = next_addr self.old.now.taken in self.new.now
-            ≡ with_taken (with_request self.old.now acct (new_ticket self.old.now.accounts.next addr asked coarse fine)) addr) }
-        ensures begun { self.new.begun ≡ self.old.begun }
-        ensures same { OnErr result (self.new.now ≡ self.old.now) }
-    {
-        self.save_accounts()?;
-        let marks = self.marks();
-        let block = self.mark_next()?;
-        let ticket = Ticket {
-            block,
-            number: self.accounts().next,
-            coarse,
-            fine,
-            asked,
-            left: NOTHING,
-            granted: false,
-        };
-        match self.enter(acct, ticket) {
-            Ok(()) => {
-                self.serve(acct);
-                self.count();
-                Ok(())
-            }
-            Err(error) => {
-                self.unmark(marks);
-                Err(error)
-            }
-        }
-    }
-
-    // A ticket goes out of its queue.
-    fn drop_ticket(&mut self, pending: &Pending)
+    /// A ticket goes out of its queue.
+    pub fn drop_ticket(&mut self, pending: &Pending)
         requires saved { self.old.saved ≡ true }
         requires stands { Stands self.old.now.accounts pending.now }
         ensures { let p = pending.now in let accounts = self.old.now.accounts in self.new ≡ record self.old {
@@ -298,20 +164,5 @@ impl Undoable {
         } }
     {
         self.accounts.remove_ticket(pending);
-    }
-
-    /// A ticket goes, with what is left of its grant, and the queue is served. Want of memory leaves the
-    /// world as before.
-    pub fn shred(&mut self, pending: &Pending) -> Result<(), NoMemory>
-        requires stands { Stands self.old.now.accounts pending.now }
-        ensures ok { OnOk result (self.new.now ≡ record (without_ticket self.old.now pending.now) { shown = [] }) }
-        ensures begun { self.new.begun ≡ self.old.begun }
-        ensures same { OnErr result (self.new.now ≡ self.old.now) }
-    {
-        self.save_accounts()?;
-        self.drop_ticket(pending);
-        self.serve(pending.acct);
-        self.hide();
-        Ok(())
     }
 }

@@ -1,18 +1,17 @@
 // Components that are added to the objects of a world in the making, which stay where they are.
 ghost use Rattle.std.specs.FinMap as map;
-ghost use Rattle.std.specs.Prelude.{◌≡◌, ◌<◌, ◌+◌, ◌^◌, ℕ, [], Contains, IfErr, IfOk, IfSome, IsSome, OnErr, OnOk};
-ghost use Rattle.sdr_model.specs.Charging.{with_used};
-ghost use Rattle.sdr_model.specs.Dry.{addr_after, next_addr, with_blocks};
+ghost use Rattle.std.specs.Prelude.{◌≡◌, ◌<◌, ◌+◌, ◌^◌, ℕ, [], Contains, IfOk, IfSome, IsSome, OnErr, OnOk};
+ghost use Rattle.sdr_model.specs.Dry.{next_addr};
 ghost use Rattle.sdr_model.specs.Zco.{as_object, object_at, source_on};
 ghost use Rattle.sdr_parts.specs.Bounds.{IsBounded};
 ghost use Rattle.sdr_parts.specs.Components.{AddsComponent, Grows, KeepsLimits, block_of, component_charges, source_of};
-ghost use Rattle.sdr_tally.specs.Allowed.{HasRoomFor, MayCharge, RefusesCharge};
+ghost use Rattle.sdr_tally.specs.Allowed.{HasRoomFor};
 ghost use Rattle.sdr_tally.specs.Tallies.{IsAccountOf};
 ghost use Rattle.sdr_undo.specs.Owners.{IsOwned};
 
 use crate::Undoable;
-use sdr_base::{Acct, Addr, Amounts, Bytes, NoMemory, Refusal};
-use sdr_model::{Pending, Thing};
+use sdr_base::{Acct, Addr, Amounts, Bytes, NoMemory};
+use sdr_model::Thing;
 use sdr_parts::capsules::capsule_bytes;
 use sdr_parts::charges::{bytes_charge, heap_charge};
 use sdr_parts::component::{Component, add};
@@ -44,8 +43,8 @@ fn add_at(things: &mut Store, addr: Addr, component: Component) -> Result<Acct, 
 }
 
 impl Undoable {
-    // What a component charges.
-    fn component_charges(&self, component: &Component) -> Amounts
+    /// What a component charges.
+    pub fn component_charges(&self, component: &Component) -> Amounts
         requires limits { KeepsLimits component.now }
         ensures { result ≡ component_charges self.now.now component.now }
     {
@@ -59,9 +58,9 @@ impl Undoable {
         }
     }
 
-    // Adds a component to the object at an address, and counts so many blocks that were taken, of which it
-    // has one, with no bytes shown. Want of memory leaves the world as before.
-    fn push_component(
+    /// Adds a component to the object at an address, and counts so many blocks that were taken, of which it
+    /// has one, with no bytes shown. Want of memory leaves the world as before.
+    pub fn push_component(
         &mut self,
         addr: Addr,
         component: Component,
@@ -97,98 +96,5 @@ impl Undoable {
         self.shown = Bytes::new(self.alloc);
         self.taken += count;
         Ok(())
-    }
-
-    // Takes the next blocks for the object at an address, so many and one more, and adds a component in the
-    // last of them. Want of memory leaves the world as before.
-    fn take_component(
-        &mut self,
-        addr: Addr,
-        component: Component,
-        before: u64,
-    ) -> Result<(), NoMemory>
-        requires taken { self.old.now.taken + before + 1 < 2 ^ 60 + 2 ^ 30 }
-        requires there { IsSome (object_at self.old.now addr) }
-        requires noted { IfSome (source_of component) (Contains self.old.noted) }
-        requires limits { KeepsLimits component }
-        requires below { IfSome (source_of component) (λ s.
-            s < next_addr (self.old.now.taken + (before + 1))) }
-        requires block { block_of component ≡ addr_after self.old.now.taken before }
-        requires room { IfSome (object_at self.old.now addr) (λ z.
-            HasRoomFor self.old.now z.account (component_charges self.old.now component)) }
-        ensures added { OnOk result (Grows (object_at self.old.now addr) addr component
-            (with_blocks self.old.now (before + 1)) self.new.now) }
-        ensures named { OnOk result ((raw : ℕ) →
-            source_on self.new.now raw ≡ source_on self.old.now raw) }
-        ensures begun { self.new.begun ≡ self.old.begun }
-        ensures touched { OnOk result ((other : ℕ) →
-            Contains self.old.touched other → Contains self.new.touched other) }
-        ensures noted { self.new.noted ≡ self.old.noted }
-        ensures saved { self.new.saved ≡ self.old.saved }
-        ensures same { OnErr result (self.new.now ≡ self.old.now) }
-    {
-        let marks = self.marks();
-        self.reserve_blocks(addr, before + 1)?;
-        match self.push_component(addr, component, before + 1) {
-            Ok(()) => Ok(()),
-            Err(error) => {
-                self.unmark(marks);
-                Err(error)
-            }
-        }
-    }
-
-    /// Charges the account of the object at an address by a ticket, 0 for none, for a component, takes the
-    /// next blocks, so many and one more, and adds the component in the last of them. The object isn't
-    /// copied. Where this is refused or finds no memory, the world is as before.
-    pub fn add_component(
-        &mut self,
-        addr: Addr,
-        number: u64,
-        component: Component,
-        before: u64,
-    ) -> Result<Result<Option<Pending>, Refusal>, NoMemory>
-        requires taken { self.old.now.taken + before + 1 < 2 ^ 60 + 2 ^ 30 }
-        requires there { IsSome (object_at self.old.now addr) }
-        requires noted { IfSome (source_of component) (Contains self.old.noted) }
-        requires limits { KeepsLimits component }
-        requires below { IfSome (source_of component) (λ s.
-            s < next_addr (self.old.now.taken + (before + 1))) }
-        requires block { block_of component ≡ addr_after self.old.now.taken before }
-        ensures allowed { IfOk result (λ r. IfOk r (λ p. IfSome (object_at self.old.now addr) (λ z.
-            MayCharge self.old.now z.account number
-            (component_charges self.old.now component) p))) }
-        ensures added { IfOk result (λ r. IfOk r (λ p.
-            Grows (object_at self.old.now addr) addr component
-            (with_blocks (with_used self.old.now p (component_charges self.old.now component))
-            (before + 1)) self.new.now)) }
-        ensures named { IfOk result (λ r. OnOk r ((raw : ℕ) →
-            source_on self.new.now raw ≡ source_on self.old.now raw)) }
-        ensures begun { self.new.begun ≡ self.old.begun }
-        ensures touched { IfOk result (λ r. OnOk r ((other : ℕ) →
-            Contains self.old.touched other → Contains self.new.touched other)) }
-        ensures noted { self.new.noted ≡ self.old.noted }
-        ensures refused { IfOk result (λ r. IfErr r (λ refusal.
-            IfSome (object_at self.old.now addr) (λ z. RefusesCharge self.old.now z.account number
-            (component_charges self.old.now component) refusal))) }
-        ensures same { IfOk result (λ r. OnErr r (self.new.now ≡ self.old.now)) }
-        ensures err { OnErr result (self.new.now ≡ self.old.now) }
-    {
-        let Some(object) = self.object(addr) else {
-            unreachable!()
-        };
-        let acct = object.account;
-        let charge = self.component_charges(&component);
-        let granted = match self.charge(acct, number, &charge)? {
-            Ok(granted) => granted,
-            Err(refusal) => return Ok(Err(refusal)),
-        };
-        match self.take_component(addr, component, before) {
-            Ok(()) => Ok(Ok(granted)),
-            Err(error) => {
-                self.take_back(granted);
-                Err(error)
-            }
-        }
     }
 }

@@ -30,7 +30,7 @@ take_over-requires-clause-plain c =
     let made : Component =
     components.Extent (record { block = src + 8; source = src; offset = a.offset; length = a.bytes }) in
     let put = grown_at w c.touch-2.new.self.now a.object a.ticket 2 z.0 c.extent-extent.result made same z.1 c.extent-extent.ensures
-    c.add_component.new.self.now _ c.in-Ok.granted c.in-Ok.is c.in_ok-granted.ensures.added in
+    c.add_component.new.world.now _ c.in-Ok.granted c.in-Ok.is c.in_ok-granted.ensures.added in
     plain_still w _ a.object z.0 _ c.in-Ok.granted _ z.1 put src ∙ ap is_plain (c.next-source.ensures.fresh src (omega arith))
 
 pub take_over-requires-clause-raw_plain : goal.take_over-requires-clause-raw_plain
@@ -43,7 +43,7 @@ take_over-requires-clause-raw_plain c =
     let made : Component =
     components.Extent (record { block = src + 8; source = src; offset = a.offset; length = a.bytes }) in
     let put = grown_at w c.touch-2.new.self.now a.object a.ticket 2 z.0 c.extent-extent.result made same z.1 c.extent-extent.ensures
-    c.add_component.new.self.now _ c.in-Ok.granted c.in-Ok.is c.in_ok-granted.ensures.added in
+    c.add_component.new.world.now _ c.in-Ok.granted c.in-Ok.is c.in_ok-granted.ensures.added in
     plain_still w _ a.object z.0 _ c.in-Ok.granted _ z.1 put a.named
     ∙ raw_plain (thing_at w a.named) c.in-Some.bytes.now (sym c.in-Some.ensures.value)
 
@@ -63,12 +63,12 @@ returns-in-Err c =
     let is : component_charges w made ≡ amounts_by (bytes_charge spaces.Heap a.bytes) =
     ap (λ t. amounts_by (bytes_charge (space_in (as_source t)) a.bytes)) (c.next-source.ensures.fresh src (omega arith)) in
     record {
-      step = raw_append-refused w c.add_component.new.self.now a.object a.ticket a.named a.offset a.bytes z.0 text
+      step = raw_append-refused w c.add_component.new.world.now a.object a.ticket a.named a.offset a.bytes z.0 text
           (component_charges w made) c.in-Err.refusal z.1 c.requires.no_source (sym c.in-Some.ensures.value)
           (sym c.in_default-source_on.ensures) inside is
           (refused_at w c.touch-2.new.self.now a.object a.ticket 2 z.0 c.extent-extent.result made same z.1
           c.extent-extent.ensures _ c.in-Err.refusal c.in-Err.is c.in_ok-granted.ensures.refused)
-          (subst (λ r. OnErr r (c.add_component.new.self.now ≡ c.touch-2.new.self.now)) c.in-Err.is
+          (subst (λ r. OnErr r (c.add_component.new.world.now ≡ c.touch-2.new.self.now)) c.in-Err.is
           c.in_ok-granted.ensures.same ∙ same);
       begun = c.add_component.ensures.begun ∙ c.touch-2.ensures.begun ∙ c.touch.ensures.begun;
       same = tt;
@@ -90,7 +90,7 @@ returns c =
     let is : component_charges w made ≡ amounts_by (bytes_charge spaces.Heap a.bytes) =
     ap (λ t. amounts_by (bytes_charge (space_in (as_source t)) a.bytes)) (c.next-source.ensures.fresh src (omega arith)) in
     let put = grown_at w c.touch-2.new.self.now a.object a.ticket 2 z.0 c.extent-extent.result made same z.1 c.extent-extent.ensures
-    c.add_component.new.self.now _ c.in-Ok.granted c.in-Ok.is c.in_ok-granted.ensures.added in
+    c.add_component.new.world.now _ c.in-Ok.granted c.in-Ok.is c.in_ok-granted.ensures.added in
     let charged : World = with_blocks (with_used w c.in-Ok.granted (component_charges w made)) 2 in
     let second : src + 8 ≡ next_addr (w.taken + 1) = omega (arith, c.next-source.ensures.value) in
     let after : c.take_over.new.self.now ≡ raw_appended charged a.object z.0 a.named (length text) a.offset a.bytes

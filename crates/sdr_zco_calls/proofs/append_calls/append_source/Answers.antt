@@ -26,11 +26,11 @@ returns-in-Err c =
     let is : component_charges w made ≡ amounts_by (bytes_charge (space_of s.subject) a.bytes) =
     ap (λ o. amounts_by (bytes_charge (space_in o) a.bytes)) (sym c.in-Some.ensures.value) in
     record {
-      step = append-refused w c.add_component.new.self.now a.object a.ticket a.named a.offset a.bytes z.0 s
+      step = append-refused w c.add_component.new.world.now a.object a.ticket a.named a.offset a.bytes z.0 s
           (component_charges w made) c.in-Err.refusal z.1 (sym c.in-Some.ensures.value) c.if-source.false inside is
           (refused_at w c.touch.new.self.now a.object a.ticket 1 z.0 c.extent-extent.result made c.touch.ensures.now z.1
           c.extent-extent.ensures _ c.in-Err.refusal c.in-Err.is c.in_ok-granted.ensures.refused)
-          (subst (λ r. OnErr r (c.add_component.new.self.now ≡ c.touch.new.self.now)) c.in-Err.is
+          (subst (λ r. OnErr r (c.add_component.new.world.now ≡ c.touch.new.self.now)) c.in-Err.is
           c.in_ok-granted.ensures.same ∙ c.touch.ensures.now);
       begun = c.add_component.ensures.begun ∙ c.touch.ensures.begun;
       same = tt;
@@ -52,12 +52,12 @@ returns c =
     let is : component_charges w made ≡ amounts_by (bytes_charge (space_of s.subject) a.bytes) =
     ap (λ o. amounts_by (bytes_charge (space_in o) a.bytes)) (sym c.in-Some.ensures.value) in
     record {
-      step = append-step w c.add_component.new.self.now a.object a.ticket a.named a.offset a.bytes z.0 s
+      step = append-step w c.add_component.new.world.now a.object a.ticket a.named a.offset a.bytes z.0 s
           (component_charges w made) c.in-Ok.granted z.1 (sym c.in-Some.ensures.value) c.if-source.false inside is
           (allowed_at w c.touch.new.self.now a.object a.ticket 1 z.0 c.extent-extent.result made c.touch.ensures.now z.1
           component _ c.in-Ok.granted c.in-Ok.is c.in_ok-granted.ensures.allowed)
           (grown_at w c.touch.new.self.now a.object a.ticket 1 z.0 c.extent-extent.result made c.touch.ensures.now z.1
-          component c.add_component.new.self.now _ c.in-Ok.granted c.in-Ok.is c.in_ok-granted.ensures.added);
+          component c.add_component.new.world.now _ c.in-Ok.granted c.in-Ok.is c.in_ok-granted.ensures.added);
       begun = c.add_component.ensures.begun ∙ c.touch.ensures.begun;
       same = tt;
     }

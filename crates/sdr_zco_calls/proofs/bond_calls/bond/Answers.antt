@@ -39,7 +39,7 @@ returns-in-Err c =
     let amounts : Amounts = c.in_ok-by.by.charged in
     let is : amounts ≡ amounts_by (bond_charge (capsules_of z)) =
     c.in_ok-by.ensures.charged ∙ ap (λ l. amounts_by (bond_charge l)) (c.as_slice.ensures.value ∙ capsules) in
-    let wm : World = c.charge_marks.new.self.now in
+    let wm : World = c.charge_marks.new.world.now in
     let refused = subst (λ r. IfErr r (RefusesCharge wn z.account c.args.number amounts)) c.in-Err.is c.in_ok-granted.ensures.refused in
     let left = subst (λ r. OnErr r (wm ≡ wn)) c.in-Err.is c.in_ok-granted.ensures.same in
     record {
@@ -58,7 +58,7 @@ put_texts-requires-clause-taken c =
     let capsules : c.in_ok-capsules.capsules.items ≡ capsules_of z = c.in_ok-capsules.ensures in
     let n : ℕ = 3 * c.len.result in
     let amounts : Amounts = c.in_ok-by.by.charged in
-    let wm : World = c.charge_marks.new.self.now in
+    let wm : World = c.charge_marks.new.world.now in
     let marked : wm ≡ with_marks w c.in-Ok.granted amounts n =
     subst (λ r. IfOk r (λ p. wm ≡ with_marks wn p amounts n)) c.in-Ok.is c.in_ok-granted.ensures.marked
     ∙ ap (λ v. with_marks v c.in-Ok.granted amounts n) same in
@@ -80,12 +80,12 @@ put_texts-requires-clause-touched c =
     let same : wn ≡ w = c.touch_next.ensures.now ∙ c.touch.ensures.now in
     let n : ℕ = 3 * c.len.result in
     let amounts : Amounts = c.in_ok-by.by.charged in
-    let wm : World = c.charge_marks.new.self.now in
+    let wm : World = c.charge_marks.new.world.now in
     let marked : wm ≡ with_marks w c.in-Ok.granted amounts n =
     subst (λ r. IfOk r (λ p. wm ≡ with_marks wn p amounts n)) c.in-Ok.is c.in_ok-granted.ensures.marked
     ∙ ap (λ v. with_marks v c.in-Ok.granted amounts n) same in
     let left : wm.taken ≡ w.taken = ap (λ (v : World). v.taken) marked ∙ taken-marks w c.in-Ok.granted amounts n in
-    noted-marks c.touch_next.new.self.touched c.charge_marks.new.self.touched c.touch.new.self.now.taken wm.taken n
+    noted-marks c.touch_next.new.self.touched c.charge_marks.new.world.touched c.touch.new.self.now.taken wm.taken n
     (3 * length c.in_ok-capsules.capsules.items) c.charge_marks.ensures.touched
     (left ∙ sym (ap (λ (v : World). v.taken) c.touch.ensures.now)) (omega (arith, c.len.ensures, c.in_ok-capsules.capsules.ok.0))
     c.in_ok-touch_next.ensures.touched
@@ -98,12 +98,12 @@ put_texts-requires-clause-noted c =
     let same : wn ≡ w = c.touch_next.ensures.now ∙ c.touch.ensures.now in
     let n : ℕ = 3 * c.len.result in
     let amounts : Amounts = c.in_ok-by.by.charged in
-    let wm : World = c.charge_marks.new.self.now in
+    let wm : World = c.charge_marks.new.world.now in
     let marked : wm ≡ with_marks w c.in-Ok.granted amounts n =
     subst (λ r. IfOk r (λ p. wm ≡ with_marks wn p amounts n)) c.in-Ok.is c.in_ok-granted.ensures.marked
     ∙ ap (λ v. with_marks v c.in-Ok.granted amounts n) same in
     let left : wm.taken ≡ w.taken = ap (λ (v : World). v.taken) marked ∙ taken-marks w c.in-Ok.granted amounts n in
-    noted-marks c.touch_next.new.self.noted c.charge_marks.new.self.noted c.touch.new.self.now.taken wm.taken n
+    noted-marks c.touch_next.new.self.noted c.charge_marks.new.world.noted c.touch.new.self.now.taken wm.taken n
     (3 * length c.in_ok-capsules.capsules.items) c.charge_marks.ensures.noted
     (left ∙ sym (ap (λ (v : World). v.taken) c.touch.ensures.now)) (omega (arith, c.len.ensures, c.in_ok-capsules.capsules.ok.0))
     c.in_ok-touch_next.ensures.noted
@@ -125,7 +125,7 @@ change_object-requires-clause-may c =
     let w : World = c.args.world.now.now in
     let z : ZcoObject = c.in-Some.object.now in
     let addr = c.args.addr in
-    let d = c.put_texts.new.self in
+    let d = c.put_texts.new.world in
     let wn : World = c.touch_next.new.self.now in
     let same : wn ≡ w = c.touch_next.ensures.now ∙ c.touch.ensures.now in
     let capsules : c.in_ok-capsules.capsules.items ≡ capsules_of z = c.in_ok-capsules.ensures in
@@ -138,7 +138,7 @@ change_object-requires-clause-may c =
     let gained : c.in_ok-by.by.gained ≡ bonded_extents (addr_after w.taken) 0 (capsules_of z) =
     gained-next w.taken c.next-first.result c.in_ok-by.by.gained c.as_slice.result.now (capsules_of z) c.next-first.ensures.value
     (c.as_slice.ensures.value ∙ capsules) c.in_ok-by.ensures.gained in
-    let wm : World = c.charge_marks.new.self.now in
+    let wm : World = c.charge_marks.new.world.now in
     let marked : wm ≡ with_marks w c.in-Ok.granted amounts n =
     subst (λ r. IfOk r (λ p. wm ≡ with_marks wn p amounts n)) c.in-Ok.is c.in_ok-granted.ensures.marked
     ∙ ap (λ v. with_marks v c.in-Ok.granted amounts n) same in
@@ -151,7 +151,7 @@ change_object-requires-clause-may c =
     (c.put_texts.ensures.objects addr (omega (arith, left, c.in-Some.ensures.owned.below))) c.in-Some.ensures.is in
     let count : wp.taken ≡ w.taken + 3 * length (capsules_of z) =
     ap (λ (v : World). v.taken) c.put_texts.ensures.put ∙ ap₂ (λ t (l : List Capsule). t + 3 * length l) left capsules in
-    let owners = c.charge_marks.new.self.owners in
+    let owners = c.charge_marks.new.world.owners in
     let old : c.touch_next.new.self.owners ≡ c.args.world.now.owners = c.touch_next.ensures.owners ∙ c.touch.ensures.owners in
     let lower = ap (λ (v : World). v.taken) same in
     let owned = subst (λ r. OnOk r ((k : ℕ) → k < n → get owners (addr_after wn.taken k) ≡ Some addr)) c.in-Ok.is
@@ -198,7 +198,7 @@ returns c =
     let amounts : Amounts = c.in_ok-by.by.charged in
     let is : amounts ≡ amounts_by (bond_charge (capsules_of z)) =
     c.in_ok-by.ensures.charged ∙ ap (λ l. amounts_by (bond_charge l)) (c.as_slice.ensures.value ∙ capsules) in
-    let wm : World = c.charge_marks.new.self.now in
+    let wm : World = c.charge_marks.new.world.now in
     let marked : wm ≡ with_marks w c.in-Ok.granted amounts n =
     subst (λ r. IfOk r (λ p. wm ≡ with_marks wn p amounts n)) c.in-Ok.is c.in_ok-granted.ensures.marked
     ∙ ap (λ v. with_marks v c.in-Ok.granted amounts n) same in
@@ -206,7 +206,7 @@ returns c =
     c.in_ok-changed.ensures ∙ bonded-next w.taken c.next-first.result z c.next-first.ensures.value in
     let w' : World = c.change_object.new.self.now in
     let allowed = subst (λ r. IfOk r (MayCharge wn z.account c.args.number amounts)) c.in-Ok.is c.in_ok-granted.ensures.allowed in
-    let texts : c.put_texts.new.self.now ≡ texts_put (with_marks w c.in-Ok.granted amounts (3 * length (capsules_of z))) (capsules_of z) =
+    let texts : c.put_texts.new.world.now ≡ texts_put (with_marks w c.in-Ok.granted amounts (3 * length (capsules_of z))) (capsules_of z) =
     c.put_texts.ensures.put ∙ ap₂ (λ v l. texts_put v l) marked capsules
     ∙ ap (λ m. texts_put (with_marks w c.in-Ok.granted amounts m) (capsules_of z)) size in
     record {

@@ -50,11 +50,11 @@ returns-in-Err c =
     let some = some_capsule (length text) (subst (λ n. 1 ≤ n) c.len-length.ensures (omega arith))
     (subst (λ n. n ≤ longest_capsule) c.len-length.ensures (omega arith)) in
     record {
-      step = capsule-refused c.args.side w c.add_component.new.self.now c.args.addr c.args.number text z.0 (component_charges w made)
+      step = capsule-refused c.args.side w c.add_component.new.world.now c.args.addr c.args.number text z.0 (component_charges w made)
           c.in-Err.refusal z.1 some is
           (refused_at w w c.args.addr c.args.number 1 z.0 c.component-capsule.result made refl z.1 component _
           c.in-Err.refusal c.in-Err.is c.in_ok-granted.ensures.refused)
-          (subst (λ r. OnErr r (c.add_component.new.self.now ≡ w)) c.in-Err.is c.in_ok-granted.ensures.same);
+          (subst (λ r. OnErr r (c.add_component.new.world.now ≡ w)) c.in-Err.is c.in_ok-granted.ensures.same);
       begun = c.add_component.ensures.begun;
       same = tt;
     }
@@ -76,12 +76,12 @@ returns c =
     let some = some_capsule (length text) (subst (λ n. 1 ≤ n) c.len-length.ensures (omega arith))
     (subst (λ n. n ≤ longest_capsule) c.len-length.ensures (omega arith)) in
     record {
-      step = capsule-step c.args.side w c.add_component.new.self.now c.args.addr c.args.number text z.0 (component_charges w made)
+      step = capsule-step c.args.side w c.add_component.new.world.now c.args.addr c.args.number text z.0 (component_charges w made)
           c.in-Ok.granted z.1 some is
           (allowed_at w w c.args.addr c.args.number 1 z.0 c.component-capsule.result made refl z.1 component _
           c.in-Ok.granted c.in-Ok.is c.in_ok-granted.ensures.allowed)
           (grown_at w w c.args.addr c.args.number 1 z.0 c.component-capsule.result made refl z.1 component
-          c.add_component.new.self.now _ c.in-Ok.granted c.in-Ok.is c.in_ok-granted.ensures.added
+          c.add_component.new.world.now _ c.in-Ok.granted c.in-Ok.is c.in_ok-granted.ensures.added
           ∙ ap (with_object (with_blocks (with_used w c.in-Ok.granted (component_charges w made)) 1) c.args.addr)
           (object-on c.args.side capsule z.0));
       begun = c.add_component.ensures.begun;

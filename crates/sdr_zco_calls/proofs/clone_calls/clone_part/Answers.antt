@@ -76,7 +76,7 @@ returns-in-Err c =
     let es : List Extent = asked_extents z c.args.offset c.args.bytes in
     let object : c.in_ok-clone.clone ≡ object_of z.account (placed (addr_after w.taken) 1 es) =
     c.in_ok-clone.ensures ∙ ap (object_of z.account) (placed-next w.taken c.next-made.result es c.next-made.ensures.value) in
-    let wt : World = c.touch_object.new.self.now in
+    let wt : World = c.touch_object.new.world.now in
     let same : wt ≡ w = c.touch_object.ensures.now in
     let inside : (c.args.bytes == 0 || nat_lt z.part.length (c.args.offset + c.args.bytes)) ≡ false =
     sym c.is_outside.ensures ∙ c.if-is_outside.false in
@@ -86,9 +86,9 @@ returns-in-Err c =
     ∙ clone-amounts w z.account (addr_after w.taken) es in
     let refused = subst (λ r. IfErr r (RefusesCharge wt z.account c.args.number amounts)) c.in-Err.is
     c.in_ok-granted.ensures.refused in
-    let left = subst (λ r. OnErr r (c.charge_blocks.new.self.now ≡ wt)) c.in-Err.is c.in_ok-granted.ensures.same in
+    let left = subst (λ r. OnErr r (c.charge_blocks.new.world.now ≡ wt)) c.in-Err.is c.in_ok-granted.ensures.same in
     record {
-      step = clone-refused w c.charge_blocks.new.self.now c.args.addr c.args.number c.args.offset c.args.bytes z amounts
+      step = clone-refused w c.charge_blocks.new.world.now c.args.addr c.args.number c.args.offset c.args.bytes z amounts
           c.in-Err.refusal (sym c.in-Some.ensures.is) inside is
           (subst (λ v. RefusesCharge v z.account c.args.number amounts c.in-Err.refusal) same refused) (left ∙ same);
       begun = c.charge_blocks.ensures.begun ∙ c.touch_object.ensures.begun;
@@ -107,15 +107,15 @@ add_object-requires-clause-may_put c =
     let size : n ≡ suc (length es) =
     let there : c.len.result ≡ length es =
     c.len.ensures ∙ ap (λ (y : ZcoObject). length y.extents) object ∙ length-placed (addr_after w.taken) 1 es in omega (arith, there) in
-    let wt : World = c.touch_object.new.self.now in
+    let wt : World = c.touch_object.new.world.now in
     let same : wt ≡ w = c.touch_object.ensures.now in
     let amounts : Amounts = c.object_charge-charge.result in
-    let wc : World = c.charge_blocks.new.self.now in
+    let wc : World = c.charge_blocks.new.world.now in
     let taken : wc ≡ with_blocks (with_used w c.in-Ok.granted amounts) n =
     subst (λ r. IfOk r (λ p. wc ≡ with_blocks (with_used wt p amounts) n)) c.in-Ok.is c.in_ok-granted.ensures.taken
     ∙ ap (λ v. with_blocks (with_used v c.in-Ok.granted amounts) n) same in
     let count : wc.taken ≡ w.taken + n = taken_after w w wc c.in-Ok.granted amounts n refl taken in
-    let owners = c.charge_blocks.new.self.owners in
+    let owners = c.charge_blocks.new.world.owners in
     let made : ℕ = c.next-made.result in
     let owned = subst (λ r. OnOk r ((k : ℕ) → k < n → get owners (addr_after wt.taken k) ≡ Some made)) c.in-Ok.is
     c.in_ok-granted.ensures.owned in
@@ -140,10 +140,10 @@ add_object-requires-clause-modest c =
     let size : n ≡ suc (length es) =
     let there : c.len.result ≡ length es =
     c.len.ensures ∙ ap (λ (y : ZcoObject). length y.extents) object ∙ length-placed (addr_after w.taken) 1 es in omega (arith, there) in
-    let wt : World = c.touch_object.new.self.now in
+    let wt : World = c.touch_object.new.world.now in
     let same : wt ≡ w = c.touch_object.ensures.now in
     let amounts : Amounts = c.object_charge-charge.result in
-    let wc : World = c.charge_blocks.new.self.now in
+    let wc : World = c.charge_blocks.new.world.now in
     let taken : wc ≡ with_blocks (with_used w c.in-Ok.granted amounts) n =
     subst (λ r. IfOk r (λ p. wc ≡ with_blocks (with_used wt p amounts) n)) c.in-Ok.is c.in_ok-granted.ensures.taken
     ∙ ap (λ v. with_blocks (with_used v c.in-Ok.granted amounts) n) same in
@@ -164,10 +164,10 @@ add_object-requires-clause-room c =
     let size : n ≡ suc (length es) =
     let there : c.len.result ≡ length es =
     c.len.ensures ∙ ap (λ (y : ZcoObject). length y.extents) object ∙ length-placed (addr_after w.taken) 1 es in omega (arith, there) in
-    let wt : World = c.touch_object.new.self.now in
+    let wt : World = c.touch_object.new.world.now in
     let same : wt ≡ w = c.touch_object.ensures.now in
     let amounts : Amounts = c.object_charge-charge.result in
-    let wc : World = c.charge_blocks.new.self.now in
+    let wc : World = c.charge_blocks.new.world.now in
     let taken : wc ≡ with_blocks (with_used w c.in-Ok.granted amounts) n =
     subst (λ r. IfOk r (λ p. wc ≡ with_blocks (with_used wt p amounts) n)) c.in-Ok.is c.in_ok-granted.ensures.taken
     ∙ ap (λ v. with_blocks (with_used v c.in-Ok.granted amounts) n) same in
@@ -189,7 +189,7 @@ returns c =
     let size : n ≡ suc (length es) =
     let there : c.len.result ≡ length es =
     c.len.ensures ∙ ap (λ (y : ZcoObject). length y.extents) object ∙ length-placed (addr_after w.taken) 1 es in omega (arith, there) in
-    let wt : World = c.touch_object.new.self.now in
+    let wt : World = c.touch_object.new.world.now in
     let same : wt ≡ w = c.touch_object.ensures.now in
     let inside : (c.args.bytes == 0 || nat_lt z.part.length (c.args.offset + c.args.bytes)) ≡ false =
     sym c.is_outside.ensures ∙ c.if-is_outside.false in
@@ -197,7 +197,7 @@ returns c =
     let is : amounts ≡ amounts_by (λ space. object_charge w space (object_of z.account es)) =
     c.object_charge-charge.ensures ∙ ap (λ y. amounts_by (λ space. object_charge w space y)) object
     ∙ clone-amounts w z.account (addr_after w.taken) es in
-    let wc : World = c.charge_blocks.new.self.now in
+    let wc : World = c.charge_blocks.new.world.now in
     let taken : wc ≡ with_blocks (with_used w c.in-Ok.granted amounts) n =
     subst (λ r. IfOk r (λ p. wc ≡ with_blocks (with_used wt p amounts) n)) c.in-Ok.is c.in_ok-granted.ensures.taken
     ∙ ap (λ v. with_blocks (with_used v c.in-Ok.granted amounts) n) same in

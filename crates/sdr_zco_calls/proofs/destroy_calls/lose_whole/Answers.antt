@@ -27,7 +27,7 @@ lose_object-requires-clause-noted c =
     let there : object_at d.now addr ≡ Some c.args.object.now = ap (λ (w : World). object_at w addr) now ∙ c.requires.there in
     subst (λ o. IfSome o (λ z. All (λ e. Contains d.noted e.source) z.extents)) (sym there)
     (subst (λ (d : Draft). All (λ e. Contains d.noted e.source) c.args.object.now.extents) (sym saved)
-    (All-weaker (λ e. Contains c.touch_object.new.self.noted e.source) (λ e. Contains c.touch_all.new.self.noted e.source)
+    (All-weaker (λ e. Contains c.touch_object.new.world.noted e.source) (λ e. Contains c.touch_all.new.world.noted e.source)
     (λ e. c.in_ok-touch_all.ensures.others_noted e.source) c.args.object.now.extents c.in_ok-touch_object.ensures.noted))
 
 pub drop_all-requires : goal.drop_all-requires
@@ -42,12 +42,12 @@ drop_all-requires c =
     let there : object_at d.now addr ≡ Some c.args.object.now = ap (λ (w : World). object_at w addr) now ∙ c.requires.there in
     let gone : c.in_ok-gone.gone ≡ gone_things w all all = c.in_ok-gone.ensures ∙ ap (λ es. gone_things w es es) c.as_slice.ensures in
     let going : All (IsNoted d) (gone_things w all all) =
-    All-weaker (IsNoted c.touch_all.new.self) (IsNoted d)
-    (λ a was. IsNoted-more c.touch_all.new.self d a (ap (λ (d : Draft). d.now) saved)
+    All-weaker (IsNoted c.touch_all.new.world) (IsNoted d)
+    (λ a was. IsNoted-more c.touch_all.new.world d a (ap (λ (d : Draft). d.now) saved)
     (λ other was. subst (λ (d : Draft). Contains d.touched other) (sym saved) was)
     (λ other was. subst (λ (d : Draft). Contains d.noted other) (sym saved) was) was)
     (gone_things w all all)
-    (subst (All (IsNoted c.touch_all.new.self)) (c.as_slice-2.ensures ∙ gone) c.in_ok-touch_all.ensures.going) in
+    (subst (All (IsNoted c.touch_all.new.world)) (c.as_slice-2.ensures ∙ gone) c.in_ok-touch_all.ensures.going) in
     let goes : All (Goes d.now all) (gone_things w all all) =
     subst (λ v. All (Goes v all) (gone_things w all all)) (sym now) (gone_go w all c.known_object.ensures.plain all) in
     let may : All (MayGo new) (gone_things w all all) =
@@ -64,7 +64,7 @@ returns-clause-lost c =
     let now : d.now ≡ w =
     ap (λ (d : Draft). d.now) c.in_ok-save_accounts.ensures.saved ∙ c.touch_all.ensures.now ∙ c.touch_object.ensures.now in
     let gone : c.in_ok-gone.gone ≡ gone_things w all all = c.in_ok-gone.ensures ∙ ap (λ es. gone_things w es es) c.as_slice.ensures in
-    let left : c.drop_all.new.self.now ≡ without_thing (without_things w (gone_things w all all)) addr =
+    let left : c.drop_all.new.world.now ≡ without_thing (without_things w (gone_things w all all)) addr =
     c.drop_all.ensures.dropped
     ∙ ap₂ without_things (c.lose_object.ensures.lost ∙ ap (λ v. without_thing v addr) now) (c.as_slice-3.ensures ∙ gone)
     ∙ without_things-swap w addr (gone_things w all all) in

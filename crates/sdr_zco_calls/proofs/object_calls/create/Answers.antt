@@ -18,8 +18,8 @@ use Rattle.sdr_zco_calls.proofs.object_calls.create.Goals as goal
 pub add_object-requires-clause-room : goal.add_object-requires-clause-room
 add_object-requires-clause-room c =
     let amounts = c.heap_charge.result in
-    let room = subst (λ r. OnOk r (HasRoomFor c.charge_blocks.new.self.now c.args.acct amounts)) c.in-Ok.is c.in_ok-granted.ensures.room in
-    room_made c.charge_blocks.new.self.now c.empty_object.result c.args.acct amounts c.empty_object.ensures c.heap_charge.ensures room
+    let room = subst (λ r. OnOk r (HasRoomFor c.charge_blocks.new.world.now c.args.acct amounts)) c.in-Ok.is c.in_ok-granted.ensures.room in
+    room_made c.charge_blocks.new.world.now c.empty_object.result c.args.acct amounts c.empty_object.ensures c.heap_charge.ensures room
 
 pub returns : goal.returns
 returns c =
@@ -29,7 +29,7 @@ returns c =
     let call : Call = calls.Create c.args.acct c.args.number in
     let may = subst (λ v. MayCharge v c.args.acct c.args.number amounts c.in-Ok.granted) c.touch.ensures.now
     (subst (λ r. IfOk r (MayCharge c.touch.new.self.now c.args.acct c.args.number amounts)) c.in-Ok.is c.in_ok-granted.ensures.allowed) in
-    let taken = subst (λ r. IfOk r (λ p. c.charge_blocks.new.self.now ≡ with_blocks (with_used c.touch.new.self.now p amounts) 1))
+    let taken = subst (λ r. IfOk r (λ p. c.charge_blocks.new.world.now ≡ with_blocks (with_used c.touch.new.self.now p amounts) 1))
     c.in-Ok.is c.in_ok-granted.ensures.taken in
     let put : c.add_object.new.self.now ≡ with_object (with_blocks (with_used w c.in-Ok.granted amounts) 1) addr (empty_object c.args.acct) =
     c.add_object.ensures.put

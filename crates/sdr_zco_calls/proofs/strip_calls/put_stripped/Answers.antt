@@ -47,9 +47,9 @@ edit_object-requires c =
     ap (λ (d : Draft). d.owners) saved ∙ c.touch_all.ensures.owners ∙ c.touch_sources.ensures.owners in
     let noted : All (λ e. Contains d.noted e.source) c.args.so.by.lost =
     subst (λ (d : Draft). All (λ e. Contains d.noted e.source) c.args.so.by.lost) (sym saved)
-    (All-weaker (λ e. Contains c.touch_sources.new.self.noted e.source) (λ e. Contains c.touch_all.new.self.noted e.source)
+    (All-weaker (λ e. Contains c.touch_sources.new.world.noted e.source) (λ e. Contains c.touch_all.new.world.noted e.source)
     (λ e. c.in_ok-touch_all.ensures.others_noted e.source) c.args.so.by.lost
-    (subst (All (λ e. Contains c.touch_sources.new.self.noted e.source)) c.as_slice-2.ensures c.in_ok-touch_sources.ensures.noted)) in
+    (subst (All (λ e. Contains c.touch_sources.new.world.noted e.source)) c.as_slice-2.ensures c.in_ok-touch_sources.ensures.noted)) in
     record {
       may = MayChange-stripped d w old.owners addr c.args.so z there.1.0 now owners there.1.1 c.known_object.ensures.bound
           (subst (λ o. IfSome o (IsModest (next_addr w.taken))) there.1.0 c.known_object.ensures.modest)
@@ -72,12 +72,12 @@ drop_all-requires c =
     let gone : c.in_ok-gone.gone ≡ gone_things w out out =
     c.in_ok-gone.ensures ∙ ap (λ es. gone_things w es es) (c.as_slice.ensures ∙ there.1.1.lost) in
     let going : All (IsNoted d) (gone_things w out out) =
-    All-weaker (IsNoted c.touch_all.new.self) (IsNoted d)
-    (λ a was. IsNoted-more c.touch_all.new.self d a (ap (λ (d : Draft). d.now) saved)
+    All-weaker (IsNoted c.touch_all.new.world) (IsNoted d)
+    (λ a was. IsNoted-more c.touch_all.new.world d a (ap (λ (d : Draft). d.now) saved)
     (λ other was. subst (λ (d : Draft). Contains d.touched other) (sym saved) was)
     (λ other was. subst (λ (d : Draft). Contains d.noted other) (sym saved) was) was)
     (gone_things w out out)
-    (subst (All (IsNoted c.touch_all.new.self)) (c.as_slice-3.ensures ∙ gone) c.in_ok-touch_all.ensures.going) in
+    (subst (All (IsNoted c.touch_all.new.world)) (c.as_slice-3.ensures ∙ gone) c.in_ok-touch_all.ensures.going) in
     let goes : All (Goes d.now out) (gone_things w out out) =
     subst (λ v. All (Goes v out) (gone_things w out out)) (sym now) (gone_go w out c.known_object.ensures.plain out) in
     let put : new.now ≡ with_object d.now addr (stripped z) =
@@ -106,7 +106,7 @@ returns-clause-put c =
     let put : new.now ≡ with_object w addr (stripped z) =
     subst (λ o. IfSome o (λ z. new.now ≡ with_object d.now addr (edited c.args.so.edit z))) is c.in_ok-edit_object.ensures.edited
     ∙ ap₂ (λ v y. with_object v addr y) now there.1.1.edited in
-    let left : c.drop_all.new.self.now ≡ with_object (without_things w (gone_things w out out)) addr (stripped z) =
+    let left : c.drop_all.new.world.now ≡ with_object (without_things w (gone_things w out out)) addr (stripped z) =
     c.drop_all.ensures.dropped ∙ ap₂ without_things put (c.as_slice-4.ensures ∙ gone)
     ∙ without_things-with w addr (stripped z) (gone_things w out out)
     (all_apart w addr z out (gone_things w out out) there.1.0 (gone_go w out c.known_object.ensures.plain out)) in
