@@ -2,7 +2,7 @@
 // worked rows.
 ghost use Rattle.std.specs.Prelude.{◌≡◌, ◌+◌, ◌^◌, ◌≤◌, ◌<◌, IfOk, OnOk};
 ghost use Rattle.sdr_base.specs.Moves.{KeepsSome};
-ghost use Rattle.sdr_heap.specs.Kept.{KeepsRegion};
+ghost use Rattle.sdr_base.specs.KeptHeap.{KeepsRegion};
 ghost use Rattle.sdr_heap.specs.Raw.{IsUnnamed, IsWhole};
 ghost use Rattle.sdr_log.specs.Frame.{IsInLimits};
 
