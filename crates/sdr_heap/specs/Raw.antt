@@ -1,5 +1,6 @@
 -- The calls on raw objects: what they answer, and when they are refused.
-use Rattle.std.specs.Prelude.{◌≡◌, ◌≢◌, ◌≤◌, ◌<◌, ◌+◌, ◌-◌, ◌⊎◌, ℕ, true, false, List, length, Option, Some, None, Result, ⊤}
+use Rattle.std.specs.Prelude.{◌≡◌, ◌≢◌, ◌≤◌, ◌<◌, ◌+◌, ◌-◌, ◌⊎◌, ℕ, true, false, List, length, Option, Some, None}
+use Rattle.std.specs.Prelude.{Result, ⊤}
 use Rattle.sdr_base.specs.Blocks.{Block, HasBytes, IsKind, Reaches}
 use Rattle.sdr_base.specs.Kinds.{kind_number}
 use Rattle.sdr_base.specs.Moves.{KeepsSome}

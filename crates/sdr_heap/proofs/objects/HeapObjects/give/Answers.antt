@@ -14,7 +14,8 @@ pub returns-in_err-give_back-clause-refused : goal.returns-in_err-give_back-clau
 returns-in_err-give_back-clause-refused g c =
     let p = err_from_is_err_and c.from_residual.result c.from_residual.ensures.1 in
     rw (p.1, p.2)
-    (full_unmoved _ (held_unmoved g.C.Cells.bytes _ _ c.give_back.new.c c.self.view_is) c.in_err-give_back.ensures.refused)
+    (full_unmoved _ (held_unmoved g.C.Cells.bytes _ _ c.give_back.new.c c.self.view_is)
+    c.in_err-give_back.ensures.refused)
 
 pub returns-in_err-give_back-clause-works : goal.returns-in_err-give_back-clause-works
 returns-in_err-give_back-clause-works g c =

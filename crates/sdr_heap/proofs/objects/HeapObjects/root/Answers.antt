@@ -20,5 +20,5 @@ returns-clause-given g c =
 pub returns-clause-looks : goal.returns-clause-looks
 returns-clause-looks g c =
     held_looks g.C.Cells.bytes g.C.Cells.transaction g.C.Cells.quiet g.met.C.Cells.quiet_trans
-    _ _ c.read_number.new.c c.read_number.result c.self.view_is c.requires.kept c.read_number.ensures.same c.read_number.ensures.room
-    c.read_number.ensures.cause c.read_number.ensures.quiet
+    _ _ c.read_number.new.c c.read_number.result c.self.view_is c.requires.kept c.read_number.ensures.same
+    c.read_number.ensures.room c.read_number.ensures.cause c.read_number.ensures.quiet
