@@ -3,9 +3,7 @@ use Rattle.std.proofs.Common.{◌≡◌, ◌≤◌, ◌<◌, ◌==◌, ℕ, ◌+
 use Rattle.std.proofs.Common.{ap, sym, subst, arith}
 use Rattle.std.proofs.lemmas.Bool.Decides.{nat_tests}
 use Rattle.std.specs.List.{count_by}
-use Rattle.sdr_base.specs.KeptLarge.{KeepsLarge}
-use Rattle.sdr_base.specs.KeptPools.{KeepsSmall}
-use Rattle.sdr_base.specs.Pools.{Pools, is_used_at}
+use Rattle.sdr_base.specs.Pools.{is_used_at}
 use Rattle.sdr_base.specs.Stored.{number_at, start_bit}
 use Rattle.sdr_base.proofs.KeptPoolsLemmas.{in_order}
 use Rattle.sdr_large.specs.Both.{KeepsBoth}

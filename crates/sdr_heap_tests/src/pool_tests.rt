@@ -5,7 +5,7 @@ ghost use Rattle.sdr_large.specs.Both.{KeepsBoth};
 use crate::disks::formatted;
 use crate::plain::{Free, plain_take};
 use sdr_base::control::LOW;
-use sdr_base::{Addr, Cells, Stop, WORD, read_number, read_start_bit};
+use sdr_base::{Addr, Cells, MemoryCells, Stop, WORD, read_number, read_start_bit};
 use sdr_disk::MemoryDisk;
 use sdr_image::Image;
 use sdr_log::Frame;
@@ -357,8 +357,19 @@ fn wrong_rule() -> Option<usize> {
     None
 }
 
+// The first block of each pool of a region in memory of 1,024 lines: of 64 words, and of 65.
+fn in_memory(alloc: Global) -> Option<[Option<Addr>; 2]> {
+    let mut small = MemoryCells::fresh(alloc, 1024).ok()?;
+    let mut large = MemoryCells::fresh(alloc, 1024).ok()?;
+    Some([
+        sdr_small::take(&mut small, 64).ok()?,
+        sdr_large::take(&mut large, 65).ok()?,
+    ])
+}
+
 #[test]
 fn pools_are_there_again_after_a_commit_and_the_plain_rule_gives_the_same_blocks(rt: HostRuntime) {
     assert_eq!(rt; committed(rt.alloc()), Some([None, None]));
     assert_eq!(rt; wrong_rule(), None);
+    assert_eq!(rt; in_memory(rt.alloc()), Some([Some(2056), Some(65_000)]));
 }

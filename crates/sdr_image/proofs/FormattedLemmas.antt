@@ -5,11 +5,8 @@ use Rattle.std.specs.Prelude.{replicate}
 use Rattle.std.proofs.lemmas.Slice.Eq.{bytes_eq-Decides}
 use Rattle.byteorder.specs.Numbers.{big_number-reads_back}
 use Rattle.sdr_base.specs.FreshHeap.{fresh_heap}
-use Rattle.sdr_base.specs.KeptPools.{KeepsSomeSmall}
 use Rattle.sdr_base.specs.Parts.{overwrite, part}
-use Rattle.sdr_base.specs.Pools.{fresh_pools}
 use Rattle.sdr_base.proofs.FreshHeapLemmas.{length-fresh_heap}
-use Rattle.sdr_base.proofs.FreshPoolsLemmas.{fresh_keeps}
 use Rattle.sdr_base.proofs.PartsLemmas.{length-overwrite, get_or-overwrite_inside, get_or-overwrite_outside}
 use Rattle.sdr_base.proofs.PartsLemmas.{overwrite-apart, part-overwrite}
 use Rattle.sdr_log.specs.Frame.{IsInLimits, disk_bytes, heap_place, frame_in, frame_of, head_of, four, number}

@@ -17,6 +17,11 @@ const SMALL: Frame = Frame {
     heap_lines: 32,
 };
 
+const FEW: Frame = Frame {
+    log_lines: 24,
+    heap_lines: 32,
+};
+
 const MIDDLE: Frame = Frame {
     log_lines: 128,
     heap_lines: 64,
@@ -142,12 +147,8 @@ fn wrong_again(alloc: Global) -> Option<[Option<usize>; 2]> {
 
 #[test]
 fn lines_are_touched_while_there_is_room_and_kept_by_a_commit_alone(rt: HostRuntime) {
-    let frame = Frame {
-        log_lines: 24,
-        heap_lines: 32,
-    };
     assert_eq!(rt; wrong_on(rt.alloc(), 2240, SMALL, &FULL), Some(None));
-    assert_eq!(rt; wrong_on(rt.alloc(), 3648, frame, &LINES), Some(None));
+    assert_eq!(rt; wrong_on(rt.alloc(), 3648, FEW, &LINES), Some(None));
     assert_eq!(rt; wrong_again(rt.alloc()), Some([None, None]));
 }
 
@@ -264,8 +265,9 @@ fn control(alloc: Global, bytes: usize, frame: Frame, number: u64) -> Option<[u6
 }
 
 // Bytes and regions of a disk, and the number of a word. A heap of 64 lines has its first block at 1088.
-const WORDS: [(usize, Frame, u64, [u64; 4]); 7] = [
+const WORDS: [(usize, Frame, u64, [u64; 4]); 8] = [
     (2240, SMALL, 0, [2048, 1, 0, 2048]),
+    (3648, FEW, 0, [2048, 21, 0, 2048]),
     (81_984, LARGE, 0, [65_536, 224, 0, 65_536]),
     (81_984, LARGE, 1, [65_536, 224, 0, 2048]),
     (81_984, LARGE, 97, [65_536, 224, 0, 32_768]),

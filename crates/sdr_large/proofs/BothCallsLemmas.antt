@@ -1,6 +1,6 @@
 -- The calls of each pool on bytes that keep both: they keep both.
 use Rattle.std.proofs.Common.{◌≡◌, ◌≤◌, ℕ, ◌+◌, ◌-◌, ◌*◌, ◌/◌, Bool, true, false, cond, nat_lt}
-use Rattle.std.proofs.Common.{List, [], ◌∷◌, length, refl, sym, ap, arith, subst}
+use Rattle.std.proofs.Common.{List, [], ◌∷◌, refl, sym, ap, arith, subst}
 use Rattle.std.specs.Prelude.{Option, Some, None}
 use Rattle.std.specs.List.{count_by}
 use Rattle.std.proofs.lemmas.Bool.{ltb-false}
