@@ -55,7 +55,7 @@ at_closed moment may_leave f old mid new x y records left' l p before each =
 -- Without a crash.
 
 -- nothing is pending on it
-alone : (f : Frame) (x : List ℕ) (records : List Record) → Logs f x records → IsLogged f x (λ image. image ≡ x)
+pub alone : (f : Frame) (x : List ℕ) (records : List Record) → Logs f x records → IsLogged f x (λ image. image ≡ x)
 alone f x records l = record {
   records = records;
   logs = l;
@@ -63,11 +63,12 @@ alone f x records l = record {
       (Agrees-refl (lines_of f records) x);
 }
 
-record WithLines (f : Frame) (records lines : List Record) (x : List ℕ) : Type 0 where
-  logs : Logs f (with_lines f lines x) records
-  heap : heap_of f (with_lines f lines x) ≡ put_records lines (heap_of f x)
+-- the batches are still open, and the lines stand in the heap region
+pub record WithLines (f : Frame) (records lines : List Record) (x : List ℕ) : Type 0 where
+  pub logs : Logs f (with_lines f lines x) records
+  pub heap : heap_of f (with_lines f lines x) ≡ put_records lines (heap_of f x)
 
-with_lines-put : (f : Frame) (records lines : List Record) (x : List ℕ) → Logs f x records → AreNamed records lines →
+pub with_lines-put : (f : Frame) (records lines : List Record) (x : List ℕ) → Logs f x records → AreNamed records lines →
     AreLines lines → WithLines f records lines x
 unfolding alone
 with_lines-put f records [] x l named long = record { logs = l; heap = refl }
@@ -94,6 +95,7 @@ restored f records x y l some is =
       lines = refl;
       written = is;
       gives = put_back_of-logs f x records l ∙ ap Some (sym (c.heap ∙ w.heap));
+      regions = c.rest.regions;
       gate = c.rest.gate;
     }
 
@@ -154,6 +156,7 @@ restored_none f x y l is =
       lines = refl;
       written = sym (closed_again x (none_closed f x l) (omega (arith, l.regions.inside, limits.least_log)));
       gives = put_back_of-logs f x [] l;
+      regions = l.regions;
       gate = none_closed f x l;
     }
 

@@ -8,7 +8,7 @@ use Rattle.sdr_log.specs.Batch.{batch_size, log_end}
 use Rattle.sdr_log.specs.Frame.{frame_of, heap_place}
 use Rattle.sdr_log.specs.Log.{are_good, first_gate, heap_of, is_named, put_back_of, put_records}
 use Rattle.sdr_log.specs.Log.{read_log}
-use Rattle.sdr_log.specs.Logged.{Gives, GivesSame, IsAtRest, IsLogged, IsOpen, Logs}
+use Rattle.sdr_log.specs.Logged.{Gives, GivesSame, HasRegions, IsAtRest, IsLogged, IsOpen, Logs}
 use Rattle.sdr_log.specs.declared.frame.Frame.{Frame}
 use Rattle.sdr_log.specs.declared.record.Record.{Record}
 
@@ -82,13 +82,14 @@ abbrev pub GivesNone : Frame → List ℕ → Type 0
 GivesNone f x = frame_of (part 0 LINE x) ≡ Some f → put_back_of x ≡ None
 
 -- so many lines are put back and the first gate is closed, and no other byte changes: the heap region is the heap
--- that opening gave, and no batch is open
+-- that opening gave, no batch is open, and the regions are the same
 pub record PutsBack (f : Frame) (count : ℕ) (x y : List ℕ) : Type 0 where
   pub records : List Record
   pub logs : Logs f x records
   pub lines : count ≡ length records
   pub written : y ≡ overwrite LINE (0 ∷ []) (with_lines f records x)
   pub gives : Gives (heap_of f y) x
+  pub regions : HasRegions f y
   pub gate : first_gate y ≡ 0
 
 -- the disk is as long as it was, and tells its bytes if it did
