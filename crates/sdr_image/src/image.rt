@@ -6,11 +6,11 @@ ghost use Rattle.std.proofs.Common.{◌∙◌};
 ghost use Rattle.sdr_base.specs.Cells.{is_among, with_lines, lines_of};
 ghost use Rattle.sdr_base.specs.Parts.{overwrite};
 ghost use Rattle.sdr_base.specs.Transaction.{HasReason, IfRefused};
-ghost use Rattle.sdr_disk.specs.Moments.{AtEach};
+ghost use Rattle.sdr_disk.specs.Moments.{AtEach, Reads};
 ghost use Rattle.sdr_disk.specs.Told.{Told};
 ghost use Rattle.sdr_log.specs.Calls.{KeepsDisk};
 ghost use Rattle.sdr_log.specs.Frame.{room_of};
-ghost use Rattle.sdr_log.specs.Log.{put_back_of};
+ghost use Rattle.sdr_log.specs.Log.{first_gate, put_back_of};
 ghost use Rattle.sdr_log.specs.Logged.{Gives, GivesSame};
 ghost use Rattle.sdr_image.specs.Changed.{GivesEither};
 ghost use Rattle.sdr_image.specs.Opened.{transaction_of, KeepsBegun, LeavesHeap, Rests, StaysAt};
@@ -73,8 +73,8 @@ impl<D: Disk> Image<D> {
     ghost use Rattle.sdr_image.specs.Opened.{Opened};
     ghost use Rattle.sdr_image.specs.Opening.{IsOpened, Returns, disk_in};
 
-    /// Opens a disk that has a heap. Where batches are open, their lines are put back: a write for
-    /// each, a sync, a write and a sync; else it is only read. All memory is taken here, before the
+    /// Opens a disk that has a heap. Where batches are open, their lines are put back: by a write
+    /// for each, a sync, a write and a sync; else it is only read. All memory is taken here, before the
     /// first write. A crash on the way leaves the same heap as one before, where nothing is pending
     /// on the disk that is handed in, or a recovery of it was stopped.
     pub fn open(alloc: Global, mut disk: D) -> Result<Image<D>, ImageShut<D>>
@@ -82,6 +82,10 @@ impl<D: Disk> Image<D> {
         ensures not_formatted { IfErr result (λ shut. OnNotFormatted shut.why
             (Told (D.bytes disk) (λ x. put_back_of x ≡ None))) }
         ensures disk { Returns D.size D.bytes D.faults disk result }
+        ensures quiet { Told (D.bytes disk) (λ x. first_gate x ≡ 0
+            → Reads D.bytes D.moment D.may_leave disk (disk_in result)) }
+        ensures calls { IfOk result (λ i.
+            D.moment i.disk ≤ D.moment disk + 2 * (i.restored + 3)) }
         ensures any_moment { Told (D.bytes disk)
             (λ x. MayBeOpened x (D.may_leave disk (D.moment disk))
             → AtEach D.moment D.may_leave disk (disk_in result) (GivesSame x)) }

@@ -1,12 +1,12 @@
 // A disk, read for the first time.
-ghost use Rattle.std.specs.Prelude.{◌≡◌, ◌≤◌, ◌<◌, ◌*◌, IfOk, IfErr, OnOk, None, length};
+ghost use Rattle.std.specs.Prelude.{◌≡◌, ◌≤◌, ◌<◌, ◌+◌, ◌*◌, IfOk, IfErr, OnOk, None, length};
 ghost use Rattle.sdr_base.specs.Causes.{HasCause};
 ghost use Rattle.sdr_disk.specs.Moments.{AtEach, Reads};
 ghost use Rattle.sdr_disk.specs.Pending.{IsSynced};
 ghost use Rattle.sdr_disk.specs.Told.{Both, Told};
 ghost use Rattle.sdr_log.specs.Calls.{KeepsDisk, PutsBack};
 ghost use Rattle.sdr_log.specs.Frame.{IsInLimits, disk_bytes};
-ghost use Rattle.sdr_log.specs.Log.{heap_of, put_back_of};
+ghost use Rattle.sdr_log.specs.Log.{first_gate, heap_of, put_back_of};
 ghost use Rattle.sdr_log.specs.Logged.{GivesSame};
 ghost use Rattle.sdr_image.specs.Opened.{HasBytes};
 ghost use Rattle.sdr_image.specs.Opening.{HasImageCause, IsFramed, IsReady, MayBeOpened};
@@ -92,6 +92,10 @@ fn restore<D: Disk>(alloc: Global, disk: &mut D, frame: Frame) -> Result<u64, Im
     ensures synced { OnOk result (Told (D.bytes disk.old)
         (λ x. MayBeOpened x (D.may_leave disk.old (D.moment disk.old))
         → IsSynced D.bytes D.moment D.may_leave disk.new)) }
+    ensures quiet { Told (D.bytes disk.old) (λ x. first_gate x ≡ 0
+        → Reads D.bytes D.moment D.may_leave disk.old disk.new) }
+    ensures calls { IfOk result (λ count.
+        D.moment disk.new ≤ D.moment disk.old + 2 * (count + 3)) }
     ensures any_moment { Told (D.bytes disk.old)
         (λ x. MayBeOpened x (D.may_leave disk.old (D.moment disk.old))
         → AtEach D.moment D.may_leave disk.old disk.new (GivesSame x)) }
@@ -138,6 +142,10 @@ pub fn load<D: Disk>(alloc: Global, disk: &mut D) -> Result<Loaded, ImageError>
     ensures same { IfErr result (λ why. UnlessFault why (D.bytes disk.new ≡ D.bytes disk.old)) }
 
     ensures disk { KeepsDisk D.size D.bytes disk.old disk.new }
+    ensures quiet { Told (D.bytes disk.old) (λ x. first_gate x ≡ 0
+        → Reads D.bytes D.moment D.may_leave disk.old disk.new) }
+    ensures calls { IfOk result (λ l.
+        D.moment disk.new ≤ D.moment disk.old + 2 * (l.restored + 3)) }
     ensures any_moment { Told (D.bytes disk.old)
         (λ x. MayBeOpened x (D.may_leave disk.old (D.moment disk.old))
         → AtEach D.moment D.may_leave disk.old disk.new (GivesSame x)) }

@@ -1,5 +1,5 @@
 // A disk, put back after a crash.
-ghost use Rattle.std.specs.Prelude.{◌≡◌, ◌≤◌, ◌<◌, ◌*◌, ◌↔◌, true, length};
+ghost use Rattle.std.specs.Prelude.{◌≡◌, ◌≤◌, ◌<◌, ◌+◌, ◌*◌, ◌↔◌, true, length};
 ghost use Rattle.std.specs.Prelude.{IfOk, IfErr, OnOk, IsTrue, is_some};
 ghost use Rattle.sdr_base.specs.Causes.{HasCause};
 ghost use Rattle.sdr_disk.specs.Moments.{AtEach, Reads};
@@ -85,6 +85,7 @@ fn restore<D: Disk>(disk: &mut D, frame: Frame, records: &[Record]) -> Result<()
     requires good { are_good frame.heap_lines records.now ≡ true }
     requires some { 0 < length records.now }
 
+    ensures calls { D.moment disk.new ≤ D.moment disk.old + 2 * (length records.now + 3) }
     ensures back { OnOk result (Both (D.bytes disk.old) (D.bytes disk.new)
         (λ x y. Logs frame x records.now → PutsBack frame (length records.now) x y)) }
     ensures cause { HasCause (D.faults disk.old) (D.faults disk.new) result }
@@ -120,6 +121,8 @@ pub fn put_back<D: Disk>(alloc: Global, disk: &mut D, frame: Frame) -> Result<u6
         (Reads D.bytes D.moment D.may_leave disk.old disk.new)) }
     ensures quiet { Told (D.bytes disk.old) (λ x. first_gate x ≡ 0
         → Reads D.bytes D.moment D.may_leave disk.old disk.new) }
+    ensures calls { IfOk result (λ count.
+        D.moment disk.new ≤ D.moment disk.old + 2 * (count + 3)) }
 
     ensures rest { OnOk result (Both (D.bytes disk.old) (D.bytes disk.new)
         (λ x y. MayPutBack frame x (D.may_leave disk.old (D.moment disk.old))
