@@ -6,7 +6,7 @@ use Rattle.sdr_base.specs.declared.line.TheConstants.{LINE}
 use Rattle.sdr_disk.specs.Moments.{Only}
 use Rattle.sdr_disk.specs.Told.{Both, Told}
 use Rattle.sdr_log.specs.Calls.{KeepsDisk, PutsBack}
-use Rattle.sdr_log.specs.Frame.{IsInLimits, disk_bytes, frame_of, room_of}
+use Rattle.sdr_log.specs.Frame.{IsInLimits, frame_of, room_of}
 use Rattle.sdr_log.specs.Log.{put_back_of}
 use Rattle.sdr_log.specs.Logged.{IsLogged}
 use Rattle.sdr_log.specs.declared.frame.Frame.{Frame}
@@ -35,12 +35,6 @@ ExplainsFault before now error = ⊤
 pub record HasImageCause {T : Type 0} (before now : ℕ) (result : Result T ImageError) : Type 0 where
   pub later : before ≤ now
   pub explained : IfErr result (ExplainsFault before now)
-
--- a disk of so many bytes has the head of these regions, and room for them
-pub record IsFramed (size : ℕ) (told : Option (List ℕ)) (f : Frame) : Type 0 where
-  pub limits : IsInLimits f
-  pub fits : disk_bytes f ≤ size
-  pub head : Told told (λ x. frame_of (part 0 LINE x) ≡ Some f)
 
 -- the memory of an image with these regions: a heap region, old lines, and a commit
 pub record IsReady (f : Frame) (bytes : ℕ) (undo : Olds) (memory : ℕ) : Type 0 where

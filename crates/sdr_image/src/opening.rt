@@ -4,12 +4,12 @@ ghost use Rattle.sdr_base.specs.Causes.{HasCause};
 ghost use Rattle.sdr_disk.specs.Moments.{AtEach, Reads};
 ghost use Rattle.sdr_disk.specs.Pending.{IsSynced};
 ghost use Rattle.sdr_disk.specs.Told.{Both, Told};
-ghost use Rattle.sdr_log.specs.Calls.{KeepsDisk, PutsBack};
+ghost use Rattle.sdr_log.specs.Calls.{IsFramed, KeepsDisk, PutsBack};
 ghost use Rattle.sdr_log.specs.Frame.{IsInLimits, disk_bytes};
 ghost use Rattle.sdr_log.specs.Log.{first_gate, heap_of, put_back_of};
 ghost use Rattle.sdr_log.specs.Logged.{GivesSame};
 ghost use Rattle.sdr_image.specs.Opened.{HasBytes};
-ghost use Rattle.sdr_image.specs.Opening.{HasImageCause, IsFramed, IsReady, MayBeOpened};
+ghost use Rattle.sdr_image.specs.Opening.{HasImageCause, IsReady, MayBeOpened};
 ghost use Rattle.sdr_image.specs.Opening.{OnNotFormatted, UnlessFault};
 
 use crate::ImageError;
@@ -18,7 +18,7 @@ use crate::saving::Saving;
 use crate::undo::Undo;
 use sdr_base::{LINE, NoMemory};
 use sdr_disk::{Disk, DiskFault};
-use sdr_log::{BackError, Frame, put_back};
+use sdr_log::{BackError, Frame, put_back_found, read_frame};
 use std::alloc::Global;
 
 // All the memory of an image.
@@ -38,30 +38,6 @@ pub struct Loaded {
     pub saving: Saving,
     /// How many lines were put back.
     pub restored: u64,
-}
-
-// The lengths of the regions, where the disk has a head and is as long as it tells.
-fn read_frame<D: Disk>(disk: &mut D) -> Result<Frame, ImageError>
-    ensures found { IfOk result (IsFramed (D.size disk.old) (D.bytes disk.old)) }
-    ensures not_formatted { IfErr result (λ why. OnNotFormatted why
-        (Told (D.bytes disk.old) (λ x. put_back_of x ≡ None))) }
-    ensures cause { HasImageCause (D.faults disk.old) (D.faults disk.new) result }
-    ensures size { D.size disk.new ≡ D.size disk.old }
-    ensures reads { Reads D.bytes D.moment D.may_leave disk.old disk.new }
-{
-    let have = disk.len();
-    if have < LINE {
-        return Err(ImageError::NotFormatted);
-    }
-    let mut head = [0; 64];
-    disk.read_at(0, &mut head)?;
-    let Some(frame) = Frame::from_head(&head) else {
-        return Err(ImageError::NotFormatted);
-    };
-    if have < frame.disk_bytes() {
-        return Err(ImageError::NotFormatted);
-    }
-    Ok(frame)
 }
 
 // All the memory of an image with these regions.
@@ -100,7 +76,7 @@ fn restore<D: Disk>(alloc: Global, disk: &mut D, frame: Frame) -> Result<u64, Im
         (λ x. MayBeOpened x (D.may_leave disk.old (D.moment disk.old))
         → AtEach D.moment D.may_leave disk.old disk.new (GivesSame x)) }
 {
-    match put_back(alloc, disk, frame) {
+    match put_back_found(alloc, disk, frame) {
         Ok(count) => Ok(count),
         Err(BackError::BadLog) => Err(ImageError::NotFormatted),
         Err(BackError::DiskFault) => Err(ImageError::DiskFault),
@@ -150,7 +126,9 @@ pub fn load<D: Disk>(alloc: Global, disk: &mut D) -> Result<Loaded, ImageError>
         (λ x. MayBeOpened x (D.may_leave disk.old (D.moment disk.old))
         → AtEach D.moment D.may_leave disk.old disk.new (GivesSame x)) }
 {
-    let frame = read_frame(disk)?;
+    let Some(frame) = read_frame(disk)? else {
+        return Err(ImageError::NotFormatted);
+    };
     let memory = reserve(alloc, &frame)?;
     let restored = restore(alloc, disk, frame)?;
     let bytes = read_heap(disk, &frame, memory.bytes)?;

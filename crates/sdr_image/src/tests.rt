@@ -14,7 +14,7 @@ const SMALL: Frame = Frame {
 };
 
 // A formatted disk of the smallest regions, whose calls with the numbers in `failing` fail.
-// Formatting makes 8 calls, and opening 4.
+// Formatting makes 8 calls, and opening 3.
 fn small(rt: &HostRuntime, failing: Vec<u64>) -> Result<MemoryDisk, Fail> {
     let mut disk = MemoryDisk::new(vec![in rt.alloc(); 7; 2240]?, failing);
     format(&mut disk, SMALL)?;
@@ -115,14 +115,14 @@ fn after_a_disk_fault_an_image_answers_failed(rt: HostRuntime) -> Result<(), Fai
     let failed = [Err(Stop::DiskFault), Err(Stop::Failed)];
     // The batch, its gate, the line and the first gate, each with its sync; and no fault.
     let rows = [
+        (12, failed, 0),
         (13, failed, 0),
         (14, failed, 0),
         (15, failed, 0),
         (16, failed, 0),
         (17, failed, 0),
         (18, failed, 0),
-        (19, failed, 0),
-        (20, failed, 1),
+        (19, failed, 1),
         (99, [Ok(()), Ok(())], 1),
     ];
     for (call, answers, byte) in rows {

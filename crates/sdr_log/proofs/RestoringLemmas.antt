@@ -188,6 +188,18 @@ module _ {D : Type 0} (bytes : D → Option (List ℕ)) (moment : D → ℕ) (ma
       at_both moment may_leave old now new (GivesSame x) (GivesSame x) (GivesSame x) at_reads each
       (λ image s. s) (λ image s. s)
 
+  -- the batches may still be put back
+  pub reads_may : MayPutBack f x (may_leave now (moment now))
+  reads_may = by m
+    where
+      by : MayPutBack f x (may_leave old (moment old)) → MayPutBack f x (may_leave now (moment now))
+      by (inl only) = inl (λ image of_left. only image (left_before image of_left))
+      by (inr logged) = inr record {
+        records = logged.records;
+        logs = logged.logs;
+        pending = λ image of_left. logged.pending image (left_before image of_left);
+      }
+
   -- all that is pending is logged
   pub reads_logged : (records : List Record) → Logs f x records → IsLogged f x (may_leave now (moment now))
   reads_logged records l = by m

@@ -4,8 +4,9 @@ use Rattle.std.specs.Prelude.{Option, Some, None, is_some, option_map}
 use Rattle.sdr_base.specs.declared.line.TheConstants.{LINE}
 use Rattle.sdr_disk.specs.Moments.{Only}
 use Rattle.sdr_disk.specs.Ranges.{overwrite, part}
+use Rattle.sdr_disk.specs.Told.{Told}
 use Rattle.sdr_log.specs.Batch.{batch_size, log_end}
-use Rattle.sdr_log.specs.Frame.{frame_of, heap_place}
+use Rattle.sdr_log.specs.Frame.{IsInLimits, disk_bytes, frame_of, heap_place}
 use Rattle.sdr_log.specs.Log.{are_good, first_gate, heap_of, is_named, put_back_of, put_records}
 use Rattle.sdr_log.specs.Log.{read_log}
 use Rattle.sdr_log.specs.Logged.{Gives, GivesSame, HasRegions, IsAtRest, IsLogged, IsOpen, Logs}
@@ -72,6 +73,12 @@ pub record Closes (f : Frame) (x y : List ℕ) (left : List ℕ → Type 0) : Ty
   pub rest : IsAtRest f y left
   pub heap : heap_of f y ≡ heap_of f x
   pub gives : Gives (heap_of f x) y
+
+-- a disk of so many bytes has the head of these regions, and room for them
+pub record IsFramed (size : ℕ) (told : Option (List ℕ)) (f : Frame) : Type 0 where
+  pub limits : IsInLimits f
+  pub fits : disk_bytes f ≤ size
+  pub head : Told told (λ x. frame_of (part 0 LINE x) ≡ Some f)
 
 -- nothing is pending, or all that is pending is logged
 abbrev pub MayPutBack : Frame → List ℕ → (List ℕ → Type 0) → Type 0

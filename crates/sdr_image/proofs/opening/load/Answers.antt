@@ -7,6 +7,10 @@ pub returns-in_err-frame-clause-any_moment : goal.returns-in_err-frame-clause-an
 returns-in_err-frame-clause-any_moment g c x is may =
     at_reads g.D.Disk.bytes g.D.Disk.moment g.D.Disk.may_leave _ _ c.read_frame.ensures.reads x may
 
+pub returns-in_default-clause-any_moment : goal.returns-in_default-clause-any_moment
+returns-in_default-clause-any_moment g c x is may =
+    at_reads g.D.Disk.bytes g.D.Disk.moment g.D.Disk.may_leave _ _ c.read_frame.ensures.reads x may
+
 pub returns-in_err-memory-clause-any_moment : goal.returns-in_err-memory-clause-any_moment
 returns-in_err-memory-clause-any_moment g c x is may =
     at_reads g.D.Disk.bytes g.D.Disk.moment g.D.Disk.may_leave _ _ c.read_frame.ensures.reads x may

@@ -7,16 +7,16 @@ returns-in-Ok-clause-synced g c x is may y now =
 
 pub returns-in-Ok-clause-any_moment : goal.returns-in-Ok-clause-any_moment
 returns-in-Ok-clause-any_moment g c x is may =
-    c.put_back.ensures.any_moment x is (may_put_back _ x _ (c.requires.framed.head x is) may)
+    c.put_back_found.ensures.any_moment x is (may_put_back _ x _ (c.requires.framed.head x is) may)
 
 pub returns-in-Err-DiskFault-clause-any_moment : goal.returns-in-Err-DiskFault-clause-any_moment
 returns-in-Err-DiskFault-clause-any_moment g c x is may =
-    c.put_back.ensures.any_moment x is (may_put_back _ x _ (c.requires.framed.head x is) may)
+    c.put_back_found.ensures.any_moment x is (may_put_back _ x _ (c.requires.framed.head x is) may)
 
 pub returns-in-Err-BadLog-clause-any_moment : goal.returns-in-Err-BadLog-clause-any_moment
 returns-in-Err-BadLog-clause-any_moment g c x is may =
-    c.put_back.ensures.any_moment x is (may_put_back _ x _ (c.requires.framed.head x is) may)
+    c.put_back_found.ensures.any_moment x is (may_put_back _ x _ (c.requires.framed.head x is) may)
 
 pub returns-in-Err-NoMemory-clause-any_moment : goal.returns-in-Err-NoMemory-clause-any_moment
 returns-in-Err-NoMemory-clause-any_moment g c x is may =
-    c.put_back.ensures.any_moment x is (may_put_back _ x _ (c.requires.framed.head x is) may)
+    c.put_back_found.ensures.any_moment x is (may_put_back _ x _ (c.requires.framed.head x is) may)
