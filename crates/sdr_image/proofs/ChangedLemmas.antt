@@ -2,7 +2,7 @@
 use Rattle.std.proofs.Common.{◌≡◌, ◌<◌, ◌≤◌, ℕ, ◌+◌, ◌*◌, true, List, [], ◌∷◌, length, sym, ap, ◌∙◌, arith}
 use Rattle.sdr_disk.proofs.RangesLemmas.{length-part}
 use Rattle.sdr_log.specs.Batch.{batch_size, with_batch}
-use Rattle.sdr_log.specs.Calls.{AreNamed, HoldLines, Opens, with_lines}
+use Rattle.sdr_log.specs.Calls.{AreNamed, HoldLines, Opens, with_records}
 use Rattle.sdr_log.specs.Log.{AreLines, are_good, heap_of, put_records}
 use Rattle.sdr_log.specs.Logged.{IsAtRest, IsOpen, Logs}
 use Rattle.sdr_log.specs.declared.frame.Frame.{Frame}
@@ -12,7 +12,7 @@ use Rattle.sdr_log.proofs.ClosingLemmas.{closes}
 use Rattle.sdr_log.proofs.LoggedLemmas.{length-heap_of, logs_gate}
 use Rattle.sdr_log.proofs.OpeningLemmas.{opens_written, with_batch-written}
 use Rattle.sdr_log.proofs.RecordsLemmas.{are_good-cons}
-use Rattle.sdr_log.proofs.RestoringLemmas.{alone, with_lines-put}
+use Rattle.sdr_log.proofs.RestoringLemmas.{alone, with_records-put}
 use Rattle.sdr_log.proofs.TransactionLemmas.{opens_alone, rest_may_open}
 use Rattle.sdr_image.specs.Changed.{changed}
 use Rattle.sdr_image.specs.Opened.{HasBytes}
@@ -57,8 +57,8 @@ module _ (f : Frame) (olds news : List Record) (x : List ℕ) (h : HasBytes f (h
   pub changed_bytes : (y : List ℕ) → AreNamed olds news → AreLines news → y ≡ changed f olds news x →
       HasBytes f (put_records news (heap_of f x)) y
   changed_bytes y named lines is =
-      let w = with_lines-put f olds news (with_batch 0 olds x) logs named lines in
-      let z = with_lines f news (with_batch 0 olds x) in
+      let w = with_records-put f olds news (with_batch 0 olds x) logs named lines in
+      let z = with_records f news (with_batch 0 olds x) in
       let o : IsOpen f z (λ image. image ≡ z) =
       record { logged = alone f z olds w.logs; gate = logs_gate f z olds w.logs some } in
       let c = closes f z y _ (λ image. image ≡ y) o is (λ image e. e) in

@@ -37,7 +37,7 @@ pub record HasImageCause {T : Type 0} (before now : ℕ) (result : Result T Imag
   pub explained : IfErr result (ExplainsFault before now)
 
 -- the memory of an image with these regions: a heap region, old lines, and a commit
-pub record IsReady (f : Frame) (bytes : ℕ) (undo : Olds) (memory : ℕ) : Type 0 where
+pub record IsReserved (f : Frame) (bytes : ℕ) (undo : Olds) (memory : ℕ) : Type 0 where
   pub long : bytes ≡ LINE * f.heap_lines
   pub undo_is : undo ≡ record { lines = f.heap_lines; room = room_of f; olds = [] }
   pub memory_is : memory ≡ room_of f

@@ -9,7 +9,7 @@ ghost use Rattle.sdr_log.specs.Frame.{IsInLimits, disk_bytes};
 ghost use Rattle.sdr_log.specs.Log.{first_gate, heap_of, put_back_of};
 ghost use Rattle.sdr_log.specs.Logged.{GivesSame};
 ghost use Rattle.sdr_image.specs.Opened.{HasBytes};
-ghost use Rattle.sdr_image.specs.Opening.{HasImageCause, IsReady, MayBeOpened};
+ghost use Rattle.sdr_image.specs.Opening.{HasImageCause, IsReserved, MayBeOpened};
 ghost use Rattle.sdr_image.specs.Opening.{OnNotFormatted, UnlessFault};
 
 use crate::ImageError;
@@ -44,7 +44,7 @@ pub struct Loaded {
 fn reserve(alloc: Global, frame: &Frame) -> Result<Memory, NoMemory>
     requires limits { IsInLimits frame.now }
     ensures ready { IfOk result
-        (λ m. IsReady frame.now (length m.bytes.items) m.undo m.saving) }
+        (λ m. IsReserved frame.now (length m.bytes.items) m.undo m.saving) }
 {
     let room = frame.room() as usize;
     Ok(Memory {
@@ -106,7 +106,7 @@ pub fn load<D: Disk>(alloc: Global, disk: &mut D) -> Result<Loaded, ImageError>
     ensures found { IfOk result (λ l. IsFramed (D.size disk.old) (D.bytes disk.old) l.frame) }
     ensures back { IfOk result (λ l. Both (D.bytes disk.old) (D.bytes disk.new)
         (PutsBack l.frame l.restored)) }
-    ensures ready { IfOk result (λ l. IsReady l.frame (length l.bytes) l.undo l.saving) }
+    ensures ready { IfOk result (λ l. IsReserved l.frame (length l.bytes) l.undo l.saving) }
     ensures bytes { IfOk result (λ l. Told (D.bytes disk.new) (HasBytes l.frame l.bytes)) }
     ensures synced { OnOk result (Told (D.bytes disk.old)
         (λ x. MayBeOpened x (D.may_leave disk.old (D.moment disk.old))

@@ -29,9 +29,9 @@ AreNamed records [] = ⊤
 AreNamed records (r ∷ others) = (is_named records r.line ≡ true) × AreNamed records others
 
 -- the disk with these records' bytes in place of their lines
-abbrev pub with_lines : Frame → List Record → List ℕ → List ℕ
-with_lines f [] x = x
-with_lines f (r ∷ records) x = with_lines f records (overwrite (heap_place f + LINE * r.line) r.bytes x)
+abbrev pub with_records : Frame → List Record → List ℕ → List ℕ
+with_records f [] x = x
+with_records f (r ∷ records) x = with_records f records (overwrite (heap_place f + LINE * r.line) r.bytes x)
 
 -- a batch of so many records has room in the log region from a place on, and in a buffer of so many bytes
 pub record HasPlace (f : Frame) (place count bytes : ℕ) : Type 0 where
@@ -94,7 +94,7 @@ pub record PutsBack (f : Frame) (count : ℕ) (x y : List ℕ) : Type 0 where
   pub records : List Record
   pub logs : Logs f x records
   pub lines : count ≡ length records
-  pub written : y ≡ overwrite LINE (0 ∷ []) (with_lines f records x)
+  pub written : y ≡ overwrite LINE (0 ∷ []) (with_records f records x)
   pub gives : Gives (heap_of f y) x
   pub regions : HasRegions f y
   pub gate : first_gate y ≡ 0
