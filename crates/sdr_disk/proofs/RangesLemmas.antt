@@ -3,7 +3,7 @@ use Rattle.std.proofs.Common.{◌≡◌, ℕ, ◌+◌, ◌-◌, ◌<◌, ◌≤�
 use Rattle.std.proofs.Common.{get_or, refl, sym, ◌∙◌, ap, subst, arith, length-append, length-drop, length-take}
 use Rattle.std.proofs.lemmas.List.{ext_get_or, get_or-take, get_or-drop, get_or_append_left, get_or-append_right}
 use Rattle.std.proofs.lemmas.List.{length-take-le}
-use Rattle.sdr_disk.specs.Ranges.{Agrees, IsOutside, Range, overwrite, part, range}
+use Rattle.sdr_disk.specs.Ranges.{Agrees, IsInNone, Range, overwrite, part, range}
 
 -- What stands at a place after bytes were put into a list.
 
@@ -66,7 +66,7 @@ pub Agrees-trans : (ranges : List Range) (a b c : List ℕ) → Agrees ranges a 
 Agrees-trans ranges a b c f g = record { long = g.long ∙ f.long; same = λ i o. g.same i o ∙ f.same i o }
 
 -- with more ranges, fewer places have to agree
-pub Agrees-more : (ranges more : List Range) (a b : List ℕ) → ((i : ℕ) → IsOutside more i → IsOutside ranges i)
+pub Agrees-more : (ranges more : List Range) (a b : List ℕ) → ((i : ℕ) → IsInNone more i → IsInNone ranges i)
     → Agrees ranges a b → Agrees more a b
 Agrees-more ranges more a b sub f = record { long = f.long; same = λ i o. f.same i (sub i o) }
 
@@ -95,7 +95,7 @@ Agrees-overwrite_both place count from a b ranges is le f = record {
   same = λ i o. at i o (outside_or_in place count i);
 }
   where
-    at : (i : ℕ) → IsOutside ranges i → ((i < place) ⊎ (place + count ≤ i)) ⊎ ((place ≤ i) × (i < place + count))
+    at : (i : ℕ) → IsInNone ranges i → ((i < place) ⊎ (place + count ≤ i)) ⊎ ((place ≤ i) × (i < place + count))
         → get_or (overwrite place from b) i 0 ≡ get_or (overwrite place from a) i 0
     at i o (inl out) =
         let out' = subst (λ (n : ℕ). (i < place) ⊎ (place + n ≤ i)) (sym is) out in
@@ -108,7 +108,7 @@ Agrees-overwrite_both place count from a b ranges is le f = record {
 
 -- a part that no range touches is the same
 pub Agrees-part : (ranges : List Range) (place count : ℕ) (a b : List ℕ) → place + count ≤ length a
-    → ((i : ℕ) → place ≤ i → i < place + count → IsOutside ranges i)
+    → ((i : ℕ) → place ≤ i → i < place + count → IsInNone ranges i)
     → Agrees ranges a b → part place count b ≡ part place count a
 Agrees-part ranges place count a b le out f =
     let long : length (part place count b) ≡ count = length-part place count b (omega (arith, f.long)) in
@@ -128,7 +128,7 @@ Agrees-part_back place count a b ranges le f =
       same = λ i o. at long i o (outside_or_in place count i);
     }
   where
-    at : length (part place count a) ≡ count → (i : ℕ) → IsOutside ranges i
+    at : length (part place count a) ≡ count → (i : ℕ) → IsInNone ranges i
         → ((i < place) ⊎ (place + count ≤ i)) ⊎ ((place ≤ i) × (i < place + count))
         → get_or (overwrite place (part place count a) b) i 0 ≡ get_or a i 0
     at long i o (inl out) =

@@ -1,6 +1,6 @@
 -- The writes and syncs of a disk in memory, and what a crash then may leave.
 use Rattle.std.specs.Prelude.{◌≡◌, ℕ, zero, suc, ◌*◌, List, [], ◌∷◌, ◌++◌, map, length, slice_index, replicate}
-use Rattle.sdr_disk.specs.Ranges.{IsOutside, Range, overwrite, range}
+use Rattle.sdr_disk.specs.Ranges.{IsInNone, Range, overwrite, range}
 use Rattle.sdr_disk.specs.declared.change.Change.{Change}
 use Rattle.sdr_disk.specs.declared.change.Change.TheVariants.{Write, Sync}
 use Rattle.sdr_disk.specs.declared.change.Outcome.{Outcome}
@@ -79,7 +79,7 @@ ranges_of written = map (λ w. range w.place (length w.bytes)) written
 -- an image that a crash may leave of so many bytes: as read outside the ranges written since the last good sync
 pub record Leaves (size : ℕ) (s : State) (image : List ℕ) : Type 0 where
   pub long : length image ≡ size
-  pub same : (i : ℕ) → IsOutside (ranges_of s.written) i → slice_index image i ≡ slice_index s.read i
+  pub same : (i : ℕ) → IsInNone (ranges_of s.written) i → slice_index image i ≡ slice_index s.read i
 
 -- a crash at a moment may leave this image
 abbrev pub MayLeave : History → ℕ → List ℕ → Type 0

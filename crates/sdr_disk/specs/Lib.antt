@@ -4,5 +4,6 @@ pub mod Image
 pub mod Kept
 pub mod MemoryDisk
 pub mod Moments
+pub mod Pending
 pub mod Ranges
 pub mod Told

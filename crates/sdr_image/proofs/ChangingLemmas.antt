@@ -1,8 +1,8 @@
 -- Lines that are changed all or none, step by step.
-use Rattle.std.proofs.Common.{◌≡◌, ◌⊎◌, inl, inr, ℕ, true, List, [], sym, ap, ◌∙◌, arith, Some, ⊎_elim}
+use Rattle.std.proofs.Common.{◌≡◌, ◌⊎◌, inl, inr, ℕ, true, List, [], ap, ◌∙◌, arith, Some, ⊎_elim}
 use Rattle.sdr_disk.specs.Moments.{AtEach}
 use Rattle.sdr_disk.proofs.MomentsLemmas.{at_both, at_then}
-use Rattle.sdr_log.specs.Calls.{AreNamed, Closes, HoldLines, MayOpen, MayPut, Opens, Puts}
+use Rattle.sdr_log.specs.Calls.{AreNamed, HoldLines, MayOpen, MayPut, Opens, Puts}
 use Rattle.sdr_log.specs.Log.{are_good, heap_of, put_records}
 use Rattle.sdr_log.specs.Logged.{Gives, GivesSame, IsAtRest, IsOpen}
 use Rattle.sdr_log.specs.declared.frame.Frame.{Frame}
@@ -10,7 +10,6 @@ use Rattle.sdr_log.specs.declared.record.Record.{Record}
 use Rattle.sdr_log.proofs.LoggedLemmas.{rest_gives}
 use Rattle.sdr_log.proofs.TransactionLemmas.{opens_may_put, rest_may_open, rest_reads}
 use Rattle.sdr_image.specs.Changed.{GivesEither}
-use Rattle.sdr_image.specs.Opened.{HoldsHeap}
 
 -- These old lines and new ones, on a disk at rest.
 module _ (f : Frame) (olds news : List Record) (x : List ℕ) (left : List ℕ → Type 0) (r : IsAtRest f x left)
@@ -67,8 +66,3 @@ module _ (f : Frame) (olds news : List Record) (x : List ℕ) (left : List ℕ �
           (at_putting moment may_leave old mid mid' before putting) each (λ image either. either)
           (λ image either. ⊎_elim (λ same. old_lines image (same ∙ p.back ∙ o.back))
           (λ gives. inr (gives ∙ ap Some new_heap)) either)
-
-      -- and once it is closed
-      pub holds_new : (w : List ℕ) (left''' : List ℕ → Type 0) → Closes f z w left''' →
-          HoldsHeap f (put_records news (heap_of f x)) w left'''
-      holds_new w left''' c = record { rest = c.rest; heap = c.heap ∙ new_heap }

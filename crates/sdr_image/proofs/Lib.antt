@@ -1,3 +1,4 @@
+pub mod ChangedLemmas
 pub mod ChangingLemmas
 pub mod FormatLemmas
 pub mod FormattedLemmas

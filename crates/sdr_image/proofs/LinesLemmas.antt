@@ -1,6 +1,6 @@
 -- Records of lines in another order, and with the bytes of another heap.
 use Rattle.std.proofs.Common.{◌≡◌, ◌≤◌, ◌<◌, inl, inr, ℕ, zero, suc, ◌+◌, ◌*◌, ◌/◌, Bool, true, false, ◌||◌, ◌==◌, cond}
-use Rattle.std.proofs.Common.{List, [], ◌∷◌, length, refl, sym, ap, ◌∙◌, subst, arith}
+use Rattle.std.proofs.Common.{List, [], ◌∷◌, length, refl, sym, ap, ◌∙◌, arith}
 use Rattle.std.specs.Prelude.{IsPermutation}
 use Rattle.std.specs.List.{All, sum_by}
 use Rattle.std.proofs.lemmas.Bool.{cases_eq}
@@ -13,7 +13,7 @@ use Rattle.sdr_disk.specs.Ranges.{overwrite, part}
 use Rattle.sdr_log.specs.Calls.{AreBelow, AreNamed, HoldLines}
 use Rattle.sdr_log.specs.Log.{AreLines, are_good, is_named, put_records}
 use Rattle.sdr_log.specs.declared.record.Record.{Record}
-use Rattle.sdr_log.proofs.GoodLemmas.{AreBelow-good, AreNamed-own, put_records-all_own}
+use Rattle.sdr_log.proofs.GoodLemmas.{AreBelow-good, put_records-all_own}
 use Rattle.sdr_log.proofs.RecordsLemmas.{SameBut, SameBut-put_records, are_good-cons, part-same_but}
 use Rattle.sdr_log.proofs.RecordsLemmas.{put_records-same_but}
 use Rattle.sdr_image.specs.Changed.{lines_in}

@@ -1,86 +1,145 @@
 -- What an image keeps of its disk, and what opening one leaves.
-use Rattle.std.proofs.Common.{◌≡◌, ℕ, Bool, false, List, [], refl, sym, ap, ◌∙◌, subst, Some, inl, arith}
+use Rattle.std.proofs.Common.{◌≡◌, ℕ, Bool, false, List, [], sym, ap, ◌∙◌, subst, Some, inl, inr, arith}
 use Rattle.std.specs.Prelude.{Option, is_some}
-use Rattle.sdr_disk.specs.Moments.{AtEach, Only, Reads}
+use Rattle.std.proofs.lemmas.Option.{same_Some}
+use Rattle.sdr_base.specs.declared.line.TheConstants.{LINE}
+use Rattle.sdr_disk.specs.Moments.{AtEach, Reads}
+use Rattle.sdr_disk.specs.Pending.{IsSynced}
+use Rattle.sdr_disk.specs.Ranges.{part}
 use Rattle.sdr_disk.specs.Told.{Both, Told}
 use Rattle.sdr_disk.proofs.MomentsLemmas.{at_both, at_first, at_read}
 use Rattle.sdr_disk.proofs.ToldLemmas.{told_before}
-use Rattle.sdr_log.specs.Calls.{PutsBack}
+use Rattle.sdr_log.specs.Calls.{MayPutBack, PutsBack}
+use Rattle.sdr_log.specs.Frame.{frame_of}
 use Rattle.sdr_log.specs.Log.{heap_of, put_back_of, put_records}
-use Rattle.sdr_log.specs.Logged.{Gives, GivesSame, IsAtRest}
+use Rattle.sdr_log.specs.Logged.{Gives, GivesSame, IsLogged}
 use Rattle.sdr_log.specs.declared.frame.Frame.{Frame}
 use Rattle.sdr_log.specs.declared.record.Record.{Record}
-use Rattle.sdr_image.specs.Changed.{GivesEither}
-use Rattle.sdr_image.specs.Opened.{HoldsHeap, IsImage, IsQuiet, LeavesHeap, Opened}
+use Rattle.sdr_log.proofs.LoggedLemmas.{logged_same}
+use Rattle.sdr_image.specs.Opened.{HasBytes, HoldsHeap, IsImage, IsQuiet, KeepsBegun, LeavesHeap, Opened, Rests}
+use Rattle.sdr_image.specs.Opening.{MayBeOpened}
 use Rattle.sdr_image.specs.Undo.{Olds}
-use Rattle.sdr_image.proofs.SavedLemmas.{holds_gives}
+use Rattle.sdr_image.proofs.SavedLemmas.{bytes_back, bytes_held, holds_gives}
 
-module _ (size : ℕ) (told : Option (List ℕ)) (left : List ℕ → Type 0) (f : Frame) (bytes : List ℕ) (undo : Olds)
-    (memory : ℕ) (is_open failed : Bool) (i : IsImage size told left f bytes undo memory is_open failed)
+module _ (size : ℕ) (told : Option (List ℕ)) (f : Frame) (bytes : List ℕ) (undo : Olds)
+    (memory : ℕ) (is_open failed : Bool) (i : IsImage size told f bytes undo memory is_open failed)
     (sound : failed ≡ false) where
-  -- a crash leaves the bytes at begin
-  pub image_leaves : Told told (λ _. (image : List ℕ) → left image → Gives (put_records undo.olds bytes) image)
-  image_leaves x is image of_left = holds_gives f (put_records undo.olds bytes) x left (i.disk sound x is) image of_left
+  -- opening the disk gives the bytes at begin
+  pub image_back : Told told (Gives (put_records undo.olds bytes))
+  image_back x is = bytes_back f (put_records undo.olds bytes) x (i.disk sound x is)
 
   -- where nothing is touched, these are the bytes now
-  pub image_holds : undo.olds ≡ [] → Told told (λ x. HoldsHeap f bytes x left)
-  image_holds none x is =
-      subst (λ (olds : List Record). HoldsHeap f (put_records olds bytes) x left) none (i.disk sound x is)
+  pub image_bytes : undo.olds ≡ [] → Told told (HasBytes f bytes)
+  image_bytes none x is =
+      subst (λ (olds : List Record). HasBytes f (put_records olds bytes) x) none (i.disk sound x is)
 
--- where nothing happens, a crash leaves the bytes at begin
-pub image_still : {D : Type 0} (told : D → Option (List ℕ)) (moment : D → ℕ) (may_leave : D → ℕ → List ℕ → Type 0)
-    (disk : D) (begun bytes : List ℕ) →
-    Told (told disk) (λ _. (image : List ℕ) → may_leave disk (moment disk) image → Gives begun image) →
-    Told (told disk) (λ _. AtEach moment may_leave disk disk (GivesEither begun bytes))
-image_still told moment may_leave disk begun bytes leaves x is =
-    at_first moment may_leave disk (GivesEither begun bytes) (λ image of_left. inl (leaves x is image of_left))
+-- Images whose disks rest.
+module _ {D : Type 0} (told : D → Option (List ℕ)) (moment : D → ℕ) (may_leave : D → ℕ → List ℕ → Type 0) where
+  -- a crash leaves what gives the bytes at begin
+  pub rests_leaves : (i : Opened D) → i.failed ≡ false → Rests told moment may_leave i →
+      LeavesHeap told moment may_leave i.begun i.disk
+  rests_leaves i sound rests x is image of_left = holds_gives i.frame i.begun x _ (rests sound x is) image of_left
 
--- Reads, behind other calls.
-module _ {D : Type 0} (bytes : D → Option (List ℕ)) (moment : D → ℕ) (may_leave : D → ℕ → List ℕ → Type 0) where
-  pub at_reads : (old mid mid' new : D) (x : List ℕ) → AtEach moment may_leave old mid (GivesSame x) →
-      AtEach moment may_leave mid mid' (GivesSame x) → Reads bytes moment may_leave mid' new →
-      AtEach moment may_leave old new (GivesSame x)
-  at_reads old mid mid' new x f g r =
-      at_read moment may_leave old mid' new (GivesSame x)
-      (at_both moment may_leave old mid mid' (GivesSame x) (GivesSame x) (GivesSame x) f g (λ image s. s) (λ image s. s))
-      r.time r.past
+  -- at the moment now it does
+  pub rests_now : (i : Opened D) → i.failed ≡ false → Rests told moment may_leave i →
+      Told (told i.disk) (λ _. AtEach moment may_leave i.disk i.disk (Gives i.begun))
+  rests_now i sound rests x is = at_first moment may_leave i.disk (Gives i.begun) (rests_leaves i sound rests x is)
 
-  -- at rest, they leave it so
-  pub reads_rest : (f : Frame) (y : List ℕ) (old new : D) → IsAtRest f y (may_leave old (moment old)) →
-      Reads bytes moment may_leave old new → IsAtRest f y (may_leave new (moment new))
-  reads_rest f y old new r reads = record {
-    regions = r.regions;
-    gate = r.gate;
-    only = λ image of_left.
-        r.only image (reads.past.now_then (moment old) image (omega arith)
-        (subst (λ (m : ℕ). may_leave new m image) reads.time of_left));
+  -- the disk still rests where it and the bytes at begin are the same
+  pub rests_same : (old new : Opened D) → IsQuiet old new → Rests told moment may_leave old →
+      Rests told moment may_leave new
+  rests_same old new q rests sound =
+      subst (λ (disk : D). Told (told disk) (λ x. HoldsHeap new.frame new.begun x (may_leave disk (moment disk))))
+      (sym q.disk)
+      (subst (λ (f : Frame). Told (told old.disk)
+      (λ x. HoldsHeap f new.begun x (may_leave old.disk (moment old.disk)))) (sym q.frame)
+      (subst (λ (heap : List ℕ). Told (told old.disk)
+      (λ x. HoldsHeap old.frame heap x (may_leave old.disk (moment old.disk)))) (sym q.begun)
+      (rests (sym q.failed ∙ sound))))
+
+  -- what is quiet keeps the bytes at begin
+  pub quiet_keeps : (old new : Opened D) → IsQuiet old new → KeepsBegun told moment may_leave old new
+  quiet_keeps old new q = record {
+    rests = rests_same old new q;
+    any_moment = λ sound rests x is.
+        subst (λ (disk : D). AtEach moment may_leave old.disk disk (Gives old.begun)) (sym q.disk)
+        (rests_now old sound rests x is);
   }
 
-  -- the heap that was read, of a disk that was at rest after another's batches were put back
-  pub loaded : (f : Frame) (heap y : List ℕ) (first old new : D) →
-      is_some (bytes old) ≡ is_some (bytes first) →
-      ((x : List ℕ) → bytes first ≡ Some x → (z : List ℕ) → bytes old ≡ Some z →
-      IsAtRest f z (may_leave old (moment old))) →
+  -- where nothing is pending, the disk rests
+  pub rests_synced : (i : Opened D) → (i.failed ≡ false → Told (told i.disk) (HasBytes i.frame i.begun)) →
+      IsSynced told moment may_leave i.disk → Rests told moment may_leave i
+  rests_synced i has synced sound x is = bytes_held i.frame i.begun x _ (has sound x is) (synced x is)
+
+-- The disk before it is opened.
+
+-- what a crash leaves gives the same heap
+opened_same : (x image : List ℕ) (left : List ℕ → Type 0) → MayBeOpened x left → left image → GivesSame x image
+opened_same x image left (inl only) of_left = ap put_back_of (only image of_left)
+opened_same x image left (inr stopped) of_left = logged_same stopped.frame x image left stopped.logged of_left
+
+-- its batches may be put back
+pub may_put_back : (f : Frame) (x : List ℕ) (left : List ℕ → Type 0) → frame_of (part 0 LINE x) ≡ Some f →
+    MayBeOpened x left → MayPutBack f x left
+may_put_back f x left head (inl only) = inl only
+may_put_back f x left head (inr stopped) =
+    inr (subst (λ (k : Frame). IsLogged k x left)
+    (same_Some _ _ (sym stopped.logged.logs.regions.head ∙ head)) stopped.logged)
+
+-- Reads, before and behind other calls.
+module _ {D : Type 0} (bytes : D → Option (List ℕ)) (moment : D → ℕ) (may_leave : D → ℕ → List ℕ → Type 0) where
+  module _ (old now : D) (r : Reads bytes moment may_leave old now) where
+    left_before : (image : List ℕ) → may_leave now (moment now) image → may_leave old (moment old) image
+    left_before image of_left =
+        r.past.now_then (moment old) image (omega arith) (subst (λ (m : ℕ). may_leave now m image) r.time of_left)
+
+    -- they leave a disk that may be opened
+    pub reads_may : (x : List ℕ) → MayBeOpened x (may_leave old (moment old)) →
+        MayBeOpened x (may_leave now (moment now))
+    reads_may x (inl only) = inl (λ image of_left. only image (left_before image of_left))
+    reads_may x (inr stopped) = inr record {
+      frame = stopped.frame;
+      logged = record {
+        records = stopped.logged.records;
+        logs = stopped.logged.logs;
+        pending = λ image of_left. stopped.logged.pending image (left_before image of_left);
+      };
+    }
+
+    -- and one on which nothing is pending
+    pub reads_synced : IsSynced bytes moment may_leave old → IsSynced bytes moment may_leave now
+    reads_synced synced x is image of_left = synced x (sym r.same ∙ is) image (left_before image of_left)
+
+    pub at_reads : (x : List ℕ) → MayBeOpened x (may_leave old (moment old)) →
+        AtEach moment may_leave old now (GivesSame x)
+    at_reads x may =
+        at_read moment may_leave old old now (GivesSame x)
+        (at_first moment may_leave old (GivesSame x) (λ image l. opened_same x image _ may l)) r.time r.past
+
+  -- at each moment of reads, other calls, and reads
+  pub at_between : (old mid mid' new : D) (x : List ℕ) → Reads bytes moment may_leave old mid →
+      MayBeOpened x (may_leave old (moment old)) → AtEach moment may_leave mid mid' (GivesSame x) →
+      Reads bytes moment may_leave mid' new → AtEach moment may_leave old new (GivesSame x)
+  at_between old mid mid' new x f may g r =
+      at_read moment may_leave old mid' new (GivesSame x)
+      (at_both moment may_leave old mid mid' (GivesSame x) (GivesSame x) (GivesSame x) (at_reads old mid f x may) g
+      (λ image s. s) (λ image s. s))
+      r.time r.past
+
+  -- the heap that was read, of a disk whose open batches were put back
+  pub loaded : (f : Frame) (count : ℕ) (heap y : List ℕ) (first old new : D) →
+      is_some (bytes old) ≡ is_some (bytes first) → Both (bytes first) (bytes old) (PutsBack f count) →
       Reads bytes moment may_leave old new → Told (bytes old) (λ z. heap ≡ heap_of f z) → bytes new ≡ Some y →
-      HoldsHeap f heap y (may_leave new (moment new))
-  loaded f heap y first old new tells rest reads given is =
+      HasBytes f heap y
+  loaded f count heap y first old new tells back reads given is =
       let was : bytes old ≡ Some y = sym reads.same ∙ is in
       let t = told_before (bytes first) (bytes old) y tells was in
-      record { rest = reads_rest f y old new (rest t.x t.is y was) reads; heap = sym (given y was) }
+      let b = back t.x t.is y was in
+      record { regions = b.regions; gate = b.gate; heap = sym (given y was) }
 
 -- what opening gives is what was read
-pub opened_heap : (old new : Option (List ℕ)) (f : Frame) (count : ℕ) (bytes x : List ℕ) (left : List ℕ → Type 0) →
-    is_some new ≡ is_some old → Both old new (PutsBack f count) → Told new (λ y. HoldsHeap f bytes y left) →
+pub opened_heap : (old new : Option (List ℕ)) (f : Frame) (count : ℕ) (bytes x : List ℕ) →
+    is_some new ≡ is_some old → Both old new (PutsBack f count) → Told new (HasBytes f bytes) →
     old ≡ Some x → put_back_of x ≡ Some bytes
-opened_heap old new f count bytes x left tells back holds is =
+opened_heap old new f count bytes x tells back holds is =
     let t = told_before new old x (sym tells) is in (back x is t.x t.is).gives ∙ ap Some (holds t.x t.is).heap
-
--- what keeps a disk and the bytes at begin keeps what a crash leaves
-pub quiet_leaves : {D : Type 0} (told : D → Option (List ℕ)) (moment : D → ℕ) (may_leave : D → ℕ → List ℕ → Type 0)
-    (old new : Opened D) → IsQuiet old new → LeavesHeap told moment may_leave old.begun old.disk →
-    LeavesHeap told moment may_leave new.begun new.disk
-quiet_leaves {D = D} told moment may_leave old new q =
-    subst (λ (heap : List ℕ). LeavesHeap told moment may_leave old.begun old.disk →
-    LeavesHeap told moment may_leave heap new.disk) (sym q.begun)
-    (subst (λ (disk : D). LeavesHeap told moment may_leave old.begun old.disk →
-    LeavesHeap told moment may_leave old.begun disk) (sym q.disk) (λ leaves. leaves))

@@ -1,11 +1,13 @@
 -- Touched lines, gathered by rising number and changed on the disk.
-use Rattle.std.proofs.Common.{◌≡◌, ◌≢◌, ◌≤◌, ℕ, ◌+◌, ◌*◌, ◌/◌, Bool, true, false, List, [], ◌∷◌, length, refl, sym, ap, ◌∙◌}
+use Rattle.std.proofs.Common.{◌≡◌, ◌≢◌, ◌<◌, ◌==◌, ℕ, zero, suc, ◌+◌, ◌*◌, ◌/◌, Bool, true, false, List, []}
+use Rattle.std.proofs.Common.{length, refl, sym, ap, ◌∙◌}
 use Rattle.std.proofs.Common.{subst, arith, Some}
 use Rattle.std.specs.Prelude.{IsPermutation, Option}
 use Rattle.std.specs.List.Sorted.{IsNonDecreasingBy}
+use Rattle.std.proofs.lemmas.Bool.Decides.{nat_tests}
 use Rattle.std.proofs.lemmas.List.{length-map}
 use Rattle.std.proofs.lemmas.List.Sorted.{length_permutation}
-use Rattle.sdr_disk.specs.Moments.{AtEach}
+use Rattle.sdr_disk.specs.Moments.{AtEach, Only}
 use Rattle.sdr_disk.specs.Told.{Both, Told}
 use Rattle.sdr_log.specs.Calls.{AreBelow, AreNamed, HasPlace, HoldLines}
 use Rattle.sdr_log.specs.Frame.{IsInLimits}
@@ -14,12 +16,14 @@ use Rattle.sdr_log.specs.Logged.{Gives, IsAtRest}
 use Rattle.sdr_log.specs.declared.frame.Frame.{Frame}
 use Rattle.sdr_log.specs.declared.record.Record.{Record}
 use Rattle.sdr_log.proofs.GoodLemmas.{AreBelow-good, AreNamed-own}
-use Rattle.sdr_log.proofs.LoggedLemmas.{rest_gives}
-use Rattle.sdr_log.proofs.RecordsLemmas.{SameBut, SameBut-put_records}
+use Rattle.sdr_log.proofs.LogLemmas.{put_back_of-closed}
+use Rattle.sdr_log.proofs.LoggedLemmas.{HasRegions-limits, rest_gives}
+use Rattle.sdr_log.proofs.RecordsLemmas.{SameBut-put_records}
 use Rattle.sdr_image.specs.Changed.{GivesEither, HasChanged, changed, lines_in}
-use Rattle.sdr_image.specs.Opened.{HoldsHeap, Opened, lines_named}
-use Rattle.sdr_image.specs.Saved.{HasMemory, MaySave, Saves}
-use Rattle.sdr_image.proofs.LinesLemmas.{AreBelow-lines_in, AreNamed-lines_in, HoldLines-lines_in}
+use Rattle.sdr_image.specs.Opened.{HasBytes, HoldsHeap, Opened, Rests, lines_named}
+use Rattle.sdr_image.specs.Saved.{HasMemory, MaySave, Saves, calls_of}
+use Rattle.sdr_image.specs.Undo.{Olds}
+use Rattle.sdr_image.proofs.LinesLemmas.{AreBelow-lines_in, AreLines-lines_in, AreNamed-lines_in, HoldLines-lines_in}
 use Rattle.sdr_image.proofs.LinesLemmas.{HoldLines-permutation, HoldLines-put_records, are_good-permutation}
 use Rattle.sdr_image.proofs.LinesLemmas.{is_named-permutation, length-lines_in, put_records-lines_in}
 
@@ -93,12 +97,15 @@ module _ (f : Frame) (memory : ℕ) (olds : List Record) (region : List ℕ) (m 
         })
 
     -- what the changes leave
-    pub saved_holds : (x y : List ℕ) (left left' : List ℕ → Type 0) → HoldsHeap f (put_records olds region) x left →
-        (IsAtRest f x left → HoldLines (heap_of f x) rising →
-        HoldsHeap f (put_records news (heap_of f x)) y left') → HoldsHeap f region y left'
-    saved_holds x y left left' h then =
-        subst (λ (heap : List ℕ). HoldsHeap f heap y left') (ap (put_records news) h.heap ∙ becomes)
-        (then h.rest (subst (λ (heap : List ℕ). HoldLines heap rising) (sym h.heap) own))
+    pub saved_bytes : (x y : List ℕ) → HasBytes f (put_records olds region) x →
+        (HasBytes f (heap_of f x) x → HoldLines (heap_of f x) rising → AreLines news →
+        HasBytes f (put_records news (heap_of f x)) y) → HasBytes f region y
+    saved_bytes x y h then =
+        subst (λ (heap : List ℕ). HasBytes f heap y) (ap (put_records news) h.heap ∙ becomes)
+        (then (subst (λ (heap : List ℕ). HasBytes f heap x) (sym h.heap) h)
+        (subst (λ (heap : List ℕ). HoldLines heap rising) (sym h.heap) own)
+        (subst AreLines (sym g.news_are)
+        (AreLines-lines_in region f.heap_lines rising (rising_below rising g.lines) (omega (arith, m.long)))))
 
     -- and what a crash leaves of them
     pub saved_each : {D : Type 0} (moment : D → ℕ) (may_leave : D → ℕ → List ℕ → Type 0) (old new : D) (x : List ℕ)
@@ -120,15 +127,23 @@ module _ (f : Frame) (memory : ℕ) (olds : List Record) (region : List ℕ) (m 
       written = is ∙ ap (λ (rs : List Record). changed f rising rs x) g.news_are;
     }
 
--- a heap at rest is what opening gives
-pub holds_back : (f : Frame) (bytes x : List ℕ) (left : List ℕ → Type 0) → HoldsHeap f bytes x left →
-    Gives bytes x
-holds_back f bytes x left h = rest_gives f x left h.rest ∙ ap Some h.heap
+-- with no open batch, opening gives the heap region
+pub bytes_back : (f : Frame) (bytes x : List ℕ) → HasBytes f bytes x → Gives bytes x
+bytes_back f bytes x h =
+    let limits = HasRegions-limits f x h.regions in
+    put_back_of-closed f x h.regions.head (omega (arith, limits.least_log)) h.regions.inside h.gate ∙ ap Some h.heap
 
--- also after a crash
+-- and where nothing is pending the disk is at rest
+pub bytes_held : (f : Frame) (bytes x : List ℕ) (left : List ℕ → Type 0) → HasBytes f bytes x → Only x left →
+    HoldsHeap f bytes x left
+bytes_held f bytes x left h only =
+    record { rest = record { regions = h.regions; gate = h.gate; only = only }; heap = h.heap }
+
+-- at rest, a crash leaves what gives the heap region too
 pub holds_gives : (f : Frame) (bytes x : List ℕ) (left : List ℕ → Type 0) → HoldsHeap f bytes x left →
     (image : List ℕ) → left image → Gives bytes image
-holds_gives f bytes x left h image of_left = ap put_back_of (h.rest.only image of_left) ∙ holds_back f bytes x left h
+holds_gives f bytes x left h image of_left =
+    ap put_back_of (h.rest.only image of_left) ∙ rest_gives f x left h.rest ∙ ap Some h.heap
 
 -- what a commit leaves, of the fields of an image and as contracts see it
 pub Saves-from : {D : Type 0} (told : D → Option (List ℕ)) (moment : D → ℕ) (may_leave : D → ℕ → List ℕ → Type 0)
@@ -136,10 +151,10 @@ pub Saves-from : {D : Type 0} (told : D → Option (List ℕ)) (moment : D → �
     f ≡ old.frame → bytes ≡ old.bytes → put_records olds bytes ≡ old.begun → lines_named olds ≡ old.touched →
     are_good f.heap_lines olds ≡ true → AreLines olds → length bytes ≡ 64 * f.heap_lines →
     (old.touched ≢ [] → Both (told disk) (told new.disk) (HasChanged f olds bytes)) →
-    Told (told new.disk) (λ y. HoldsHeap f bytes y (may_leave new.disk (moment new.disk))) →
+    Told (told new.disk) (HasBytes f bytes) → (old.touched ≢ [] → Rests told moment may_leave new) →
     Saves told moment may_leave old new
 Saves-from told moment may_leave old new disk f bytes olds disk_is f_is bytes_is begun_is touched_is good whole long
-    written holds =
+    written holds rests =
     let own = HoldLines-lines_in (put_records olds bytes) olds
     (HoldLines-put_records f.heap_lines olds bytes good whole (omega (arith, long))) in
     let olds_are : olds ≡ lines_in old.begun old.touched = own ∙ (λ i. lines_in (begun_is i) (touched_is i)) in
@@ -149,6 +164,32 @@ Saves-from told moment may_leave old new disk f bytes olds disk_is f_is bytes_is
           (subst (λ (b : List ℕ). HasChanged old.frame olds b x y) bytes_is
           (subst (λ (k : Frame). HasChanged k olds bytes x y) f_is
           (written some x (ap told disk_is ∙ was) y now)));
-      back = λ y now. holds_back f bytes y _ (holds y now) ∙ ap Some bytes_is;
-      durable = λ y now image left. holds_gives f bytes y _ (holds y now) image left ∙ ap Some bytes_is;
+      back = λ y now. bytes_back f bytes y (holds y now) ∙ ap Some bytes_is;
+      rests = rests;
     }
+
+-- the disk of an image whose bytes are its own at begin rests, where nothing is pending
+pub saved_rests : (f : Frame) (bytes x : List ℕ) (left : List ℕ → Type 0) (undo : Olds) (lines room : ℕ) →
+    undo ≡ record { lines = lines; room = room; olds = [] } → HasBytes f bytes x → Only x left →
+    HoldsHeap f (put_records undo.olds bytes) x left
+saved_rests f bytes x left undo lines room is has only =
+    subst (λ (u : Olds). HoldsHeap f (put_records u.olds bytes) x left) (sym is) (bytes_held f bytes x left has only)
+
+-- where old lines are kept, a commit makes a call for each and seven more
+pub calls_of-touched : (olds rs : List Record) (touched : List ℕ) (none : Bool) → rs ≡ olds →
+    lines_named olds ≡ touched → none ≡ (length rs == 0) → none ≡ false → calls_of (length touched) ≡ length touched + 7
+calls_of-touched olds rs touched none rs_are are empty some =
+    calls_of-some (length touched) (omega (
+      arith,
+      ap length rs_are,
+      ap length are,
+      length-map olds (λ (r : Record). r.line),
+      several (length rs) (sym empty ∙ some),
+    ))
+  where
+    several : (n : ℕ) → (n == 0) ≡ false → 0 < n
+    several n ne = grind (arith, nat_tests)
+
+    calls_of-some : (n : ℕ) → 0 < n → calls_of n ≡ n + 7
+    calls_of-some zero lt = absurd (omega arith)
+    calls_of-some (suc n) lt = refl

@@ -12,7 +12,7 @@ use Rattle.std.proofs.lemmas.List.Sums.{sum_by-cons}
 use Rattle.sdr_log.specs.Log.{is_named}
 use Rattle.sdr_log.proofs.RecordsLemmas.{is_named-push}
 use Rattle.sdr_log.specs.declared.record.Record.{Record}
-use Rattle.sdr_image.specs.Undo.{IsMarked}
+use Rattle.sdr_image.specs.Undo.{TellsTouched}
 
 -- one mark less
 pub unmark_one : (marks : List Bool) (r : Record) (olds : List Record) (line : ℕ) → r.line < length marks →
@@ -32,10 +32,10 @@ below_all n lines after r is below =
     (below' r.line (grind (arith, nat_tests)), λ line named. below' line (grind (arith, nat_tests)))
 
 -- one mark more
-pub IsMarked-push : (olds : List Record) (r : Record) (marks : List Bool) (room capacity more : ℕ) →
-    IsMarked olds marks room capacity → r.line < length marks → room ≤ more →
-    IsMarked (olds ++ r ∷ []) (slice_set marks r.line true) room more
-IsMarked-push olds r marks room capacity more m lt enough = record {
+pub TellsTouched-push : (olds : List Record) (r : Record) (marks : List Bool) (room capacity more : ℕ) →
+    TellsTouched olds marks room capacity → r.line < length marks → room ≤ more →
+    TellsTouched (olds ++ r ∷ []) (slice_set marks r.line true) room more
+TellsTouched-push olds r marks room capacity more m lt enough = record {
   reserved = enough;
   below = λ line is. elim (cases_eq r.line line) [
     | inl same ↦ grind (arith, common_steps)

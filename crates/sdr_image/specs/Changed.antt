@@ -4,7 +4,7 @@ use Rattle.std.specs.List.Sorted.{IsNonDecreasingBy}
 use Rattle.sdr_base.specs.declared.line.TheConstants.{LINE}
 use Rattle.sdr_disk.specs.Ranges.{overwrite, part}
 use Rattle.sdr_log.specs.Batch.{with_batch}
-use Rattle.sdr_log.specs.Calls.{with_lines}
+use Rattle.sdr_log.specs.Calls.{with_records}
 use Rattle.sdr_log.specs.Logged.{Gives}
 use Rattle.sdr_log.specs.declared.frame.Frame.{Frame}
 use Rattle.sdr_log.specs.declared.record.Record.{Record}
@@ -16,7 +16,7 @@ GivesEither old new image = Gives old image ⊎ Gives new image
 
 -- the disk with new lines in its heap region, and in the log region the batch of the old ones behind a closed gate
 abbrev pub changed : Frame → List Record → List Record → List ℕ → List ℕ
-changed f olds news disk = overwrite LINE (0 ∷ []) (with_lines f news (with_batch 0 olds disk))
+changed f olds news disk = overwrite LINE (0 ∷ []) (with_records f news (with_batch 0 olds disk))
 
 -- records of these lines, with the bytes that they have in a heap
 abbrev pub lines_in : List ℕ → List ℕ → List Record

@@ -1,11 +1,14 @@
 -- An image, as contracts see it.
-use Rattle.std.specs.Prelude.{◌≡◌, ◌≤◌, ◌*◌, ℕ, Bool, true, false, List, [], length, map, Option, Some}
+use Rattle.std.specs.Prelude.{◌≡◌, ◌≤◌, ◌*◌, ⊤, ℕ, Bool, true, false, List, [], length, map, Option, Result, Ok, Err}
 use Rattle.sdr_base.specs.Transaction.{Transaction}
 use Rattle.sdr_base.specs.declared.line.TheConstants.{LINE}
+use Rattle.sdr_base.specs.declared.stop.Stop.{Stop}
+use Rattle.sdr_base.specs.declared.stop.Stop.TheVariants.{DiskFault}
+use Rattle.sdr_disk.specs.Moments.{AtEach}
 use Rattle.sdr_disk.specs.Told.{Told}
 use Rattle.sdr_log.specs.Frame.{IsInLimits, room_of, disk_bytes}
-use Rattle.sdr_log.specs.Log.{are_good, AreLines, put_records, heap_of}
-use Rattle.sdr_log.specs.Logged.{Gives, IsAtRest}
+use Rattle.sdr_log.specs.Log.{are_good, AreLines, first_gate, put_records, heap_of}
+use Rattle.sdr_log.specs.Logged.{Gives, HasRegions, IsAtRest}
 use Rattle.sdr_log.specs.declared.frame.Frame.{Frame}
 use Rattle.sdr_log.specs.declared.record.Record.{Record}
 use Rattle.sdr_image.specs.Undo.{Olds}
@@ -31,19 +34,28 @@ transaction_of faults i = record {
   failed = i.failed;
 }
 
--- nothing has changed but the disk, and a disk fault was answered
-abbrev pub IsFailed : {D : Type 0} → Opened D → Opened D → Type 0
-IsFailed old new = new ≡ record old { disk = new.disk; failed = true }
+-- what a call leaves that stopped: where the disk failed in it, all but the disk, and where it had failed before, all
+abbrev pub StaysAt : {D T : Type 0} → Result T Stop → Opened D → Opened D → Type 0
+StaysAt (Err DiskFault) old new = new ≡ record old { disk = new.disk; failed = true }
+StaysAt (Err stop) old new = new ≡ old
+StaysAt (Ok value) old new = ⊤
 
--- the disk, its regions and the bytes at begin are the same
+-- the disk, its regions, the bytes at begin, and whether the disk has failed are the same
 pub record IsQuiet {D : Type 0} (old new : Opened D) : Type 0 where
   pub disk : new.disk ≡ old.disk
   pub frame : new.frame ≡ old.frame
   pub begun : new.begun ≡ old.begun
+  pub failed : new.failed ≡ old.failed
 
 -- the numbers of the lines of these records
 abbrev pub lines_named : List Record → List ℕ
 lines_named records = map (λ r. r.line) records
+
+-- the disk has these regions, no batch is open, and this heap is in its heap region
+pub record HasBytes (f : Frame) (bytes disk : List ℕ) : Type 0 where
+  pub regions : HasRegions f disk
+  pub gate : first_gate disk ≡ 0
+  pub heap : heap_of f disk ≡ bytes
 
 -- the disk is at rest, with this heap in its heap region
 pub record HoldsHeap (f : Frame) (bytes disk : List ℕ) (left : List ℕ → Type 0) : Type 0 where
@@ -56,9 +68,22 @@ abbrev pub LeavesHeap : {D : Type 0} → (D → Option (List ℕ)) → (D → �
 LeavesHeap told moment may_leave bytes disk =
     Told (told disk) (λ _. (image : List ℕ) → may_leave disk (moment disk) image → Gives bytes image)
 
+-- the disk of an image is at rest, with the bytes at begin in its heap region, unless it has failed
+abbrev pub Rests : {D : Type 0} → (D → Option (List ℕ)) → (D → ℕ) → (D → ℕ → List ℕ → Type 0) → Opened D → Type 0
+Rests told moment may_leave i =
+    i.failed ≡ false → Told (told i.disk) (λ x. HoldsHeap i.frame i.begun x (may_leave i.disk (moment i.disk)))
+
+-- where the disk of an image rests, it still does later; and at each moment up to then a crash leaves what gives the
+-- bytes at begin, where the disk had not failed before
+pub record KeepsBegun {D : Type 0} (told : D → Option (List ℕ)) (moment : D → ℕ) (may_leave : D → ℕ → List ℕ → Type 0)
+    (old new : Opened D) : Type 0 where
+  pub rests : Rests told moment may_leave old → Rests told moment may_leave new
+  pub any_moment : old.failed ≡ false → Rests told moment may_leave old →
+      Told (told old.disk) (λ _. AtEach moment may_leave old.disk new.disk (Gives old.begun))
+
 -- what each image keeps: its lengths, its old lines, and memory for a commit; and unless its disk has failed, that
--- this is at rest with the heap at begin, whatever of its images a crash may leave now
-pub record IsImage (size : ℕ) (told : Option (List ℕ)) (left : List ℕ → Type 0) (f : Frame) (bytes : List ℕ)
+-- this has the heap at begin and no open batch
+pub record IsImage (size : ℕ) (told : Option (List ℕ)) (f : Frame) (bytes : List ℕ)
     (undo : Olds) (memory : ℕ) (is_open failed : Bool) : Type 0 where
   pub limits : IsInLimits f
   pub fits : disk_bytes f ≤ size
@@ -70,4 +95,4 @@ pub record IsImage (size : ℕ) (told : Option (List ℕ)) (left : List ℕ → 
   pub whole : AreLines undo.olds
   pub reserved : room_of f ≤ memory
   pub idle : is_open ≡ false → undo.olds ≡ []
-  pub disk : failed ≡ false → Told told (λ x. HoldsHeap f (put_records undo.olds bytes) x left)
+  pub disk : failed ≡ false → Told told (HasBytes f (put_records undo.olds bytes))

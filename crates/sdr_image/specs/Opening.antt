@@ -1,18 +1,19 @@
 -- When a disk is opened.
-use Rattle.std.specs.Prelude.{◌≡◌, ◌≤◌, ◌*◌, ℕ, false, List, [], ⊤, Option, Some, Result, Ok, Err, IfErr}
+use Rattle.std.specs.Prelude.{◌≡◌, ◌≤◌, ◌*◌, ◌⊎◌, ℕ, false, List, [], ⊤, Option, Some, Result, Ok, Err, IfErr}
 use Rattle.sdr_base.specs.Causes.{Rose}
 use Rattle.sdr_base.specs.Parts.{part}
 use Rattle.sdr_base.specs.declared.line.TheConstants.{LINE}
+use Rattle.sdr_disk.specs.Moments.{Only}
 use Rattle.sdr_disk.specs.Told.{Both, Told}
 use Rattle.sdr_log.specs.Calls.{KeepsDisk, PutsBack}
-use Rattle.sdr_log.specs.Frame.{IsInLimits, disk_bytes, frame_of, room_of}
+use Rattle.sdr_log.specs.Frame.{IsInLimits, frame_of, room_of}
 use Rattle.sdr_log.specs.Log.{put_back_of}
-use Rattle.sdr_log.specs.Logged.{GivesSame}
+use Rattle.sdr_log.specs.Logged.{IsLogged}
 use Rattle.sdr_log.specs.declared.frame.Frame.{Frame}
 use Rattle.sdr_image.specs.declared.error.ImageError.{ImageError}
 use Rattle.sdr_image.specs.declared.error.ImageError.TheVariants as errors
 use Rattle.sdr_image.specs.declared.error.ImageShut.{ImageShut}
-use Rattle.sdr_image.specs.Opened.{LeavesHeap, Opened}
+use Rattle.sdr_image.specs.Opened.{Opened, Rests}
 use Rattle.sdr_image.specs.Undo.{Olds}
 
 -- what holds where the disk isn't formatted
@@ -35,31 +36,30 @@ pub record HasImageCause {T : Type 0} (before now : ℕ) (result : Result T Imag
   pub later : before ≤ now
   pub explained : IfErr result (ExplainsFault before now)
 
--- a disk of so many bytes has the head of these regions, and room for them
-pub record IsFramed (size : ℕ) (told : Option (List ℕ)) (f : Frame) : Type 0 where
-  pub limits : IsInLimits f
-  pub fits : disk_bytes f ≤ size
-  pub head : Told told (λ x. frame_of (part 0 LINE x) ≡ Some f)
-
 -- the memory of an image with these regions: a heap region, old lines, and a commit
-pub record IsReady (f : Frame) (bytes : ℕ) (undo : Olds) (memory : ℕ) : Type 0 where
+pub record IsReserved (f : Frame) (bytes : ℕ) (undo : Olds) (memory : ℕ) : Type 0 where
   pub long : bytes ≡ LINE * f.heap_lines
   pub undo_is : undo ≡ record { lines = f.heap_lines; room = room_of f; olds = [] }
   pub memory_is : memory ≡ room_of f
 
--- each of these images gives the same heap, or none as before
-abbrev pub AllGiveSame : List ℕ → (List ℕ → Type 0) → Type 0
-AllGiveSame x left = (image : List ℕ) → left image → GivesSame x image
+-- open batches name all lines on which bytes are pending, as where a recovery was stopped
+pub record IsStopped (x : List ℕ) (left : List ℕ → Type 0) : Type 0 where
+  pub frame : Frame
+  pub logged : IsLogged frame x left
 
--- An image that was just opened. The bytes are those of the heap that the disk gives, and so they are after a crash;
--- the open batches are put back; nothing is touched, and no transaction is open.
+-- nothing is pending on a disk that is handed in, or in lines alone that its open batches name
+abbrev pub MayBeOpened : List ℕ → (List ℕ → Type 0) → Type 0
+MayBeOpened x left = Only x left ⊎ IsStopped x left
+
+-- An image that was just opened. The bytes are those of the heap that the disk gives; the open batches are put back;
+-- nothing is touched, and no transaction is open. The disk rests, where it may be opened.
 pub record IsOpened {D : Type 0} (told : D → Option (List ℕ)) (moment : D → ℕ) (may_leave : D → ℕ → List ℕ → Type 0)
     (disk : D) (i : Opened D) : Type 0 where
   pub limits : IsInLimits i.frame
   pub head : Told (told disk) (λ x. frame_of (part 0 LINE x) ≡ Some i.frame)
   pub heap : Told (told disk) (λ x. put_back_of x ≡ Some i.bytes)
   pub back : Both (told disk) (told i.disk) (PutsBack i.frame i.restored)
-  pub durable : LeavesHeap told moment may_leave i.bytes i.disk
+  pub rests : Told (told disk) (λ x. MayBeOpened x (may_leave disk (moment disk))) → Rests told moment may_leave i
   pub begun : i.begun ≡ i.bytes
   pub touched : i.touched ≡ []
   pub closed : i.is_open ≡ false

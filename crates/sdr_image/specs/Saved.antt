@@ -1,6 +1,6 @@
 -- What a commit needs, and what it leaves on the disk.
 use Rattle.std.specs.Prelude.{◌≡◌, ◌≢◌, ◌≤◌, ◌<◌, ◌+◌, ◌*◌, ℕ, zero, suc, true, List, [], length}
-use Rattle.std.specs.Prelude.{Option, Some, is_some}
+use Rattle.std.specs.Prelude.{Option, Some}
 use Rattle.sdr_base.specs.declared.line.TheConstants.{LINE}
 use Rattle.sdr_disk.specs.Told.{Both, Told}
 use Rattle.sdr_log.specs.Batch.{batch_size}
@@ -9,7 +9,7 @@ use Rattle.sdr_log.specs.Log.{AreLines, are_good, put_back_of}
 use Rattle.sdr_log.specs.declared.frame.Frame.{Frame}
 use Rattle.sdr_log.specs.declared.record.Record.{Record}
 use Rattle.sdr_image.specs.Changed.{HasChanged, lines_in}
-use Rattle.sdr_image.specs.Opened.{LeavesHeap, Opened}
+use Rattle.sdr_image.specs.Opened.{Opened, Rests}
 
 -- so many old lines have room, so many new ones, and their batch in so many bytes
 pub record HasMemory (room olds news batch : ℕ) : Type 0 where
@@ -26,22 +26,16 @@ pub record MaySave (f : Frame) (memory : ℕ) (olds : List Record) (region : Lis
   pub whole : AreLines olds
   pub long : length region ≡ LINE * f.heap_lines
 
--- The touched lines are changed on the disk, and opening it gives the bytes now. So it does after a crash from
--- now on.
+-- The touched lines are changed on the disk, and opening it gives the bytes now. Where there were any, the disk rests.
 pub record Saves {D : Type 0} (told : D → Option (List ℕ)) (moment : D → ℕ) (may_leave : D → ℕ → List ℕ → Type 0)
     (old new : Opened D) : Type 0 where
   pub written : old.touched ≢ [] → Both (told old.disk) (told new.disk)
       (HasChanged old.frame (lines_in old.begun old.touched) old.bytes)
   pub back : Told (told new.disk) (λ x. put_back_of x ≡ Some old.bytes)
-  pub durable : LeavesHeap told moment may_leave old.bytes new.disk
+  pub rests : old.touched ≢ [] → Rests told moment may_leave new
 
--- the disk is as long as it was, tells its bytes if it did, and is as it was where no line was touched
-pub record KeepsDisk {D : Type 0} (size_of : D → ℕ) (told : D → Option (List ℕ)) (old new : Opened D) : Type 0 where
-  pub size : size_of new.disk ≡ size_of old.disk
-  pub tells : is_some (told new.disk) ≡ is_some (told old.disk)
-  pub idle : old.touched ≡ [] → new.disk ≡ old.disk
-
--- how many writes and syncs a commit of so many lines makes at most: one for each and seven more, none without a line
+-- how many writes and syncs the end of a transaction that touched so many lines makes at most: one for each and seven
+-- more, none without a line
 abbrev pub calls_of : ℕ → ℕ
 calls_of zero = 0
 calls_of (suc lines) = suc lines + 7

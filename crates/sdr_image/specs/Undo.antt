@@ -10,7 +10,7 @@ pub record Olds : Type 0 where
   pub olds : List Record
 
 -- the marks tell which lines were touched, and there is memory for as many as may be
-pub record IsMarked (olds : List Record) (marks : List Bool) (room capacity : ℕ) : Type 0 where
+pub record TellsTouched (olds : List Record) (marks : List Bool) (room capacity : ℕ) : Type 0 where
   pub reserved : room ≤ capacity
   pub below : (line : ℕ) → is_named olds line ≡ true → line < length marks
   pub told : (line : ℕ) → line < length marks → get_or marks line false ≡ is_named olds line

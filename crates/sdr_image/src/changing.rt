@@ -2,13 +2,14 @@
 ghost use Rattle.std.specs.Prelude.{◌≡◌, ◌≤◌, ◌+◌, ◌*◌, ◌⊎◌, true, length, OnOk, Some};
 ghost use Rattle.sdr_base.specs.Causes.{HasCause};
 ghost use Rattle.sdr_disk.specs.Moments.{AtEach};
+ghost use Rattle.sdr_disk.specs.Pending.{IsSynced};
 ghost use Rattle.sdr_disk.specs.Told.{Both, Told};
 ghost use Rattle.sdr_log.specs.Calls.{AreBelow, AreNamed, HasPlace, HoldLines, KeepsDisk};
 ghost use Rattle.sdr_log.specs.Frame.{LieInside};
-ghost use Rattle.sdr_log.specs.Log.{are_good, heap_of, put_records};
+ghost use Rattle.sdr_log.specs.Log.{AreLines, are_good, heap_of, put_records};
 ghost use Rattle.sdr_log.specs.Logged.{IsAtRest};
 ghost use Rattle.sdr_image.specs.Changed.{GivesEither, changed};
-ghost use Rattle.sdr_image.specs.Opened.{HoldsHeap};
+ghost use Rattle.sdr_image.specs.Opened.{HasBytes};
 
 use sdr_disk::{Disk, DiskFault};
 use sdr_log::{Frame, Record, close, put_lines, write_batch};
@@ -34,11 +35,10 @@ pub fn change_lines<D: Disk>(
 
     ensures disk { KeepsDisk D.size D.bytes disk.old disk.new }
 
-    ensures rest { OnOk result (Both (D.bytes disk.old) (D.bytes disk.new)
-        (λ x y. IsAtRest frame x (D.may_leave disk.old (D.moment disk.old))
-        → HoldLines (heap_of frame x) olds.now
-        → HoldsHeap frame (put_records news.now (heap_of frame x)) y
-        (D.may_leave disk.new (D.moment disk.new)))) }
+    ensures bytes { OnOk result (Both (D.bytes disk.old) (D.bytes disk.new)
+        (λ x y. HasBytes frame (heap_of frame x) x → HoldLines (heap_of frame x) olds.now
+        → AreLines news.now → HasBytes frame (put_records news.now (heap_of frame x)) y)) }
+    ensures synced { OnOk result (IsSynced D.bytes D.moment D.may_leave disk.new) }
     ensures calls { D.moment disk.new ≤ D.moment disk.old + 2 * (length news.now + 7) }
     // A crash leaves all lines as they were, or all as they are now.
     ensures any_moment { Told (D.bytes disk.old)

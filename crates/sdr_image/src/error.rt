@@ -6,7 +6,7 @@ use thiserror::Error;
 /// Why a disk isn't formatted.
 #[derive(Clone, Copy, Debug, PartialEq, Eq, Error)]
 pub enum FormatError {
-    /// The head and the regions take more bytes than the disk has. The disk is as before.
+    /// The head and the regions take more bytes than the disk has. No call of it was made.
     #[error("the regions take {need} bytes, and the disk has {have}")]
     TooSmall { need: u64, have: u64 },
     /// The disk failed, and holds what was written by then.
@@ -28,13 +28,14 @@ impl From<DiskFault> for FormatError {
 /// Why a disk isn't opened.
 #[derive(Clone, Copy, Debug, PartialEq, Eq, Error)]
 pub enum ImageError {
-    /// The disk gives no heap, or has an open batch.
+    /// The disk gives no heap: it has no head, is shorter than its head tells, or has open batches
+    /// that are wrong.
     #[error("the disk is not formatted")]
     NotFormatted,
-    /// The disk failed.
+    /// The disk failed. Its open batches may have been put back in part; opening it again goes on.
     #[error("the disk failed")]
     DiskFault,
-    /// There is no memory for the heap region or for the undo of a transaction.
+    /// There is no memory for the heap region, for the undo of a transaction, or for the open batches.
     #[error("no memory")]
     NoMemory,
 }
@@ -61,7 +62,7 @@ impl From<NoMemory> for ImageError {
     }
 }
 
-/// A disk that isn't opened, and why. Its bytes are as before.
+/// A disk that isn't opened, and why. Its bytes are as before, unless it failed.
 #[derive(Drop)]
 pub struct ImageShut<D> {
     pub why: ImageError,

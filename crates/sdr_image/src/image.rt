@@ -1,20 +1,21 @@
 // An opened disk.
 ghost use Rattle.std.specs.Prelude.{◌≡◌, ◌≤◌, ◌<◌, ◌+◌, ◌-◌, ◌*◌, ◌∷◌, [], ℕ, List, true, false};
-ghost use Rattle.std.specs.Prelude.{length, refl, IfOk, IfErr, OnOk, OnErr, Some, None, is_some};
+ghost use Rattle.std.specs.Prelude.{length, refl, IfOk, IfErr, OnOk, Some, None};
 ghost use Rattle.std.specs.List.{range_with_len};
 ghost use Rattle.std.proofs.Common.{◌∙◌};
 ghost use Rattle.sdr_base.specs.Cells.{is_among, with_lines, lines_of};
 ghost use Rattle.sdr_base.specs.Parts.{overwrite};
 ghost use Rattle.sdr_base.specs.Transaction.{HasReason, IfRefused};
-ghost use Rattle.sdr_disk.specs.Moments.{AtEach};
+ghost use Rattle.sdr_disk.specs.Moments.{AtEach, Reads};
 ghost use Rattle.sdr_disk.specs.Told.{Told};
+ghost use Rattle.sdr_log.specs.Calls.{KeepsDisk};
 ghost use Rattle.sdr_log.specs.Frame.{room_of};
-ghost use Rattle.sdr_log.specs.Log.{put_back_of};
-ghost use Rattle.sdr_log.specs.Logged.{GivesSame};
+ghost use Rattle.sdr_log.specs.Log.{first_gate, put_back_of};
+ghost use Rattle.sdr_log.specs.Logged.{Gives, GivesSame};
 ghost use Rattle.sdr_image.specs.Changed.{GivesEither};
-ghost use Rattle.sdr_image.specs.Opened.{transaction_of, IsFailed, LeavesHeap};
-ghost use Rattle.sdr_image.specs.Opening.{AllGiveSame, OnNotFormatted};
-ghost use Rattle.sdr_image.specs.Saved.{Saves, KeepsDisk, calls_of};
+ghost use Rattle.sdr_image.specs.Opened.{transaction_of, KeepsBegun, LeavesHeap, Rests, StaysAt};
+ghost use Rattle.sdr_image.specs.Opening.{MayBeOpened, OnNotFormatted};
+ghost use Rattle.sdr_image.specs.Saved.{Saves, calls_of};
 
 use crate::opening::load;
 use crate::region::{Region, span};
@@ -28,8 +29,10 @@ use std::alloc::Global;
 use std::marker::Model;
 
 /// A disk with a heap on it, opened. The heap region stands in memory, and a transaction reaches
-/// the disk with its commit, whole or not at all. Between two calls the disk is at rest, and a
-/// crash leaves the bytes at begin. No call after `open` takes memory.
+/// the disk with its commit, whole or not at all. Where nothing was pending on the disk that was
+/// handed in, or the first transaction has reached it, it rests between two calls: a crash leaves
+/// the bytes at begin. After a disk fault no call reaches it any more. No call after `open` takes
+/// memory.
 #[derive(Drop)]
 pub struct Image<D: Disk> {
     disk: D,
@@ -63,22 +66,28 @@ impl<D: Disk> Model for Image<D> {
     } };
 
     ghost invariant = { λ s. IsImage (D.size s.disk) (D.bytes s.disk)
-        (D.may_leave s.disk (D.moment s.disk)) s.frame s.bytes s.undo s.saving s.is_open s.failed };
+        s.frame s.bytes s.undo s.saving s.is_open s.failed };
 }
 
 impl<D: Disk> Image<D> {
+    ghost use Rattle.sdr_image.specs.Opened.{Opened};
     ghost use Rattle.sdr_image.specs.Opening.{IsOpened, Returns, disk_in};
 
-    /// Opens a disk that has a heap. What is pending on it is synced; where batches are open, their
-    /// lines are put back. All memory is taken here, before the first write. A crash on the way
-    /// leaves the same heap as one before.
+    /// Opens a disk that has a heap. Where batches are open, their lines are put back: by a write
+    /// for each, a sync, a write and a sync; else it is only read. All memory is taken here, before the
+    /// first write. A crash on the way leaves the same heap as one before, where nothing is pending
+    /// on the disk that is handed in, or a recovery of it was stopped.
     pub fn open(alloc: Global, mut disk: D) -> Result<Image<D>, ImageShut<D>>
         ensures opened { IfOk result (IsOpened D.bytes D.moment D.may_leave disk) }
         ensures not_formatted { IfErr result (λ shut. OnNotFormatted shut.why
             (Told (D.bytes disk) (λ x. put_back_of x ≡ None))) }
         ensures disk { Returns D.size D.bytes D.faults disk result }
+        ensures quiet { Told (D.bytes disk) (λ x. first_gate x ≡ 0
+            → Reads D.bytes D.moment D.may_leave disk (disk_in result)) }
+        ensures calls { IfOk result (λ i.
+            D.moment i.disk ≤ D.moment disk + 2 * (i.restored + 3)) }
         ensures any_moment { Told (D.bytes disk)
-            (λ x. AllGiveSame x (D.may_leave disk (D.moment disk))
+            (λ x. MayBeOpened x (D.may_leave disk (D.moment disk))
             → AtEach D.moment D.may_leave disk (disk_in result) (GivesSame x)) }
     {
         match load(alloc, &mut disk) {
@@ -127,11 +136,14 @@ impl<D: Disk> Image<D> {
         self.restored
     }
 
-    /// The disk's moment. A crash at it leaves the bytes at begin, unless the disk has failed.
+    /// The disk's moment. Where the disk rests, a crash at it leaves the bytes at begin, and so does
+    /// one at each moment since any state before it in the transaction.
     pub fn now(&self) -> u64
         ensures moment { result ≡ D.moment self.now.disk }
-        ensures any_moment { self.now.failed ≡ false
+        ensures leaves { self.now.failed ≡ false → Rests D.bytes D.moment D.may_leave self.now
             → LeavesHeap D.bytes D.moment D.may_leave self.now.begun self.now.disk }
+        ensures any_moment { (before : Opened D) → ⟦<Image<D> as Cells>⟧.quiet before self.now
+            → KeepsBegun D.bytes D.moment D.may_leave before self.now }
     {
         self.disk.now()
     }
@@ -193,24 +205,38 @@ impl<D: Disk> Image<D> {
         self.bytes.put(place, from);
     }
 
-    /// Ends the transaction with the bytes as they were at its begin. Where none was begun, it is
-    /// as if one had been.
+    /// Ends the transaction with the bytes as they were at its begin, which a crash leaves up to
+    /// the return and after it. Where it touched no line, no call of the disk is made, else at most
+    /// as many as a commit makes. Where none was begun, it is as if one had been.
     pub fn cancel(&mut self) -> Result<(), Stop>
         ensures ended { OnOk result (self.new ≡ record self.old {
+          disk = self.new.disk;
           bytes = self.old.begun;
           touched = [];
           is_open = false;
         }) }
+        ensures back { OnOk result (Told (D.bytes self.new.disk) (Gives self.old.begun)) }
+        ensures rests { Rests D.bytes D.moment D.may_leave self.old
+            → Rests D.bytes D.moment D.may_leave self.new }
 
         ensures answered { IfRefused result (λ _. ⊥) }
         ensures cause { HasReason (transaction_of D.faults self.old)
             (transaction_of D.faults self.new) result }
-        ensures failed { OnErr result (IsFailed self.old self.new) }
+        ensures stays { StaysAt result self.old self.new }
+
+        ensures disk { KeepsDisk D.size D.bytes self.old.disk self.new.disk }
+        ensures idle { self.old.touched ≡ [] → self.new.disk ≡ self.old.disk }
+        ensures calls { D.moment self.new.disk
+            ≤ D.moment self.old.disk + 2 * calls_of (length self.old.touched) }
+        ensures any_moment { self.old.failed ≡ false → Rests D.bytes D.moment D.may_leave self.old
+            → Told (D.bytes self.old.disk)
+            (λ _. AtEach D.moment D.may_leave self.old.disk self.new.disk (Gives self.old.begun)) }
     {
+        let lines = self.frame.heap_lines;
         if self.failed {
             return Err(Stop::Failed);
         }
-        self.bytes.put_back(self.undo.olds(), self.frame.heap_lines);
+        self.bytes.put_back(self.undo.olds(), lines);
         self.undo.clear();
         self.is_open = false;
         Ok(())
@@ -228,23 +254,28 @@ impl<D: Disk> Image<D> {
           is_open = false;
         }) }
         ensures saved { OnOk result (Saves D.bytes D.moment D.may_leave self.old self.new) }
+        ensures rests { Rests D.bytes D.moment D.may_leave self.old
+            → Rests D.bytes D.moment D.may_leave self.new }
 
         ensures answered { IfRefused result (λ _. ⊥) }
         ensures cause { HasReason (transaction_of D.faults self.old)
             (transaction_of D.faults self.new) result }
-        ensures failed { OnErr result (IsFailed self.old self.new) }
+        ensures stays { StaysAt result self.old self.new }
 
-        ensures disk { KeepsDisk D.size D.bytes self.old self.new }
+        ensures disk { KeepsDisk D.size D.bytes self.old.disk self.new.disk }
+        ensures idle { self.old.touched ≡ [] → self.new.disk ≡ self.old.disk }
         ensures calls { D.moment self.new.disk
             ≤ D.moment self.old.disk + 2 * calls_of (length self.old.touched) }
-        ensures any_moment { self.old.failed ≡ false → Told (D.bytes self.old.disk)
+        ensures any_moment { self.old.failed ≡ false → Rests D.bytes D.moment D.may_leave self.old
+            → Told (D.bytes self.old.disk)
             (λ _. AtEach D.moment D.may_leave self.old.disk self.new.disk
             (GivesEither self.old.begun self.old.bytes)) }
     {
+        let touched = self.undo.olds();
         if self.failed {
             return Err(Stop::Failed);
         }
-        if !self.undo.olds().is_empty() {
+        if !touched.is_empty() {
             return self.save();
         }
         self.is_open = false;
@@ -262,16 +293,18 @@ impl<D: Disk> Image<D> {
           is_open = false;
         }) }
         ensures saved { OnOk result (Saves D.bytes D.moment D.may_leave self.old self.new) }
+        ensures rests { Rests D.bytes D.moment D.may_leave self.new }
 
         ensures answered { IfRefused result (λ _. ⊥) }
         ensures cause { HasReason (transaction_of D.faults self.old)
             (transaction_of D.faults self.new) result }
-        ensures failed { OnErr result (IsFailed self.old self.new) }
+        ensures stays { StaysAt result self.old self.new }
 
-        ensures disk { KeepsDisk D.size D.bytes self.old self.new }
+        ensures disk { KeepsDisk D.size D.bytes self.old.disk self.new.disk }
         ensures calls { D.moment self.new.disk
             ≤ D.moment self.old.disk + 2 * (length self.old.touched + 7) }
-        ensures any_moment { Told (D.bytes self.old.disk)
+        ensures any_moment { Rests D.bytes D.moment D.may_leave self.old
+            → Told (D.bytes self.old.disk)
             (λ _. AtEach D.moment D.may_leave self.old.disk self.new.disk
             (GivesEither self.old.begun self.old.bytes)) }
     {
@@ -291,7 +324,7 @@ impl<D: Disk> Image<D> {
     /// The disk. What was not committed is lost.
     pub fn into_disk(self) -> D
         ensures disk { result ≡ self.disk }
-        ensures any_moment { self.failed ≡ false
+        ensures leaves { self.failed ≡ false → Rests D.bytes D.moment D.may_leave self
             → LeavesHeap D.bytes D.moment D.may_leave self.begun result }
     {
         let Image {
@@ -346,12 +379,13 @@ impl<D: Disk> Cells for Image<D> {
         Ok(())
     }
 
-    ghost quiet_refl = { λ a. record { disk = refl; frame = refl; begun = refl } };
+    ghost quiet_refl = { λ a. record { disk = refl; frame = refl; begun = refl; failed = refl } };
 
     ghost quiet_trans = { λ a b c f g. record {
       disk = g.disk ∙ f.disk;
       frame = g.frame ∙ f.frame;
       begun = g.begun ∙ f.begun;
+      failed = g.failed ∙ f.failed;
     } };
 
     ghost quiet_begun = { λ a b f. f.begun };

@@ -2,19 +2,21 @@
 //!
 //! 1. A disk has a head that tells how long its regions are, a log region, and a heap region.
 //!    `format` writes a head, a closed gate at the front of the log region, and a fresh heap.
-//! 2. An `Image` holds the heap region in memory. Opening syncs what is pending on the disk, puts
-//!    back the lines of open batches, and takes all memory. A crash on the way leaves the same heap
-//!    as one before.
+//! 2. An `Image` holds the heap region in memory. Opening takes all memory and puts back the lines
+//!    of open batches; where none is open it only reads. A crash on the way leaves the same heap as
+//!    one before, where nothing was pending on the disk, or a recovery of it was stopped.
 //! 3. A line of the heap region is touched where a write covers a byte of it. The image keeps its
 //!    bytes from before, and a transaction may touch only as many lines as the undo log has room
 //!    for.
 //! 4. A cancel puts these bytes back. A commit changes the touched lines on the disk, all or none,
 //!    by the calls of the log: the batch of the old lines, then the new lines, each by rising
 //!    number, then the first gate. Where no line was touched, neither makes a call of the disk.
-//! 5. Between two calls the disk is at rest with the bytes at begin, so that a crash leaves these. A
-//!    crash in a commit leaves these or the bytes at its end, and after `Ok` the latter.
-//! 6. Once a call has answered `DiskFault`, each later call answers `Failed`, and the disk has to be
-//!    opened again.
+//! 5. An opened disk rests, under the same premise, and every call leaves it so: a crash between
+//!    two calls and within a transaction leaves the bytes at begin. A crash in a commit leaves these
+//!    or the bytes at its end, and after `Ok` the latter. The first commit of a touched line makes
+//!    the disk rest without the premise.
+//! 6. Once a call has answered `DiskFault`, each later call answers `Failed` and changes nothing, the
+//!    disk neither. The disk has to be opened again.
 #![tactic(auto)]
 
 mod changing;

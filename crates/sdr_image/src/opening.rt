@@ -1,15 +1,16 @@
 // A disk, read for the first time.
-ghost use Rattle.std.specs.Prelude.{◌≡◌, ◌≤◌, ◌<◌, ◌*◌, IfOk, IfErr, OnOk, None, length};
+ghost use Rattle.std.specs.Prelude.{◌≡◌, ◌≤◌, ◌<◌, ◌+◌, ◌*◌, IfOk, IfErr, OnOk, None, length};
 ghost use Rattle.sdr_base.specs.Causes.{HasCause};
-ghost use Rattle.sdr_disk.specs.Moments.{AtEach, Only, Reads};
+ghost use Rattle.sdr_disk.specs.Moments.{AtEach, Reads};
+ghost use Rattle.sdr_disk.specs.Pending.{IsSynced};
 ghost use Rattle.sdr_disk.specs.Told.{Both, Told};
-ghost use Rattle.sdr_log.specs.Calls.{KeepsDisk, PutsBack};
+ghost use Rattle.sdr_log.specs.Calls.{IsFramed, KeepsDisk, PutsBack};
 ghost use Rattle.sdr_log.specs.Frame.{IsInLimits, disk_bytes};
-ghost use Rattle.sdr_log.specs.Log.{heap_of, put_back_of};
-ghost use Rattle.sdr_log.specs.Logged.{GivesSame, IsAtRest};
-ghost use Rattle.sdr_image.specs.Opened.{HoldsHeap};
-ghost use Rattle.sdr_image.specs.Opening.{AllGiveSame, HasImageCause, IsFramed, OnNotFormatted};
-ghost use Rattle.sdr_image.specs.Opening.{IsReady, UnlessFault};
+ghost use Rattle.sdr_log.specs.Log.{first_gate, heap_of, put_back_of};
+ghost use Rattle.sdr_log.specs.Logged.{GivesSame};
+ghost use Rattle.sdr_image.specs.Opened.{HasBytes};
+ghost use Rattle.sdr_image.specs.Opening.{HasImageCause, IsReserved, MayBeOpened};
+ghost use Rattle.sdr_image.specs.Opening.{OnNotFormatted, UnlessFault};
 
 use crate::ImageError;
 use crate::region::Region;
@@ -17,7 +18,7 @@ use crate::saving::Saving;
 use crate::undo::Undo;
 use sdr_base::{LINE, NoMemory};
 use sdr_disk::{Disk, DiskFault};
-use sdr_log::{BackError, Frame, put_back};
+use sdr_log::{BackError, Frame, put_back_found, read_frame};
 use std::alloc::Global;
 
 // All the memory of an image.
@@ -39,53 +40,11 @@ pub struct Loaded {
     pub restored: u64,
 }
 
-// The lengths of the regions, where the disk has a head and is as long as it tells.
-fn read_frame<D: Disk>(disk: &mut D) -> Result<Frame, ImageError>
-    ensures found { IfOk result (IsFramed (D.size disk.old) (D.bytes disk.old)) }
-    ensures not_formatted { IfErr result (λ why. OnNotFormatted why
-        (Told (D.bytes disk.old) (λ x. put_back_of x ≡ None))) }
-    ensures cause { HasImageCause (D.faults disk.old) (D.faults disk.new) result }
-    ensures size { D.size disk.new ≡ D.size disk.old }
-    ensures reads { Reads D.bytes D.moment D.may_leave disk.old disk.new }
-{
-    let have = disk.len();
-    if have < LINE {
-        return Err(ImageError::NotFormatted);
-    }
-    let mut head = [0; 64];
-    disk.read_at(0, &mut head)?;
-    let Some(frame) = Frame::from_head(&head) else {
-        return Err(ImageError::NotFormatted);
-    };
-    if have < frame.disk_bytes() {
-        return Err(ImageError::NotFormatted);
-    }
-    Ok(frame)
-}
-
-// The same, with nothing pending on the disk.
-fn find_frame<D: Disk>(disk: &mut D) -> Result<Frame, ImageError>
-    ensures found { IfOk result (IsFramed (D.size disk.old) (D.bytes disk.old)) }
-    ensures not_formatted { IfErr result (λ why. OnNotFormatted why
-        (Told (D.bytes disk.old) (λ x. put_back_of x ≡ None))) }
-    ensures cause { HasImageCause (D.faults disk.old) (D.faults disk.new) result }
-    ensures same { D.bytes disk.new ≡ D.bytes disk.old }
-    ensures size { D.size disk.new ≡ D.size disk.old }
-    ensures durable { OnOk result (Told (D.bytes disk.old)
-        (λ x. Only x (D.may_leave disk.new (D.moment disk.new)))) }
-    ensures any_moment { Told (D.bytes disk.old)
-        (λ x. AllGiveSame x (D.may_leave disk.old (D.moment disk.old))
-        → AtEach D.moment D.may_leave disk.old disk.new (GivesSame x)) }
-{
-    disk.sync()?;
-    read_frame(disk)
-}
-
 // All the memory of an image with these regions.
 fn reserve(alloc: Global, frame: &Frame) -> Result<Memory, NoMemory>
     requires limits { IsInLimits frame.now }
     ensures ready { IfOk result
-        (λ m. IsReady frame.now (length m.bytes.items) m.undo m.saving) }
+        (λ m. IsReserved frame.now (length m.bytes.items) m.undo m.saving) }
 {
     let room = frame.room() as usize;
     Ok(Memory {
@@ -106,14 +65,18 @@ fn restore<D: Disk>(alloc: Global, disk: &mut D, frame: Frame) -> Result<u64, Im
     ensures cause { HasImageCause (D.faults disk.old) (D.faults disk.new) result }
     ensures disk { KeepsDisk D.size D.bytes disk.old disk.new }
     ensures same { IfErr result (λ why. UnlessFault why (D.bytes disk.new ≡ D.bytes disk.old)) }
-    ensures rest { OnOk result (Both (D.bytes disk.old) (D.bytes disk.new)
-        (λ x y. Only x (D.may_leave disk.old (D.moment disk.old))
-        → IsAtRest frame y (D.may_leave disk.new (D.moment disk.new)))) }
+    ensures synced { OnOk result (Told (D.bytes disk.old)
+        (λ x. MayBeOpened x (D.may_leave disk.old (D.moment disk.old))
+        → IsSynced D.bytes D.moment D.may_leave disk.new)) }
+    ensures quiet { Told (D.bytes disk.old) (λ x. first_gate x ≡ 0
+        → Reads D.bytes D.moment D.may_leave disk.old disk.new) }
+    ensures calls { IfOk result (λ count.
+        D.moment disk.new ≤ D.moment disk.old + 2 * (count + 3)) }
     ensures any_moment { Told (D.bytes disk.old)
-        (λ x. Only x (D.may_leave disk.old (D.moment disk.old))
+        (λ x. MayBeOpened x (D.may_leave disk.old (D.moment disk.old))
         → AtEach D.moment D.may_leave disk.old disk.new (GivesSame x)) }
 {
-    match put_back(alloc, disk, frame) {
+    match put_back_found(alloc, disk, frame) {
         Ok(count) => Ok(count),
         Err(BackError::BadLog) => Err(ImageError::NotFormatted),
         Err(BackError::DiskFault) => Err(ImageError::DiskFault),
@@ -137,15 +100,17 @@ fn read_heap<D: Disk>(disk: &mut D, frame: &Frame, mut bytes: Vec<u8>) -> Result
     Ok(Region::of(bytes))
 }
 
-/// Takes all the memory of an image, and what it holds from a disk. What is pending on the disk is
-/// synced, and open batches are put back.
+/// Takes all the memory of an image, and what it holds from a disk, whose open batches are put
+/// back.
 pub fn load<D: Disk>(alloc: Global, disk: &mut D) -> Result<Loaded, ImageError>
     ensures found { IfOk result (λ l. IsFramed (D.size disk.old) (D.bytes disk.old) l.frame) }
     ensures back { IfOk result (λ l. Both (D.bytes disk.old) (D.bytes disk.new)
         (PutsBack l.frame l.restored)) }
-    ensures ready { IfOk result (λ l. IsReady l.frame (length l.bytes) l.undo l.saving) }
-    ensures holds { IfOk result (λ l. Told (D.bytes disk.new)
-        (λ y. HoldsHeap l.frame l.bytes y (D.may_leave disk.new (D.moment disk.new)))) }
+    ensures ready { IfOk result (λ l. IsReserved l.frame (length l.bytes) l.undo l.saving) }
+    ensures bytes { IfOk result (λ l. Told (D.bytes disk.new) (HasBytes l.frame l.bytes)) }
+    ensures synced { OnOk result (Told (D.bytes disk.old)
+        (λ x. MayBeOpened x (D.may_leave disk.old (D.moment disk.old))
+        → IsSynced D.bytes D.moment D.may_leave disk.new)) }
 
     ensures not_formatted { IfErr result (λ why. OnNotFormatted why
         (Told (D.bytes disk.old) (λ x. put_back_of x ≡ None))) }
@@ -153,11 +118,17 @@ pub fn load<D: Disk>(alloc: Global, disk: &mut D) -> Result<Loaded, ImageError>
     ensures same { IfErr result (λ why. UnlessFault why (D.bytes disk.new ≡ D.bytes disk.old)) }
 
     ensures disk { KeepsDisk D.size D.bytes disk.old disk.new }
+    ensures quiet { Told (D.bytes disk.old) (λ x. first_gate x ≡ 0
+        → Reads D.bytes D.moment D.may_leave disk.old disk.new) }
+    ensures calls { IfOk result (λ l.
+        D.moment disk.new ≤ D.moment disk.old + 2 * (l.restored + 3)) }
     ensures any_moment { Told (D.bytes disk.old)
-        (λ x. AllGiveSame x (D.may_leave disk.old (D.moment disk.old))
+        (λ x. MayBeOpened x (D.may_leave disk.old (D.moment disk.old))
         → AtEach D.moment D.may_leave disk.old disk.new (GivesSame x)) }
 {
-    let frame = find_frame(disk)?;
+    let Some(frame) = read_frame(disk)? else {
+        return Err(ImageError::NotFormatted);
+    };
     let memory = reserve(alloc, &frame)?;
     let restored = restore(alloc, disk, frame)?;
     let bytes = read_heap(disk, &frame, memory.bytes)?;

@@ -4,12 +4,13 @@ ghost use Rattle.std.specs.Prelude.{OnOk, vec_capacity, IsPermutation};
 ghost use Rattle.std.specs.List.Sorted.{IsNonDecreasingBy};
 ghost use Rattle.sdr_base.specs.Causes.{HasCause};
 ghost use Rattle.sdr_disk.specs.Moments.{AtEach};
+ghost use Rattle.sdr_disk.specs.Pending.{IsSynced};
 ghost use Rattle.sdr_disk.specs.Told.{Both, Told};
 ghost use Rattle.sdr_log.specs.Calls.{AreBelow, KeepsDisk};
 ghost use Rattle.sdr_log.specs.Frame.{LieInside};
 ghost use Rattle.sdr_log.specs.Log.{put_records};
 ghost use Rattle.sdr_image.specs.Changed.{GivesEither, HasChanged, lines_in};
-ghost use Rattle.sdr_image.specs.Opened.{HoldsHeap, lines_named};
+ghost use Rattle.sdr_image.specs.Opened.{HasBytes, HoldsHeap, lines_named};
 ghost use Rattle.sdr_image.specs.Saved.{MaySave};
 
 use crate::changing::change_lines;
@@ -111,10 +112,10 @@ impl Saving {
 
         ensures disk { KeepsDisk D.size D.bytes disk.old disk.new }
 
-        ensures rest { OnOk result (Both (D.bytes disk.old) (D.bytes disk.new)
-            (λ x y. HoldsHeap frame (put_records olds.now region.now) x
-            (D.may_leave disk.old (D.moment disk.old))
-            → HoldsHeap frame region.now y (D.may_leave disk.new (D.moment disk.new)))) }
+        ensures bytes { OnOk result (Both (D.bytes disk.old) (D.bytes disk.new)
+            (λ x y. HasBytes frame (put_records olds.now region.now) x
+            → HasBytes frame region.now y)) }
+        ensures synced { OnOk result (IsSynced D.bytes D.moment D.may_leave disk.new) }
         ensures calls { D.moment disk.new ≤ D.moment disk.old + 2 * (length olds.now + 7) }
         ensures any_moment { Told (D.bytes disk.old)
             (λ x. HoldsHeap frame (put_records olds.now region.now) x

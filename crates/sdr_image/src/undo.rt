@@ -22,7 +22,7 @@ pub struct Undo {
 
 impl Model for Undo {
     ghost use Rattle.std.specs.Prelude.{length, vec_capacity};
-    ghost use Rattle.sdr_image.specs.Undo.{Olds, IsMarked};
+    ghost use Rattle.sdr_image.specs.Undo.{Olds, TellsTouched};
 
     ghost Value = { Olds };
 
@@ -32,7 +32,7 @@ impl Model for Undo {
       olds = s.olds.items;
     } };
 
-    ghost invariant = { λ s. IsMarked s.olds.items s.marks.items s.room (vec_capacity s.olds) };
+    ghost invariant = { λ s. TellsTouched s.olds.items s.marks.items s.room (vec_capacity s.olds) };
 }
 
 // How many marks are not set.

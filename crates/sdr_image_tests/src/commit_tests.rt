@@ -1,5 +1,6 @@
-// What a crash leaves of a commit: which bytes are pending at each moment, and what opening makes of each
-// image.
+// What a crash leaves of a commit and of an opening: which bytes are pending at each moment, which tells the
+// calls of the disk and their order; and what opening makes of each image.
+use byteorder::{BigEndian, ByteOrder};
 use sdr_base::Cells;
 use sdr_disk::{Disk, MemoryDisk, Torn};
 use sdr_image::{Image, format};
@@ -19,12 +20,12 @@ fn formatted(alloc: Global) -> Option<Image<MemoryDisk>> {
     Image::open(alloc, disk).ok()
 }
 
-// Changes the lines 0, 16 and 32.
+// Changes the lines 32, 0 and 16, in this order.
 fn change<D: Disk>(image: &mut Image<D>) -> Option<()> {
     if image.size() == 65_536 {
+        image.write(2048, &[3]).ok()?;
         image.write(16, &[1]).ok()?;
         image.write(1056, &[2]).ok()?;
-        image.write(2048, &[3]).ok()?;
     }
     image.commit().ok()
 }
@@ -49,9 +50,11 @@ fn are_filled(image: &[u8], ranges: &[Range<usize>]) -> bool {
     })
 }
 
-// From a moment on and up to another, which bytes are pending in a commit of three lines: those of the
-// batch, of its gate, of the lines, and of the first gate.
-const PENDING: [(u64, u64, &[Range<usize>]); 11] = [
+// From a moment on and up to another, which bytes are pending.
+type Pending<'a> = (u64, u64, &'a [Range<usize>]);
+
+// In a commit of three lines: those of the batch, of its gate, of the lines, and of the first gate.
+const PENDING: [Pending; 11] = [
     (0, 1, &[]),
     (1, 4, &[65..274]),
     (4, 5, &[]),
@@ -65,19 +68,61 @@ const PENDING: [(u64, u64, &[Range<usize>]); 11] = [
     (20, 21, &[]),
 ];
 
+// In an opening that puts them back: those of the lines, and of the first gate.
+const RECOVERED: [Pending; 7] = [
+    (0, 1, &[]),
+    (1, 3, &[16_448..16_512]),
+    (3, 5, &[16_448..16_512, 17_472..17_536]),
+    (5, 8, &[16_448..16_512, 17_472..17_536, 18_496..18_560]),
+    (8, 9, &[]),
+    (9, 12, &[64..65]),
+    (12, 13, &[]),
+];
+
+// The first moment since another at which other bytes are pending.
+fn wrong_moment(disk: &MemoryDisk, begun: u64, rows: &[Pending]) -> Option<Option<u64>> {
+    for (first, behind, ranges) in rows {
+        for after in *first..*behind {
+            let image = image_after(disk, begun, after, Torn::Filled(0xEE))?;
+            if !are_filled(&image, ranges) {
+                return Some(Some(after));
+            }
+        }
+    }
+    Some(None)
+}
+
 // The moment at the end of a commit of three lines, and the first at which other bytes are pending.
 fn pending(alloc: Global) -> Option<(u64, Option<u64>)> {
     let (disk, begun) = changed(alloc)?;
     let end = disk.now().checked_sub(begun)?;
-    for (first, behind, ranges) in &PENDING {
-        for after in *first..*behind {
-            let image = image_after(&disk, begun, after, Torn::Filled(0xEE))?;
-            if !are_filled(&image, ranges) {
-                return Some((end, Some(after)));
-            }
+    Some((end, wrong_moment(&disk, begun, &PENDING)?))
+}
+
+// The places of the batch's count and of its records' numbers.
+const RECORDS: [(usize, u32); 4] = [(65, 3), (69, 0), (137, 16), (205, 32)];
+
+// The first place at which the batch of three lines has another number: they go by rising line.
+fn wrong_record(alloc: Global) -> Option<Option<usize>> {
+    let (disk, begun) = changed(alloc)?;
+    let image = image_after(&disk, begun, 8, Torn::Old)?;
+    for (place, number) in &RECORDS {
+        if image.len() != 81_984 || BigEndian::read_u32(&image[*place..]) != *number {
+            return Some(Some(*place));
         }
     }
-    Some((end, None))
+    Some(None)
+}
+
+// Of the image of a crash in a commit so many moments on: how many lines opening puts back, the disk's
+// moment then, and the first moment of it at which other bytes are pending than in these rows.
+fn recovered(alloc: Global, after: u64, rows: &[Pending]) -> Option<(u64, u64, Option<u64>)> {
+    let (disk, begun) = changed(alloc)?;
+    let image = image_after(&disk, begun, after, Torn::New)?;
+    let image = Image::open(alloc, MemoryDisk::new(image, Vec::new(alloc))).ok()?;
+    let restored = image.restored();
+    let disk = image.into_disk();
+    Some((restored, disk.now(), wrong_moment(&disk, 0, rows)?))
 }
 
 // How many lines opening puts back, and what the three bytes are then.
@@ -144,5 +189,17 @@ fn wrong_crash(alloc: Global) -> Option<Option<(usize, u64)>> {
 #[test]
 fn a_crash_in_a_commit_of_ten_calls_leaves_the_old_bytes_or_the_new(rt: HostRuntime) {
     assert_eq!(rt; pending(rt.alloc()), Some((20, None)));
+    assert_eq!(rt; wrong_record(rt.alloc()), Some(None));
     assert_eq!(rt; wrong_crash(rt.alloc()), Some(None));
+}
+
+#[test]
+fn opening_writes_the_old_lines_syncs_closes_the_gate_and_syncs_where_a_gate_is_open(
+    rt: HostRuntime,
+) {
+    // While the second line is written.
+    assert_eq!(rt; recovered(rt.alloc(), 11, &RECOVERED), Some((3, 12, None)));
+    // Before the gate is written, and once it is closed again.
+    assert_eq!(rt; recovered(rt.alloc(), 4, &[]), Some((0, 0, None)));
+    assert_eq!(rt; recovered(rt.alloc(), 20, &[]), Some((0, 0, None)));
 }

@@ -39,7 +39,7 @@ fn sevens(alloc: Global, bytes: usize, failing: u64) -> Option<MemoryDisk> {
 }
 
 // A disk of so many bytes, formatted and opened, of whose calls the one with this number fails. Formatting
-// the smallest regions makes 8 calls, and opening 5.
+// the smallest regions makes 8 calls, and opening 3.
 fn formatted(alloc: Global, bytes: usize, frame: Frame, failing: u64) -> Option<Image<MemoryDisk>>
     requires { IsInLimits frame }
     ensures { IfSome result (λ image. image.is_open ≡ false) }
@@ -171,14 +171,14 @@ const FAILED: [Done; 2] = [Err(Stop::DiskFault), Err(Stop::Failed)];
 
 // The batch, its gate, the line and the first gate, each with its sync; and no fault.
 const FAULTS: [(u64, ([Done; 2], u8)); 9] = [
+    (12, (FAILED, 0)),
+    (13, (FAILED, 0)),
     (14, (FAILED, 0)),
     (15, (FAILED, 0)),
     (16, (FAILED, 0)),
     (17, (FAILED, 0)),
     (18, (FAILED, 0)),
-    (19, (FAILED, 0)),
-    (20, (FAILED, 0)),
-    (21, (FAILED, 1)),
+    (19, (FAILED, 1)),
     (99, ([Ok(()), Ok(())], 1)),
 ];
 

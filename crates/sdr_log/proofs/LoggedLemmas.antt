@@ -8,13 +8,13 @@ use Rattle.std.proofs.lemmas.List.{get_or_past}
 use Rattle.std.proofs.lemmas.Bool.{cases_eq, le-leb}
 use Rattle.std.proofs.lemmas.Bool.Decides.{nat_tests}
 use Rattle.sdr_disk.specs.Moments.{Only}
-use Rattle.sdr_disk.specs.Ranges.{Agrees, IsOutside, part, range}
+use Rattle.sdr_disk.specs.Ranges.{Agrees, IsInNone, part, range}
 use Rattle.sdr_disk.proofs.RangesLemmas.{Agrees-nil, Agrees-one_more, Agrees-part, Agrees-refl}
 use Rattle.sdr_disk.proofs.RangesLemmas.{get_or-part, length-part}
 use Rattle.sdr_log.specs.Frame.{IsInLimits, disk_bytes, frame_of, heap_place, number}
 use Rattle.sdr_log.specs.Log.{AreLines, batches_of, first_gate, heap_of, is_named, log_of, put_back_in}
 use Rattle.sdr_log.specs.Log.{put_back_of, put_records, read_log, records_of}
-use Rattle.sdr_log.specs.Logged.{GivesSame, HasRegions, IsAtRest, IsLogged, Logs, lines_of}
+use Rattle.sdr_log.specs.Logged.{GivesSame, HasRegions, IsAtRest, IsLogged, Logs, line_ranges}
 use Rattle.sdr_log.specs.declared.frame.Frame.{Frame}
 use Rattle.sdr_log.specs.declared.record.Record.{Record}
 use Rattle.sdr_log.proofs.FrameLemmas.{IsInLimits-frame_of}
@@ -90,13 +90,13 @@ Logs-lines f x records l = AreLines-batches_of (64 * f.log_lines) (log_of f x) r
 
 -- Places of the disk outside the lines.
 
-pub before_lines : (f : Frame) (records : List Record) (i : ℕ) → i < heap_place f → IsOutside (lines_of f records) i
+pub before_lines : (f : Frame) (records : List Record) (i : ℕ) → i < heap_place f → IsInNone (line_ranges f records) i
 before_lines f [] i lt = tt
 before_lines f (r ∷ records) i lt = (inl (omega arith), before_lines f records i lt)
 
 -- a byte of the heap whose line isn't named
 unnamed_outside : (f : Frame) (records : List Record) (i : ℕ) → is_named records (i / 64) ≡ false →
-    IsOutside (lines_of f records) (heap_place f + i)
+    IsInNone (line_ranges f records) (heap_place f + i)
 unnamed_outside f [] i other = tt
 unnamed_outside f (r ∷ records) i other =
     (beside (heap_place f) r.line i (grind (arith, nat_tests)), unnamed_outside f records i (grind (arith, nat_tests)))
@@ -115,11 +115,11 @@ unnamed_outside f (r ∷ records) i other =
 -- An image that differs from a disk in so many bytes of the log region, and in logged lines.
 module _ (f : Frame) (x image : List ℕ) (records : List Record) (place count : ℕ) (regions : HasRegions f x)
     (inside : place + count ≤ 64 * f.log_lines)
-    (g : Agrees (range (64 + place) count ∷ lines_of f records) x image) where
+    (g : Agrees (range (64 + place) count ∷ line_ranges f records) x image) where
   long : 64 + 64 * f.log_lines + 64 * f.heap_lines ≤ length x
   long = omega (arith, regions.inside)
 
-  outside : (i : ℕ) → i < 64 + place → IsOutside (range (64 + place) count ∷ lines_of f records) i
+  outside : (i : ℕ) → i < 64 + place → IsInNone (range (64 + place) count ∷ line_ranges f records) i
   outside i lt = (inl lt, before_lines f records i (omega (arith, lt, inside)))
 
   -- it has the same regions
@@ -186,9 +186,9 @@ same_logs f x image records l k s =
 
 -- An image that differs in logged lines alone.
 module _ (f : Frame) (x image : List ℕ) (records : List Record) (l : Logs f x records)
-    (g : Agrees (lines_of f records) x image) where
-  wide : Agrees (range (64 + 64 * f.log_lines) 0 ∷ lines_of f records) x image
-  wide = Agrees-one_more (range (64 + 64 * f.log_lines) 0) (lines_of f records) x image g
+    (g : Agrees (line_ranges f records) x image) where
+  wide : Agrees (range (64 + 64 * f.log_lines) 0 ∷ line_ranges f records) x image
+  wide = Agrees-one_more (range (64 + 64 * f.log_lines) 0) (line_ranges f records) x image g
 
   pub pending_log : read_log f image ≡ read_log f x
   unfolding read_log log_of
@@ -242,7 +242,7 @@ closed_only f x left l gate image of_left =
     let w = HasRegions-limits f x l.logs.regions in
     let shut = read_log_closed f x (omega (arith, w.least_log)) l.logs.regions.inside gate in
     let none : l.records ≡ [] = same_Some l.records [] (sym l.logs.log ∙ shut) in
-    Agrees-nil x image (subst (λ (rs : List Record). Agrees (lines_of f rs) x image) none (l.pending image of_left))
+    Agrees-nil x image (subst (λ (rs : List Record). Agrees (line_ranges f rs) x image) none (l.pending image of_left))
 
 -- where an open batch has a record, the first gate is open
 pub logs_gate : (f : Frame) (x : List ℕ) (records : List Record) → Logs f x records → 0 < length records →

@@ -16,7 +16,7 @@ use Rattle.sdr_log.specs.Calls.{MayOpen, Opens}
 use Rattle.sdr_log.specs.Frame.{IsInLimits}
 use Rattle.sdr_log.specs.Log.{AreLines, are_good, batches_of, heap_of, log_of, put_records}
 use Rattle.sdr_log.specs.Log.{read_log}
-use Rattle.sdr_log.specs.Logged.{GivesSame, HasRegions, Logs, lines_of}
+use Rattle.sdr_log.specs.Logged.{GivesSame, HasRegions, Logs, line_ranges}
 use Rattle.sdr_log.specs.declared.frame.Frame.{Frame}
 use Rattle.sdr_log.specs.declared.record.Record.{Record}
 use Rattle.sdr_log.proofs.BatchLemmas.{AreShort-good, length-batch_of}
@@ -105,9 +105,9 @@ module _ (f : Frame) (place : ℕ) (records : List Record) (x : List ℕ) (left 
   }
 
   -- With bytes pending behind the closed gate.
-  module _ (image : List ℕ) (g : Agrees (range (64 + place + 1) (length batch) ∷ lines_of f earlier) x image) where
-    moved : Agrees (range (64 + (place + 1)) (length batch) ∷ lines_of f earlier) x image
-    moved = subst (λ (n : ℕ). Agrees (range n (length batch) ∷ lines_of f earlier) x image) (omega arith) g
+  module _ (image : List ℕ) (g : Agrees (range (64 + place + 1) (length batch) ∷ line_ranges f earlier) x image) where
+    moved : Agrees (range (64 + (place + 1)) (length batch) ∷ line_ranges f earlier) x image
+    moved = subst (λ (n : ℕ). Agrees (range n (length batch) ∷ line_ranges f earlier) x image) (omega arith) g
 
     inside : place + 1 + length batch ≤ 64 * f.log_lines
     inside = omega (arith, fits, size)
@@ -132,7 +132,7 @@ module _ (f : Frame) (place : ℕ) (records : List Record) (x : List ℕ) (left 
   batch_same whole image of_left g =
       behind_same image
       (Agrees-trans _ x whole image
-      (Agrees-one_more (range (64 + place + 1) (length batch)) (lines_of f earlier) x whole
+      (Agrees-one_more (range (64 + place + 1) (length batch)) (line_ranges f earlier) x whole
       (m.logged.pending whole of_left))
       (Agrees-more (range (64 + place + 1) (length batch) ∷ []) _ whole image (λ i o. (o.0, tt)) g))
 
@@ -264,8 +264,8 @@ module _ (f : Frame) (place : ℕ) (records : List Record) (x : List ℕ) (left 
           logged = record {
             records = earlier ++ records;
             logs = l.0;
-            pending = λ image of_left. subst (λ (z : List ℕ). Agrees (lines_of f (earlier ++ records)) opened z)
-                (sym (only image of_left)) (Agrees-refl (lines_of f (earlier ++ records)) opened);
+            pending = λ image of_left. subst (λ (z : List ℕ). Agrees (line_ranges f (earlier ++ records)) opened z)
+                (sym (only image of_left)) (Agrees-refl (line_ranges f (earlier ++ records)) opened);
           };
           gate = logs_gate f opened (earlier ++ records) l.0 (omega (arith, some, length-append earlier records));
         };

@@ -7,14 +7,14 @@ use Rattle.std.proofs.lemmas.Bool.{cases_eq}
 use Rattle.std.proofs.lemmas.Bool.Decides.{nat_tests}
 use Rattle.sdr_base.proofs.PartsLemmas.{overwrite-inside, overwrite-part, part-overwrite}
 use Rattle.sdr_disk.specs.Moments.{AtEach, IsTorn, Writes}
-use Rattle.sdr_disk.specs.Ranges.{Agrees, IsOutside, overwrite, part, range}
+use Rattle.sdr_disk.specs.Ranges.{Agrees, IsInNone, overwrite, part, range}
 use Rattle.sdr_disk.proofs.MomentsLemmas.{at_first, at_written}
 use Rattle.sdr_disk.proofs.RangesLemmas.{Agrees-more, Agrees-overwrite, Agrees-sym, Agrees-trans, length-overwrite}
 use Rattle.sdr_disk.proofs.RangesLemmas.{length-part}
-use Rattle.sdr_log.specs.Calls.{AreNamed, MayPut, Puts, with_lines}
+use Rattle.sdr_log.specs.Calls.{AreNamed, MayPut, Puts, with_records}
 use Rattle.sdr_log.specs.Frame.{heap_place}
 use Rattle.sdr_log.specs.Log.{first_gate, heap_of, is_named, put_records, read_log}
-use Rattle.sdr_log.specs.Logged.{GivesSame, HasRegions, IsLogged, Logs, lines_of}
+use Rattle.sdr_log.specs.Logged.{GivesSame, HasRegions, IsLogged, Logs, line_ranges}
 use Rattle.sdr_log.specs.declared.frame.Frame.{Frame}
 use Rattle.sdr_log.specs.declared.record.Record.{Record}
 use Rattle.sdr_log.proofs.GoodLemmas.{is_named-below}
@@ -42,7 +42,7 @@ heap_of-overwrite f line bytes x regions long below =
 
 -- a place outside all named lines is outside each of them
 named_outside : (f : Frame) (records : List Record) (line i : ℕ) → is_named records line ≡ true →
-    IsOutside (lines_of f records) i → (i < heap_place f + 64 * line) ⊎ (heap_place f + 64 * line + 64 ≤ i)
+    IsInNone (line_ranges f records) i → (i < heap_place f + 64 * line) ⊎ (heap_place f + 64 * line + 64 ≤ i)
 named_outside f [] line i is o = absurd cc
 named_outside f (r ∷ records) line i is o = elim (cases_eq r.line line) [
   | inl same ↦
@@ -52,9 +52,9 @@ named_outside f (r ∷ records) line i is o = elim (cases_eq r.line line) [
 ]
 
 Agrees-named : (f : Frame) (records : List Record) (line : ℕ) (a b : List ℕ) → is_named records line ≡ true →
-    Agrees (range (heap_place f + 64 * line) 64 ∷ []) a b → Agrees (lines_of f records) a b
+    Agrees (range (heap_place f + 64 * line) 64 ∷ []) a b → Agrees (line_ranges f records) a b
 Agrees-named f records line a b is g =
-    Agrees-more (range (heap_place f + 64 * line) 64 ∷ []) (lines_of f records) a b
+    Agrees-more (range (heap_place f + 64 * line) 64 ∷ []) (line_ranges f records) a b
     (λ i o. (named_outside f records line i is o, tt)) g
 
 -- A logged line, over a disk of these bytes.
@@ -66,7 +66,7 @@ module _ (f : Frame) (x : List ℕ) (left : List ℕ → Type 0) (l : IsLogged f
   below : r.line < f.heap_lines
   below = is_named-below f.heap_lines l.records r.line l.logs.good named
 
-  put_agrees : Agrees (lines_of f l.records) x put
+  put_agrees : Agrees (line_ranges f l.records) x put
   put_agrees =
       Agrees-named f l.records r.line x put named
       (subst (λ (n : ℕ). Agrees (range (heap_place f + 64 * r.line) n ∷ []) x put) long
@@ -94,7 +94,7 @@ module _ (f : Frame) (x : List ℕ) (left : List ℕ → Type 0) (l : IsLogged f
       Agrees (range (heap_place f + 64 * r.line) 64 ∷ []) whole image → GivesSame x image
   torn_same whole image of_left g =
       pending_same f x image l.records l.logs
-      (Agrees-trans (lines_of f l.records) x whole image (l.pending whole of_left)
+      (Agrees-trans (line_ranges f l.records) x whole image (l.pending whole of_left)
       (Agrees-named f l.records r.line whole image named g))
 
   -- all that is pending then is logged, as before
@@ -105,8 +105,8 @@ module _ (f : Frame) (x : List ℕ) (left : List ℕ → Type 0) (l : IsLogged f
     logs = put_logs;
     pending = λ image of_left.
         let t = torn image of_left in
-        Agrees-trans (lines_of f l.records) put x image (Agrees-sym (lines_of f l.records) x put put_agrees)
-        (Agrees-trans (lines_of f l.records) x t.whole image (l.pending t.whole t.left_before)
+        Agrees-trans (line_ranges f l.records) put x image (Agrees-sym (line_ranges f l.records) x put put_agrees)
+        (Agrees-trans (line_ranges f l.records) x t.whole image (l.pending t.whole t.left_before)
         (Agrees-named f l.records r.line t.whole image named t.agrees));
   }
 
@@ -125,7 +125,7 @@ pub record Putting {D : Type 0} (moment : D → ℕ) (may_leave : D → ℕ → 
     (bytes : D → Option (List ℕ)) (f : Frame) (lines rest : List Record) (old now : D) (x : List ℕ) : Type 0 where
   pub y : List ℕ
   pub told : bytes now ≡ Some y
-  pub written : with_lines f rest y ≡ with_lines f lines x
+  pub written : with_records f rest y ≡ with_records f lines x
   pub so_far : MayPut f lines x (may_leave old (moment old)) →
       PutSoFar moment may_leave f lines rest old now x y
 
@@ -168,7 +168,7 @@ module _ {D : Type 0} (moment : D → ℕ) (may_leave : D → ℕ → List ℕ �
     putting_more is rises = record {
       y = overwrite place r.bytes p.y;
       told = is;
-      written = subst (λ (l : List Record). with_lines f l p.y ≡ with_lines f lines x) split p.written;
+      written = subst (λ (l : List Record). with_records f l p.y ≡ with_records f lines x) split p.written;
       so_far = λ m.
           let s = p.so_far m in
           let named = subst (λ (l : List Record). AreNamed s.may.logged.records l) split s.may.named in
@@ -204,6 +204,6 @@ module _ {D : Type 0} (moment : D → ℕ) (may_leave : D → ℕ → List ℕ �
       }
 
   pub putting_written : (now : D) (rest : List Record) → rest ≡ [] →
-      Putting moment may_leave bytes f lines rest old now x → bytes now ≡ Some (with_lines f lines x)
+      Putting moment may_leave bytes f lines rest old now x → bytes now ≡ Some (with_records f lines x)
   putting_written now rest none p =
-      p.told ∙ ap Some (subst (λ (l : List Record). with_lines f l p.y ≡ with_lines f lines x) none p.written)
+      p.told ∙ ap Some (subst (λ (l : List Record). with_records f l p.y ≡ with_records f lines x) none p.written)

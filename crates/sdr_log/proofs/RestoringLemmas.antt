@@ -10,10 +10,10 @@ use Rattle.sdr_disk.specs.Moments.{AtEach, Reads}
 use Rattle.sdr_disk.specs.Ranges.{Agrees, overwrite, part}
 use Rattle.sdr_disk.proofs.MomentsLemmas.{at_both, at_first, at_read}
 use Rattle.sdr_disk.proofs.RangesLemmas.{Agrees-refl, overwrite-part}
-use Rattle.sdr_log.specs.Calls.{AreNamed, MayPut, MayPutBack, Puts, PutsBack, with_lines}
+use Rattle.sdr_log.specs.Calls.{AreNamed, MayPut, MayPutBack, Puts, PutsBack, with_records}
 use Rattle.sdr_log.specs.Frame.{heap_place, number}
 use Rattle.sdr_log.specs.Log.{AreLines, batches_of, first_gate, heap_of, put_back_of, put_records, read_log, records_of}
-use Rattle.sdr_log.specs.Logged.{GivesSame, IsAtRest, IsLogged, IsOpen, Logs, lines_of}
+use Rattle.sdr_log.specs.Logged.{GivesSame, IsAtRest, IsLogged, IsOpen, Logs, line_ranges}
 use Rattle.sdr_log.specs.declared.frame.Frame.{Frame}
 use Rattle.sdr_log.specs.declared.record.Record.{Record}
 use Rattle.sdr_log.proofs.ClosingLemmas.{GivesEither, closes}
@@ -55,25 +55,26 @@ at_closed moment may_leave f old mid new x y records left' l p before each =
 -- Without a crash.
 
 -- nothing is pending on it
-alone : (f : Frame) (x : List ℕ) (records : List Record) → Logs f x records → IsLogged f x (λ image. image ≡ x)
+pub alone : (f : Frame) (x : List ℕ) (records : List Record) → Logs f x records → IsLogged f x (λ image. image ≡ x)
 alone f x records l = record {
   records = records;
   logs = l;
-  pending = λ image is. subst (λ (z : List ℕ). Agrees (lines_of f records) x z) (sym is)
-      (Agrees-refl (lines_of f records) x);
+  pending = λ image is. subst (λ (z : List ℕ). Agrees (line_ranges f records) x z) (sym is)
+      (Agrees-refl (line_ranges f records) x);
 }
 
-record WithLines (f : Frame) (records lines : List Record) (x : List ℕ) : Type 0 where
-  logs : Logs f (with_lines f lines x) records
-  heap : heap_of f (with_lines f lines x) ≡ put_records lines (heap_of f x)
+-- the batches are still open, and the lines stand in the heap region
+pub record WithLines (f : Frame) (records lines : List Record) (x : List ℕ) : Type 0 where
+  pub logs : Logs f (with_records f lines x) records
+  pub heap : heap_of f (with_records f lines x) ≡ put_records lines (heap_of f x)
 
-with_lines-put : (f : Frame) (records lines : List Record) (x : List ℕ) → Logs f x records → AreNamed records lines →
+pub with_records-put : (f : Frame) (records lines : List Record) (x : List ℕ) → Logs f x records → AreNamed records lines →
     AreLines lines → WithLines f records lines x
 unfolding alone
-with_lines-put f records [] x l named long = record { logs = l; heap = refl }
-with_lines-put f records (r ∷ lines) x l named long =
+with_records-put f records [] x l named long = record { logs = l; heap = refl }
+with_records-put f records (r ∷ lines) x l named long =
     let a = alone f x records l in
-    let rest = with_lines-put f records lines (overwrite (heap_place f + 64 * r.line) r.bytes x)
+    let rest = with_records-put f records lines (overwrite (heap_place f + 64 * r.line) r.bytes x)
     (put_logs f x _ a r named.0 long.0) named.1 long.1 in
     record {
       logs = rest.logs;
@@ -81,10 +82,10 @@ with_lines-put f records (r ∷ lines) x l named long =
     }
 
 pub restored : (f : Frame) (records : List Record) (x y : List ℕ) → Logs f x records → 0 < length records →
-    y ≡ overwrite 64 (0 ∷ []) (with_lines f records x) → PutsBack f (length records) x y
+    y ≡ overwrite 64 (0 ∷ []) (with_records f records x) → PutsBack f (length records) x y
 restored f records x y l some is =
-    let w = with_lines-put f records records x l (AreNamed-own records) (Logs-lines f x records l) in
-    let z = with_lines f records x in
+    let w = with_records-put f records records x l (AreNamed-own records) (Logs-lines f x records l) in
+    let z = with_records f records x in
     let o : IsOpen f z (λ image. image ≡ z) =
     record { logged = alone f z records w.logs; gate = logs_gate f z records w.logs some } in
     let c = closes f z y _ (λ image. image ≡ y) o is (λ image e. e) in
@@ -94,6 +95,7 @@ restored f records x y l some is =
       lines = refl;
       written = is;
       gives = put_back_of-logs f x records l ∙ ap Some (sym (c.heap ∙ w.heap));
+      regions = c.rest.regions;
       gate = c.rest.gate;
     }
 
@@ -154,6 +156,7 @@ restored_none f x y l is =
       lines = refl;
       written = sym (closed_again x (none_closed f x l) (omega (arith, l.regions.inside, limits.least_log)));
       gives = put_back_of-logs f x [] l;
+      regions = l.regions;
       gate = none_closed f x l;
     }
 
@@ -185,6 +188,18 @@ module _ {D : Type 0} (bytes : D → Option (List ℕ)) (moment : D → ℕ) (ma
       at_both moment may_leave old now new (GivesSame x) (GivesSame x) (GivesSame x) at_reads each
       (λ image s. s) (λ image s. s)
 
+  -- the batches may still be put back
+  pub reads_may : MayPutBack f x (may_leave now (moment now))
+  reads_may = by m
+    where
+      by : MayPutBack f x (may_leave old (moment old)) → MayPutBack f x (may_leave now (moment now))
+      by (inl only) = inl (λ image of_left. only image (left_before image of_left))
+      by (inr logged) = inr record {
+        records = logged.records;
+        logs = logged.logs;
+        pending = λ image of_left. logged.pending image (left_before image of_left);
+      }
+
   -- all that is pending is logged
   pub reads_logged : (records : List Record) → Logs f x records → IsLogged f x (may_leave now (moment now))
   reads_logged records l = by m
@@ -193,8 +208,8 @@ module _ {D : Type 0} (bytes : D → Option (List ℕ)) (moment : D → ℕ) (ma
       by (inl only) = record {
         records = records;
         logs = l;
-        pending = λ image of_left. subst (λ (z : List ℕ). Agrees (lines_of f records) x z)
-            (sym (only image (left_before image of_left))) (Agrees-refl (lines_of f records) x);
+        pending = λ image of_left. subst (λ (z : List ℕ). Agrees (line_ranges f records) x z)
+            (sym (only image (left_before image of_left))) (Agrees-refl (line_ranges f records) x);
       }
       by (inr logged) = record {
         records = logged.records;

@@ -4,11 +4,12 @@ use Rattle.std.specs.Prelude.{Option, Some, None, is_some, option_map}
 use Rattle.sdr_base.specs.declared.line.TheConstants.{LINE}
 use Rattle.sdr_disk.specs.Moments.{Only}
 use Rattle.sdr_disk.specs.Ranges.{overwrite, part}
+use Rattle.sdr_disk.specs.Told.{Told}
 use Rattle.sdr_log.specs.Batch.{batch_size, log_end}
-use Rattle.sdr_log.specs.Frame.{frame_of, heap_place}
+use Rattle.sdr_log.specs.Frame.{IsInLimits, disk_bytes, frame_of, heap_place}
 use Rattle.sdr_log.specs.Log.{are_good, first_gate, heap_of, is_named, put_back_of, put_records}
 use Rattle.sdr_log.specs.Log.{read_log}
-use Rattle.sdr_log.specs.Logged.{Gives, GivesSame, IsAtRest, IsLogged, IsOpen, Logs}
+use Rattle.sdr_log.specs.Logged.{Gives, GivesSame, HasRegions, IsAtRest, IsLogged, IsOpen, Logs}
 use Rattle.sdr_log.specs.declared.frame.Frame.{Frame}
 use Rattle.sdr_log.specs.declared.record.Record.{Record}
 
@@ -28,9 +29,9 @@ AreNamed records [] = ⊤
 AreNamed records (r ∷ others) = (is_named records r.line ≡ true) × AreNamed records others
 
 -- the disk with these records' bytes in place of their lines
-abbrev pub with_lines : Frame → List Record → List ℕ → List ℕ
-with_lines f [] x = x
-with_lines f (r ∷ records) x = with_lines f records (overwrite (heap_place f + LINE * r.line) r.bytes x)
+abbrev pub with_records : Frame → List Record → List ℕ → List ℕ
+with_records f [] x = x
+with_records f (r ∷ records) x = with_records f records (overwrite (heap_place f + LINE * r.line) r.bytes x)
 
 -- a batch of so many records has room in the log region from a place on, and in a buffer of so many bytes
 pub record HasPlace (f : Frame) (place count bytes : ℕ) : Type 0 where
@@ -73,6 +74,12 @@ pub record Closes (f : Frame) (x y : List ℕ) (left : List ℕ → Type 0) : Ty
   pub heap : heap_of f y ≡ heap_of f x
   pub gives : Gives (heap_of f x) y
 
+-- a disk of so many bytes has the head of these regions, and room for them
+pub record IsFramed (size : ℕ) (told : Option (List ℕ)) (f : Frame) : Type 0 where
+  pub limits : IsInLimits f
+  pub fits : disk_bytes f ≤ size
+  pub head : Told told (λ x. frame_of (part 0 LINE x) ≡ Some f)
+
 -- nothing is pending, or all that is pending is logged
 abbrev pub MayPutBack : Frame → List ℕ → (List ℕ → Type 0) → Type 0
 MayPutBack f x left = Only x left ⊎ IsLogged f x left
@@ -82,13 +89,14 @@ abbrev pub GivesNone : Frame → List ℕ → Type 0
 GivesNone f x = frame_of (part 0 LINE x) ≡ Some f → put_back_of x ≡ None
 
 -- so many lines are put back and the first gate is closed, and no other byte changes: the heap region is the heap
--- that opening gave, and no batch is open
+-- that opening gave, no batch is open, and the regions are the same
 pub record PutsBack (f : Frame) (count : ℕ) (x y : List ℕ) : Type 0 where
   pub records : List Record
   pub logs : Logs f x records
   pub lines : count ≡ length records
-  pub written : y ≡ overwrite LINE (0 ∷ []) (with_lines f records x)
+  pub written : y ≡ overwrite LINE (0 ∷ []) (with_records f records x)
   pub gives : Gives (heap_of f y) x
+  pub regions : HasRegions f y
   pub gate : first_gate y ≡ 0
 
 -- the disk is as long as it was, and tells its bytes if it did

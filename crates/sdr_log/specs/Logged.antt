@@ -20,15 +20,15 @@ pub record Logs (f : Frame) (x : List ℕ) (records : List Record) : Type 0 wher
   pub good : are_good f.heap_lines records ≡ true
 
 -- where the lines of the records stand on the disk
-abbrev pub lines_of : Frame → List Record → List Range
-lines_of f [] = []
-lines_of f (r ∷ records) = range (heap_place f + LINE * r.line) LINE ∷ lines_of f records
+abbrev pub line_ranges : Frame → List Record → List Range
+line_ranges f [] = []
+line_ranges f (r ∷ records) = range (heap_place f + LINE * r.line) LINE ∷ line_ranges f records
 
 -- bytes are pending in lines alone that open batches name, and the open batches are well formed
 pub record IsLogged (f : Frame) (x : List ℕ) (left : List ℕ → Type 0) : Type 0 where
   pub records : List Record
   pub logs : Logs f x records
-  pub pending : (image : List ℕ) → left image → Agrees (lines_of f records) x image
+  pub pending : (image : List ℕ) → left image → Agrees (line_ranges f records) x image
 
 -- at rest: no batch is open, and nothing is pending
 pub record IsAtRest (f : Frame) (x : List ℕ) (left : List ℕ → Type 0) : Type 0 where

@@ -2,6 +2,7 @@
 ghost use Rattle.std.specs.Prelude.{◌≡◌, ◌≤◌, ◌<◌, ◌+◌, ◌⊎◌, ◌∷◌, [], OnOk, Some, is_some};
 ghost use Rattle.sdr_base.specs.Causes.{HasCause};
 ghost use Rattle.sdr_disk.specs.Moments.{AtEach, IsTorn, Only, Syncs};
+ghost use Rattle.sdr_disk.specs.Pending.{IsSynced};
 ghost use Rattle.sdr_disk.specs.Ranges.{overwrite};
 ghost use Rattle.sdr_disk.specs.Told.{Both, Told};
 ghost use Rattle.sdr_log.specs.Calls.{Closes, KeepsDisk};
@@ -49,7 +50,7 @@ fn close_gate<D: Disk>(disk: &mut D) -> Result<(), DiskFault>
 }
 
 /// Closes the first gate, and with it all batches, once the lines are synced. At `Ok` the heap is
-/// the heap region as it stands. It makes a sync, a write and a sync.
+/// the heap region as it stands, and nothing is pending. It makes a sync, a write and a sync.
 pub fn close<D: Disk>(disk: &mut D, frame: Frame) -> Result<(), DiskFault>
     requires regions { LieInside frame (D.size disk.old) }
 
@@ -62,6 +63,7 @@ pub fn close<D: Disk>(disk: &mut D, frame: Frame) -> Result<(), DiskFault>
     ensures closes { OnOk result (Both (D.bytes disk.old) (D.bytes disk.new)
         (λ x y. IsOpen frame x (D.may_leave disk.old (D.moment disk.old))
         → Closes frame x y (D.may_leave disk.new (D.moment disk.new)))) }
+    ensures synced { OnOk result (IsSynced D.bytes D.moment D.may_leave disk.new) }
     ensures calls { D.moment disk.new ≤ D.moment disk.old + 6 }
     // A crash leaves the heap from before the call, or the heap region as it stands.
     ensures any_moment { Told (D.bytes disk.old)

@@ -13,13 +13,15 @@
 //!    gate; `put_lines` writes the lines; `close` closes the first gate.
 //! 6. Up to there a crash leaves what is put back to the heap from before, and from there on the
 //!    lines as changed.
-//! 7. `put_back` checks all open batches, puts their lines back and closes the first gate. A crash
-//!    on the way leaves what is put back to the same heap.
+//! 7. `read_frame` reads the head. `put_back_found` then checks all open batches, puts their lines
+//!    back and closes the first gate; `put_back` does both. A crash on the way leaves what is put
+//!    back to the same heap.
 #![tactic(auto)]
 
 mod batch;
 mod closing;
 mod error;
+mod finding;
 mod frame;
 mod gathering;
 mod lines;
@@ -32,7 +34,8 @@ mod saving;
 pub use batch::write_batch;
 pub use closing::close;
 pub use error::BackError;
+pub use finding::read_frame;
 pub use frame::{Frame, LEAST_LOG, MOST_LOG};
 pub use lines::put_lines;
 pub use record::Record;
-pub use recovery::put_back;
+pub use recovery::{put_back, put_back_found};

@@ -4,7 +4,7 @@ ghost use Rattle.sdr_base.specs.Causes.{HasCause};
 ghost use Rattle.sdr_disk.specs.Moments.{AtEach, Writes};
 ghost use Rattle.sdr_disk.specs.Ranges.{overwrite};
 ghost use Rattle.sdr_disk.specs.Told.{Both, Told};
-ghost use Rattle.sdr_log.specs.Calls.{AreBelow, KeepsDisk, MayPut, Puts, with_lines};
+ghost use Rattle.sdr_log.specs.Calls.{AreBelow, KeepsDisk, MayPut, Puts, with_records};
 ghost use Rattle.sdr_log.specs.Frame.{LieInside, heap_place};
 ghost use Rattle.sdr_log.specs.Logged.{GivesSame};
 
@@ -38,7 +38,7 @@ pub fn put_lines<D: Disk>(disk: &mut D, frame: Frame, lines: &[Record]) -> Resul
     requires below { AreBelow frame.heap_lines lines.now }
 
     ensures written { OnOk result (Told (D.bytes disk.old)
-        (λ x. D.bytes disk.new ≡ Some (with_lines frame lines.now x))) }
+        (λ x. D.bytes disk.new ≡ Some (with_records frame lines.now x))) }
     ensures cause { HasCause (D.faults disk.old) (D.faults disk.new) result }
 
     ensures disk { KeepsDisk D.size D.bytes disk.old disk.new }

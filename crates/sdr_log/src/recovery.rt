@@ -1,42 +1,20 @@
 // A disk, put back after a crash.
-ghost use Rattle.std.specs.Prelude.{◌≡◌, ◌≤◌, ◌<◌, ◌*◌, ◌↔◌, true, length};
+ghost use Rattle.std.specs.Prelude.{◌≡◌, ◌≤◌, ◌<◌, ◌+◌, ◌*◌, ◌↔◌, true, length};
 ghost use Rattle.std.specs.Prelude.{IfOk, IfErr, OnOk, IsTrue, is_some};
 ghost use Rattle.sdr_base.specs.Causes.{HasCause};
 ghost use Rattle.sdr_disk.specs.Moments.{AtEach, Reads};
 ghost use Rattle.sdr_disk.specs.Told.{Both, Told};
 ghost use Rattle.sdr_log.specs.BackErrors.{HasBackCause, OnBadLog, UnlessFault};
-ghost use Rattle.sdr_log.specs.Calls.{AreBelow, GivesNone, KeepsDisk, MayPutBack, PutsBack};
+ghost use Rattle.sdr_log.specs.Calls.{AreBelow, GivesNone, IsFramed, KeepsDisk, MayPutBack, PutsBack};
 ghost use Rattle.sdr_log.specs.Frame.{LieInside};
 ghost use Rattle.sdr_log.specs.Log.{are_good, first_gate, log_of};
-ghost use Rattle.sdr_log.specs.Logged.{GivesSame, HasRegions, IsAtRest, IsOpen, Logs};
+ghost use Rattle.sdr_log.specs.Logged.{GivesSame, IsAtRest, IsOpen, Logs};
 
 use crate::reading::read_batches;
-use crate::{BackError, Frame, Record, close, put_lines};
+use crate::{BackError, Frame, Record, close, put_lines, read_frame};
 use sdr_base::{Bytes, Items, LINE};
 use sdr_disk::{Disk, DiskFault};
 use std::alloc::Global;
-
-// Whether the disk has the head of these regions, and both lie inside it.
-fn has_regions<D: Disk>(disk: &mut D, frame: Frame) -> Result<bool, DiskFault>
-    ensures has { IfOk result (λ has. Told (D.bytes disk.old)
-        (λ x. IsTrue has ↔ HasRegions frame x)) }
-    ensures regions { IfOk result (λ has. IsTrue has → LieInside frame (D.size disk.old)) }
-    ensures cause { HasCause (D.faults disk.old) (D.faults disk.new) result }
-
-    ensures size { D.size disk.new ≡ D.size disk.old }
-    ensures reads { Reads D.bytes D.moment D.may_leave disk.old disk.new }
-{
-    let have = disk.len();
-    if have < LINE {
-        return Ok(false);
-    }
-    let mut head = [0; 64];
-    disk.read_at(0, &mut head)?;
-    match Frame::from_head(&head) {
-        Some(found) => Ok(found == frame && found.disk_bytes() <= have),
-        None => Ok(false),
-    }
-}
 
 // The log region of a disk.
 fn read_log<D: Disk>(alloc: Global, disk: &mut D, frame: Frame) -> Result<Bytes, BackError>
@@ -61,9 +39,10 @@ fn read_records<D: Disk>(
     disk: &mut D,
     frame: Frame,
 ) -> Result<Items<Record>, BackError>
+    requires framed { IsFramed (D.size disk.old) (D.bytes disk.old) frame }
+
     ensures logs { IfOk result (λ records. Told (D.bytes disk.old) (λ x. Logs frame x records)) }
     ensures good { IfOk result (λ records. are_good frame.heap_lines records ≡ true) }
-    ensures regions { IfOk result (λ _. LieInside frame (D.size disk.old)) }
     ensures bad_log { IfErr result (λ why. OnBadLog why
         (Told (D.bytes disk.old) (GivesNone frame))) }
     ensures cause { HasBackCause (D.faults disk.old) (D.faults disk.new) result }
@@ -71,9 +50,6 @@ fn read_records<D: Disk>(
     ensures size { D.size disk.new ≡ D.size disk.old }
     ensures reads { Reads D.bytes D.moment D.may_leave disk.old disk.new }
 {
-    if !has_regions(disk, frame)? {
-        return Err(BackError::BadLog);
-    }
     let log = read_log(alloc, disk, frame)?;
     let records = read_batches(alloc, frame.heap_lines as usize, log.as_slice())?;
     Ok(records)
@@ -85,6 +61,7 @@ fn restore<D: Disk>(disk: &mut D, frame: Frame, records: &[Record]) -> Result<()
     requires good { are_good frame.heap_lines records.now ≡ true }
     requires some { 0 < length records.now }
 
+    ensures calls { D.moment disk.new ≤ D.moment disk.old + 2 * (length records.now + 3) }
     ensures back { OnOk result (Both (D.bytes disk.old) (D.bytes disk.new)
         (λ x y. Logs frame x records.now → PutsBack frame (length records.now) x y)) }
     ensures cause { HasCause (D.faults disk.old) (D.faults disk.new) result }
@@ -103,11 +80,13 @@ fn restore<D: Disk>(disk: &mut D, frame: Frame, records: &[Record]) -> Result<()
     Ok(())
 }
 
-/// Puts back the old lines of all open batches and closes them, and gives how many lines that
-/// were. All batches are checked before a line is written, and all memory is taken before. Where
-/// no batch is open it writes nothing, else a line each, a sync, a gate and a sync. After a fault
-/// the disk gives the same heap as before.
-pub fn put_back<D: Disk>(alloc: Global, disk: &mut D, frame: Frame) -> Result<u64, BackError>
+/// Puts back the old lines of all open batches of a disk with the head of these regions and closes
+/// them, and gives how many lines that were. All batches are checked before a line is written, and
+/// all memory is taken before. Where no batch is open it writes nothing, else a line each, a sync, a
+/// gate and a sync. After a fault the disk gives the same heap as before.
+pub fn put_back_found<D: Disk>(alloc: Global, disk: &mut D, frame: Frame) -> Result<u64, BackError>
+    requires framed { IsFramed (D.size disk.old) (D.bytes disk.old) frame }
+
     ensures back { IfOk result (λ count. Both (D.bytes disk.old) (D.bytes disk.new)
         (PutsBack frame count)) }
     ensures bad_log { IfErr result (λ why. OnBadLog why
@@ -120,6 +99,8 @@ pub fn put_back<D: Disk>(alloc: Global, disk: &mut D, frame: Frame) -> Result<u6
         (Reads D.bytes D.moment D.may_leave disk.old disk.new)) }
     ensures quiet { Told (D.bytes disk.old) (λ x. first_gate x ≡ 0
         → Reads D.bytes D.moment D.may_leave disk.old disk.new) }
+    ensures calls { IfOk result (λ count.
+        D.moment disk.new ≤ D.moment disk.old + 2 * (count + 3)) }
 
     ensures rest { OnOk result (Both (D.bytes disk.old) (D.bytes disk.new)
         (λ x y. MayPutBack frame x (D.may_leave disk.old (D.moment disk.old))
@@ -134,4 +115,36 @@ pub fn put_back<D: Disk>(alloc: Global, disk: &mut D, frame: Frame) -> Result<u6
     }
     restore(disk, frame, records.as_slice())?;
     Ok(records.len() as u64)
+}
+
+/// The same on any disk. It is refused where the disk hasn't the head of these regions.
+pub fn put_back<D: Disk>(alloc: Global, disk: &mut D, frame: Frame) -> Result<u64, BackError>
+    ensures back { IfOk result (λ count. Both (D.bytes disk.old) (D.bytes disk.new)
+        (PutsBack frame count)) }
+    ensures bad_log { IfErr result (λ why. OnBadLog why
+        (Told (D.bytes disk.old) (GivesNone frame))) }
+    ensures cause { HasBackCause (D.faults disk.old) (D.faults disk.new) result }
+
+    ensures disk { KeepsDisk D.size D.bytes disk.old disk.new }
+    // Where it refuses, it has read alone, and so it has where no batch is open.
+    ensures same { IfErr result (λ why. UnlessFault why
+        (Reads D.bytes D.moment D.may_leave disk.old disk.new)) }
+    ensures quiet { Told (D.bytes disk.old) (λ x. first_gate x ≡ 0
+        → Reads D.bytes D.moment D.may_leave disk.old disk.new) }
+    ensures calls { IfOk result (λ count.
+        D.moment disk.new ≤ D.moment disk.old + 2 * (count + 3)) }
+
+    ensures rest { OnOk result (Both (D.bytes disk.old) (D.bytes disk.new)
+        (λ x y. MayPutBack frame x (D.may_leave disk.old (D.moment disk.old))
+        → IsAtRest frame y (D.may_leave disk.new (D.moment disk.new)))) }
+    ensures any_moment { Told (D.bytes disk.old)
+        (λ x. MayPutBack frame x (D.may_leave disk.old (D.moment disk.old))
+        → AtEach D.moment D.may_leave disk.old disk.new (GivesSame x)) }
+{
+    let found = read_frame(disk)?;
+    if found != Some(frame) {
+        return Err(BackError::BadLog);
+    }
+    let count = put_back_found(alloc, disk, frame)?;
+    Ok(count)
 }

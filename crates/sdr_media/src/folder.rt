@@ -12,7 +12,7 @@ use std::io::ErrorKind;
 use std::os::unix::fs::FileExt;
 use std::path::{Path, PathBuf};
 use std::rt::Files;
-use std::{io, str};
+use std::{fs, io, str};
 
 /// The most bytes that a file of the system has.
 const MOST_BYTES: u64 = i64::MAX as u64;
@@ -22,9 +22,9 @@ const MOST_BYTES: u64 = i64::MAX as u64;
 ///
 /// A path is taken as the system takes it from the folder: `..` leads out of it, and a path that
 /// begins with `/` is a file anywhere. A path that isn't UTF-8 or has a zero byte holds nothing, and
-/// so does one where the system finds no file. Any other error is a fault: a folder in the place of a
-/// file, a file that may not be read, an error in the middle of a read, and want of memory for the
-/// whole path.
+/// so does one where the system finds no file, a FIFO or a device. Any other error is a fault: a
+/// folder in the place of a file, a file that may not be read, an error in the middle of a read, and
+/// want of memory for the whole path.
 ///
 /// Each call opens its file and closes it again.
 #[derive(Drop)]
@@ -52,14 +52,30 @@ fn item_name(alloc: Global, item: u64) -> Result<String, AllocError>
     format!(in alloc; "bulk-{item}")
 }
 
+// Whether the error is that the system finds nothing.
+fn is_missing(error: &io::Error) -> bool {
+    matches!(error.kind(), ErrorKind::NotFound | ErrorKind::NotADirectory)
+}
+
+// Whether a file or a folder is at a path. What is anything else is never opened: a FIFO would make
+// the call wait for its other end, and a device has no content of its own.
+fn is_there<R: Files>(rt: &R, path: Path<'_>) -> io::Result<bool> {
+    match fs::metadata(rt, path) {
+        Ok(found) => Ok(found.is_file() || found.is_dir()),
+        Err(error) if is_missing(&error) => Ok(false),
+        Err(error) => Err(error),
+    }
+}
+
 // The file at a path, where there is one.
 fn open<R: Files>(rt: &R, path: Path<'_>) -> io::Result<Option<R::File>> {
+    if !is_there(rt, path)? {
+        return Ok(None);
+    }
     match File::open(rt, path) {
         Ok(file) => Ok(Some(file)),
-        Err(e) => match e.kind() {
-            ErrorKind::NotFound | ErrorKind::NotADirectory => Ok(None),
-            _ => Err(e),
-        },
+        Err(error) if is_missing(&error) => Ok(None),
+        Err(error) => Err(error),
     }
 }
 

@@ -1,11 +1,12 @@
 // A file as a disk.
-ghost use Rattle.std.specs.Prelude.{◌≡◌, ◌↔◌, ◌≤◌, ◌+◌, false, true, is_ok, None, IsTrue, OnErr, OnOk};
+ghost use Rattle.std.specs.Prelude.{◌≡◌, ◌↔◌, ◌≤◌, ◌+◌, false, true, is_ok, None, IfOk, IsTrue, OnErr, OnOk};
 ghost use Rattle.sdr_base.specs.Causes.{HasCause, counted};
 ghost use Rattle.sdr_disk.specs.Moments.{IsAtEnd};
 
 use sdr_disk::{Disk, DiskFault};
 use std::fs::OpenFile;
 use std::io;
+use std::io::ErrorKind;
 use std::os::unix::fs::FileExt;
 
 /// A file of a fixed length as a disk. It tells nothing of its bytes, and counts each error as a
@@ -26,7 +27,7 @@ pub struct FileDisk<F> {
 }
 
 impl<F: FileExt + OpenFile> FileDisk<F> {
-    /// An open file that has so many bytes.
+    /// An open file that has so many bytes, on which nothing is pending.
     pub fn new(file: F, len: u64) -> FileDisk<F>
         ensures size { ⟦<FileDisk<F> as Disk>⟧.size result ≡ len }
         ensures faults { ⟦<FileDisk<F> as Disk>⟧.faults result ≡ 0 }
@@ -38,6 +39,21 @@ impl<F: FileExt + OpenFile> FileDisk<F> {
             faults: 0,
             broken: false,
         }
+    }
+
+    /// A file as a disk, on which nothing is pending: what an earlier writer left that was never
+    /// synced, as a program does that was killed, is synced first. What isn't a file is an error.
+    pub fn open(file: F) -> io::Result<FileDisk<F>>
+    where
+        F: Drop,
+        ensures { IfOk result (λ disk. ⟦<FileDisk<F> as Disk>⟧.faults disk ≡ 0) }
+    {
+        let metadata = file.metadata()?;
+        if !metadata.is_file() {
+            return Err(io::Error::from(ErrorKind::InvalidInput));
+        }
+        file.sync_all()?;
+        Ok(FileDisk::new(file, metadata.len()))
     }
 
     // Counts a fault.

@@ -4,49 +4,116 @@ ghost use Rattle.std.specs.Prelude.{◌≡◌, ◌≤◌, IfOk};
 use crate::file_disk::FileDisk;
 use sdr_disk::Disk;
 use std::fs::{File, OpenOptions};
-use std::io;
-use std::path::Path;
+use std::io::ErrorKind;
+use std::os::unix::fs::FileExt;
 use std::rt::Files;
+use std::{fs, io};
+
+/// How many zeros one write makes.
+const PIECE: usize = 4096;
+
+// Whether a file is at a path. Anything else there is an error: the opening of a FIFO would wait for
+// its other end, and a device is no file of a fixed length.
+fn is_file(rt: &impl Files<File = File>, path: &str) -> io::Result<bool> {
+    match fs::metadata(rt, path) {
+        Ok(found) if found.is_file() => Ok(true),
+        Ok(_) => Err(io::Error::from(ErrorKind::InvalidInput)),
+        Err(error) if error.kind() == ErrorKind::NotFound => Ok(false),
+        Err(error) => Err(error),
+    }
+}
 
 // Takes the lock of a file, so that no second process has the heap open.
 fn lock(file: &File) -> io::Result<()> {
     Ok(file.try_lock()?)
 }
 
-// Makes the name of a file last.
-fn sync_folder(rt: &impl Files<File = File>, path: &str) -> io::Result<()> {
-    let folder = match Path::new(path).parent() {
-        Some(parent) if !parent.as_os_str().is_empty() => parent.as_os_str(),
-        _ => ".",
-    };
-    File::open(rt, folder)?.sync_all()
+// Writes zeros from a place up to another, so that the file has all its blocks before it is a disk.
+fn write_zeros(file: &File, from: u64, to: u64) -> io::Result<()> {
+    let mut place = from;
+    while place < to {
+        let count = (to - place).min(PIECE as u64);
+        file.write_all_at(&[0; PIECE][..count as usize], place)?;
+        place += count;
+    }
+    Ok(())
 }
 
-/// Opens a file that is there.
+// Makes the name of a file last: that of the file itself, where the path is a link to it.
+fn sync_folder<R: Files<File = File> + AllocGlobal>(rt: &R, path: &str) -> io::Result<()> {
+    let whole = fs::canonicalize(rt, path)?;
+    match whole.as_path().parent() {
+        Some(folder) => File::open(rt, folder)?.sync_all(),
+        None => Ok(()),
+    }
+}
+
+// Lengthens a file with zeros to so many bytes, which last with its name.
+fn lengthen<R: Files<File = File> + AllocGlobal>(
+    rt: &R,
+    path: &str,
+    file: &File,
+    len: u64,
+    bytes: u64,
+) -> io::Result<()> {
+    write_zeros(file, len, bytes)?;
+    file.sync_all()?;
+    sync_folder(rt, path)
+}
+
+// Takes back what was made of a file that could not be made whole: the file, or what was added to it.
+fn take_back<R: Files<File = File> + AllocGlobal>(
+    rt: &R,
+    path: &str,
+    file: &File,
+    was_there: bool,
+    len: u64,
+) -> io::Result<()> {
+    if was_there {
+        return file.set_len(len);
+    }
+    let whole = fs::canonicalize(rt, path)?;
+    fs::remove_file(rt, whole.as_path())
+}
+
+/// Opens a file that is there. What isn't a file is an error, and nothing waits.
 pub fn open_disk(rt: &impl Files<File = File>, path: &str) -> io::Result<FileDisk<File>>
     ensures { IfOk result (λ disk. ⟦<FileDisk<File> as Disk>⟧.faults disk ≡ 0) }
 {
+    if !is_file(rt, path)? {
+        return Err(io::Error::from(ErrorKind::NotFound));
+    }
     let file = OpenOptions::new().read(true).write(true).open(rt, path)?;
     lock(&file)?;
-    let len = file.metadata()?.len();
-    Ok(FileDisk::new(file, len))
+    FileDisk::open(file)
 }
 
-/// Opens a file that has at least so many bytes: it is made, or lengthened with zero bytes, where it
-/// isn't. Its name and length last before the call returns.
-pub fn make_disk(rt: &impl Files<File = File>, path: &str, bytes: u64) -> io::Result<FileDisk<File>>
+/// Opens a file that has at least so many bytes: it is made, or lengthened with zeros, where it
+/// isn't. The zeros are written, so that no later write has to find a place for them. Its name and
+/// length last before the call returns; where they can't, nothing new is left behind.
+pub fn make_disk<R: Files<File = File> + AllocGlobal>(
+    rt: &R,
+    path: &str,
+    bytes: u64,
+) -> io::Result<FileDisk<File>>
     ensures faults { IfOk result (λ disk. ⟦<FileDisk<File> as Disk>⟧.faults disk ≡ 0) }
     ensures long { IfOk result (λ disk. bytes ≤ ⟦<FileDisk<File> as Disk>⟧.size disk) }
 {
+    let was_there = is_file(rt, path)?;
     let file = OpenOptions::new()
         .read(true)
         .write(true)
         .create(true)
         .open(rt, path)?;
     lock(&file)?;
-    let len = file.metadata()?.len().max(bytes);
-    file.set_len(len)?;
-    file.sync_all()?;
-    sync_folder(rt, path)?;
-    Ok(FileDisk::new(file, len))
+    let len = file.metadata()?.len();
+    if let Err(error) = lengthen(rt, path, &file, len, bytes) {
+        let _ = take_back(rt, path, &file, was_there, len);
+        return Err(error);
+    }
+    let disk = FileDisk::open(file)?;
+    if disk.len() < bytes {
+        return Err(io::Error::from(ErrorKind::UnexpectedEof));
+    }
+    Ok(disk)
 }

@@ -1,10 +1,46 @@
 // Standard input and output as a source and a sink.
-ghost use Rattle.std.specs.Prelude.{◌≡◌};
+ghost use Rattle.std.specs.Prelude.{◌≡◌, ◌≤◌, IfOk, length};
+ghost use Rattle.std.specs.Io.KnownBytes.{ReadConsumes, WriteAppends};
 
 use sdr_base::{Sink, SinkFault, Source, SourceFault};
-use std::io::{Read, Write};
+use std::io;
+use std::io::{ErrorKind, Read, Write};
 
-/// A reader as a source. It counts its reads, and its faults: each error is one.
+/// How often a call is made again that a signal broke off.
+const TRIES: u32 = 1_000_000;
+
+// Reads once, and again where a signal broke it off.
+fn read_again<R: Read>(inner: &mut R, into: &mut [u8]) -> io::Result<usize>
+    ensures bound { IfOk result (λ n. n ≤ length into.new) }
+    ensures bytes { ReadConsumes (R.remaining inner.old) (R.remaining inner.new)
+        result into.new }
+{
+    for _ in 0..TRIES {
+        match inner.read(into) {
+            Err(error) if error.kind() == ErrorKind::Interrupted => {}
+            read => return read,
+        }
+    }
+    inner.read(into)
+}
+
+// Writes once, and again where a signal broke it off.
+fn write_again<W: Write>(inner: &mut W, from: &[u8]) -> io::Result<usize>
+    ensures bound { IfOk result (λ n. n ≤ length from.now) }
+    ensures bytes { WriteAppends (W.contents inner.old) (W.contents inner.new)
+        result from.now }
+{
+    for _ in 0..TRIES {
+        match inner.write(from) {
+            Err(error) if error.kind() == ErrorKind::Interrupted => {}
+            written => return written,
+        }
+    }
+    inner.write(from)
+}
+
+/// A reader as a source. It counts its reads, and its faults: each error is one, but for a signal
+/// that broke off a read, which is made again.
 #[derive(Drop)]
 pub struct StdSource<R> {
     inner: R,
@@ -34,7 +70,7 @@ impl<R: Read> Source for StdSource<R> {
 
     fn read(&mut self, into: &mut [u8]) -> Result<u64, SourceFault> {
         self.reads = self.reads.saturating_add(1);
-        match self.inner.read(into) {
+        match read_again(&mut self.inner, into) {
             Ok(count) => Ok(count as u64),
             Err(_) => {
                 self.faults = self.faults.saturating_add(1);
@@ -44,7 +80,8 @@ impl<R: Read> Source for StdSource<R> {
     }
 }
 
-/// A writer as a sink. Each error, and each write that takes nothing, is a fault, which it counts.
+/// A writer as a sink. Each error, and each write that takes nothing, is a fault, which it counts. A
+/// write that a signal broke off is made again.
 #[derive(Drop)]
 pub struct StdSink<W> {
     inner: W,
@@ -65,7 +102,7 @@ impl<W: Write> Sink for StdSink<W> {
     ghost faults = { λ s. s.faults };
 
     fn write(&mut self, from: &[u8]) -> Result<u64, SinkFault> {
-        match self.inner.write(from) {
+        match write_again(&mut self.inner, from) {
             Ok(count) => {
                 if count == 0 {
                     self.faults = self.faults.saturating_add(1);

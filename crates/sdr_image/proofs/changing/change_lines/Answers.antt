@@ -1,4 +1,7 @@
-use Rattle.sdr_image.proofs.ChangingLemmas.{at_closing, at_opening, at_putting, holds_new, may_open, may_put}
+use Rattle.std.proofs.Common.{◌∙◌, sym}
+use Rattle.std.proofs.lemmas.Option.{same_Some}
+use Rattle.sdr_image.proofs.ChangedLemmas.{changed_bytes}
+use Rattle.sdr_image.proofs.ChangingLemmas.{at_closing, at_opening, at_putting, may_open, may_put}
 use Rattle.sdr_image.proofs.ChangingLemmas.{still_open}
 use Rattle.sdr_image.proofs.changing.change_lines.Goals as goal
 
@@ -29,17 +32,11 @@ returns-in_err-close-clause-any_moment g c x is r own =
     (c.write_batch.ensures.any_moment x is m) (c.put_lines.ensures.any_moment _ is1 n)
     (c.close.ensures.any_moment _ is2 (still_open _ _ _ x _ r own c.requires.good c.requires.named _ _ o _ _ p))
 
-pub returns-clause-rest : goal.returns-clause-rest
-returns-clause-rest g c x is y now r own =
-    let m = may_open _ _ c.args.news.now x _ r own c.requires.good c.requires.named in
-    let is1 = c.in_ok-write_batch.ensures.written x is in
-    let o = c.in_ok-write_batch.ensures.opens x is _ is1 m in
-    let n = may_put _ _ _ x _ r own c.requires.good c.requires.named _ _ o in
-    let is2 = c.in_ok-put_lines.ensures.written _ is1 in
-    let p = c.in_ok-put_lines.ensures.puts _ is1 _ is2 n in
-    holds_new _ _ _ x _ r own c.requires.good c.requires.named _ _ o _ _ p y _
-    (c.in_ok-close.ensures.closes _ is2 y now
-    (still_open _ _ _ x _ r own c.requires.good c.requires.named _ _ o _ _ p))
+pub returns-clause-bytes : goal.returns-clause-bytes
+returns-clause-bytes g c x is y now h own whole =
+    changed_bytes _ _ _ x h own c.requires.good c.requires.place.some c.requires.place.fits y c.requires.named whole
+    (same_Some _ _ (sym now
+    ∙ c.in_ok-close.ensures.written _ (c.in_ok-put_lines.ensures.written _ (c.in_ok-write_batch.ensures.written x is))))
 
 pub returns-clause-any_moment : goal.returns-clause-any_moment
 returns-clause-any_moment g c x is r own =

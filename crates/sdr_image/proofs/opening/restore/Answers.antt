@@ -1,11 +1,22 @@
-use Rattle.std.proofs.Common.{inl}
+use Rattle.sdr_image.proofs.OpenedLemmas.{may_put_back}
 use Rattle.sdr_image.proofs.opening.restore.Goals as goal
 
-pub returns-in-Ok-clause-rest : goal.returns-in-Ok-clause-rest
-returns-in-Ok-clause-rest g c x is y now only = c.in-Ok.ensures.rest x is y now (inl only)
+pub returns-in-Ok-clause-synced : goal.returns-in-Ok-clause-synced
+returns-in-Ok-clause-synced g c x is may y now =
+    (c.in-Ok.ensures.rest x is y now (may_put_back _ x _ (c.requires.framed.head x is) may)).only
 
 pub returns-in-Ok-clause-any_moment : goal.returns-in-Ok-clause-any_moment
-returns-in-Ok-clause-any_moment g c x is only = c.put_back.ensures.any_moment x is (inl only)
+returns-in-Ok-clause-any_moment g c x is may =
+    c.put_back_found.ensures.any_moment x is (may_put_back _ x _ (c.requires.framed.head x is) may)
 
 pub returns-in-Err-DiskFault-clause-any_moment : goal.returns-in-Err-DiskFault-clause-any_moment
-returns-in-Err-DiskFault-clause-any_moment g c x is only = c.put_back.ensures.any_moment x is (inl only)
+returns-in-Err-DiskFault-clause-any_moment g c x is may =
+    c.put_back_found.ensures.any_moment x is (may_put_back _ x _ (c.requires.framed.head x is) may)
+
+pub returns-in-Err-BadLog-clause-any_moment : goal.returns-in-Err-BadLog-clause-any_moment
+returns-in-Err-BadLog-clause-any_moment g c x is may =
+    c.put_back_found.ensures.any_moment x is (may_put_back _ x _ (c.requires.framed.head x is) may)
+
+pub returns-in-Err-NoMemory-clause-any_moment : goal.returns-in-Err-NoMemory-clause-any_moment
+returns-in-Err-NoMemory-clause-any_moment g c x is may =
+    c.put_back_found.ensures.any_moment x is (may_put_back _ x _ (c.requires.framed.head x is) may)

@@ -1,66 +1,26 @@
-use Rattle.std.proofs.Common.{◌<◌, ◌∙◌, List, ap, sym, subst, arith, length}
-use Rattle.std.proofs.lemmas.List.{nil_from_length}
-use Rattle.std.proofs.lemmas.Option.{same_Some}
-use Rattle.sdr_log.specs.Logged.{Logs}
-use Rattle.sdr_log.specs.declared.record.Record.{Record}
-use Rattle.sdr_log.proofs.LoggedLemmas.{logs_gate}
-use Rattle.sdr_log.proofs.RestoringLemmas.{at_reads, at_restored, reads_open, reads_rest, restored_none}
+use Rattle.std.proofs.Common.{◌∙◌}
+use Rattle.sdr_log.proofs.RestoringLemmas.{at_reads, at_restored, reads_may}
 use Rattle.sdr_log.proofs.recovery.put_back.Goals as goal
 
-pub returns-in_err-records-clause-any_moment : goal.returns-in_err-records-clause-any_moment
-returns-in_err-records-clause-any_moment g c x is m = at_reads _ _ _ _ _ _ x c.read_records.ensures.reads m
+pub returns-in_err-found-clause-any_moment : goal.returns-in_err-found-clause-any_moment
+returns-in_err-found-clause-any_moment g c x is m = at_reads _ _ _ _ _ _ x c.read_frame.ensures.reads m
 
-pub returns-then-len-eq0-clause-back : goal.returns-then-len-eq0-clause-back
-returns-then-len-eq0-clause-back g c x is y now =
-    let none = nil_from_length _ (sym c.len.ensures ∙ c.if-len-eq0.true) in
-    restored_none _ x y (subst (λ (l : List Record). Logs c.args.frame x l) none (c.in_ok-records.ensures.logs x is))
-    (same_Some _ _ (sym now ∙ c.read_records.ensures.reads.same ∙ is))
+pub returns-then-ne-clause-any_moment : goal.returns-then-ne-clause-any_moment
+returns-then-ne-clause-any_moment g c x is m = at_reads _ _ _ _ _ _ x c.read_frame.ensures.reads m
 
-pub returns-then-len-eq0-clause-rest : goal.returns-then-len-eq0-clause-rest
-returns-then-len-eq0-clause-rest g c x is y now m =
-    let none = nil_from_length _ (sym c.len.ensures ∙ c.if-len-eq0.true) in
-    reads_rest _ _ _ _ _ _ x c.read_records.ensures.reads m y
-    (same_Some _ _ (sym now ∙ c.read_records.ensures.reads.same ∙ is))
-    (subst (λ (l : List Record). Logs c.args.frame x l) none (c.in_ok-records.ensures.logs x is))
-
-pub returns-then-len-eq0-clause-any_moment : goal.returns-then-len-eq0-clause-any_moment
-returns-then-len-eq0-clause-any_moment g c x is m = at_reads _ _ _ _ _ _ x c.read_records.ensures.reads m
-
-pub returns-in_err-restore-clause-quiet : goal.returns-in_err-restore-clause-quiet
-returns-in_err-restore-clause-quiet g c x is shut =
-    let some : 0 < length c.in_ok-records.records = omega (arith, c.len.ensures, c.if-len-eq0.false) in
-    absurd (omega (arith, shut, logs_gate _ x _ (c.in_ok-records.ensures.logs x is) some))
-
-pub returns-in_err-restore-clause-any_moment : goal.returns-in_err-restore-clause-any_moment
-returns-in_err-restore-clause-any_moment g c x is m =
-    let reads = c.read_records.ensures.reads in
-    let l = subst (λ (l : List Record). Logs c.args.frame x l) (sym c.as_slice.ensures)
-    (c.in_ok-records.ensures.logs x is) in
-    let some : 0 < length c.as_slice.result.now =
-    omega (arith, c.len.ensures, c.if-len-eq0.false, ap length c.as_slice.ensures) in
+pub returns-in_err-count-clause-any_moment : goal.returns-in_err-count-clause-any_moment
+returns-in_err-count-clause-any_moment g c x is m =
+    let reads = c.read_frame.ensures.reads in
     at_restored _ _ _ _ _ _ x reads m _
-    (c.restore.ensures.any_moment x (reads.same ∙ is) l (reads_open _ _ _ _ _ _ x reads m _ l some))
-
-pub returns-clause-quiet : goal.returns-clause-quiet
-returns-clause-quiet g c x is shut =
-    let some : 0 < length c.in_ok-records.records = omega (arith, c.len.ensures, c.if-len-eq0.false) in
-    absurd (omega (arith, shut, logs_gate _ x _ (c.in_ok-records.ensures.logs x is) some))
+    (c.put_back_found.ensures.any_moment x (reads.same ∙ is) (reads_may _ _ _ _ _ _ x reads m))
 
 pub returns-clause-rest : goal.returns-clause-rest
 returns-clause-rest g c x is y now m =
-    let reads = c.read_records.ensures.reads in
-    let l = subst (λ (l : List Record). Logs c.args.frame x l) (sym c.as_slice.ensures)
-    (c.in_ok-records.ensures.logs x is) in
-    let some : 0 < length c.as_slice.result.now =
-    omega (arith, c.len.ensures, c.if-len-eq0.false, ap length c.as_slice.ensures) in
-    c.in_ok-restore.ensures.rest x (reads.same ∙ is) y now l (reads_open _ _ _ _ _ _ x reads m _ l some)
+    let reads = c.read_frame.ensures.reads in
+    c.in_ok-count.ensures.rest x (reads.same ∙ is) y now (reads_may _ _ _ _ _ _ x reads m)
 
 pub returns-clause-any_moment : goal.returns-clause-any_moment
 returns-clause-any_moment g c x is m =
-    let reads = c.read_records.ensures.reads in
-    let l = subst (λ (l : List Record). Logs c.args.frame x l) (sym c.as_slice.ensures)
-    (c.in_ok-records.ensures.logs x is) in
-    let some : 0 < length c.as_slice.result.now =
-    omega (arith, c.len.ensures, c.if-len-eq0.false, ap length c.as_slice.ensures) in
+    let reads = c.read_frame.ensures.reads in
     at_restored _ _ _ _ _ _ x reads m _
-    (c.restore.ensures.any_moment x (reads.same ∙ is) l (reads_open _ _ _ _ _ _ x reads m _ l some))
+    (c.put_back_found.ensures.any_moment x (reads.same ∙ is) (reads_may _ _ _ _ _ _ x reads m))

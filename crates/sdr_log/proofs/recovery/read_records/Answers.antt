@@ -1,19 +1,11 @@
-use Rattle.std.proofs.Common.{◌≡◌, ◌∙◌, List, ℕ, length, ap, sym, true, false}
+use Rattle.std.proofs.Common.{◌≡◌, ◌∙◌, List, ℕ, length, ap, sym}
 use Rattle.std.proofs.lemmas.Result.{err_from_is_err_and}
 use Rattle.sdr_disk.specs.Told.{Told}
 use Rattle.sdr_log.specs.Calls.{GivesNone}
 use Rattle.sdr_log.specs.Log.{batches_of, log_of}
 use Rattle.sdr_log.proofs.ReadingLemmas.{OnBadLog-then}
-use Rattle.sdr_log.proofs.RecoveryLemmas.{GivesNone-log, GivesNone-regions, Logs-read}
+use Rattle.sdr_log.proofs.RecoveryLemmas.{GivesNone-log, HasRegions-framed, Logs-read}
 use Rattle.sdr_log.proofs.recovery.read_records.Goals as goal
-
-pub returns-then-not-branch-clause-bad_log : goal.returns-then-not-branch-clause-bad_log
-returns-then-not-branch-clause-bad_log g c x is =
-    GivesNone-regions c.args.frame x (λ r.
-    let has = (c.in_ok-has_regions.ensures.has x is).1 r in absurd (apart (sym has ∙ c.if-not-branch.true)))
-  where
-    apart : true ≡ false → ⊥
-    apart e = cc
 
 pub returns-in_err-records-clause-bad_log : goal.returns-in_err-records-clause-bad_log
 returns-in_err-records-clause-bad_log g c =
@@ -21,14 +13,14 @@ returns-in_err-records-clause-bad_log g c =
     rw (p.1, p.2) (OnBadLog-then
     {Q = Told (g.D.Disk.bytes c.args.disk.now) (GivesNone c.args.frame)} _ (λ wrong x is.
     let log : c.as_slice.result.now ≡ log_of c.args.frame x =
-    c.as_slice.ensures ∙ c.in_ok-log.ensures.given x (c.has_regions.ensures.reads.same ∙ is) in
-    GivesNone-log c.args.frame x ((c.in_ok-has_regions.ensures.has x is).0 c.if-not-branch.false)
+    c.as_slice.ensures ∙ c.in_ok-log.ensures.given x is in
+    GivesNone-log c.args.frame x (HasRegions-framed _ _ _ x c.requires.framed (g.met.D.Disk.told c.args.disk.now) is)
     (λ records found. wrong records (ap (λ (l : List ℕ). batches_of (length l) l) log ∙ found)))
     c.in_err-records.ensures.bad_log)
 
 pub returns-clause-logs : goal.returns-clause-logs
 returns-clause-logs g c x is =
     let log : c.as_slice.result.now ≡ log_of c.args.frame x =
-    c.as_slice.ensures ∙ c.in_ok-log.ensures.given x (c.has_regions.ensures.reads.same ∙ is) in
-    Logs-read c.args.frame x _ ((c.in_ok-has_regions.ensures.has x is).0 c.if-not-branch.false)
+    c.as_slice.ensures ∙ c.in_ok-log.ensures.given x is in
+    Logs-read c.args.frame x _ (HasRegions-framed _ _ _ x c.requires.framed (g.met.D.Disk.told c.args.disk.now) is)
     (sym (ap (λ (l : List ℕ). batches_of (length l) l) log) ∙ c.in_ok-records.ensures.read) c.in_ok-records.ensures.good

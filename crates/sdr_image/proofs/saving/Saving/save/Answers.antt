@@ -3,7 +3,7 @@ use Rattle.std.proofs.lemmas.Option.{same_Some}
 use Rattle.std.proofs.lemmas.List.Sorted.{length_permutation}
 use Rattle.sdr_image.specs.Saved.{MaySave}
 use Rattle.sdr_image.proofs.SavedLemmas.{gathered_both, gathered_one, news_below, news_many, news_named, place_for}
-use Rattle.sdr_image.proofs.SavedLemmas.{rising_below, rising_good, saved_as, saved_each, saved_holds}
+use Rattle.sdr_image.proofs.SavedLemmas.{rising_below, rising_good, saved_as, saved_bytes, saved_each}
 use Rattle.sdr_image.proofs.saving.Saving.save.Goals as goal
 
 pub gather_now-requires-clause-room : goal.gather_now-requires-clause-room
@@ -66,11 +66,11 @@ returns-clause-written g c x is y now =
     c.gather_rising.ensures.rising c.deref.ensures.value c.gather_now.ensures.lines c.deref-2.ensures.value
     c.deref-3.ensures.value) x y (same_Some _ _ (sym now ∙ c.in_ok-change_lines.ensures.written x is))
 
-pub returns-clause-rest : goal.returns-clause-rest
-returns-clause-rest g c x is y now h =
-    saved_holds _ _ _ _ c.requires.lines _ _ (gathered_both _ _ _ _ _ _ _ c.gather_rising.ensures.lines
+pub returns-clause-bytes : goal.returns-clause-bytes
+returns-clause-bytes g c x is y now h =
+    saved_bytes _ _ _ _ c.requires.lines _ _ (gathered_both _ _ _ _ _ _ _ c.gather_rising.ensures.lines
     c.gather_rising.ensures.rising c.deref.ensures.value c.gather_now.ensures.lines c.deref-2.ensures.value
-    c.deref-3.ensures.value) x y _ _ h (c.in_ok-change_lines.ensures.rest x is y now)
+    c.deref-3.ensures.value) x y h (c.in_ok-change_lines.ensures.bytes x is y now)
 
 pub returns-clause-calls : goal.returns-clause-calls
 returns-clause-calls g c = omega (
