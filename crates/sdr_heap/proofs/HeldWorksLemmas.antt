@@ -1,5 +1,5 @@
 -- What each call keeps beside what it is for, from what its steps keep of the cells.
-use Rattle.std.proofs.Common.{◌≡◌, ℕ, Bool, List, refl, sym, ap, ◌∙◌, subst, arith}
+use Rattle.std.proofs.Common.{◌≡◌, ℕ, Bool, List, refl, sym, ap, ◌∙◌, subst}
 use Rattle.std.specs.Prelude.{Result, Ok, Err, IfErr}
 use Rattle.sdr_base.specs.KeptHeap.{KeepsRegion, block_in, root_in}
 use Rattle.sdr_base.specs.Moves.{KeepsSome, Moves}
@@ -7,9 +7,7 @@ use Rattle.sdr_base.specs.Objects.{Heap, IsUnmoved, OnlyFull, OnlyUnmoved, Settl
 use Rattle.sdr_base.specs.Transaction.{Transaction, HasReason, TouchesAtMost, TouchesNone}
 use Rattle.sdr_base.specs.Works.{LeadsOn, Looks, StaysQuiet, Works}
 use Rattle.sdr_base.specs.declared.has_heap.HasHeap.{Ghosts}
-use Rattle.sdr_base.specs.declared.refusal.Refusal.TheVariants.{NoBlock}
 use Rattle.sdr_base.specs.declared.stop.Stop.{Stop}
-use Rattle.sdr_base.specs.declared.stop.Stop.TheVariants.{Refused}
 use Rattle.sdr_base.proofs.MovesLemmas.{Moves-kept, Moves-then}
 use Rattle.sdr_base.proofs.ObjectsLemmas.{Settled-then}
 use Rattle.sdr_base.proofs.TransactionLemmas.{touches_none}

@@ -1,5 +1,5 @@
 -- The address is that of a word.
-use Rattle.std.proofs.Common.{ap, ◌∙◌, refl}
+use Rattle.std.proofs.Common.{ap, ◌∙◌}
 use Rattle.sdr_heap.specs.Noted.{marked_in}
 use Rattle.sdr_heap.proofs.HeldLemmas.{mark_inside}
 use Rattle.sdr_heap.proofs.HeldWorksLemmas.{marked_leads, marked_quiet}
