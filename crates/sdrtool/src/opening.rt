@@ -2,6 +2,7 @@
 ghost use Rattle.std.specs.Prelude.{◌≡◌, ◌≤◌, IfOk};
 
 use crate::file_disk::FileDisk;
+use sdr_base::MOST_LINES;
 use sdr_disk::Disk;
 use std::fs::{File, OpenOptions};
 use std::io::ErrorKind;
@@ -11,6 +12,9 @@ use std::{fs, io};
 
 /// How many zeros one write makes.
 const PIECE: usize = 4096;
+
+/// The most bytes that a head and the regions of a heap take. Behind them nothing is ever written.
+const MOST_BYTES: u64 = 64 * (1 + 65_536 + MOST_LINES);
 
 // Whether a file is at a path. Anything else there is an error: the opening of a FIFO would wait for
 // its other end, and a device is no file of a fixed length.
@@ -48,7 +52,8 @@ fn sync_folder<R: Files<File = File> + AllocGlobal>(rt: &R, path: &str) -> io::R
     }
 }
 
-// Lengthens a file with zeros to so many bytes, which last with its name.
+// Lengthens a file with zeros to so many bytes, which last with its name. The zeros are written, as
+// far as a heap may reach.
 fn lengthen<R: Files<File = File> + AllocGlobal>(
     rt: &R,
     path: &str,
@@ -56,7 +61,8 @@ fn lengthen<R: Files<File = File> + AllocGlobal>(
     len: u64,
     bytes: u64,
 ) -> io::Result<()> {
-    write_zeros(file, len, bytes)?;
+    file.set_len(len.max(bytes))?;
+    write_zeros(file, len, bytes.min(MOST_BYTES))?;
     file.sync_all()?;
     sync_folder(rt, path)
 }

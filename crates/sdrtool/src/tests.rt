@@ -35,6 +35,52 @@ impl Write for Broken {
     }
 }
 
+/// A reader and writer of one byte each, whose first calls a signal breaks off.
+#[derive(Drop)]
+struct Signalled {
+    signals: u8,
+}
+
+impl Signalled {
+    // Whether a signal comes first.
+    fn is_broken_off(&mut self) -> bool {
+        let is_first = self.signals > 0;
+        self.signals = self.signals.saturating_sub(1);
+        is_first
+    }
+}
+
+impl Read for Signalled {
+    fn read(&mut self, into: &mut [u8]) -> io::Result<usize> {
+        if self.is_broken_off() {
+            return Err(io::Error::from(io::ErrorKind::Interrupted));
+        }
+        Ok(into.len().min(1))
+    }
+}
+
+impl Write for Signalled {
+    fn write(&mut self, from: &[u8]) -> io::Result<usize> {
+        if self.is_broken_off() {
+            return Err(io::Error::from(io::ErrorKind::Interrupted));
+        }
+        Ok(from.len().min(1))
+    }
+
+    fn flush(&mut self) -> io::Result<()> {
+        Ok(())
+    }
+}
+
+#[test]
+fn a_signal_is_no_fault(rt: HostRuntime) {
+    let mut piece = [0u8; 6];
+    let mut source = StdSource::new(Signalled { signals: 3 });
+    assert_eq!(rt; source.read(&mut piece), Ok(1));
+    let mut sink = StdSink::new(Signalled { signals: 3 });
+    assert_eq!(rt; sink.write(b"lock"), Ok(1));
+}
+
 #[test]
 fn standard_input_gives_what_is_read_and_a_fault_where_that_fails(rt: HostRuntime) {
     let mut source = StdSource::new(b"1: begin".as_slice());
