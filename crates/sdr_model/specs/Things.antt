@@ -1,6 +1,5 @@
 -- The things of a world, and the blocks that they fill.
 use Rattle.sdr_base.specs.declared.kind.Kind.TheVariants as kinds
-use Rattle.sdr_model.specs.contracts.things.Thing as thing
 use Rattle.sdr_model.specs.declared.name.Name.{Name}
 use Rattle.sdr_model.specs.declared.things.Block.{Block}
 use Rattle.sdr_model.specs.declared.things.Element.{Element}

@@ -25,7 +25,7 @@ use Rattle.sdr_model.specs.Step.{StopsWith, is_answer}
 use Rattle.sdr_model.specs.Steps.{Outcome, Refuses}
 use Rattle.sdr_machine.specs.Transaction.{Becomes, Replies, Transacts, deepest, is_closing, is_opening, after_reply, doomed_for, modified, Says, Transaction, refused, transaction_of}
 use Rattle.sdr_model.specs.Wire as Wire
-use Rattle.sdr_model.specs.Wire.{Spells, Gives, GivesOf, headers_part, source_part, trailers_part, wire_part}
+use Rattle.sdr_model.specs.Wire.{Spells, Gives, headers_part, source_part, trailers_part, wire_part}
 use Rattle.sdr_model.specs.World.{World, block_at, misnamed, refusal_for}
 use Rattle.sdr_model.specs.Zco.{object_at}
 use Rattle.sdr_model.specs.declared.answer.Answer.{Answer}

@@ -1,7 +1,6 @@
 -- How much a machine has after so many events.
-use Rattle.sdr_model.specs.Few.{pieces, HasFewPieces}
+use Rattle.sdr_model.specs.Few.{HasFewPieces}
 use Rattle.sdr_machine.specs.Machine.{Machine}
-use Rattle.sdr_model.specs.declared.things.Thing.TheVariants as things
 use Rattle.std.specs.Prelude.{◌≤◌, ℕ, ◌*◌, ◌^◌, length}
 
 -- After so many events the machine drew no more numbers, no more are held, no object has more pieces, and each event took

@@ -1,9 +1,8 @@
 -- What is gathered of pieces.
 use Rattle.sdr_model.specs.Pieces.{cut_pieces}
 use Rattle.sdr_zco_calls.specs.declared.wire.Gathering.{Gathering}
-use Rattle.sdr_model.specs.declared.piece.Piece.TheVariants as pieces
 use Rattle.sdr_model.specs.declared.piece.Piece.{Piece}
-use Rattle.std.specs.Prelude.{◌≡◌, ◌+◌, ◌-◌, List, ◌++◌}
+use Rattle.std.specs.Prelude.{◌≡◌, List, ◌++◌}
 
 -- The bytes of these pieces are gathered: the pieces had, and those still to be cut of any others, are as those to be
 -- cut of these and the others.
