@@ -3,6 +3,7 @@ ghost use Rattle.std.specs.Prelude.{◌≡◌, ◌≢◌, ◌≤◌, ◌<◌, �
 ghost use Rattle.std.specs.Prelude.{None, Some, [], length, is_some};
 ghost use Rattle.std.specs.Io.KnownBytes.{Appends};
 ghost use Rattle.sdr_base.specs.Causes.{Rose};
+ghost use Rattle.sdr_disk.specs.Pending.{IsSynced};
 ghost use Rattle.sdr_log.specs.Frame.{disk_bytes};
 ghost use Rattle.sdr_shell.specs.Answers.{AnswersDry, AnswersFormat, Wrote, seen};
 ghost use Rattle.sdr_shell.specs.Form.{form_of, OnFormat};
@@ -176,6 +177,8 @@ pub fn still<D: Disk, M: Media, S: Source, K: Sink>(
         × AnswersFormat result.status frame (D.size disk)
         (seen D.bytes D.faults disk) (seen D.bytes D.faults result.disk)
         (seen K.taken K.faults output.old) (seen K.taken K.faults output.new)) }
+    ensures synced { OnFormat (form_of words.now) (λ _. HasFormatted result.status →
+        IsSynced D.bytes D.moment D.may_leave result.disk) }
 
     // Every form.
     ensures counts { (S.faults input.old ≤ S.faults input.new)

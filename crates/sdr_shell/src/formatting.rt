@@ -3,6 +3,7 @@ ghost use Rattle.std.specs.Prelude.{◌≡◌, ◌≤◌, ◌<◌, ◌↔◌, �
 ghost use Rattle.std.specs.Io.KnownBytes.{Appends};
 ghost use Rattle.sdr_base.specs.Causes.{Rose};
 ghost use Rattle.sdr_base.specs.Written.{AppendsPart};
+ghost use Rattle.sdr_disk.specs.Pending.{IsSynced};
 ghost use Rattle.sdr_image.specs.declared.error.FormatError.TheVariants as errors;
 ghost use Rattle.sdr_log.specs.Frame.{IsInLimits, disk_bytes};
 ghost use Rattle.sdr_shell.specs.Formatting.{line_formatted, line_too_small, IsFormatted, HasFormatted, IsFormatStatus};
@@ -64,6 +65,7 @@ pub fn format_disk<D: Disk, K: Sink>(frame: Frame, disk: &mut D, output: &mut K)
     // done
     ensures formatted { HasFormatted result →
         IsFormatted frame (D.bytes disk.old) (D.bytes disk.new) }
+    ensures synced { HasFormatted result → IsSynced D.bytes D.moment D.may_leave disk.new }
     ensures text { result ≡ DONE →
         Appends (K.taken output.old) (K.taken output.new) (line_formatted frame) }
     ensures part { result ≡ OUTPUT_FAULT →

@@ -19,6 +19,7 @@ mod status;
 mod top_call;
 
 pub use commands::still;
+pub use form::is_form;
 pub use outcome::Outcome;
 pub use status::{
     DISK_FAULT, DONE, INPUT_FAULT, NO_MEMORY, OUTPUT_FAULT, REFUSED_LINE, TOO_SMALL, USAGE,

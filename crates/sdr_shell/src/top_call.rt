@@ -1,8 +1,9 @@
 // The call that the program makes.
 ghost use Rattle.std.specs.Prelude.{◌≡◌, ◌≢◌, ◌≤◌, ◌+◌, ◌↔◌, codes, None, Some, [], is_some};
+ghost use Rattle.sdr_disk.specs.Pending.{IsSynced};
 ghost use Rattle.sdr_shell.specs.Answers.{AnswersDry, AnswersFormat, Wrote, seen};
 ghost use Rattle.sdr_shell.specs.Form.{form_of, OnFormat};
-ghost use Rattle.sdr_shell.specs.Formatting.{LeavesDisk};
+ghost use Rattle.sdr_shell.specs.Formatting.{HasFormatted, LeavesDisk};
 ghost use Rattle.sdr_shell.specs.Schedule.{HaveFailed, media_change};
 
 use crate::Outcome;
@@ -51,6 +52,8 @@ pub fn top<
         × AnswersFormat result.status frame (D.size disk)
         (seen D.bytes D.faults disk) (seen D.bytes D.faults result.disk)
         (seen K.taken K.faults output.old) (seen K.taken K.faults output.new)) }
+    ensures synced { OnFormat (form_of words.now) (λ _. HasFormatted result.status →
+        IsSynced D.bytes D.moment D.may_leave result.disk) }
 
     // Every form.
     ensures counts { (S.faults input.old ≤ S.faults input.new)

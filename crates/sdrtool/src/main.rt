@@ -1,9 +1,11 @@
-//! `sdrtool` formats, inspects, recovers and migrates a heap, and runs scripted daemons on it.
+//! `sdrtool` makes an empty heap of a disk (`format`), and runs the script of its daemons on a machine
+//! without one (`dry`).
 //!
 //! 1. The first word says which disk: `-` an empty one in memory, `PATH` a file, `PATH=N` a file that
 //!    is made, or lengthened with zero bytes, to N bytes. A file that can't be opened, lengthened or
-//!    locked ends the program with status 1.
-//! 2. The other words go to the top call, whose status the program ends with.
+//!    locked, and what isn't a file, ends the program with status 1.
+//! 2. The other words go to the top call, whose status the program ends with. Where they are no form,
+//!    `PATH=N` makes no file.
 //! 3. Files and bulk items are those of the current folder.
 //! 4. `--help` and `--version`, alone, are answered without a disk.
 #![tactic(auto)]
@@ -24,7 +26,7 @@ use crate::real::{StdSink, StdSource};
 use sdr_base::{Media, NoGate, NoMemory, Sink, Source};
 use sdr_disk::{Disk, MemoryDisk};
 use sdr_media::FolderMedia;
-use sdr_shell::{NO_MEMORY, top};
+use sdr_shell::{NO_MEMORY, is_form, top};
 use std::alloc::Global;
 use std::env::{Args, Env};
 use std::fs::File;
@@ -130,6 +132,10 @@ fn run<
             Place::Memory => answer_in_memory(rt, form, media, input, output),
             Place::File { path } => {
                 answer_on_file(rt, form, open_disk(rt, path), media, input, output)
+            }
+            // A file is made for a form alone.
+            Place::Sized { .. } if !is_form(form) => {
+                answer_in_memory(rt, form, media, input, output)
             }
             Place::Sized { path, bytes } => {
                 answer_on_file(rt, form, make_disk(rt, path, bytes), media, input, output)
