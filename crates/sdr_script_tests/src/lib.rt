@@ -1,21 +1,13 @@
-//! Tests of the crates from words to statuses: `sdr_text`, `sdr_words`, `sdr_plain` and `sdr_shell`, as rows of
-//! literals.
+//! Tests of `sdr_plain` and `sdr_shell`, from events and words to answers and statuses, as rows of literals.
 //!
-//! 1. A row is what is read or called, and what comes of it. Its literals come from the grammar, from the
-//!    table of answers and from worked rows, and not from the code.
-//! 2. A function plays rows in a loop, with one call of what is tested in it, and answers the first
+//! 1. A row is what is called, and what is answered then. Its literals come from worked rows, and not
+//!    from the code.
+//! 2. A function plays rows, with one call of what is tested in it, and answers the first
 //!    row that got something else. A test wants that there is none.
-//! 3. Here stands what no clause says: that calls succeed with ample memory, and what the definitions of
-//!    the grammar, of events and of printed lines come to in bytes and numbers.
+//! 3. Here stands what no clause says: that calls succeed with ample memory, and what a disk holds then.
 #![tactic(auto)]
 
 #[cfg(test)]
-mod event_tests;
+mod format_tests;
 #[cfg(test)]
-mod grammar_tests;
-#[cfg(test)]
-mod name_tests;
-#[cfg(test)]
-mod scripts;
-#[cfg(test)]
-mod text_tests;
+mod machine_tests;

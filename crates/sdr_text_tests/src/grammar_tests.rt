@@ -239,11 +239,10 @@ enum Given<'a> {
 }
 
 fn is_given(arg: &Arg, want: Given<'_>) -> bool {
-    match (arg, want) {
-        (Arg::Number(number), Given::Number(wanted)) => *number == wanted,
-        (Arg::Named(name), Given::Name(wanted)) => name.as_slice() == wanted,
-        (Arg::Text(text), Given::Text(wanted)) => text.as_slice() == wanted,
-        _ => false,
+    match want {
+        Given::Number(wanted) => matches!(arg, Arg::Number(number) if *number == wanted),
+        Given::Name(wanted) => matches!(arg, Arg::Named(name) if name.as_slice() == wanted),
+        Given::Text(wanted) => matches!(arg, Arg::Text(text) if text.as_slice() == wanted),
     }
 }
 
