@@ -10,8 +10,6 @@
 
 mod commands;
 mod form;
-#[cfg(test)]
-mod form_tests;
 mod formatting;
 mod last_line;
 mod media;

@@ -9,8 +9,6 @@ mod answer;
 mod given;
 mod line;
 mod refused;
-#[cfg(test)]
-mod tests;
 
 pub use answer::write_answer;
 pub use given::are_text_bytes;

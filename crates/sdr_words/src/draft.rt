@@ -12,7 +12,7 @@ use std::marker::Model;
 const SHORTEST_STEP: usize = 7;
 
 /// Who binds a name.
-#[derive(Clone, Copy, Debug, PartialEq, Eq, Hash)]
+#[derive(Clone, Copy, PartialEq, Eq, Hash)]
 pub struct Binder<'a> {
     pub daemon: u8,
     pub name: &'a [u8],

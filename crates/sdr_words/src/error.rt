@@ -49,7 +49,7 @@ impl From<SourceFault> for ScriptError {
 }
 
 /// Why a line gives no step.
-#[derive(Clone, Copy, Debug, PartialEq, Eq)]
+#[derive(Clone, Copy)]
 pub enum LineError {
     /// The grammar refuses it.
     Refused,

@@ -17,10 +17,6 @@ mod given;
 mod lines;
 mod literals;
 mod read;
-#[cfg(test)]
-mod statement_tests;
-#[cfg(test)]
-mod tests;
 mod verb;
 mod words;
 

@@ -3,7 +3,7 @@ ghost use Rattle.std.specs.Prelude.{◌≡◌, [], map, slice_get, unwrap_or};
 ghost use Rattle.sdr_words.specs.Verbs.{place_in, place_of, verb_at, shapes_at};
 
 /// What an argument of a verb may be.
-#[derive(Clone, Copy, Debug, PartialEq, Eq)]
+#[derive(Clone, Copy)]
 pub enum Shape {
     /// An address, a number or a ticket's number, 0 for none: a number, or a bound name.
     Value,
@@ -22,7 +22,7 @@ pub enum Shape {
 }
 
 /// What a line asks for.
-#[derive(Clone, Copy, Debug)]
+#[derive(Clone, Copy)]
 pub enum Verb {
     Begin,
     End,
