@@ -248,11 +248,12 @@ fn is_given(arg: &Arg, want: Given<'_>) -> bool {
 
 // Whether these are the arguments, and no more.
 fn are_given(args: &[Arg], wanted: &[Given<'_>]) -> bool {
+    for (arg, want) in args.iter().zip(wanted.iter()) {
+        if !is_given(arg, *want) {
+            return false;
+        }
+    }
     args.len() == wanted.len()
-        && args
-            .iter()
-            .zip(wanted.iter())
-            .all(|(arg, want)| is_given(arg, *want))
 }
 
 // A line, daemon, name, place of a verb, and arguments.
@@ -306,11 +307,12 @@ const SPELLED: [(&[u8], &[Row<'static>]); 7] = [
 ];
 
 fn are_rows(steps: &[Step], rows: &[Row<'_>]) -> bool {
+    for (step, row) in steps.iter().zip(rows.iter()) {
+        if !is_row(step, row) {
+            return false;
+        }
+    }
     steps.len() == rows.len()
-        && steps
-            .iter()
-            .zip(rows.iter())
-            .all(|(step, row)| is_row(step, row))
 }
 
 // The first input that spells other steps.

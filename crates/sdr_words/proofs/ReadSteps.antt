@@ -1,5 +1,5 @@
 -- Each step that a line gives is one that a script may have.
-use Rattle.std.proofs.Common.{◌≡◌, ◌==◌, ◌-◌, ◌&&◌, ◌<◌, ◌≤◌, ◌^◌, ◌⊎◌, inl, inr, ℕ, zero, suc, List, [], ◌∷◌, Bool, true, false, not, cond, Option, None, Some, Result, Ok, Err, option_map, option_and_then, length, slice_index, take, replicate, codes, nat_lt, nat_le, nat_eq, refl, ap, sym, ◌∙◌, subst, arith}
+use Rattle.std.proofs.Common.{◌≡◌, ◌==◌, ◌-◌, ◌&&◌, ◌<◌, ◌≤◌, ◌^◌, ◌⊎◌, inl, inr, ℕ, zero, suc, List, [], ◌∷◌, Bool, true, false, not, cond, Option, None, Some, Result, Ok, Err, option_map, option_and_then, length, slice_index, take, replicate, codes, nat_lt, nat_le, nat_eq, refl, ap, sym, subst, arith}
 use Rattle.std.proofs.lemmas.Bool.{and_parts}
 use Rattle.std.proofs.lemmas.Bool.Decides.{nat_tests}
 use Rattle.std.proofs.lemmas.Option.{cond_some}
