@@ -6,7 +6,8 @@ use Rattle.sdr_base.specs.declared.account.Acct.TheVariants as accounts
 use Rattle.sdr_words.specs.Script.{script_of, input_script}
 use Rattle.sdr_model.specs.declared.script.Arg.TheVariants as args
 use Rattle.sdr_words.specs.Literals.{literal_of}
-use Rattle.sdr_words.specs.Verbs.{names, place_of, shapes}
+use Rattle.sdr_words.specs.Verbs.{names, place_of, shapes, shapes_at}
+use Rattle.sdr_words.specs.declared.verb.Shape.TheVariants as variants
 
 -- an event, a call, an event
 begin_string_end : script_of (codes "1: begin\n1: string \"hi\"\n1: end\n") ≡ Ok (
@@ -108,6 +109,23 @@ upper_case = refl
 too_many_copies : literal_of (codes "f61*4097") ≡ None
 unfolding decode_pairs
 too_many_copies = refl
+
+-- the number of the last verb, the shapes of two verbs' arguments, and a name of none
+last_number : place_of (codes "shred") ≡ Some 77
+unfolding names
+last_number = refl
+
+in_order : shapes_at 24 ≡ variants.Value ∷ variants.Value ∷ variants.Order ∷ []
+unfolding shapes
+in_order = refl
+
+with_type : shapes_at 46 ≡ variants.Text ∷ variants.Type ∷ variants.Value ∷ []
+unfolding shapes
+with_type = refl
+
+capital : place_of (codes "Begin") ≡ None
+unfolding names
+capital = refl
 
 -- each verb is found at its own place
 places : map place_of names ≡ map Some (range_with_len 0 78)

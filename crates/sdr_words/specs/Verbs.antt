@@ -1,23 +1,23 @@
--- The table of verbs, as the grammar reads it.
+-- The table of verbs, as the grammar reads it: by names and by numbers.
 use Rattle.std.specs.Prelude.{ℕ, List, [], Option, map, slice_get, unwrap_or, nat_eq}
 use Rattle.std.specs.Cmp.Lexicographic.{pointwise}
 use Rattle.std.specs.List.{position}
+use Rattle.sdr_words.specs.VerbTable.{verb_table}
 use Rattle.sdr_words.specs.declared.verb.Shape.{Shape}
-use Rattle.sdr_words.specs.declared.verb.TheConstants.{VERBS}
 use Rattle.sdr_words.specs.declared.verb.Verb.{Verb}
 use Rattle.sdr_words.specs.declared.verb.Verb.TheVariants as variants
 
 -- the verbs, in the order of the table
 unfoldable pub verbs : List Verb
-verbs = map (λ row. row.0) VERBS
+verbs = map (λ row. row.verb) verb_table
 
 -- their names
 unfoldable pub names : List (List ℕ)
-names = map (λ row. row.1.now) VERBS
+names = map (λ row. row.name) verb_table
 
 -- the shapes of their arguments
 unfoldable pub shapes : List (List Shape)
-shapes = map (λ row. row.2.now) VERBS
+shapes = map (λ row. row.arguments) verb_table
 
 -- the place of a name among names
 abbrev pub place_in : List (List ℕ) → List ℕ → Option ℕ

@@ -1,7 +1,8 @@
 //! Scripts: what a line says, and reading all lines of an input.
 //!
 //! 1. A line has fields between spaces. A daemon, maybe a name and `=`, a verb, and its arguments.
-//! 2. One table has all verbs with the shapes of their arguments, and all lines are read by it.
+//! 2. One table has all verbs with the shapes of their arguments, and all lines are read by it. It is
+//!    the grammar's (`specs/VerbTable.antt`).
 //! 3. The first refused line ends the reading.
 //! 4. A step has a canonical line, which is read as that step.
 #![tactic(auto)]

@@ -1,4 +1,4 @@
-// The verbs of scripts: the one table by which they are read.
+// The verbs of scripts: the one table by which they are read, which is the grammar's.
 ghost use Rattle.std.specs.Prelude.{◌≡◌, [], map, slice_get, unwrap_or};
 ghost use Rattle.sdr_words.specs.Verbs.{place_in, place_of, verb_at, shapes_at};
 
@@ -109,7 +109,8 @@ type Row = (Verb, &'static [u8], &'static [Shape]);
 
 use Shape::{Account, Order, Priority, Space, Text, Type, Value};
 
-/// The verbs. A step names its verb by the place here, from 0.
+/// The verbs. A step names its verb by the place here, from 0. The contracts below say that the names,
+/// the shapes and the verbs are those of the grammar's table, each at its place.
 static VERBS: [Row; 78] = [
     (Verb::Begin, b"begin", &[]),
     (Verb::End, b"end", &[]),
