@@ -1,0 +1,2 @@
+//! When the bytes of a heap stand for a world.
+#![tactic(auto)]
