@@ -18,9 +18,11 @@ use Rattle.sdr_base.specs.Tickets.{ticket_addr, ticket_entries}
 use Rattle.sdr_base.specs.ZcoObjects.{object_entries}
 use Rattle.sdr_base.specs.declared.account.Acct.{Acct}
 use Rattle.sdr_base.specs.declared.account.Acct.TheVariants as accts
+use Rattle.sdr_base.specs.declared.moves.Move.{Move}
 use Rattle.sdr_model.specs.Accounts.{account_of, tickets_of}
 use Rattle.sdr_model.specs.Charges.{occupancies}
 use Rattle.sdr_model.specs.Fields.{FitsFields}
+use Rattle.sdr_model.specs.Steps.{taken_addresses}
 use Rattle.sdr_model.specs.Whole.{IsWhole}
 use Rattle.sdr_model.specs.World.{World, is_marked}
 use Rattle.sdr_model.specs.declared.accounts.Accounts.{Accounts}
@@ -91,3 +93,7 @@ pub record HeapStandsFor (heap : Heap) (w : World) : Type 0 where
   pub blocks : Stands heap.blocks (entries_of w)
   pub roots : heap.roots ≡ roots_of w
   pub marks : (addr : ℕ) → heap.marks addr ≡ is_marked w addr
+
+-- the world with each block that the moves take marked, and no bytes shown
+abbrev pub with_taken_marked : World → List Move → World
+with_taken_marked w moves = record w { marks = w.marks ++ taken_addresses moves; shown = [] }
