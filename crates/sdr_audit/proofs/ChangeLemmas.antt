@@ -12,9 +12,9 @@ use Rattle.sdr_base.specs.Section.{section}
 use Rattle.sdr_base.specs.declared.moves.Move.{Move}
 use Rattle.sdr_base.specs.declared.moves.Move.TheVariants.{Took, Gave, Short}
 use Rattle.sdr_base.proofs.SectionLemmas.{section-change, section-gone, section-new}
-use Rattle.sdr_base.proofs.StandingLemmas.{focused, found, moved, stands_swapped, swaps_before}
+use Rattle.sdr_base.proofs.StandingLemmas.{focused, found, stands_swapped, swaps_before}
 use Rattle.sdr_model.specs.Steps.{taken_addresses, with_thing, without_thing}
-use Rattle.sdr_model.specs.World.{World, thing_at, is_marked}
+use Rattle.sdr_model.specs.World.{World, thing_at}
 use Rattle.sdr_model.specs.declared.things.Thing.{Thing}
 use Rattle.sdr_model.specs.declared.things.Thing.TheVariants as things
 use Rattle.sdr_audit.specs.Standing.{HeapStandsFor, entries_of, other_entries, roots_of, thing_entries, with_taken_marked}

@@ -1,3 +1,4 @@
 pub mod Rows
-pub mod Ties
+pub mod Shape
 pub mod Standing
+pub mod Ties

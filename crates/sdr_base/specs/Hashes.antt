@@ -1,5 +1,5 @@
 -- The blocks that keep a hash: the hash's own, and a chain of entries for each bucket.
-use Rattle.std.specs.Prelude.{ℕ, List, [], ◌∷◌, ◌++◌, length, map, sum_by, flat_map}
+use Rattle.std.specs.Prelude.{ℕ, List, [], ◌∷◌, length, map, sum_by, flat_map}
 use Rattle.sdr_base.specs.Blocks.{Block}
 use Rattle.sdr_base.specs.Entries.{Entries}
 use Rattle.sdr_base.specs.Linked.{first_of, linked}
