@@ -1,5 +1,6 @@
 pub mod CellsLemmas
 pub mod FewLemmas
+pub mod FreshBlocksLemmas
 pub mod FreshHeapLemmas
 pub mod FreshLargeLemmas
 pub mod FreshPoolsLemmas

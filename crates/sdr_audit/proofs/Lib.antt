@@ -1,0 +1,7 @@
+pub mod ChangeLemmas
+pub mod FreshLemmas
+pub mod GroupLemmas
+pub mod RestLemmas
+pub mod RootsLemmas
+pub mod ShapeLemmas
+pub mod TiesLemmas

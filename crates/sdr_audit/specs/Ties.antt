@@ -1,0 +1,33 @@
+-- What the blocks of a thing keep of other things.
+use Rattle.std.specs.Prelude.{ℕ, Option, None, Some}
+use Rattle.sdr_base.specs.declared.account.Acct.{Acct}
+use Rattle.sdr_model.specs.World.{World}
+use Rattle.sdr_model.specs.Zco.{count_of, source_on}
+use Rattle.sdr_model.specs.declared.things.Thing.{Thing}
+use Rattle.sdr_model.specs.declared.things.Thing.TheVariants as things
+
+-- for a raw object the address of the source that names it, 0 for none; for a source how many extents of each account
+-- name it
+pub record Ties : Type 0 where
+  pub named_by : ℕ → ℕ
+  pub counts : ℕ → Acct → ℕ
+
+-- an address, or 0
+abbrev pub or_null : Option ℕ → ℕ
+or_null None = 0
+or_null (Some addr) = addr
+
+-- how the things of a world are tied
+abbrev pub ties_of : World → Ties
+ties_of w = record { named_by = λ raw. or_null (source_on w raw); counts = count_of w }
+
+-- a thing that neither is a source nor has extents
+abbrev pub IsUntied : Thing → Type 0
+IsUntied (things.Source source) = ⊥
+IsUntied (things.Object object) = ⊥
+IsUntied thing = Unit {0}
+
+-- no thing, or one that neither is a source nor has extents
+abbrev pub NoneIsTied : Option Thing → Type 0
+NoneIsTied None = Unit {0}
+NoneIsTied (Some thing) = IsUntied thing

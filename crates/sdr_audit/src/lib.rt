@@ -1,0 +1,28 @@
+//! When the bytes of a heap stand for a world. Each law is the contract of a function that does nothing.
+//!
+//! `StandsFor` says it of the bytes of a heap region between transactions, and `HeapStandsFor` of a heap in a
+//! transaction: the blocks in use are just the world's, each with the bytes of what it keeps, and the control words
+//! are the world's. That the world is whole is a fact beside it.
+//!
+//! 1. A part of the blocks in use becomes another, and all else stays (`parts_change`).
+//! 2. A thing that comes, changes or goes is such a part (`things_change`). One that neither is a source nor has
+//!    extents changes nothing that other things' blocks keep, and no control word (`untied_things_stay_apart`).
+//! 3. So a heap stands for the world with the thing that came, changed or went (`a_thing_comes`, `a_thing_changes`,
+//!    `a_thing_goes`).
+//! 4. The blocks in use are the blocks of the world, no more and no fewer (`no_block_leaks`).
+//! 5. A fresh heap stands for the world without things (`fresh_heap_stands`).
+//! 6. A transaction begins with a heap that stands for the world at rest, and ends with bytes that stand for it
+//!    (`transactions_begin_and_end`).
+#![tactic(auto)]
+
+mod blocks;
+mod changes;
+mod fresh;
+mod parts;
+mod rest;
+
+pub use blocks::no_block_leaks;
+pub use changes::{a_thing_changes, a_thing_comes, a_thing_goes};
+pub use fresh::fresh_heap_stands;
+pub use parts::{parts_change, things_change, untied_things_stay_apart};
+pub use rest::transactions_begin_and_end;
