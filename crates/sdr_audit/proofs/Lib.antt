@@ -1,4 +1,5 @@
 pub mod ChangeLemmas
+pub mod ExampleLemmas
 pub mod FreshLemmas
 pub mod GroupLemmas
 pub mod RestLemmas

@@ -52,7 +52,7 @@ same_source w addr o was is q = ap as_source (get-with_at w.things addr o q) ∙
     by false at = refl
 
 -- what an object charges, by where its sources are
-abbrev charge_where : (ℕ → Option ZcoSource) → Acct → Space → ZcoObject → ℕ
+abbrev pub charge_where : (ℕ → Option ZcoSource) → Acct → Space → ZcoObject → ℕ
 charge_where sources acct space z =
     cond (is_same_account acct z.account)
     (in_space spaces.Heap object_bytes space
@@ -86,7 +86,7 @@ account_where w occupied acct =
     account_words (amounts_by (occupied acct)) (account_of w.accounts acct).maxima
     (first_of ticket_addr 0 tickets) (last_of ticket_addr 0 tickets)
 
-abbrev roots_where : World → (Acct → Space → ℕ) → ℕ → ℕ
+abbrev pub roots_where : World → (Acct → Space → ℕ) → ℕ → ℕ
 roots_where w occupied =
     let names = map name_row w.names in
     roots_by

@@ -1,3 +1,4 @@
+pub mod Example
 pub mod Rows
 pub mod Shape
 pub mod Standing

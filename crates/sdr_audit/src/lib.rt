@@ -13,16 +13,19 @@
 //! 5. A fresh heap stands for the world without things (`fresh_heap_stands`).
 //! 6. A transaction begins with a heap that stands for the world at rest, and ends with bytes that stand for it
 //!    (`transactions_begin_and_end`).
+//! 7. A small world, byte by byte (`bundle_is_kept_so`).
 #![tactic(auto)]
 
 mod blocks;
 mod changes;
+mod example;
 mod fresh;
 mod parts;
 mod rest;
 
 pub use blocks::no_block_leaks;
 pub use changes::{a_thing_changes, a_thing_comes, a_thing_goes};
+pub use example::bundle_is_kept_so;
 pub use fresh::fresh_heap_stands;
 pub use parts::{parts_change, things_change, untied_things_stay_apart};
 pub use rest::transactions_begin_and_end;
