@@ -1,0 +1,22 @@
+-- A plain machine, as contracts see it.
+use Rattle.std.specs.Prelude.{◌≡◌, ◌≤◌, ℕ, ◌+◌, None}
+use Rattle.sdr_model.specs.Few.{most_pieces}
+use Rattle.sdr_lock.specs.Machine.{Machine}
+use Rattle.sdr_lock.specs.Roll.{Roll}
+use Rattle.sdr_bare.specs.Bare.{LastsBare, Worlds, machine_on}
+
+-- the roll of its lock, its worlds, and how many events were made
+pub record Plain : Type 0 where
+  pub roll : Roll
+  pub worlds : Worlds
+  pub events : ℕ
+
+-- the machine that it is
+abbrev pub machine_of : Plain → Machine
+machine_of p = machine_on p.roll p.worlds
+
+-- After so many events no more numbers were drawn, the disk hasn't failed, and as many calls as are left of 2^22 can be made.
+pub record IsKept (events : ℕ) (r : Roll) (w : Worlds) : Type 0 where
+  pub drawn : r.drawn ≤ events
+  pub sound : r.failed ≡ None
+  pub lasts : (n : ℕ) → events + n ≤ most_pieces → LastsBare w n

@@ -1,0 +1,33 @@
+// What is asked of media before a call is answered.
+ghost use Rattle.std.specs.Prelude.{◌≡◌, true, IfOk, IfSome, None, Ok};
+ghost use Rattle.sdr_bare.specs.Asking.{HasPieces};
+ghost use Rattle.sdr_model.specs.Pieces.{AsksBytes};
+ghost use Rattle.sdr_model.specs.Reading.{reads_media};
+
+use sdr_base::{Items, NoMemory};
+use sdr_draft::Undoable;
+use sdr_model::limits::LONGEST_READ;
+use sdr_model::{Call, Piece};
+use sdr_zco_calls::object_calls::object;
+use sdr_zco_calls::wire_calls::{asked, parts};
+use std::alloc::Global;
+
+/// The pieces of the bytes by which a call is answered, where it asks bytes of an object that is there, and
+/// nothing where it doesn't.
+pub fn pieces_of(
+    alloc: Global,
+    world: &Undoable,
+    call: &Call,
+) -> Result<Option<Items<Piece>>, NoMemory>
+    ensures some { IfOk result (λ asked. IfSome asked (HasPieces world.now.now call.now)) }
+    ensures none { result ≡ Ok None → reads_media call.now ≡ true → ¬ AsksBytes world.now.now call.now }
+{
+    if !call.reads_media() {
+        return Ok(None);
+    }
+    let (addr, count) = asked(call);
+    if object(world, addr).is_none() || count > LONGEST_READ {
+        return Ok(None);
+    }
+    Ok(Some(parts(alloc, world, call)?))
+}

@@ -1,0 +1,15 @@
+//! The machine in memory on the one lock: `Bare` is a world in memory as the ground of a lock, and `Plain` makes a core
+//! run's events on it.
+//!
+//! 1. `Bare` meets all that a lock asks of its ground: its calls are steps whose blocks have the next addresses, it never
+//!    fails, and a crash leaves nothing of it.
+//! 2. It lasts for 2^22 calls, by which no object has more pieces and no more than 2^46 blocks are taken.
+//! 3. Media are asked from outside: `pieces` tells what a call asks of them, and `settle` gives it what they gave.
+#![tactic(auto)]
+
+mod asking;
+mod bare;
+mod plain;
+
+pub use bare::Bare;
+pub use plain::Plain;

@@ -1,0 +1,5 @@
+pub mod GroundLemmas
+pub mod LockLemmas
+pub mod SeeingLemmas
+pub mod StepLemmas
+pub mod WorkLemmas

@@ -1,0 +1,15 @@
+pub mod Agreeing
+pub mod Closing
+pub mod CodedRoll
+pub mod Core
+pub mod Crash
+pub mod Demand
+pub mod Ground
+pub mod Leaving
+pub mod Legal
+pub mod Machine
+pub mod Nesting
+pub mod Roll
+pub mod Serving
+pub mod Standing
+pub mod Transaction

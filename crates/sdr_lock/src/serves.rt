@@ -1,0 +1,45 @@
+// The ground of a lock.
+ghost use Rattle.std.specs.Prelude.{true, false, ◌≡◌, IfOk, OnOk, OnErr, IsErrOf};
+ghost use Rattle.sdr_lock.specs.Crash.{LeavesBefore, LeavesEither};
+ghost use Rattle.sdr_lock.specs.Serving.{Brings, Calls, Keeps, KeepsGround, MeetsFault, PutsBack, Shows};
+
+use crate::{Fault, Halt, HasGround};
+use sdr_model::{Call, Reply};
+
+/// A world that calls change within a transaction, which is then kept or put back. A transaction begins
+/// with the first call after that.
+pub trait Serves: HasGround {
+    /// The disk's moment.
+    fn moment(&self) -> u64
+        ensures { result ≡ Self.moment self.now };
+
+    /// Makes a call in the transaction. Want of memory leaves all as before.
+    fn call(&mut self, call: &Call) -> Result<Reply, Halt>
+        requires { Self.lasts self.old 1 }
+        ensures answered { IfOk result (λ reply. Brings Self.stands self.old self.new (Calls (Self.told self.old) call.now reply)) }
+        ensures memory { IsErrOf result Halt.Memory → self.new ≡ self.old }
+        ensures fault { IsErrOf result Halt.Fault → MeetsFault Self.HasGround self.old self.new }
+        ensures keeps { KeepsGround Self.HasGround true self.old self.new }
+        ensures any_moment { LeavesBefore Self.HasGround self.old self.new };
+
+    /// Keeps what the transaction has done.
+    fn keep(&mut self) -> Result<(), Fault>
+        ensures kept { OnOk result (Brings Self.stands self.old self.new Keeps) }
+        ensures fault { OnErr result (MeetsFault Self.HasGround self.old self.new) }
+        ensures keeps { KeepsGround Self.HasGround false self.old self.new }
+        ensures any_moment { LeavesEither Self.HasGround self.old self.new };
+
+    /// Puts back what was before the transaction.
+    fn put_back(&mut self) -> Result<(), Fault>
+        ensures put_back { OnOk result (Brings Self.stands self.old self.new PutsBack) }
+        ensures fault { OnErr result (MeetsFault Self.HasGround self.old self.new) }
+        ensures keeps { KeepsGround Self.HasGround false self.old self.new }
+        ensures any_moment { LeavesBefore Self.HasGround self.old self.new };
+
+    /// Whether the ticket is there, and granted, before the transaction.
+    fn look(&mut self, ticket: u64) -> Result<Option<bool>, Fault>
+        ensures shown { IfOk result (λ granted. Brings Self.stands self.old self.new (Shows ticket granted)) }
+        ensures fault { OnErr result (MeetsFault Self.HasGround self.old self.new) }
+        ensures keeps { KeepsGround Self.HasGround false self.old self.new }
+        ensures any_moment { LeavesBefore Self.HasGround self.old self.new };
+}
