@@ -1,6 +1,5 @@
--- A thing that comes, changes or goes, in the blocks of a world and in a heap.
+-- A thing that comes, changes or goes in a heap that stands for a world.
 use Rattle.std.proofs.Common.{◌≡◌, ◌≢◌, ℕ, ◌==◌, List, [], ◌∷◌, ◌++◌, Bool, true, false, cond, ◌||◌, Option, Some, None, refl, sym, ap, ◌∙◌, subst, append_assoc, append-nil}
-use Rattle.std.specs.FinMap as finite
 use Rattle.std.specs.List.{list_any}
 use Rattle.std.proofs.lemmas.Bool.{eq-eqb, eqb-true, ne_eqb}
 use Rattle.std.proofs.lemmas.List.Folds.{list_any-append}
@@ -8,58 +7,17 @@ use Rattle.sdr_base.specs.Blocks.{Block, with_at}
 use Rattle.sdr_base.specs.Entries.{Among, Entries, Stands, Changes, Swaps}
 use Rattle.sdr_base.specs.Making.{MakesThing, Made, marked_by}
 use Rattle.sdr_base.specs.Objects.{Heap}
-use Rattle.sdr_base.specs.Section.{section}
 use Rattle.sdr_base.specs.declared.moves.Move.{Move}
 use Rattle.sdr_base.specs.declared.moves.Move.TheVariants.{Took, Gave, Short}
-use Rattle.sdr_base.proofs.SectionLemmas.{section-change, section-gone, section-new}
-use Rattle.sdr_base.proofs.StandingLemmas.{focused, found, stands_swapped, swaps_before}
+use Rattle.sdr_base.proofs.StandingLemmas.{focused, found, stands_swapped}
 use Rattle.sdr_model.specs.Steps.{taken_addresses, with_thing, without_thing}
 use Rattle.sdr_model.specs.World.{World, thing_at}
 use Rattle.sdr_model.specs.declared.things.Thing.{Thing}
 use Rattle.sdr_model.specs.declared.things.Thing.TheVariants as things
-use Rattle.sdr_audit.specs.Standing.{HeapStandsFor, entries_of, other_entries, roots_of, thing_entries, with_taken_marked}
+use Rattle.sdr_audit.specs.Standing.{HeapStandsFor, entries_of, roots_of, thing_entries, with_taken_marked}
 use Rattle.sdr_audit.specs.Ties.{IsUntied, NoneIsTied, Ties, ties_of}
 use Rattle.sdr_audit.proofs.RootsLemmas.{same_roots}
-use Rattle.sdr_audit.proofs.TiesLemmas.{same_ties}
-
--- a new thing is one more part of the world's blocks
-pub thing_new : (w : World) (addr : ℕ) (thing : Thing) → thing_at w addr ≡ None → IsUntied thing →
-    Swaps (entries_of w) (entries_of (with_thing w addr thing)) [] (thing_entries (ties_of w) addr thing)
-thing_new w addr thing none untied =
-    subst
-    (λ t. Swaps (entries_of w) (section (thing_entries t) (finite.insert w.things addr thing) ++ other_entries w) []
-    (thing_entries (ties_of w) addr thing))
-    (sym (same_ties w addr (Some thing) (subst NoneIsTied (sym none) tt) untied))
-    (swaps_before (other_entries w) (section-new (thing_entries (ties_of w)) w.things addr thing none))
-
--- one that changes is a part that changes
-pub thing_changed : (w : World) (addr : ℕ) (thing other : Thing) → thing_at w addr ≡ Some thing → IsUntied thing →
-    IsUntied other →
-    Swaps (entries_of w) (entries_of (with_thing w addr other)) (thing_entries (ties_of w) addr thing)
-    (thing_entries (ties_of w) addr other)
-thing_changed w addr thing other is was becomes =
-    subst
-    (λ t. Swaps (entries_of w) (section (thing_entries t) (finite.insert w.things addr other) ++ other_entries w)
-    (thing_entries (ties_of w) addr thing) (thing_entries (ties_of w) addr other))
-    (sym (same_ties w addr (Some other) (subst NoneIsTied (sym is) was) becomes))
-    (swaps_before (other_entries w) (section-change (thing_entries (ties_of w)) w.things addr thing other is))
-
--- one that goes is a part that goes
-pub thing_gone : (w : World) (addr : ℕ) (thing : Thing) → thing_at w addr ≡ Some thing → IsUntied thing →
-    Swaps (entries_of w) (entries_of (without_thing w addr)) (thing_entries (ties_of w) addr thing) []
-thing_gone w addr thing is was =
-    subst
-    (λ t. Swaps (entries_of w) (section (thing_entries t) (finite.remove w.things addr) ++ other_entries w)
-    (thing_entries (ties_of w) addr thing) [])
-    (sym (same_ties w addr None (subst NoneIsTied (sym is) was) tt))
-    (swaps_before (other_entries w) (section-gone (thing_entries (ties_of w)) w.things addr thing is))
-
--- where the blocks of a thing stand among the world's
-pub among : (w : World) (addr : ℕ) (thing : Thing) → thing_at w addr ≡ Some thing →
-    Swaps (entries_of w) (entries_of w) (thing_entries (ties_of w) addr thing) (thing_entries (ties_of w) addr thing)
-among w addr thing is =
-    let s = section-change (thing_entries (ties_of w)) w.things addr thing thing is in
-    swaps_before (other_entries w) (record { before = s.before; behind = s.behind; was = s.was; is = s.was })
+use Rattle.sdr_audit.proofs.PartLemmas.{among, thing_changed, thing_gone, thing_new}
 
 -- the entries are those of something whose first block stands at an address
 record Heads (addr : ℕ) (es : Entries) : Type 0 where
@@ -134,18 +92,27 @@ marked marks addrs (Took need addr ∷ moves) same q =
 marked marks addrs (Gave addr ∷ moves) same q = marked marks addrs moves same q
 marked marks addrs (Short need ∷ moves) same q = marked marks addrs moves same q
 
--- a part of the world's blocks becomes another, with moves, and the control words stay
-pub part_changed : {old new : Heap} {w : World} (w' : World) {part part' : Entries} (moves : List Move) →
+-- a part of the world's blocks becomes another, with moves, and the control words are the other world's
+pub part_becomes : (old new : Heap) (w w' : World) (part part' : Entries) (moves : List Move) → HeapStandsFor old w →
+    Swaps (entries_of w) (entries_of w') part part' → Changes old.blocks new.blocks part part' →
+    new.marks ≡ marked_by old.marks moves → new.roots ≡ roots_of w' → w'.marks ≡ w.marks →
+    HeapStandsFor new (with_taken_marked w' moves)
+part_becomes old new w w' part part' moves s swaps changes marks roots same = record {
+  blocks = stands_swapped s.blocks swaps changes;
+  roots = roots;
+  marks = λ q.
+      ap (λ (m : ℕ → Bool). m q) marks ∙ marked old.marks w.marks moves s.marks q
+      ∙ ap (λ addrs. is_one q (addrs ++ taken_addresses moves)) (sym same);
+}
+
+-- so where the control words stay
+part_changed : {old new : Heap} {w : World} (w' : World) {part part' : Entries} (moves : List Move) →
     HeapStandsFor old w → Swaps (entries_of w) (entries_of w') part part' → Changes old.blocks new.blocks part part' →
     Made moves old new → roots_of w' ≡ roots_of w → w'.marks ≡ w.marks →
     HeapStandsFor new (with_taken_marked w' moves)
-part_changed {old} {new} {w} w' moves s swaps changes made roots marks = record {
-  blocks = stands_swapped s.blocks swaps changes;
-  roots = ap (λ (h : Heap). h.roots) made.all ∙ s.roots ∙ sym roots;
-  marks = λ q.
-      ap (λ (h : Heap). h.marks q) made.all ∙ marked old.marks w.marks moves s.marks q
-      ∙ ap (λ addrs. is_one q (addrs ++ taken_addresses moves)) (sym marks);
-}
+part_changed {old} {new} {w} w' {part} {part'} moves s swaps changes made roots marks =
+    part_becomes old new w w' part part' moves s swaps changes (ap (λ (h : Heap). h.marks) made.all)
+    (ap (λ (h : Heap). h.roots) made.all ∙ s.roots ∙ sym roots) marks
 
 -- a thing that was made is one more of the world's
 pub comes : (need addr : ℕ) (old new : Heap) (w : World) (thing : Thing) → IsUntied thing → HeapStandsFor old w →

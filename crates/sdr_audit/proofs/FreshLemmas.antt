@@ -1,8 +1,10 @@
 -- A fresh heap stands for the world without things.
-use Rattle.std.proofs.Common.{◌≡◌, ◌≤◌, lit≤, ℕ, ◌+◌, ◌*◌, List, [], ◌++◌, refl, sym, ap, ◌∙◌, subst}
+use Rattle.std.proofs.Common.{◌≡◌, ◌≤◌, lit≤, ℕ, ◌+◌, ◌*◌, List, [], ◌++◌, Bool, arith, refl, sym, ap, ◌∙◌, subst}
 use Rattle.std.proofs.lemmas.List.{nil_from_length}
-use Rattle.std.specs.FinMap.{empty, entries, len-empty, len-entries}
-use Rattle.std.specs.List.{flat_map, sum_by}
+use Rattle.std.specs.FinMap.{empty, entries, get-empty, len-empty, len-entries}
+use Rattle.std.specs.List.{Contains, IsDistinct, flat_map, sum_by}
+use Rattle.std.specs.Prelude.{IfSome, nat_eq}
+use Rattle.std.proofs.lemmas.List.Elements.{All-nil}
 use Rattle.std.specs.Ordering.{nat_cmp}
 use Rattle.sdr_base.specs.Entries.{Stands, at, times}
 use Rattle.sdr_base.specs.FreshHeap.{fresh_heap}
@@ -16,6 +18,9 @@ use Rattle.sdr_base.specs.declared.account.Acct.TheVariants as accts
 use Rattle.sdr_base.specs.declared.kind.Space.{Space}
 use Rattle.sdr_model.specs.Accounts.{fresh_maxima}
 use Rattle.sdr_model.specs.Amounts.{amounts_by}
+use Rattle.sdr_model.specs.Blocks.{addresses_of, blocks_of, thing_blocks}
+use Rattle.sdr_model.specs.Fields.{FitsFields, FitsThing, IsWord}
+use Rattle.sdr_model.specs.Valid.{IsValid, IsValidThing}
 use Rattle.sdr_model.specs.Charges.{occupancy, thing_charge}
 use Rattle.sdr_model.specs.World.{fresh_world}
 use Rattle.sdr_model.specs.declared.things.Thing.{Thing}
@@ -71,4 +76,35 @@ fresh_stands lines least most = record {
   marks = refl;
   shown = refl;
   taken = refl;
+}
+
+-- the world without things has no block
+no_blocks : (heap : ℕ) → addresses_of (blocks_of (fresh_world heap)) ≡ []
+no_blocks heap =
+    ap (λ (es : List (ℕ × Thing)). addresses_of (flat_map (λ e. thing_blocks e.0 e.1) es ++ [] ++ [])) no_things
+
+none_distinct : {K : Type 0} (eq : K → K → Bool) → IsDistinct eq []
+unfolding IsDistinct
+none_distinct eq = tt
+
+none_contained : ¬ Contains {X = ℕ} [] 0
+none_contained has = omega (arith, has.1)
+
+-- it is valid
+pub fresh_valid : (heap : ℕ) → IsValid (fresh_world heap)
+fresh_valid heap = record {
+  things = λ addr. subst (λ t. IfSome t IsValidThing) (sym (get-empty nat_cmp addr)) tt;
+  names = All-nil _;
+  distinct_names = none_distinct _;
+  nonzero = subst (λ addrs. ¬ Contains addrs 0) (sym (no_blocks heap)) none_contained;
+  distinct_addresses = subst (IsDistinct nat_eq) (sym (no_blocks heap)) (none_distinct nat_eq);
+}
+
+-- and its numbers fit
+pub fresh_fits : (heap : ℕ) → FitsFields (fresh_world heap)
+fresh_fits heap = record {
+  things = λ addr. subst (λ t. IfSome t (λ thing. IsWord addr × FitsThing thing)) (sym (get-empty nat_cmp addr)) tt;
+  names = All-nil _;
+  inbound = All-nil _;
+  outbound = All-nil _;
 }

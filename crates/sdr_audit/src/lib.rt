@@ -6,9 +6,10 @@
 //!
 //! 1. A part of the blocks in use becomes another, and all else stays (`parts_change`).
 //! 2. A thing that comes, changes or goes is such a part (`things_change`). One that neither is a source nor has
-//!    extents changes nothing that other things' blocks keep, and no control word (`untied_things_stay_apart`).
-//! 3. So a heap stands for the world with the thing that came, changed or went (`a_thing_comes`, `a_thing_changes`,
-//!    `a_thing_goes`).
+//!    extents changes nothing that other things' blocks keep, and no control word (`untied_things_stay_apart`). The
+//!    catalogue and each queue are such parts too (`names_and_tickets_change`).
+//! 3. So a heap stands for the world with the other part (`a_part_changes`), and with the thing that came, changed or
+//!    went (`a_thing_comes`, `a_thing_changes`, `a_thing_goes`).
 //! 4. The blocks in use are the blocks of the world, no more and no fewer (`no_block_leaks`).
 //! 5. A fresh heap stands for the world without things (`fresh_heap_stands`).
 //! 6. A transaction begins with a heap that stands for the world at rest, and ends with bytes that stand for it
@@ -24,8 +25,8 @@ mod parts;
 mod rest;
 
 pub use blocks::no_block_leaks;
-pub use changes::{a_thing_changes, a_thing_comes, a_thing_goes};
+pub use changes::{a_part_changes, a_thing_changes, a_thing_comes, a_thing_goes};
 pub use example::bundle_is_kept_so;
 pub use fresh::fresh_heap_stands;
-pub use parts::{parts_change, things_change, untied_things_stay_apart};
+pub use parts::{names_and_tickets_change, parts_change, things_change, untied_things_stay_apart};
 pub use rest::transactions_begin_and_end;

@@ -1,13 +1,20 @@
 // Parts of the blocks in use.
 ghost use Rattle.std.specs.FinMap as finite;
-ghost use Rattle.std.specs.Prelude.{◌≡◌, ℕ, [], ◌++◌, None, Option, Some};
-ghost use Rattle.sdr_audit.specs.Standing.{roots_of, thing_entries};
+ghost use Rattle.std.specs.Prelude.{◌≡◌, ℕ, List, [], ◌++◌, None, Option, Some, map};
+ghost use Rattle.sdr_audit.specs.Rows.{name_row, ticket_row};
+ghost use Rattle.sdr_audit.specs.Standing.{entries_of, queue_entries, roots_of, thing_entries};
 ghost use Rattle.sdr_audit.specs.Ties.{NoneIsTied, Ties, ties_of};
 ghost use Rattle.sdr_base.specs.Blocks.{Blocks};
+ghost use Rattle.sdr_base.specs.Catalogue.{catalogue_entries};
 ghost use Rattle.sdr_base.specs.Entries.{Changes, Entries, Stands, Swaps};
 ghost use Rattle.sdr_base.specs.Section.{section};
+ghost use Rattle.sdr_base.specs.Tickets.{ticket_entries};
+ghost use Rattle.sdr_base.specs.declared.account.Acct.{Acct};
+ghost use Rattle.sdr_model.specs.Accounts.{with_tickets};
 ghost use Rattle.sdr_model.specs.Things.{Things, with_at};
 ghost use Rattle.sdr_model.specs.World.{World, thing_at};
+ghost use Rattle.sdr_model.specs.declared.accounts.Ticket.{Ticket};
+ghost use Rattle.sdr_model.specs.declared.name.Name.{Name};
 ghost use Rattle.sdr_model.specs.declared.things.Thing.{Thing};
 
 /// A law: a part of the blocks in use becomes another, wherever it stands, and whatever else stood stands as it
@@ -42,4 +49,15 @@ pub fn untied_things_stay_apart()
         ties_of (record w { things = with_at w.things addr now }) ≡ ties_of w }
     ensures roots { (w : World) (addr : ℕ) (now : Option Thing) → NoneIsTied (thing_at w addr) → NoneIsTied now →
         roots_of (record w { things = with_at w.things addr now }) ≡ roots_of w }
+{}
+
+/// A law: the catalogue, and the queue of each account, is a part of the world's blocks that becomes another where the
+/// names or the tickets do. It does nothing.
+pub fn names_and_tickets_change()
+    ensures names { (w : World) (names : List Name) →
+        Swaps (entries_of w) (entries_of (record w { names = names }))
+        (catalogue_entries (map name_row w.names)) (catalogue_entries (map name_row names)) }
+    ensures tickets { (w : World) (acct : Acct) (tickets : List Ticket) →
+        Swaps (entries_of w) (entries_of (record w { accounts = with_tickets w.accounts acct tickets }))
+        (queue_entries w.accounts acct) (ticket_entries acct (map ticket_row tickets)) }
 {}

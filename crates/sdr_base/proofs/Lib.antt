@@ -14,6 +14,7 @@ pub mod MovesLemmas
 pub mod ObjectsLemmas
 pub mod PartsLemmas
 pub mod PoolsLemmas
+pub mod RootsLemmas
 pub mod SectionLemmas
 pub mod SmallPoolLemmas
 pub mod StandingLemmas
@@ -24,3 +25,4 @@ pub mod WorksLemmas
 pub mod WritingLemmas
 pub mod WrittenLemmas
 mod LargeRows
+mod LayoutRows

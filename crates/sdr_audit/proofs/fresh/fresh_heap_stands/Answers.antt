@@ -1,5 +1,12 @@
-use Rattle.sdr_audit.proofs.FreshLemmas.{fresh_stands}
+use Rattle.std.proofs.Common.{◌*◌}
+use Rattle.sdr_audit.proofs.FreshLemmas.{fresh_fits, fresh_stands, fresh_valid}
 use Rattle.sdr_audit.proofs.fresh.fresh_heap_stands.Goals as goal
 
-pub returns : goal.returns
-returns c = fresh_stands
+pub returns-clause-stands : goal.returns-clause-stands
+returns-clause-stands c = fresh_stands
+
+pub returns-clause-valid : goal.returns-clause-valid
+returns-clause-valid c = λ lines. fresh_valid (32 * lines)
+
+pub returns-clause-fits : goal.returns-clause-fits
+returns-clause-fits c = λ lines. fresh_fits (32 * lines)
