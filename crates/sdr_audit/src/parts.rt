@@ -23,31 +23,38 @@ pub fn parts_change()
     ensures one { (old new : Blocks) (es es' part part' : Entries) →
         Stands old es → Swaps es es' part part' → Changes old new part part' → Stands new es' }
     ensures two { (old new : Blocks) (xs xs' ys ys' p p' q q' : Entries) →
-        Stands old (xs ++ ys) → Swaps xs xs' p p' → Swaps ys ys' q q' → Changes old new (p ++ q) (p' ++ q') →
-        Stands new (xs' ++ ys') }
+        Stands old (xs ++ ys) → Swaps xs xs' p p' → Swaps ys ys' q q' →
+        Changes old new (p ++ q) (p' ++ q') → Stands new (xs' ++ ys') }
 {}
 
 /// A law: where a thing comes to an address, changes or goes, its blocks are the part of the things' blocks that
 /// comes, changes or goes, while what other things say of each stays. It does nothing.
 pub fn things_change()
-    ensures comes { (ties : Ties) (all : Things) (addr : ℕ) (thing : Thing) → finite.get all addr ≡ None →
-        Swaps (section (thing_entries ties) all) (section (thing_entries ties) (finite.insert all addr thing))
+    ensures comes { (ties : Ties) (all : Things) (addr : ℕ) (thing : Thing) →
+        finite.get all addr ≡ None →
+        Swaps (section (thing_entries ties) all)
+        (section (thing_entries ties) (finite.insert all addr thing))
         [] (thing_entries ties addr thing) }
     ensures changes { (ties : Ties) (all : Things) (addr : ℕ) (thing other : Thing) →
         finite.get all addr ≡ Some thing →
-        Swaps (section (thing_entries ties) all) (section (thing_entries ties) (finite.insert all addr other))
+        Swaps (section (thing_entries ties) all)
+        (section (thing_entries ties) (finite.insert all addr other))
         (thing_entries ties addr thing) (thing_entries ties addr other) }
-    ensures goes { (ties : Ties) (all : Things) (addr : ℕ) (thing : Thing) → finite.get all addr ≡ Some thing →
-        Swaps (section (thing_entries ties) all) (section (thing_entries ties) (finite.remove all addr))
+    ensures goes { (ties : Ties) (all : Things) (addr : ℕ) (thing : Thing) →
+        finite.get all addr ≡ Some thing →
+        Swaps (section (thing_entries ties) all)
+        (section (thing_entries ties) (finite.remove all addr))
         (thing_entries ties addr thing) [] }
 {}
 
 /// A law: where what was at an address, if anything, neither was a source nor had extents, and so with what is
 /// there now, no source's count, no raw object's source, and no control word changes. It does nothing.
 pub fn untied_things_stay_apart()
-    ensures ties { (w : World) (addr : ℕ) (now : Option Thing) → NoneIsTied (thing_at w addr) → NoneIsTied now →
+    ensures ties { (w : World) (addr : ℕ) (now : Option Thing) →
+        NoneIsTied (thing_at w addr) → NoneIsTied now →
         ties_of (record w { things = with_at w.things addr now }) ≡ ties_of w }
-    ensures roots { (w : World) (addr : ℕ) (now : Option Thing) → NoneIsTied (thing_at w addr) → NoneIsTied now →
+    ensures roots { (w : World) (addr : ℕ) (now : Option Thing) →
+        NoneIsTied (thing_at w addr) → NoneIsTied now →
         roots_of (record w { things = with_at w.things addr now }) ≡ roots_of w }
 {}
 
