@@ -18,7 +18,7 @@ use Rattle.sdr_model.specs.declared.things.Thing.{Thing}
 use Rattle.sdr_audit.specs.Rows.{name_row, ticket_row}
 use Rattle.sdr_audit.specs.Standing.{entries_of, other_entries, queue_entries, thing_entries}
 use Rattle.sdr_audit.specs.Ties.{IsUntied, NoneIsTied, ties_of}
-use Rattle.sdr_audit.proofs.TiesLemmas.{same_ties}
+use Rattle.sdr_audit.proofs.TiesLemmas.{same_ties, untied_alike}
 
 -- a new thing is one more part of the world's blocks
 pub thing_new : (w : World) (addr : ℕ) (thing : Thing) → thing_at w addr ≡ None → IsUntied thing →
@@ -27,7 +27,8 @@ thing_new w addr thing none untied =
     subst
     (λ t. Swaps (entries_of w) (section (thing_entries t) (finite.insert w.things addr thing) ++ other_entries w) []
     (thing_entries (ties_of w) addr thing))
-    (sym (same_ties w addr (Some thing) (subst NoneIsTied (sym none) tt) untied))
+    (sym (same_ties w addr (Some thing)
+    (untied_alike (thing_at w addr) (Some thing) (subst NoneIsTied (sym none) tt) untied)))
     (swaps_before (other_entries w) (section-new (thing_entries (ties_of w)) w.things addr thing none))
 
 -- one that changes is a part that changes
@@ -39,7 +40,8 @@ thing_changed w addr thing other is was becomes =
     subst
     (λ t. Swaps (entries_of w) (section (thing_entries t) (finite.insert w.things addr other) ++ other_entries w)
     (thing_entries (ties_of w) addr thing) (thing_entries (ties_of w) addr other))
-    (sym (same_ties w addr (Some other) (subst NoneIsTied (sym is) was) becomes))
+    (sym (same_ties w addr (Some other)
+    (untied_alike (thing_at w addr) (Some other) (subst NoneIsTied (sym is) was) becomes)))
     (swaps_before (other_entries w) (section-change (thing_entries (ties_of w)) w.things addr thing other is))
 
 -- one that goes is a part that goes
@@ -49,7 +51,7 @@ thing_gone w addr thing is was =
     subst
     (λ t. Swaps (entries_of w) (section (thing_entries t) (finite.remove w.things addr) ++ other_entries w)
     (thing_entries (ties_of w) addr thing) [])
-    (sym (same_ties w addr None (subst NoneIsTied (sym is) was) tt))
+    (sym (same_ties w addr None (untied_alike (thing_at w addr) None (subst NoneIsTied (sym is) was) tt)))
     (swaps_before (other_entries w) (section-gone (thing_entries (ties_of w)) w.things addr thing is))
 
 -- where the blocks of a thing stand among the world's

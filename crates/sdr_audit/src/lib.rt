@@ -5,8 +5,9 @@
 //! are the world's. That the world is whole is a fact beside it.
 //!
 //! 1. A part of the blocks in use becomes another, and all else stays (`parts_change`).
-//! 2. A thing that comes, changes or goes is such a part (`things_change`). One that neither is a source nor has
-//!    extents changes nothing that other things' blocks keep, and no control word (`untied_things_stay_apart`). The
+//! 2. A thing that comes, changes or goes is such a part (`things_change`). One that names what the one before it
+//!    named changes nothing that other things' blocks keep (`alike_things_tie_alike`), and one that neither is a
+//!    source nor has extents changes no control word besides (`untied_things_stay_apart`). The
 //!    catalogue and each queue are such parts too (`names_and_tickets_change`).
 //! 3. So a heap stands for the world with the other part (`a_part_changes`), and with the thing that came, changed or
 //!    went (`a_thing_comes`, `a_thing_changes`, `a_thing_goes`).
@@ -28,5 +29,8 @@ pub use blocks::no_block_leaks;
 pub use changes::{a_part_changes, a_thing_changes, a_thing_comes, a_thing_goes};
 pub use example::bundle_is_kept_so;
 pub use fresh::fresh_heap_stands;
-pub use parts::{names_and_tickets_change, parts_change, things_change, untied_things_stay_apart};
+pub use parts::{
+    alike_things_tie_alike, names_and_tickets_change, parts_change, things_change,
+    untied_things_stay_apart,
+};
 pub use rest::transactions_begin_and_end;

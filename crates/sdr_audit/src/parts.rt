@@ -3,7 +3,7 @@ ghost use Rattle.std.specs.FinMap as finite;
 ghost use Rattle.std.specs.Prelude.{◌≡◌, ℕ, List, [], ◌++◌, None, Option, Some, map};
 ghost use Rattle.sdr_audit.specs.Rows.{name_row, ticket_row};
 ghost use Rattle.sdr_audit.specs.Standing.{entries_of, queue_entries, roots_of, thing_entries};
-ghost use Rattle.sdr_audit.specs.Ties.{NoneIsTied, Ties, ties_of};
+ghost use Rattle.sdr_audit.specs.Ties.{NoneIsTied, TieAlike, Ties, ties_of};
 ghost use Rattle.sdr_base.specs.Blocks.{Blocks};
 ghost use Rattle.sdr_base.specs.Catalogue.{catalogue_entries};
 ghost use Rattle.sdr_base.specs.Entries.{Changes, Entries, Stands, Swaps};
@@ -45,6 +45,13 @@ pub fn things_change()
         Swaps (section (thing_entries ties) all)
         (section (thing_entries ties) (finite.remove all addr))
         (thing_entries ties addr thing) [] }
+{}
+
+/// A law: where what is at an address now, if anything, is a source of the same raw object as what was there, and names
+/// each source as often, no source's count and no raw object's source changes. It does nothing.
+pub fn alike_things_tie_alike()
+    ensures { (w : World) (addr : ℕ) (now : Option Thing) → TieAlike (thing_at w addr) now →
+        ties_of (record w { things = with_at w.things addr now }) ≡ ties_of w }
 {}
 
 /// A law: where what was at an address, if anything, neither was a source nor had extents, and so with what is
