@@ -11,6 +11,7 @@ ghost use Rattle.sdr_base.specs.Section.{section};
 ghost use Rattle.sdr_base.specs.Tickets.{ticket_entries};
 ghost use Rattle.sdr_base.specs.declared.account.Acct.{Acct};
 ghost use Rattle.sdr_model.specs.Accounts.{with_tickets};
+ghost use Rattle.sdr_model.specs.Steps.{with_thing, without_thing};
 ghost use Rattle.sdr_model.specs.Things.{Things, with_at};
 ghost use Rattle.sdr_model.specs.World.{World, thing_at};
 ghost use Rattle.sdr_model.specs.declared.accounts.Ticket.{Ticket};
@@ -63,6 +64,23 @@ pub fn untied_things_stay_apart()
     ensures roots { (w : World) (addr : ℕ) (now : Option Thing) →
         NoneIsTied (thing_at w addr) → NoneIsTied now →
         roots_of (record w { things = with_at w.things addr now }) ≡ roots_of w }
+{}
+
+/// A law: where a thing comes to a world, changes or goes, and what is at its address then names what was named there
+/// before, the blocks of the thing are the part of the world's that comes, changes or goes. It does nothing.
+pub fn alike_things_are_parts()
+    ensures comes { (w : World) (addr : ℕ) (thing : Thing) →
+        thing_at w addr ≡ None → TieAlike None (Some thing) →
+        Swaps (entries_of w) (entries_of (with_thing w addr thing))
+        [] (thing_entries (ties_of w) addr thing) }
+    ensures changes { (w : World) (addr : ℕ) (thing other : Thing) →
+        thing_at w addr ≡ Some thing → TieAlike (Some thing) (Some other) →
+        Swaps (entries_of w) (entries_of (with_thing w addr other))
+        (thing_entries (ties_of w) addr thing) (thing_entries (ties_of w) addr other) }
+    ensures goes { (w : World) (addr : ℕ) (thing : Thing) →
+        thing_at w addr ≡ Some thing → TieAlike (Some thing) None →
+        Swaps (entries_of w) (entries_of (without_thing w addr))
+        (thing_entries (ties_of w) addr thing) [] }
 {}
 
 /// A law: the catalogue, and the queue of each account, is a part of the world's blocks that becomes another where the
