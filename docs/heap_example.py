@@ -18,8 +18,8 @@ def words(*ns):
     return b"".join(word(n) for n in ns)
 
 
-# The blocks in the order in which they were taken: the kind's number and name, and the bytes. Each stands behind the
-# one before it, so that its address is told by their lengths; `BLOCKS` names these addresses.
+# The blocks in the order in which they were taken. Each stands behind the one before it, so that the lengths tell the
+# addresses.
 STRING, LIST, ELEMENT, NAME, SOURCE, OBJECT, EXTENT, HEADER = range(8)
 LENGTHS = [6, 32, 32, 56, 56, 72, 32, 11]
 
@@ -33,6 +33,8 @@ def places():
 
 
 AT, LOW = places()
+
+# The number and the name of each block's kind, and its bytes.
 BLOCKS = [
     (2, "Text", bytes([5]) + b"hello"),
     (3, "List", words(7, 1, AT[ELEMENT], AT[ELEMENT])),

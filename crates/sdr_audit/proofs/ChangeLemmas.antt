@@ -18,6 +18,7 @@ use Rattle.sdr_audit.specs.Standing.{HeapStandsFor, entries_of, roots_of, thing_
 use Rattle.sdr_audit.specs.Ties.{IsUntied, NoneIsTied, Ties, ties_of}
 use Rattle.sdr_audit.proofs.RootsLemmas.{same_roots}
 use Rattle.sdr_audit.proofs.PartLemmas.{among, thing_changed, thing_gone, thing_new}
+use Rattle.sdr_audit.proofs.TiesLemmas.{untied_alike}
 
 -- the entries are those of something whose first block stands at an address
 record Heads (addr : ℕ) (es : Entries) : Type 0 where
@@ -120,7 +121,7 @@ pub comes : (need addr : ℕ) (old new : Heap) (w : World) (thing : Thing) → I
     HeapStandsFor new (with_taken_marked (with_thing w addr thing) (Took need addr ∷ []))
 comes need addr old new w thing untied s m =
     let none = nothing_at addr s m.adds.fresh in
-    part_changed (with_thing w addr thing) (Took need addr ∷ []) s (thing_new w addr thing none untied) m.adds.changes
+    part_changed (with_thing w addr thing) (Took need addr ∷ []) s (thing_new w addr thing none (untied_alike None (Some thing) tt untied)) m.adds.changes
     m.made (same_roots w addr (Some thing) (subst NoneIsTied (sym none) tt) untied) refl
 
 -- one becomes another
@@ -129,7 +130,7 @@ pub changes : (addr : ℕ) (old new : Heap) (w : World) (thing other : Thing) (m
     Changes old.blocks new.blocks (thing_entries (ties_of w) addr thing) (thing_entries (ties_of w) addr other) →
     Made moves old new → HeapStandsFor new (with_taken_marked (with_thing w addr other) moves)
 changes addr old new w thing other moves is was becomes s c m =
-    part_changed (with_thing w addr other) moves s (thing_changed w addr thing other is was becomes) c m
+    part_changed (with_thing w addr other) moves s (thing_changed w addr thing other is (untied_alike (Some thing) (Some other) was becomes)) c m
     (same_roots w addr (Some other) (subst NoneIsTied (sym is) was) becomes) refl
 
 -- one goes
@@ -138,5 +139,5 @@ pub goes : (addr : ℕ) (old new : Heap) (w : World) (thing : Thing) (moves : Li
     Changes old.blocks new.blocks (thing_entries (ties_of w) addr thing) [] →
     Made moves old new → HeapStandsFor new (with_taken_marked (without_thing w addr) moves)
 goes addr old new w thing moves is was s c m =
-    part_changed (without_thing w addr) moves s (thing_gone w addr thing is was) c m
+    part_changed (without_thing w addr) moves s (thing_gone w addr thing is (untied_alike (Some thing) None was tt)) c m
     (same_roots w addr None (subst NoneIsTied (sym is) was) tt) refl

@@ -6,4 +6,5 @@ pub mod PartLemmas
 pub mod RestLemmas
 pub mod RootsLemmas
 pub mod ShapeLemmas
+pub mod ThingShapes
 pub mod TiesLemmas

@@ -17,39 +17,39 @@ use Rattle.sdr_model.specs.declared.name.Name.{Name}
 use Rattle.sdr_model.specs.declared.things.Thing.{Thing}
 use Rattle.sdr_audit.specs.Rows.{name_row, ticket_row}
 use Rattle.sdr_audit.specs.Standing.{entries_of, other_entries, queue_entries, thing_entries}
-use Rattle.sdr_audit.specs.Ties.{IsUntied, NoneIsTied, ties_of}
+use Rattle.sdr_audit.specs.Ties.{TieAlike, ties_of}
 use Rattle.sdr_audit.proofs.TiesLemmas.{same_ties}
 
--- a new thing is one more part of the world's blocks
-pub thing_new : (w : World) (addr : ℕ) (thing : Thing) → thing_at w addr ≡ None → IsUntied thing →
+-- a new thing that names nothing is one more part of the world's blocks
+pub thing_new : (w : World) (addr : ℕ) (thing : Thing) → thing_at w addr ≡ None → TieAlike None (Some thing) →
     Swaps (entries_of w) (entries_of (with_thing w addr thing)) [] (thing_entries (ties_of w) addr thing)
-thing_new w addr thing none untied =
+thing_new w addr thing none alike =
     subst
     (λ t. Swaps (entries_of w) (section (thing_entries t) (finite.insert w.things addr thing) ++ other_entries w) []
     (thing_entries (ties_of w) addr thing))
-    (sym (same_ties w addr (Some thing) (subst NoneIsTied (sym none) tt) untied))
+    (sym (same_ties w addr (Some thing) (subst (λ o. TieAlike o (Some thing)) (sym none) alike)))
     (swaps_before (other_entries w) (section-new (thing_entries (ties_of w)) w.things addr thing none))
 
--- one that changes is a part that changes
-pub thing_changed : (w : World) (addr : ℕ) (thing other : Thing) → thing_at w addr ≡ Some thing → IsUntied thing →
-    IsUntied other →
+-- one that changes, and names what it named, is a part that changes
+pub thing_changed : (w : World) (addr : ℕ) (thing other : Thing) → thing_at w addr ≡ Some thing →
+    TieAlike (Some thing) (Some other) →
     Swaps (entries_of w) (entries_of (with_thing w addr other)) (thing_entries (ties_of w) addr thing)
     (thing_entries (ties_of w) addr other)
-thing_changed w addr thing other is was becomes =
+thing_changed w addr thing other is alike =
     subst
     (λ t. Swaps (entries_of w) (section (thing_entries t) (finite.insert w.things addr other) ++ other_entries w)
     (thing_entries (ties_of w) addr thing) (thing_entries (ties_of w) addr other))
-    (sym (same_ties w addr (Some other) (subst NoneIsTied (sym is) was) becomes))
+    (sym (same_ties w addr (Some other) (subst (λ o. TieAlike o (Some other)) (sym is) alike)))
     (swaps_before (other_entries w) (section-change (thing_entries (ties_of w)) w.things addr thing other is))
 
--- one that goes is a part that goes
-pub thing_gone : (w : World) (addr : ℕ) (thing : Thing) → thing_at w addr ≡ Some thing → IsUntied thing →
+-- one that goes, and named nothing, is a part that goes
+pub thing_gone : (w : World) (addr : ℕ) (thing : Thing) → thing_at w addr ≡ Some thing → TieAlike (Some thing) None →
     Swaps (entries_of w) (entries_of (without_thing w addr)) (thing_entries (ties_of w) addr thing) []
-thing_gone w addr thing is was =
+thing_gone w addr thing is alike =
     subst
     (λ t. Swaps (entries_of w) (section (thing_entries t) (finite.remove w.things addr) ++ other_entries w)
     (thing_entries (ties_of w) addr thing) [])
-    (sym (same_ties w addr None (subst NoneIsTied (sym is) was) tt))
+    (sym (same_ties w addr None (subst (λ o. TieAlike o None) (sym is) alike)))
     (swaps_before (other_entries w) (section-gone (thing_entries (ties_of w)) w.things addr thing is))
 
 -- where the blocks of a thing stand among the world's

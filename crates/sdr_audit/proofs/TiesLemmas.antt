@@ -1,5 +1,5 @@
--- A thing that neither is a source nor has extents ties nothing.
-use Rattle.std.proofs.Common.{◌≡◌, ℕ, List, [], ◌∷◌, Bool, false, cond, Option, Some, None, refl, sym, ap, ◌∙◌, arith, find, subst}
+-- Things that tie alike: what a change of one leaves of what other things' blocks keep.
+use Rattle.std.proofs.Common.{◌≡◌, ℕ, List, [], ◌∷◌, Bool, false, cond, Option, Some, None, refl, sym, ap, ◌∙◌, arith, find, subst, true}
 use Rattle.std.specs.Cmp.{nat_cmp_total}
 use Rattle.std.specs.FinMap as finite
 use Rattle.std.specs.FinMap.Entries.{by_order}
@@ -12,10 +12,10 @@ use Rattle.sdr_model.proofs.SumLemmas.{counted_at, sum_by-inserted, sum_by-remov
 use Rattle.sdr_model.proofs.ThingsLemmas.{get-removed, insert-removed, with_at-again}
 use Rattle.sdr_model.specs.Things.{Things, with_at}
 use Rattle.sdr_model.specs.World.{World, thing_at}
-use Rattle.sdr_model.specs.Zco.{count_of, names_raw, uses_in}
+use Rattle.sdr_model.specs.Zco.{names_raw, uses_in}
 use Rattle.sdr_model.specs.declared.things.Thing.{Thing}
 use Rattle.sdr_model.specs.declared.things.Thing.TheVariants as things
-use Rattle.sdr_audit.specs.Ties.{IsUntied, NoneIsTied, or_null, ties_of}
+use Rattle.sdr_audit.specs.Ties.{IsUntied, NoneIsTied, TieAlike, names_raw_at, or_null, ties_of, uses_at}
 
 module _ {X : Type 0} (p : X → Bool) where
   -- nothing, or what doesn't pass
@@ -45,20 +45,126 @@ module _ {X : Type 0} (p : X → Bool) where
       ap (find (λ e. p e.1)) (finite.entries-insert nat_cmp_total m k v)
       ∙ find-put k v (finite.entries m) fails_here (rw (← finite.get-entries m k) was)
 
--- no source names a raw object, and no object names a source, where neither is one
-unnamed : (raw : ℕ) (thing : Thing) → IsUntied thing → names_raw raw thing ≡ false
-unnamed raw (things.Source source) u = absurd u
-unnamed raw (things.Object object) u = absurd u
-unnamed raw thing u = refl
+  -- the key of the first that passes
+  abbrev pub first : List (ℕ × X) → Option ℕ
+  first es = option_map (λ e. e.0) (find (λ e. p e.1) es)
 
-uncounted : (source : ℕ) (acct : Acct) (thing : Thing) → IsUntied thing → uses_in source acct thing ≡ 0
-uncounted source acct (things.Source s) u = absurd u
-uncounted source acct (things.Object object) u = absurd u
-uncounted source acct thing u = refl
+  past : (b : Bool) (e : ℕ × X) (r r' : Option (ℕ × X)) → option_map (λ e. e.0) r ≡ option_map (λ e. e.0) r' →
+      option_map (λ e. e.0) (cond b (Some e) r) ≡ option_map (λ e. e.0) (cond b (Some e) r')
+  past true e r r' same = refl
+  past false e r r' same = same
 
-fails : (raw : ℕ) (o : Option Thing) → NoneIsTied o → Fails (names_raw raw) o
-fails raw None u = tt
-fails raw (Some thing) u = unnamed raw thing u
+  here : (b : Bool) (k : ℕ) (v v' : X) (r : Option (ℕ × X)) →
+      option_map (λ e. e.0) (cond b (Some (k, v)) r) ≡ option_map (λ e. e.0) (cond b (Some (k, v')) r)
+  here true k v v' r = refl
+  here false k v v' r = refl
+
+  instead : (k : ℕ) (v v' : X) (r : Option (ℕ × X)) → p v ≡ p v' →
+      option_map (λ e. e.0) (cond (p v) (Some (k, v)) r) ≡ option_map (λ e. e.0) (cond (p v') (Some (k, v')) r)
+  instead k v v' r same =
+      here (p v) k v v' r ∙ ap (λ b. option_map (λ (e : ℕ × X). e.0) (cond b (Some (k, v')) r)) same
+
+  -- it is the same where one that passes just as well is put in the place of another
+  first-put : (k : ℕ) (v v' : X) (es : List (ℕ × X)) → p v ≡ p v' →
+      first (finite.put nat_cmp k v es) ≡ first (finite.put nat_cmp k v' es)
+  first-put k v v' [] same = instead k v v' None same
+  first-put k v v' (e ∷ es) same =
+      elim (nat_cmp k e.0) as
+      (λ o. first (by_order o ((k, v) ∷ e ∷ es) ((e.0, v) ∷ es) (e ∷ finite.put nat_cmp k v es))
+      ≡ first (by_order o ((k, v') ∷ e ∷ es) ((e.0, v') ∷ es) (e ∷ finite.put nat_cmp k v' es))) [
+        | Less ↦ instead k v v' (find (λ e. p e.1) (e ∷ es)) same
+        | Equal ↦ instead e.0 v v' (find (λ e. p e.1) es) same
+        | Greater ↦
+            past (p e.1) e (find (λ e. p e.1) (finite.put nat_cmp k v es))
+            (find (λ e. p e.1) (finite.put nat_cmp k v' es)) (first-put k v v' es same)
+      ]
+
+  first-insert : (m : finite.FinMap nat_cmp X) (k : ℕ) (v v' : X) → p v ≡ p v' →
+      first (finite.entries (finite.insert m k v)) ≡ first (finite.entries (finite.insert m k v'))
+  first-insert m k v v' same =
+      ap first (finite.entries-insert nat_cmp_total m k v)
+      ∙ first-put k v v' (finite.entries m) same
+      ∙ sym (ap first (finite.entries-insert nat_cmp_total m k v'))
+
+-- the key of the first source of a raw object is the same
+same_first : (raw : ℕ) (m : Things) (addr : ℕ) (o : Option Thing) →
+    names_raw_at raw (finite.get m addr) ≡ names_raw_at raw o →
+    first (names_raw raw) (finite.entries (with_at m addr o)) ≡ first (names_raw raw) (finite.entries m)
+same_first raw m addr o same = by (finite.get m addr) o refl same
+  where
+    key : Option (ℕ × Thing) → Option ℕ
+    key found = option_map (λ e. e.0) found
+
+    by : (was now : Option Thing) → finite.get m addr ≡ was → names_raw_at raw was ≡ names_raw_at raw now →
+        first (names_raw raw) (finite.entries (with_at m addr now)) ≡ first (names_raw raw) (finite.entries m)
+    by None None is same = ap (λ n. first (names_raw raw) (finite.entries n)) (with_at-again m addr None is)
+    by None (Some thing) is same =
+        ap key
+        (find-inserted (names_raw raw) m addr thing (sym same) (subst (Fails (names_raw raw)) (sym is) tt))
+    by (Some thing) None is same =
+        ap key
+        (sym (find-inserted (names_raw raw) (finite.remove m addr) addr thing same
+        (subst (Fails (names_raw raw)) (sym (get-removed m addr)) tt)))
+        ∙ ap (λ n. first (names_raw raw) (finite.entries n))
+        (insert-removed m addr thing ∙ with_at-again m addr (Some thing) is)
+    by (Some thing) (Some other) is same =
+        first-insert (names_raw raw) m addr other thing (sym same)
+        ∙ ap (λ n. first (names_raw raw) (finite.entries n)) (with_at-again m addr (Some thing) is)
+
+-- a sum over things is the same where what comes counts what went
+sum_alike : (f : Thing → ℕ) (m : Things) (addr : ℕ) (o : Option Thing) →
+    counted_at (λ e. f e.1) addr (finite.get m addr) ≡ counted_at (λ e. f e.1) addr o →
+    sum_by (λ e. f e.1) (finite.entries (with_at m addr o)) ≡ sum_by (λ e. f e.1) (finite.entries m)
+sum_alike f m addr None same =
+    let sums = sum_by-removed (λ (e : ℕ × Thing). f e.1) m addr in
+    let was : counted_at (λ e. f e.1) addr (finite.get m addr) ≡ 0 = same in
+    omega (arith, sums, was)
+sum_alike f m addr (Some thing) same =
+    let sums = sum_by-inserted (λ (e : ℕ × Thing). f e.1) m addr thing in
+    let was : counted_at (λ e. f e.1) addr (finite.get m addr) ≡ f thing = same in
+    omega (arith, sums, was)
+
+counted_uses : (source : ℕ) (acct : Acct) (k : ℕ) (o : Option Thing) →
+    counted_at (λ e. uses_in source acct e.1) k o ≡ uses_at source acct o
+counted_uses source acct k None = refl
+counted_uses source acct k (Some thing) = refl
+
+-- the world with this at an address, or without the thing there
+abbrev pub with_thing_at : World → ℕ → Option Thing → World
+with_thing_at w addr o = record w { things = with_at w.things addr o }
+
+-- the things of the world are tied as they were, where what is at an address now ties alike what was there
+pub same_ties : (w : World) (addr : ℕ) (o : Option Thing) → TieAlike (thing_at w addr) o →
+    ties_of (with_thing_at w addr o) ≡ ties_of w
+same_ties w addr o alike =
+    let counts = λ (source : ℕ) (acct : Acct).
+    sum_alike (uses_in source acct) w.things addr o
+    (counted_uses source acct addr (thing_at w addr) ∙ alike.sources source acct
+    ∙ sym (counted_uses source acct addr o)) in
+    λ i. record {
+      named_by = λ raw. or_null (same_first raw w.things addr o (alike.raws raw) i);
+      counts = λ source acct. counts source acct i;
+    }
+
+-- nothing of a raw object, and no source, is named where nothing is tied
+unnamed : (raw : ℕ) (o : Option Thing) → NoneIsTied o → names_raw_at raw o ≡ false
+unnamed raw None u = refl
+unnamed raw (Some (things.Source source)) u = absurd u
+unnamed raw (Some (things.Object object)) u = absurd u
+unnamed raw (Some thing) u = refl
+
+unused : (source : ℕ) (acct : Acct) (o : Option Thing) → NoneIsTied o → uses_at source acct o ≡ 0
+unused source acct None u = refl
+unused source acct (Some (things.Source s)) u = absurd u
+unused source acct (Some (things.Object object)) u = absurd u
+unused source acct (Some thing) u = refl
+
+-- so what isn't tied ties alike
+pub untied_alike : (was now : Option Thing) → NoneIsTied was → NoneIsTied now → TieAlike was now
+untied_alike was now u v = record {
+  raws = λ raw. unnamed raw was u ∙ sym (unnamed raw now v);
+  sources = λ source acct. unused source acct was u ∙ sym (unused source acct now v);
+}
 
 -- what counts nothing of things that aren't tied counts nothing where one may be
 none_counted : (f : Thing → ℕ) (k : ℕ) (o : Option Thing) → ((thing : Thing) → IsUntied thing → f thing ≡ 0) →
@@ -70,48 +176,5 @@ none_counted f k (Some thing) zero u = zero thing u
 pub same_sum : (f : Thing → ℕ) (m : Things) (addr : ℕ) (o : Option Thing) →
     ((thing : Thing) → IsUntied thing → f thing ≡ 0) → NoneIsTied (finite.get m addr) → NoneIsTied o →
     sum_by (λ e. f e.1) (finite.entries (with_at m addr o)) ≡ sum_by (λ e. f e.1) (finite.entries m)
-same_sum f m addr None zero was is =
-    let sums = sum_by-removed (λ (e : ℕ × Thing). f e.1) m addr in
-    let old = none_counted f addr (finite.get m addr) zero was in
-    omega (arith, sums, old)
-same_sum f m addr (Some thing) zero was is =
-    let sums = sum_by-inserted (λ (e : ℕ × Thing). f e.1) m addr thing in
-    let old = none_counted f addr (finite.get m addr) zero was in
-    let new = zero thing is in
-    omega (arith, sums, old, new)
-
--- the world with this at an address, or without the thing there
-abbrev pub with_thing_at : World → ℕ → Option Thing → World
-with_thing_at w addr o = record w { things = with_at w.things addr o }
-
-same_count : (w : World) (addr : ℕ) (o : Option Thing) → NoneIsTied (thing_at w addr) → NoneIsTied o →
-    (source : ℕ) (acct : Acct) → count_of (with_thing_at w addr o) source acct ≡ count_of w source acct
-same_count w addr o was is source acct = same_sum (uses_in source acct) w.things addr o (uncounted source acct) was is
-
--- the first source of a raw object is the same
-same_find : (raw : ℕ) (m : Things) (addr : ℕ) (o : Option Thing) → NoneIsTied (finite.get m addr) → NoneIsTied o →
-    find (λ (e : ℕ × Thing). names_raw raw e.1) (finite.entries (with_at m addr o))
-    ≡ find (λ (e : ℕ × Thing). names_raw raw e.1) (finite.entries m)
-same_find raw m addr (Some thing) was is =
-    find-inserted (names_raw raw) m addr thing (unnamed raw thing is) (fails raw (finite.get m addr) was)
-same_find raw m addr None was is = by (finite.get m addr) refl was
-  where
-    by : (o : Option Thing) → finite.get m addr ≡ o → NoneIsTied o →
-        find (λ (e : ℕ × Thing). names_raw raw e.1) (finite.entries (finite.remove m addr))
-        ≡ find (λ (e : ℕ × Thing). names_raw raw e.1) (finite.entries m)
-    by None none u = ap (λ n. find (λ (e : ℕ × Thing). names_raw raw e.1) (finite.entries n)) (with_at-again m addr None none)
-    by (Some thing) there u =
-        sym (find-inserted (names_raw raw) (finite.remove m addr) addr thing (unnamed raw thing u)
-        (subst (Fails (names_raw raw)) (sym (get-removed m addr)) tt))
-        ∙ ap (λ n. find (λ (e : ℕ × Thing). names_raw raw e.1) (finite.entries n))
-        (insert-removed m addr thing ∙ with_at-again m addr (Some thing) there)
-
--- the things of the world stay tied as they were
-pub same_ties : (w : World) (addr : ℕ) (o : Option Thing) → NoneIsTied (thing_at w addr) → NoneIsTied o →
-    ties_of (with_thing_at w addr o) ≡ ties_of w
-same_ties w addr o was is =
-    let named = λ (raw : ℕ). same_find raw w.things addr o was is in
-    λ i. record {
-      named_by = λ raw. or_null (option_map (λ e. e.0) (named raw i));
-      counts = λ source acct. same_count w addr o was is source acct i;
-    }
+same_sum f m addr o zero was is =
+    sum_alike f m addr o (none_counted f addr (finite.get m addr) zero was ∙ sym (none_counted f addr o zero is))

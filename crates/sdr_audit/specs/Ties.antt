@@ -1,8 +1,8 @@
 -- What the blocks of a thing keep of other things.
-use Rattle.std.specs.Prelude.{ℕ, Option, None, Some}
+use Rattle.std.specs.Prelude.{◌≡◌, ℕ, Bool, false, Option, None, Some}
 use Rattle.sdr_base.specs.declared.account.Acct.{Acct}
 use Rattle.sdr_model.specs.World.{World}
-use Rattle.sdr_model.specs.Zco.{count_of, source_on}
+use Rattle.sdr_model.specs.Zco.{count_of, names_raw, source_on, uses_in}
 use Rattle.sdr_model.specs.declared.things.Thing.{Thing}
 use Rattle.sdr_model.specs.declared.things.Thing.TheVariants as things
 
@@ -31,3 +31,18 @@ IsUntied thing = Unit {0}
 abbrev pub NoneIsTied : Option Thing → Type 0
 NoneIsTied None = Unit {0}
 NoneIsTied (Some thing) = IsUntied thing
+
+-- whether the thing, if there is one, is a source of this raw object
+abbrev pub names_raw_at : ℕ → Option Thing → Bool
+names_raw_at raw None = false
+names_raw_at raw (Some thing) = names_raw raw thing
+
+-- how many extents of the thing, if there is one and it is an object of this account, name a source
+abbrev pub uses_at : ℕ → Acct → Option Thing → ℕ
+uses_at source acct None = 0
+uses_at source acct (Some thing) = uses_in source acct thing
+
+-- two things, or none, are sources of the same raw object, if of any, and name each source as often
+pub record TieAlike (was now : Option Thing) : Type 0 where
+  pub raws : (raw : ℕ) → names_raw_at raw was ≡ names_raw_at raw now
+  pub sources : (source : ℕ) (acct : Acct) → uses_at source acct was ≡ uses_at source acct now

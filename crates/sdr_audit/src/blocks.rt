@@ -15,8 +15,10 @@ ghost use Rattle.sdr_model.specs.World.{World};
 /// and length: none of them belongs to nothing, and none of the world's is missing. It does nothing.
 pub fn no_block_leaks()
     ensures shapes { (w : World) → IsValid w → map shape (entries_of w) ≡ blocks_of w }
-    ensures at_rest { (bytes : List ℕ) (w : World) (P : Pools) (addr : ℕ) → StandsFor bytes w P → IsValid w →
+    ensures at_rest { (bytes : List ℕ) (w : World) (P : Pools) (addr : ℕ) →
+        StandsFor bytes w P → IsValid w →
         kind_length (block_in bytes addr) ≡ told_of (block_among addr (blocks_of w)) }
-    ensures in_transaction { (heap : Heap) (w : World) (addr : ℕ) → HeapStandsFor heap w → IsValid w →
+    ensures in_transaction { (heap : Heap) (w : World) (addr : ℕ) →
+        HeapStandsFor heap w → IsValid w →
         kind_length (heap.blocks addr) ≡ told_of (block_among addr (blocks_of w)) }
 {}

@@ -15,8 +15,9 @@ ghost use Rattle.sdr_model.specs.declared.things.Thing.{Thing};
 /// another world that has the other part there, and these moves made its marks, the heap stands for that one. It does
 /// nothing.
 pub fn a_part_changes()
-    ensures { (old new : Heap) (w w' : World) (part part' : Entries) (moves : List Move) → HeapStandsFor old w →
-        Swaps (entries_of w) (entries_of w') part part' → Changes old.blocks new.blocks part part' →
+    ensures { (old new : Heap) (w w' : World) (part part' : Entries) (moves : List Move) →
+        HeapStandsFor old w → Swaps (entries_of w) (entries_of w') part part' →
+        Changes old.blocks new.blocks part part' →
         new.marks ≡ marked_by old.marks moves → new.roots ≡ roots_of w' → w'.marks ≡ w.marks →
         HeapStandsFor new (with_taken_marked w' moves) }
 {}
@@ -24,7 +25,8 @@ pub fn a_part_changes()
 /// A law: where a heap stands for a world, and a thing that neither is a source nor has extents was made in it,
 /// the heap stands for the world with that thing. It does nothing.
 pub fn a_thing_comes()
-    ensures { (need addr : ℕ) (old new : Heap) (w : World) (thing : Thing) → IsUntied thing → HeapStandsFor old w →
+    ensures { (need addr : ℕ) (old new : Heap) (w : World) (thing : Thing) →
+        IsUntied thing → HeapStandsFor old w →
         MakesThing need addr (thing_entries (ties_of w) addr thing) old new →
         HeapStandsFor new (with_taken_marked (with_thing w addr thing) (Took need addr ∷ [])) }
 {}
@@ -34,8 +36,10 @@ pub fn a_thing_comes()
 pub fn a_thing_changes()
     ensures { (addr : ℕ) (old new : Heap) (w : World) (thing other : Thing) (moves : List Move) →
         thing_at w addr ≡ Some thing → IsUntied thing → IsUntied other → HeapStandsFor old w →
-        Changes old.blocks new.blocks (thing_entries (ties_of w) addr thing) (thing_entries (ties_of w) addr other) →
-        Made moves old new → HeapStandsFor new (with_taken_marked (with_thing w addr other) moves) }
+        Changes old.blocks new.blocks (thing_entries (ties_of w) addr thing)
+        (thing_entries (ties_of w) addr other) →
+        Made moves old new →
+        HeapStandsFor new (with_taken_marked (with_thing w addr other) moves) }
 {}
 
 /// A law: where a heap stands for a world, and the blocks of such a thing were given back, by these moves, the
@@ -43,6 +47,7 @@ pub fn a_thing_changes()
 pub fn a_thing_goes()
     ensures { (addr : ℕ) (old new : Heap) (w : World) (thing : Thing) (moves : List Move) →
         thing_at w addr ≡ Some thing → IsUntied thing → HeapStandsFor old w →
-        Changes old.blocks new.blocks (thing_entries (ties_of w) addr thing) [] → Made moves old new →
+        Changes old.blocks new.blocks (thing_entries (ties_of w) addr thing) [] →
+        Made moves old new →
         HeapStandsFor new (with_taken_marked (without_thing w addr) moves) }
 {}
