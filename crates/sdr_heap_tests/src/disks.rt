@@ -1,7 +1,7 @@
 // Disks that were formatted.
 ghost use Rattle.std.specs.Prelude.{length, IfSome};
 ghost use Rattle.sdr_base.specs.Moves.{KeepsSome};
-ghost use Rattle.sdr_heap.specs.Kept.{KeepsRegion};
+ghost use Rattle.sdr_base.specs.KeptHeap.{KeepsRegion};
 ghost use Rattle.sdr_large.specs.Both.{KeepsBoth};
 ghost use Rattle.sdr_log.specs.Frame.{IsInLimits};
 

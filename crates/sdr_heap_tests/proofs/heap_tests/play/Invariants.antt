@@ -5,6 +5,6 @@ use Rattle.sdr_heap_tests.proofs.heap_tests.play.Given as goal
 
 abbrev pub invariant-loop-row : goal.invariant-loop-row
 invariant-loop-row g l = record {
-  kept : KeepsSome (g.O.Objects.keeps l.o);
-  spare : length l.moves ≤ l.row + (g.O.Objects.heap l.o).spare;
+  kept : KeepsSome (g.O.HasHeap.keeps l.o);
+  spare : length l.moves ≤ l.row + (g.O.HasHeap.heap l.o).spare;
 }
