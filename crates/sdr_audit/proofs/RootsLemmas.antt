@@ -1,4 +1,4 @@
--- A thing that neither is a source nor has extents charges nothing, so the control words stay.
+-- A thing that is neither a source nor a zero-copy object charges nothing, so the control words stay.
 use Rattle.std.proofs.Common.{◌≡◌, ℕ, ◌+◌, List, Bool, true, false, cond, Option, Some, None, refl, sym, ap, ◌∙◌}
 use Rattle.std.specs.FinMap as finite
 use Rattle.std.specs.List.{sum_by}

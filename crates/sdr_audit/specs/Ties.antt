@@ -21,13 +21,13 @@ or_null (Some addr) = addr
 abbrev pub ties_of : World → Ties
 ties_of w = record { named_by = λ raw. or_null (source_on w raw); counts = count_of w }
 
--- a thing that neither is a source nor has extents
+-- a thing that is neither a source nor a zero-copy object
 abbrev pub IsUntied : Thing → Type 0
 IsUntied (things.Source source) = ⊥
 IsUntied (things.Object object) = ⊥
 IsUntied thing = Unit {0}
 
--- no thing, or one that neither is a source nor has extents
+-- no thing, or one that is neither a source nor a zero-copy object
 abbrev pub NoneIsTied : Option Thing → Type 0
 NoneIsTied None = Unit {0}
 NoneIsTied (Some thing) = IsUntied thing

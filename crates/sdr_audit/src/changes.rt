@@ -22,7 +22,7 @@ pub fn a_part_changes()
         HeapStandsFor new (with_taken_marked w' moves) }
 {}
 
-/// A law: where a heap stands for a world, and a thing that neither is a source nor has extents was made in it,
+/// A law: where a heap stands for a world, and a thing that is neither a source nor a zero-copy object was made in it,
 /// the heap stands for the world with that thing. It does nothing.
 pub fn a_thing_comes()
     ensures { (need addr : ℕ) (old new : Heap) (w : World) (thing : Thing) →

@@ -7,15 +7,16 @@
 //! 1. A part of the blocks in use becomes another, and all else stays (`parts_change`).
 //! 2. A thing that comes, changes or goes is such a part (`things_change`). Where what is there then names what was
 //!    named there before, nothing changes in other things' blocks (`alike_things_tie_alike`), so it is a part of the
-//!    world's (`alike_things_are_parts`); and one that neither is a source nor has extents changes no control word
-//!    besides (`untied_things_stay_apart`). The catalogue and each queue are parts too (`names_and_tickets_change`).
+//!    world's (`alike_things_are_parts`); and one that is neither a source nor a zero-copy object changes no control
+//!    word besides (`untied_things_stay_apart`). The catalogue and each queue are parts too (`names_and_tickets_change`).
 //! 3. So a heap stands for the world with the other part (`a_part_changes`), and with the thing that came, changed or
 //!    went (`a_thing_comes`, `a_thing_changes`, `a_thing_goes`).
 //! 4. The blocks in use are the blocks of the world, no more and no fewer (`no_block_leaks`).
 //! 5. A fresh heap stands for the world without things (`fresh_heap_stands`).
 //! 6. A transaction begins with a heap that stands for the world at rest, and ends with bytes that stand for it
 //!    (`transactions_begin_and_end`).
-//! 7. A small world, byte by byte (`bundle_is_kept_so`).
+//! 7. A small world, byte by byte (`bundle_is_kept_so`), and where the control words stand
+//!    (`control_words_stand_so`).
 #![tactic(auto)]
 
 mod blocks;
@@ -27,7 +28,7 @@ mod rest;
 
 pub use blocks::no_block_leaks;
 pub use changes::{a_part_changes, a_thing_changes, a_thing_comes, a_thing_goes};
-pub use example::bundle_is_kept_so;
+pub use example::{bundle_is_kept_so, control_words_stand_so};
 pub use fresh::fresh_heap_stands;
 pub use parts::{
     alike_things_tie_alike, names_and_tickets_change, parts_change, things_change,

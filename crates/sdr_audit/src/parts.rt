@@ -55,7 +55,7 @@ pub fn alike_things_tie_alike()
         ties_of (record w { things = with_at w.things addr now }) ≡ ties_of w }
 {}
 
-/// A law: where what was at an address, if anything, neither was a source nor had extents, and so with what is
+/// A law: where what was at an address, if anything, was neither a source nor a zero-copy object, and so with what is
 /// there now, no source's count, no raw object's source, and no control word changes. It does nothing.
 pub fn untied_things_stay_apart()
     ensures ties { (w : World) (addr : ℕ) (now : Option Thing) →
