@@ -217,14 +217,14 @@ module _ (r : Roll) (w : Worlds) (daemon : ℕ) (call : Call) (pieces : List Pie
         let n = s.holding.nesting in
         let m' = settled m daemon given in
         says_here m m' (made_dry daemon line (events.Say call) (called reply) [] m') call s sound refl
-        (record { nesting = n; state = with_given m.now given })
+        (record { number = s.holding.number; nesting = n; state = with_given m.now given })
         (record {
           done = record { reply = reply; moves = []; after = with_given m.now given };
           steps = record { step = step; base = refl; demand = refl };
           answer = refl;
           moves = refl;
           bytes = refl;
-          after = λ i. record { nesting = sym (noted_reading call reply n (media_reads call has.reads)) i; state = with_given m.now given };
+          after = λ i. record { number = s.holding.number; nesting = sym (noted_reading call reply n (media_reads call has.reads)) i; state = with_given m.now given };
         })
         (λ i. record m { roll = sym (settled_here r daemon s) i; now = with_given m.now given });
   }
