@@ -124,7 +124,6 @@ stops_with call replies.MediaFault gap reads = (refl, reads)
 stops_with call (replies.Refused (refusals.SourceShort have want)) gap reads = (refl, reads, gap)
 stops_with call reply gap reads = absurd gap
 
-
 not_true : (b : Bool) → not b ≡ true → b ≡ false
 not_true false is = refl
 not_true true is = absurd (true≢false (sym is))
