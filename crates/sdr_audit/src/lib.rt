@@ -12,7 +12,7 @@
 //! 3. So a heap stands for the world with the other part (`a_part_changes`), and with the thing that came, changed or
 //!    went (`a_thing_comes`, `a_thing_changes`, `a_thing_goes`).
 //! 4. The blocks in use are the blocks of the world, no more and no fewer (`no_block_leaks`).
-//! 5. A fresh heap stands for the world without things (`fresh_heap_stands`).
+//! 5. A fresh heap stands for the world without things, which is whole (`fresh_heap_stands`).
 //! 6. A transaction begins with a heap that stands for the world at rest, and ends with bytes that stand for it
 //!    (`transactions_begin_and_end`).
 //! 7. A small world, byte by byte (`bundle_is_kept_so`), and where the control words stand
