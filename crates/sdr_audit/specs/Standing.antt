@@ -1,5 +1,5 @@
 -- When bytes stand for a world: their blocks in use are just the world's, each with the bytes of what it keeps.
-use Rattle.std.specs.Prelude.{◌≡◌, ℕ, List, [], ◌++◌, map}
+use Rattle.std.specs.Prelude.{◌≡◌, ◌≤◌, ℕ, List, [], ◌++◌, map}
 use Rattle.sdr_base.specs.Catalogue.{catalogue_entries, name_addr}
 use Rattle.sdr_base.specs.Entries.{Entries, Stands}
 use Rattle.sdr_base.specs.Hashes.{hash_entries}
@@ -82,11 +82,13 @@ pub record StandsFor (bytes : List ℕ) (w : World) (P : Pools) : Type 0 where
   pub shown : w.shown ≡ []
   pub taken : w.taken ≡ 0
 
--- the bytes stand for the world, which is whole, and whose numbers fit the fields of blocks
+-- the bytes stand for the world, which is whole, whose numbers fit the fields of blocks, and whose next ticket has a number from
+-- 1 on
 pub record StandsForWhole (bytes : List ℕ) (w : World) (P : Pools) : Type 0 where
   pub stands : StandsFor bytes w P
   pub whole : IsWhole w
   pub fits : FitsFields w
+  pub next : 1 ≤ w.accounts.next
 
 -- A heap in a transaction stands for the current world: its blocks in use, control words and marks are the world's.
 pub record HeapStandsFor (heap : Heap) (w : World) : Type 0 where

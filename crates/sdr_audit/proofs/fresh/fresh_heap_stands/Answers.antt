@@ -13,6 +13,7 @@ returns-clause-stands c = λ lines least most. record {
     barred = laws.fresh_barred (32 * lines);
   };
   fits = fresh_fits (32 * lines);
+  next = omega arith;
 }
 
 pub returns-clause-valid : goal.returns-clause-valid
