@@ -31,7 +31,7 @@ pub use changes::{a_part_changes, a_thing_changes, a_thing_comes, a_thing_goes};
 pub use example::{bundle_is_kept_so, control_words_stand_so};
 pub use fresh::fresh_heap_stands;
 pub use parts::{
-    alike_things_tie_alike, names_and_tickets_change, parts_change, things_change,
-    untied_things_stay_apart,
+    alike_things_are_parts, alike_things_tie_alike, names_and_tickets_change, parts_change,
+    things_change, untied_things_stay_apart,
 };
 pub use rest::transactions_begin_and_end;

@@ -33,7 +33,8 @@ HoldersLeave leave (daemon ∷ daemons) m m' =
 abbrev pub staying : Roll → List ℕ → List ℕ
 staying r daemons = filter (λ daemon. not (has_left r daemon)) daemons
 
--- Those that hold a number make a leave, in lock order; then those of these daemons that haven't left yet do, in order.
+-- Those that hold a number make a leave, in lock order, at most as many as these daemons are; then those of these daemons
+-- that haven't left yet do, in order.
 pub record AllLeave (leave : Leave) (daemons : List ℕ) (m m' : Machine) : Type 0 where
   pub between : Machine
   pub holders : HoldersLeave leave daemons m between

@@ -167,8 +167,8 @@ impl Plain {
             .collect(self.alloc)
     }
 
-    /// Makes the leaves at the end of the input: those that hold a number make one, in lock order, and then
-    /// those of these daemons that haven't left yet do, in their order.
+    /// Makes the leaves at the end of the input: those that hold a number make one, in lock order, at most as
+    /// many as these daemons are, and then those of these daemons that haven't left yet do, in their order.
     pub fn leave_all(&mut self, daemons: &[u8], leave: Leave) -> Result<(), NoMemory>
         requires events { self.old.events + 2 * length daemons.now ≤ 4_194_304 }
         ensures { OnOk result (AllLeave leave daemons.now (machine_of self.old) (machine_of self.new)) }
