@@ -5,13 +5,15 @@ use Rattle.sdr_disk.specs.History.{History, Leaves, MayLeave, State, after, afte
 use Rattle.sdr_disk.specs.History.{moment_of, ranges_of, start, state_at, with_change, written_over}
 use Rattle.sdr_disk.specs.HistoryLaws.{state_at-now}
 use Rattle.sdr_disk.specs.Moments.{IsTorn, Keeps, Only, Syncs, Writes}
-use Rattle.sdr_disk.specs.Ranges.{Agrees, Range, overwrite, part, range}
+use Rattle.sdr_base.specs.Parts.{overwrite, part}
+use Rattle.sdr_disk.specs.Ranges.{Agrees, Range, range}
 use Rattle.sdr_disk.specs.declared.change.Change.{Change}
 use Rattle.sdr_disk.specs.declared.change.Change.TheVariants.{Write, Sync}
 use Rattle.sdr_disk.specs.declared.change.Outcome.{Outcome}
 use Rattle.sdr_disk.specs.declared.change.Outcome.TheVariants.{Done, Failed}
 use Rattle.sdr_disk.proofs.RangesLemmas.{Agrees-nil, Agrees-overwrite, Agrees-part_back, Agrees-refl}
-use Rattle.sdr_disk.proofs.RangesLemmas.{Agrees-sym, Agrees-trans, length-part}
+use Rattle.sdr_base.proofs.PartsLemmas.{length-part}
+use Rattle.sdr_disk.proofs.RangesLemmas.{Agrees-sym, Agrees-trans}
 
 -- The states along a history.
 

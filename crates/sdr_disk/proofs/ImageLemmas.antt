@@ -17,7 +17,7 @@ use Rattle.sdr_disk.specs.declared.torn.Torn.{Torn}
 use Rattle.sdr_disk.proofs.HistoryLemmas.{after_all-push}
 use Rattle.sdr_disk.proofs.KeptLemmas.{AllReplace-back, changes_of-append, length-after, length-after_all}
 use Rattle.sdr_disk.proofs.KeptLemmas.{undone_all-after_all, undone_all-push}
-use Rattle.sdr_disk.proofs.RangesLemmas.{length-part}
+use Rattle.sdr_base.proofs.PartsLemmas.{length-part}
 
 -- Changes that fit.
 

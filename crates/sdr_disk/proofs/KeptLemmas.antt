@@ -4,14 +4,15 @@ use Rattle.std.proofs.Common.{length-append}
 use Rattle.std.proofs.lemmas.List.{map-append}
 use Rattle.sdr_disk.specs.History.{State, after, after_all, start, with_change, written_over}
 use Rattle.sdr_disk.specs.Kept.{AllReplace, Leads, Replaces, changes_of, history_of, undone, undone_all}
-use Rattle.sdr_disk.specs.Ranges.{overwrite, part}
+use Rattle.sdr_base.specs.Parts.{overwrite, part}
 use Rattle.sdr_disk.specs.declared.change.Change.{Change}
 use Rattle.sdr_disk.specs.declared.change.Change.TheVariants.{Write, Sync}
 use Rattle.sdr_disk.specs.declared.change.Kept.{Kept}
 use Rattle.sdr_disk.specs.declared.change.Outcome.{Outcome}
 use Rattle.sdr_disk.specs.declared.change.Outcome.TheVariants.{Done, Failed}
 use Rattle.sdr_disk.proofs.HistoryLemmas.{Agrees-written_over, after_all-push, read-sync}
-use Rattle.sdr_disk.proofs.RangesLemmas.{overwrite-overwrite, overwrite-part}
+use Rattle.sdr_base.proofs.PartsLemmas.{overwrite-part}
+use Rattle.sdr_disk.proofs.RangesLemmas.{overwrite-overwrite}
 
 -- Undoing.
 

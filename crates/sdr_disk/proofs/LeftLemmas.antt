@@ -6,7 +6,8 @@ use Rattle.std.proofs.lemmas.List.{length-replicate}
 use Rattle.sdr_disk.specs.History.{History, Leaves, MayLeave, State, Written, after, bytes_of, during, image_of}
 use Rattle.sdr_disk.specs.History.{ranges_of, start, state_at, tear, tear_all}
 use Rattle.sdr_disk.specs.Kept.{AllReplace, Leads, Replaces, changes_of, history_of, undone_all}
-use Rattle.sdr_disk.specs.Ranges.{Agrees, overwrite, range}
+use Rattle.sdr_base.specs.Parts.{overwrite}
+use Rattle.sdr_disk.specs.Ranges.{Agrees, range}
 use Rattle.sdr_disk.specs.declared.change.Change.{Change}
 use Rattle.sdr_disk.specs.declared.change.Change.TheVariants.{Write, Sync}
 use Rattle.sdr_disk.specs.declared.change.Kept.{Kept}

@@ -4,7 +4,8 @@ use Rattle.std.specs.Prelude.{Some}
 use Rattle.sdr_disk.specs.History.{History, MayLeave, bytes_of, moment_of, with_change, written_over}
 use Rattle.sdr_disk.specs.MemoryDisk.{CrashLeaves, Memory, bytes_now, moment_now}
 use Rattle.sdr_disk.specs.Moments.{Only, Syncs, Writes}
-use Rattle.sdr_disk.specs.Ranges.{Agrees, overwrite, range}
+use Rattle.sdr_base.specs.Parts.{overwrite}
+use Rattle.sdr_disk.specs.Ranges.{Agrees, range}
 use Rattle.sdr_disk.specs.Told.{Both, Told}
 use Rattle.sdr_disk.specs.declared.change.Change.TheVariants.{Write, Sync}
 use Rattle.sdr_disk.specs.declared.change.Outcome.{Outcome}

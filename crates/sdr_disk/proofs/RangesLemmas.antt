@@ -1,58 +1,10 @@
--- Parts of lists of bytes, and lists that differ in ranges alone.
-use Rattle.std.proofs.Common.{◌≡◌, ℕ, ◌+◌, ◌-◌, ◌<◌, ◌≤◌, ◌⊎◌, inl, inr, List, [], ◌∷◌, ◌++◌, length, take, drop}
-use Rattle.std.proofs.Common.{get_or, refl, sym, ◌∙◌, ap, subst, arith, length-append, length-drop, length-take}
-use Rattle.std.proofs.lemmas.List.{ext_get_or, get_or-take, get_or-drop, get_or_append_left, get_or-append_right}
-use Rattle.std.proofs.lemmas.List.{length-take-le}
-use Rattle.sdr_disk.specs.Ranges.{Agrees, IsInNone, Range, overwrite, part, range}
-
--- What stands at a place after bytes were put into a list.
-
-pub length-overwrite : (place : ℕ) (from x : List ℕ) → place + length from ≤ length x
-    → length (overwrite place from x) ≡ length x
-length-overwrite place from x le = simp (length-append, length-take, length-drop) (omega arith)
-
-pub get_or-overwrite_before : (place : ℕ) (from x : List ℕ) (i : ℕ) → place + length from ≤ length x → i < place
-    → get_or (overwrite place from x) i 0 ≡ get_or x i 0
-get_or-overwrite_before place from x i le lt =
-    let long : length (take place x) ≡ place = length-take-le place x (omega arith) in
-    let front : i < length (take place x ++ from) = omega (arith, long, length-append (take place x) from) in
-    get_or_append_left (take place x ++ from) (drop (place + length from) x) 0 i front
-    ∙ get_or_append_left (take place x) from 0 i (omega (arith, long))
-    ∙ get_or-take place x i 0 lt
-
-pub get_or-overwrite_inside : (place : ℕ) (from x : List ℕ) (i : ℕ) → place + length from ≤ length x
-    → place ≤ i → i < place + length from → get_or (overwrite place from x) i 0 ≡ get_or from (i - place) 0
-get_or-overwrite_inside place from x i le ge lt =
-    let long : length (take place x) ≡ place = length-take-le place x (omega arith) in
-    let front : i < length (take place x ++ from) = omega (arith, long, length-append (take place x) from) in
-    get_or_append_left (take place x ++ from) (drop (place + length from) x) 0 i front
-    ∙ get_or-append_right (take place x) from place i 0 long ge
-
-pub get_or-overwrite_after : (place : ℕ) (from x : List ℕ) (i : ℕ) → place + length from ≤ length x
-    → place + length from ≤ i → get_or (overwrite place from x) i 0 ≡ get_or x i 0
-get_or-overwrite_after place from x i le ge =
-    let long : length (take place x) ≡ place = length-take-le place x (omega arith) in
-    get_or-append_right (take place x ++ from) (drop (place + length from) x) (place + length from) i 0
-    (omega (arith, long, length-append (take place x) from)) ge
-    ∙ get_or-drop (place + length from) x (i - (place + length from)) 0
-    ∙ ap (λ (k : ℕ). get_or x k 0) (omega arith)
-
-pub get_or-overwrite_outside : (place : ℕ) (from x : List ℕ) (i : ℕ) → place + length from ≤ length x
-    → (i < place) ⊎ (place + length from ≤ i) → get_or (overwrite place from x) i 0 ≡ get_or x i 0
-get_or-overwrite_outside place from x i le (inl lt) = get_or-overwrite_before place from x i le lt
-get_or-overwrite_outside place from x i le (inr ge) = get_or-overwrite_after place from x i le ge
-
-pub length-part : (place count : ℕ) (x : List ℕ) → place + count ≤ length x → length (part place count x) ≡ count
-length-part place count x le = length-take-le count (drop place x) (omega (arith, length-drop place x))
-
-pub get_or-part : (place count : ℕ) (x : List ℕ) (i : ℕ) → i < count
-    → get_or (part place count x) i 0 ≡ get_or x (place + i) 0
-get_or-part place count x i lt = get_or-take count (drop place x) i 0 lt ∙ get_or-drop place x i 0
-
--- a place is outside a range or in it
-pub outside_or_in : (place count i : ℕ)
-    → ((i < place) ⊎ (place + count ≤ i)) ⊎ ((place ≤ i) × (i < place + count))
-outside_or_in place count i = grind arith
+-- Lists of bytes that differ in ranges alone.
+use Rattle.std.proofs.Common.{◌≡◌, ℕ, ◌+◌, ◌-◌, ◌<◌, ◌≤◌, ◌⊎◌, inl, inr, List, [], ◌∷◌, length, get_or, refl, sym, ◌∙◌, ap}
+use Rattle.std.proofs.Common.{subst, arith}
+use Rattle.std.proofs.lemmas.List.{ext_get_or}
+use Rattle.sdr_base.specs.Parts.{overwrite, part}
+use Rattle.sdr_base.proofs.PartsLemmas.{get_or-overwrite_inside, get_or-overwrite_outside, get_or-part, length-overwrite, length-part, sides}
+use Rattle.sdr_disk.specs.Ranges.{Agrees, IsInNone, Range, range}
 
 -- Lists that agree outside ranges.
 
@@ -92,7 +44,7 @@ Agrees-overwrite_both place count from a b ranges is le f = record {
       length-overwrite place from b (omega (arith, f.long))
       ∙ f.long
       ∙ sym (length-overwrite place from a (omega arith));
-  same = λ i o. at i o (outside_or_in place count i);
+  same = λ i o. at i o (sides place count i);
 }
   where
     at : (i : ℕ) → IsInNone ranges i → ((i < place) ⊎ (place + count ≤ i)) ⊎ ((place ≤ i) × (i < place + count))
@@ -125,7 +77,7 @@ Agrees-part_back place count a b ranges le f =
     let long = length-part place count a le in
     record {
       long = length-overwrite place (part place count a) b (omega (arith, long, f.long)) ∙ f.long;
-      same = λ i o. at long i o (outside_or_in place count i);
+      same = λ i o. at long i o (sides place count i);
     }
   where
     at : length (part place count a) ≡ count → (i : ℕ) → IsInNone ranges i
@@ -140,13 +92,6 @@ Agrees-part_back place count a b ranges le f =
         (omega (arith, long, in'.1))
         ∙ get_or-part place count a (i - place) (omega (arith, in'.0, in'.1))
         ∙ ap (λ (n : ℕ). get_or a n 0) (omega (arith, in'.0))
-
--- a part that is put back where it was changes nothing
-pub overwrite-part : (place count : ℕ) (x : List ℕ) → place + count ≤ length x
-    → overwrite place (part place count x) x ≡ x
-overwrite-part place count x le =
-    Agrees-nil x (overwrite place (part place count x) x)
-    (Agrees-part_back place count x x [] le (Agrees-refl (range place count ∷ []) x))
 
 -- what bytes were put over comes back when it is put over them
 pub overwrite-overwrite : (place : ℕ) (from x : List ℕ) → place + length from ≤ length x

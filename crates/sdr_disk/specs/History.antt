@@ -1,6 +1,7 @@
 -- The writes and syncs of a disk in memory, and what a crash then may leave.
 use Rattle.std.specs.Prelude.{◌≡◌, ℕ, zero, suc, ◌*◌, List, [], ◌∷◌, ◌++◌, map, length, slice_index, replicate}
-use Rattle.sdr_disk.specs.Ranges.{IsInNone, Range, overwrite, range}
+use Rattle.sdr_base.specs.Parts.{overwrite}
+use Rattle.sdr_disk.specs.Ranges.{IsInNone, Range, range}
 use Rattle.sdr_disk.specs.declared.change.Change.{Change}
 use Rattle.sdr_disk.specs.declared.change.Change.TheVariants.{Write, Sync}
 use Rattle.sdr_disk.specs.declared.change.Outcome.{Outcome}

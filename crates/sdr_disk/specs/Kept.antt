@@ -1,7 +1,7 @@
 -- What a disk in memory keeps of its changes, to undo them.
 use Rattle.std.specs.Prelude.{◌≡◌, ◌+◌, ◌≤◌, ⊤, List, [], ◌∷◌, ℕ, length, map}
 use Rattle.sdr_disk.specs.History.{History, State, after, after_all, start}
-use Rattle.sdr_disk.specs.Ranges.{overwrite, part}
+use Rattle.sdr_base.specs.Parts.{overwrite, part}
 use Rattle.sdr_disk.specs.declared.change.Change.{Change}
 use Rattle.sdr_disk.specs.declared.change.Change.TheVariants.{Write, Sync}
 use Rattle.sdr_disk.specs.declared.change.Kept.{Kept}

@@ -5,7 +5,8 @@ ghost use Rattle.std.specs.declared.option.Option.{Option};
 ghost use Rattle.sdr_base.specs.Causes.{HasCause};
 ghost use Rattle.sdr_disk.specs.Moments.{IsAtEnd, Keeps, Only, Reads};
 ghost use Rattle.sdr_disk.specs.Moments.{RisesOrStays, Syncs, Writes};
-ghost use Rattle.sdr_disk.specs.Ranges.{Agrees, overwrite, part, range};
+ghost use Rattle.sdr_base.specs.Parts.{overwrite, part};
+ghost use Rattle.sdr_disk.specs.Ranges.{Agrees, range};
 ghost use Rattle.sdr_disk.specs.Told.{Both, IsLong, Told};
 
 /// The disk failed.

@@ -7,8 +7,7 @@ ghost use Rattle.sdr_disk.specs.Moments.{IsAtEnd};
 use crate::Torn;
 use crate::change::{Change, Kept, Outcome};
 use crate::image::crash;
-use crate::put::put_at;
-use sdr_base::{Bytes, Items, NoMemory};
+use sdr_base::{Bytes, Items, NoMemory, put_at};
 use std::marker::Model;
 
 /// The bytes of a disk, with the changes that led to them. Contracts see the bytes that it began

@@ -1,5 +1,6 @@
 // How the image of a crash is made from the bytes now and the changes that are kept.
-ghost use Rattle.std.specs.Prelude.{◌≡◌, ◌+◌, ◌/◌, ◌%◌, length, take};
+ghost use Rattle.std.specs.Prelude.{◌≡◌, ◌≤◌, ◌+◌, ◌/◌, ◌%◌, length, replicate, take};
+ghost use Rattle.sdr_base.specs.Parts.{overwrite};
 ghost use Rattle.sdr_disk.specs.History.{image_of};
 ghost use Rattle.sdr_disk.specs.Image.{AllFit, Fits, SplitsAtSync, is_good_sync};
 ghost use Rattle.sdr_disk.specs.Image.{tear_change, tear_changes};
@@ -7,7 +8,7 @@ ghost use Rattle.sdr_disk.specs.Kept.{Leads, changes_of, history_of, undone, und
 
 use crate::Torn;
 use crate::change::{Change, Kept, Outcome};
-use crate::put::{fill_at, put_at};
+use sdr_base::put_at;
 
 /// Makes of the bytes now the image of a crash at a moment: the bytes at the last good sync that
 /// had returned, with each write that had begun since torn.
@@ -100,4 +101,13 @@ fn tear(kept: &Kept, torn: Torn, image: &mut [u8])
             Torn::Filled(byte) => fill_at(image, place, from.len(), byte),
         }
     }
+}
+
+// Puts one byte at so many places from one on.
+#[tactic(auto, using(std::proofs::lemmas::Slice::overwrites))]
+fn fill_at(bytes: &mut [u8], place: usize, count: usize, byte: u8)
+    requires { place + count ≤ length bytes.old }
+    ensures { bytes.new ≡ overwrite place (replicate count byte) bytes.old }
+{
+    bytes[place..place + count].fill(byte);
 }

@@ -16,7 +16,6 @@ mod disk;
 mod history;
 mod image;
 mod memory;
-mod put;
 mod torn;
 
 pub use disk::{Disk, DiskFault};

@@ -4,7 +4,8 @@ ghost use Rattle.std.specs.Prelude.{Contains, IfOk, IsErr, OnOk, Some, is_some};
 ghost use Rattle.sdr_base.specs.Causes.{HasCause, counted};
 ghost use Rattle.sdr_disk.specs.Moments.{IsAtEnd, Keeps, Only, Reads};
 ghost use Rattle.sdr_disk.specs.Moments.{RisesOrStays, Syncs, Writes};
-ghost use Rattle.sdr_disk.specs.Ranges.{Agrees, overwrite, part, range};
+ghost use Rattle.sdr_base.specs.Parts.{overwrite, part};
+ghost use Rattle.sdr_disk.specs.Ranges.{Agrees, range};
 ghost use Rattle.sdr_disk.specs.Told.{Both, Told};
 
 use crate::change::Outcome;

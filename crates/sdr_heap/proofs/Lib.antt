@@ -4,7 +4,6 @@ pub mod ChooseLargeLemmas
 pub mod ChooseSmallLemmas
 pub mod ClearLemmas
 pub mod FewLemmas
-pub mod FreshLemmas
 pub mod GiveBackLemmas
 pub mod GiveLargeLemmas
 pub mod GiveSmallLemmas

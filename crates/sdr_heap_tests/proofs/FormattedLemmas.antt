@@ -4,7 +4,7 @@ use Rattle.sdr_base.specs.FreshHeap.{fresh_heap}
 use Rattle.sdr_base.specs.KeptPools.{KeepsSomeSmall}
 use Rattle.sdr_base.specs.Pools.{fresh_pools}
 use Rattle.sdr_base.specs.KeptHeap.{KeepsHeap}
-use Rattle.sdr_heap.proofs.FreshLemmas.{fresh_kept}
+use Rattle.sdr_base.proofs.FreshBlocksLemmas.{fresh_keeps_heap}
 use Rattle.sdr_heap_tests.specs.Formatted.{GivesFormatted}
 use Rattle.sdr_image.proofs.FormattedLemmas.{put_back_of-formatted}
 use Rattle.sdr_large.specs.Both.{KeepsBoth}
@@ -18,7 +18,7 @@ formatted_heap f disk bytes given =
     let is = given.gives in
     let fresh : fresh_heap f.heap_lines ≡ bytes = cc in
     subst (λ (l : List ℕ). KeepsHeap l (fresh_pools f.heap_lines)) fresh
-    (fresh_kept f.heap_lines given.limits.least_heap given.limits.most_heap)
+    (fresh_keeps_heap f.heap_lines given.limits.least_heap given.limits.most_heap)
 
 -- both pools
 pub formatted_both : (f : Frame) (disk bytes : List ℕ) → GivesFormatted f disk bytes → KeepsBoth bytes

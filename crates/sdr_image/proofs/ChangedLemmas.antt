@@ -1,6 +1,6 @@
 -- What lines that are changed all or none leave on the disk, whatever is pending on it.
 use Rattle.std.proofs.Common.{◌≡◌, ◌<◌, ◌≤◌, ℕ, ◌+◌, ◌*◌, true, List, [], ◌∷◌, length, sym, ap, ◌∙◌, arith}
-use Rattle.sdr_disk.proofs.RangesLemmas.{length-part}
+use Rattle.sdr_base.proofs.PartsLemmas.{length-part}
 use Rattle.sdr_log.specs.Batch.{batch_size, with_batch}
 use Rattle.sdr_log.specs.Calls.{AreNamed, HoldLines, Opens, with_records}
 use Rattle.sdr_log.specs.Log.{AreLines, are_good, heap_of, put_records}

@@ -9,7 +9,7 @@ use Rattle.std.proofs.lemmas.List.Sorted.{All-permutation, IsPermutation-map, li
 use Rattle.std.proofs.lemmas.List.Sorted.{sum_by-IsPermutation}
 use Rattle.std.proofs.lemmas.List.Sums.{sum_by-cons}
 use Rattle.sdr_base.proofs.PartsLemmas.{length-overwrite, length-part, part-overwrite}
-use Rattle.sdr_disk.specs.Ranges.{overwrite, part}
+use Rattle.sdr_base.specs.Parts.{overwrite, part}
 use Rattle.sdr_log.specs.Calls.{AreBelow, AreNamed, HoldLines}
 use Rattle.sdr_log.specs.Log.{AreLines, are_good, is_named, put_records}
 use Rattle.sdr_log.specs.declared.record.Record.{Record}

@@ -5,7 +5,7 @@ use Rattle.std.proofs.lemmas.Option.{same_Some}
 use Rattle.sdr_base.specs.declared.line.TheConstants.{LINE}
 use Rattle.sdr_disk.specs.Moments.{AtEach, Reads}
 use Rattle.sdr_disk.specs.Pending.{IsSynced}
-use Rattle.sdr_disk.specs.Ranges.{part}
+use Rattle.sdr_base.specs.Parts.{part}
 use Rattle.sdr_disk.specs.Told.{Both, Told}
 use Rattle.sdr_disk.proofs.MomentsLemmas.{at_both, at_first, at_read}
 use Rattle.sdr_disk.proofs.ToldLemmas.{told_before}

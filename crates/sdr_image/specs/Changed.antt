@@ -2,7 +2,7 @@
 use Rattle.std.specs.Prelude.{◌≡◌, ◌⊎◌, ℕ, ◌*◌, List, [], ◌∷◌, IsPermutation}
 use Rattle.std.specs.List.Sorted.{IsNonDecreasingBy}
 use Rattle.sdr_base.specs.declared.line.TheConstants.{LINE}
-use Rattle.sdr_disk.specs.Ranges.{overwrite, part}
+use Rattle.sdr_base.specs.Parts.{overwrite, part}
 use Rattle.sdr_log.specs.Batch.{with_batch}
 use Rattle.sdr_log.specs.Calls.{with_records}
 use Rattle.sdr_log.specs.Logged.{Gives}

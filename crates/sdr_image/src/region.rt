@@ -5,7 +5,7 @@ ghost use Rattle.sdr_base.specs.Cells.{lines_of};
 ghost use Rattle.sdr_base.specs.Parts.{overwrite, part};
 ghost use Rattle.sdr_log.specs.Log.{are_good, put_records};
 
-use sdr_base::LINE;
+use sdr_base::{LINE, put_at};
 use sdr_log::Record;
 use std::marker::Model;
 
@@ -21,15 +21,6 @@ impl Model for Region {
     ghost Value = { List ℕ };
 
     ghost view = { λ s. s.bytes.items };
-}
-
-// Puts bytes at a place.
-#[tactic(auto, using(std::proofs::lemmas::Slice::overwrites))]
-fn put_at(bytes: &mut [u8], place: usize, from: &[u8])
-    requires { place + length from.now ≤ length bytes.old }
-    ensures { bytes.new ≡ overwrite place from.now bytes.old }
-{
-    bytes[place..place + from.len()].copy_from_slice(from);
 }
 
 impl Region {

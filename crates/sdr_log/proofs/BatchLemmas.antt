@@ -7,7 +7,7 @@ use Rattle.std.proofs.lemmas.List.{take_at, drop_at}
 use Rattle.std.proofs.lemmas.Bool.Decides.{nat_tests}
 use Rattle.byteorder.specs.Endian.{big_number}
 use Rattle.byteorder.specs.Numbers.{big_number-reads_back, length-bytes_high_first}
-use Rattle.sdr_disk.specs.Ranges.{part}
+use Rattle.sdr_base.specs.Parts.{part}
 use Rattle.sdr_log.specs.Batch.{batch_of, encoded, end_of}
 use Rattle.sdr_log.specs.Frame.{number, four}
 use Rattle.sdr_log.specs.Log.{AreLines, are_good, batches_of, records_of}

@@ -4,9 +4,11 @@ use Rattle.std.proofs.Common.{◌∷◌, length, sym, ap, ◌∙◌, subst, arit
 use Rattle.std.proofs.lemmas.Bool.{cases_eq}
 use Rattle.std.proofs.lemmas.Bool.Decides.{nat_tests}
 use Rattle.sdr_disk.specs.Moments.{AtEach, IsTorn, Only, Syncs}
-use Rattle.sdr_disk.specs.Ranges.{Agrees, overwrite, part, range}
+use Rattle.sdr_base.specs.Parts.{overwrite, part}
+use Rattle.sdr_disk.specs.Ranges.{Agrees, range}
 use Rattle.sdr_disk.proofs.MomentsLemmas.{at_both, at_first, at_synced}
-use Rattle.sdr_disk.proofs.RangesLemmas.{Agrees-overwrite, Agrees-part, get_or-overwrite_inside}
+use Rattle.sdr_base.proofs.PartsLemmas.{get_or-overwrite_inside}
+use Rattle.sdr_disk.proofs.RangesLemmas.{Agrees-overwrite, Agrees-part}
 use Rattle.sdr_log.specs.Calls.{Closes}
 use Rattle.sdr_log.specs.Frame.{IsInLimits}
 use Rattle.sdr_log.specs.Log.{batches_of, first_gate, heap_of, put_records, read_log}

@@ -8,7 +8,7 @@ use Rattle.std.proofs.lemmas.Bool.{le-leb, lt-leb}
 use Rattle.sdr_log.specs.Frame.{four, number, frame_of, disk_bytes}
 use Rattle.sdr_log.specs.Log.{log_of, heap_of, batches_of, records_of, read_log, put_back_in, put_back_of}
 use Rattle.sdr_log.specs.declared.frame.Frame.{Frame}
-use Rattle.sdr_disk.specs.Ranges.{part}
+use Rattle.sdr_base.specs.Parts.{part}
 
 -- a closed gate: no batch is open
 row_of_a_closed_gate : batches_of 128 (replicate 128 0) ≡ Some []

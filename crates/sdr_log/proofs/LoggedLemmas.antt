@@ -8,9 +8,10 @@ use Rattle.std.proofs.lemmas.List.{get_or_past}
 use Rattle.std.proofs.lemmas.Bool.{cases_eq, le-leb}
 use Rattle.std.proofs.lemmas.Bool.Decides.{nat_tests}
 use Rattle.sdr_disk.specs.Moments.{Only}
-use Rattle.sdr_disk.specs.Ranges.{Agrees, IsInNone, part, range}
+use Rattle.sdr_base.specs.Parts.{part}
+use Rattle.sdr_disk.specs.Ranges.{Agrees, IsInNone, range}
 use Rattle.sdr_disk.proofs.RangesLemmas.{Agrees-nil, Agrees-one_more, Agrees-part, Agrees-refl}
-use Rattle.sdr_disk.proofs.RangesLemmas.{get_or-part, length-part}
+use Rattle.sdr_base.proofs.PartsLemmas.{get_or-part, length-part}
 use Rattle.sdr_log.specs.Frame.{IsInLimits, disk_bytes, frame_of, heap_place, number}
 use Rattle.sdr_log.specs.Log.{AreLines, batches_of, first_gate, heap_of, is_named, log_of, put_back_in}
 use Rattle.sdr_log.specs.Log.{put_back_of, put_records, read_log, records_of}

@@ -8,9 +8,11 @@ use Rattle.std.proofs.lemmas.List.{drop-drop, drop_more, take_at, take-take}
 use Rattle.std.proofs.lemmas.Bool.Decides.{nat_tests}
 use Rattle.sdr_base.proofs.PartsLemmas.{overwrite-apart, overwrite-behind, part-overwrite}
 use Rattle.sdr_disk.specs.Moments.{Only}
-use Rattle.sdr_disk.specs.Ranges.{Agrees, overwrite, part, range}
+use Rattle.sdr_base.specs.Parts.{overwrite, part}
+use Rattle.sdr_disk.specs.Ranges.{Agrees, range}
 use Rattle.sdr_disk.proofs.RangesLemmas.{Agrees-more, Agrees-one_more, Agrees-overwrite, Agrees-part, Agrees-refl}
-use Rattle.sdr_disk.proofs.RangesLemmas.{Agrees-trans, get_or-overwrite_inside}
+use Rattle.sdr_base.proofs.PartsLemmas.{get_or-overwrite_inside}
+use Rattle.sdr_disk.proofs.RangesLemmas.{Agrees-trans}
 use Rattle.sdr_log.specs.Batch.{batch_of, batch_size, end_of, log_end, with_batch}
 use Rattle.sdr_log.specs.Calls.{MayOpen, Opens}
 use Rattle.sdr_log.specs.Frame.{IsInLimits}

@@ -1,7 +1,8 @@
 -- The steps of a batch and of its closing, at every moment.
 use Rattle.std.proofs.Common.{◌≡◌, ℕ, ◌+◌, List, [], ◌∷◌, length, ap, ◌∙◌, subst}
 use Rattle.sdr_disk.specs.Moments.{AtEach, IsTorn, Only}
-use Rattle.sdr_disk.specs.Ranges.{Agrees, overwrite, range}
+use Rattle.sdr_base.specs.Parts.{overwrite}
+use Rattle.sdr_disk.specs.Ranges.{Agrees, range}
 use Rattle.sdr_disk.proofs.MomentsLemmas.{at_both, at_then}
 use Rattle.sdr_log.specs.Batch.{batch_of}
 use Rattle.sdr_log.specs.Calls.{HasPlace, MayOpen}

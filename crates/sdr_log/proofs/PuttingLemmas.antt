@@ -7,10 +7,12 @@ use Rattle.std.proofs.lemmas.Bool.{cases_eq}
 use Rattle.std.proofs.lemmas.Bool.Decides.{nat_tests}
 use Rattle.sdr_base.proofs.PartsLemmas.{overwrite-inside, overwrite-part, part-overwrite}
 use Rattle.sdr_disk.specs.Moments.{AtEach, IsTorn, Writes}
-use Rattle.sdr_disk.specs.Ranges.{Agrees, IsInNone, overwrite, part, range}
+use Rattle.sdr_base.specs.Parts.{overwrite, part}
+use Rattle.sdr_disk.specs.Ranges.{Agrees, IsInNone, range}
 use Rattle.sdr_disk.proofs.MomentsLemmas.{at_first, at_written}
-use Rattle.sdr_disk.proofs.RangesLemmas.{Agrees-more, Agrees-overwrite, Agrees-sym, Agrees-trans, length-overwrite}
-use Rattle.sdr_disk.proofs.RangesLemmas.{length-part}
+use Rattle.sdr_base.proofs.PartsLemmas.{length-overwrite}
+use Rattle.sdr_disk.proofs.RangesLemmas.{Agrees-more, Agrees-overwrite, Agrees-sym, Agrees-trans}
+use Rattle.sdr_base.proofs.PartsLemmas.{length-part}
 use Rattle.sdr_log.specs.Calls.{AreNamed, MayPut, Puts, with_records}
 use Rattle.sdr_log.specs.Frame.{heap_place}
 use Rattle.sdr_log.specs.Log.{first_gate, heap_of, is_named, put_records, read_log}

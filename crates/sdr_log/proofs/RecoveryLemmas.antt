@@ -5,9 +5,9 @@ use Rattle.std.proofs.Common.{cond}
 use Rattle.std.specs.Prelude.{Option, option_and_then}
 use Rattle.std.proofs.lemmas.Bool.{le-leb}
 use Rattle.std.proofs.lemmas.List.{take_at}
-use Rattle.sdr_disk.specs.Ranges.{part}
+use Rattle.sdr_base.specs.Parts.{part}
 use Rattle.sdr_disk.specs.Told.{IsLong}
-use Rattle.sdr_disk.proofs.RangesLemmas.{length-part}
+use Rattle.sdr_base.proofs.PartsLemmas.{length-part}
 use Rattle.sdr_disk.proofs.ToldLemmas.{told_long}
 use Rattle.sdr_log.specs.Frame.{disk_bytes, frame_of}
 use Rattle.sdr_log.specs.Calls.{GivesNone, IsFramed}

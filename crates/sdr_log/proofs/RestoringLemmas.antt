@@ -7,9 +7,11 @@ use Rattle.std.proofs.lemmas.List.{drop_more}
 use Rattle.std.proofs.lemmas.Option.{same_Some, none-some}
 use Rattle.std.proofs.lemmas.Bool.Decides.{nat_tests}
 use Rattle.sdr_disk.specs.Moments.{AtEach, Reads}
-use Rattle.sdr_disk.specs.Ranges.{Agrees, overwrite, part}
+use Rattle.sdr_base.specs.Parts.{overwrite, part}
+use Rattle.sdr_disk.specs.Ranges.{Agrees}
 use Rattle.sdr_disk.proofs.MomentsLemmas.{at_both, at_first, at_read}
-use Rattle.sdr_disk.proofs.RangesLemmas.{Agrees-refl, overwrite-part}
+use Rattle.sdr_base.proofs.PartsLemmas.{overwrite-part}
+use Rattle.sdr_disk.proofs.RangesLemmas.{Agrees-refl}
 use Rattle.sdr_log.specs.Calls.{AreNamed, MayPut, MayPutBack, Puts, PutsBack, with_records}
 use Rattle.sdr_log.specs.Frame.{heap_place, number}
 use Rattle.sdr_log.specs.Log.{AreLines, batches_of, first_gate, heap_of, put_back_of, put_records, read_log, records_of}

@@ -4,7 +4,7 @@ use Rattle.std.proofs.Common.{subst, arith, Some}
 use Rattle.std.specs.Prelude.{option_map}
 use Rattle.std.proofs.lemmas.Option.{same_Some}
 use Rattle.sdr_disk.specs.History.{MayLeave}
-use Rattle.sdr_disk.specs.Ranges.{part}
+use Rattle.sdr_base.specs.Parts.{part}
 use Rattle.sdr_disk.proofs.RangesLemmas.{Agrees-nil}
 use Rattle.sdr_log.specs.Batch.{end_of, log_end}
 use Rattle.sdr_log.specs.Calls.{AreNamed, HoldLines, MayOpen, MayPut, Opens}

@@ -2,7 +2,7 @@
 use Rattle.std.specs.Prelude.{ℕ, zero, suc, ◌+◌, ◌*◌, cond, ◌||◌, ◌==◌, List, [], ◌∷◌, ◌++◌, length, take, drop}
 use Rattle.std.specs.Prelude.{flat_map, nat_le, Option, Some, None, option_map}
 use Rattle.sdr_base.specs.declared.line.TheConstants.{LINE}
-use Rattle.sdr_disk.specs.Ranges.{overwrite}
+use Rattle.sdr_base.specs.Parts.{overwrite}
 use Rattle.sdr_log.specs.Frame.{number, four}
 use Rattle.sdr_log.specs.Log.{log_of}
 use Rattle.sdr_log.specs.declared.frame.Frame.{Frame}

@@ -3,7 +3,7 @@ use Rattle.std.specs.Prelude.{◌≡◌, ⊤, ℕ, zero, suc, ◌+◌, ◌*◌, 
 use Rattle.std.specs.Prelude.{◌∷◌, ◌++◌, length, take, drop, nat_lt, nat_le, ◌==◌, Option, Some, None}
 use Rattle.std.specs.Prelude.{option_and_then, option_map, slice_index}
 use Rattle.sdr_base.specs.declared.line.TheConstants.{LINE}
-use Rattle.sdr_disk.specs.Ranges.{overwrite, part}
+use Rattle.sdr_base.specs.Parts.{overwrite, part}
 use Rattle.sdr_log.specs.Frame.{number, frame_of, heap_place, disk_bytes}
 use Rattle.sdr_log.specs.declared.frame.Frame.{Frame}
 use Rattle.sdr_log.specs.declared.record.Record.{Record}

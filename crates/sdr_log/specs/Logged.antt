@@ -2,7 +2,8 @@
 use Rattle.std.specs.Prelude.{◌≡◌, ◌≤◌, ◌<◌, ℕ, ◌+◌, ◌*◌, true, List, [], ◌∷◌, length, Some}
 use Rattle.sdr_base.specs.declared.line.TheConstants.{LINE}
 use Rattle.sdr_disk.specs.Moments.{Only}
-use Rattle.sdr_disk.specs.Ranges.{Agrees, Range, part, range}
+use Rattle.sdr_base.specs.Parts.{part}
+use Rattle.sdr_disk.specs.Ranges.{Agrees, Range, range}
 use Rattle.sdr_log.specs.Frame.{disk_bytes, frame_of, heap_place}
 use Rattle.sdr_log.specs.Log.{are_good, first_gate, put_back_of, read_log}
 use Rattle.sdr_log.specs.declared.frame.Frame.{Frame}

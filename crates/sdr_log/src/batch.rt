@@ -3,7 +3,7 @@ ghost use Rattle.std.specs.Prelude.{◌≡◌, ◌≤◌, ◌<◌, ◌+◌, ◌*
 ghost use Rattle.std.specs.Prelude.{IfOk, OnOk, Some, is_some};
 ghost use Rattle.sdr_base.specs.Causes.{HasCause};
 ghost use Rattle.sdr_disk.specs.Moments.{AtEach, IsTorn, Only};
-ghost use Rattle.sdr_disk.specs.Ranges.{overwrite};
+ghost use Rattle.sdr_base.specs.Parts.{overwrite};
 ghost use Rattle.sdr_disk.specs.Told.{Both, Told};
 ghost use Rattle.sdr_log.specs.Batch.{batch_of, batch_size, with_batch};
 ghost use Rattle.sdr_log.specs.Calls.{HasPlace, KeepsDisk, MayOpen, Opens};

@@ -3,7 +3,7 @@ ghost use Rattle.std.specs.Prelude.{◌≡◌, ◌≤◌, ◌<◌, ◌+◌, ◌�
 ghost use Rattle.sdr_base.specs.Causes.{HasCause};
 ghost use Rattle.sdr_disk.specs.Moments.{AtEach, IsTorn, Only, Syncs};
 ghost use Rattle.sdr_disk.specs.Pending.{IsSynced};
-ghost use Rattle.sdr_disk.specs.Ranges.{overwrite};
+ghost use Rattle.sdr_base.specs.Parts.{overwrite};
 ghost use Rattle.sdr_disk.specs.Told.{Both, Told};
 ghost use Rattle.sdr_log.specs.Calls.{Closes, KeepsDisk};
 ghost use Rattle.sdr_log.specs.Frame.{LieInside};

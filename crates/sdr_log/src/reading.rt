@@ -1,7 +1,7 @@
 // The open batches of a log region, read and checked.
 ghost use Rattle.std.specs.Prelude.{◌≡◌, ◌≢◌, ◌≤◌, ◌<◌, ◌*◌, true, List, length, take};
 ghost use Rattle.std.specs.Prelude.{IfOk, IfErr, OnOk, Some};
-ghost use Rattle.sdr_disk.specs.Ranges.{part};
+ghost use Rattle.sdr_base.specs.Parts.{part};
 ghost use Rattle.sdr_log.specs.BackErrors.{OnBadLog, OnFault};
 ghost use Rattle.sdr_log.specs.Frame.{number};
 ghost use Rattle.sdr_log.specs.Log.{are_good, batches_of, records_of};

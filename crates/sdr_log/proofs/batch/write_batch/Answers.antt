@@ -1,7 +1,7 @@
 use Rattle.std.proofs.Common.{◌∙◌, ◌+◌, sym, ap, List, ℕ, ◌∷◌, [], arith, length}
 use Rattle.std.specs.Prelude.{Some}
 use Rattle.std.proofs.lemmas.Option.{same_Some}
-use Rattle.sdr_disk.specs.Ranges.{overwrite}
+use Rattle.sdr_base.specs.Parts.{overwrite}
 use Rattle.sdr_disk.proofs.ToldLemmas.{told_long}
 use Rattle.sdr_log.proofs.BatchLemmas.{length-batch_of}
 use Rattle.sdr_log.proofs.OpeningLemmas.{opens_written, with_batch-written}
