@@ -11,7 +11,7 @@ use Rattle.sdr_model.proofs.Cases.{in_bool}
 use Rattle.sdr_model.specs.Accounts.{pending_in, tickets_of}
 use Rattle.sdr_model.specs.Amounts.{amounts_by, first_above, minus}
 use Rattle.sdr_model.specs.Charges.{rooms}
-use Rattle.sdr_model.specs.Charging.{Charges, OnTicket, RefusesSpace, grant_left, with_used}
+use Rattle.sdr_model.specs.Charging.{Charges, OnTicket, grant_left, no_space, with_used}
 use Rattle.sdr_model.specs.Queue.{barrier}
 use Rattle.sdr_model.specs.Steps.{Outcome, Refuses}
 use Rattle.sdr_model.specs.World.{World}
@@ -25,7 +25,7 @@ Covered w o acct charge goes p =
     MatchOption (barrier uncovered (tickets_of w.accounts acct))
     (MatchOption (first_above uncovered (rooms w acct))
     (goes (with_used w p (amounts_by charge)))
-    (RefusesSpace w o acct uncovered))
+    (λ space. Refuses w o (no_space w acct uncovered space)))
     (λ t. Refuses w o (refusals.Queue t.number))
 
 module _ {w : World} {call : Call} {o : Outcome} where

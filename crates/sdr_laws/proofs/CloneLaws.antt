@@ -18,7 +18,7 @@ use Rattle.sdr_model.specs.declared.accounts.Pending.{Pending}
 use Rattle.sdr_model.specs.Amounts.{amounts_by, first_above, minus}
 use Rattle.sdr_model.specs.Blocks.{addresses_of, blocks_of}
 use Rattle.sdr_model.specs.Charges.{object_charge, rooms}
-use Rattle.sdr_model.specs.Charging.{Charges, RefusesSpace, grant_left, with_used}
+use Rattle.sdr_model.specs.Charging.{Charges, grant_left, no_space, with_used}
 use Rattle.sdr_model.specs.ObjectSteps.{with_object}
 use Rattle.sdr_model.specs.PartSteps.{ClonePart, asked_extents, clone_moves, object_of}
 use Rattle.sdr_model.specs.Queue.{barrier}
@@ -69,7 +69,7 @@ in_charge {R} w o acct number charge goes answered h f =
         → (let uncovered = minus (amounts_by charge) (grant_left p) in
         MatchOption (barrier uncovered (tickets_of w.accounts acct))
         (MatchOption (first_above uncovered (rooms w acct)) (goes (with_used w p (amounts_by charge)))
-        (RefusesSpace w o acct uncovered)) (λ t. Refuses w o (refusals.Queue t.number))) → R
+        (λ space. Refuses w o (no_space w acct uncovered space))) (λ t. Refuses w o (refusals.Queue t.number))) → R
     space p h =
         let uncovered = minus (amounts_by charge) (grant_left p) in
         in_option (barrier uncovered (tickets_of w.accounts acct)) h

@@ -32,7 +32,7 @@ use Rattle.sdr_model.specs.Rows.{ByRow}
 use Rattle.sdr_model.specs.SourceSteps.{new_source}
 use Rattle.sdr_model.specs.Steps.{On, Outcome, Refuses, with_thing}
 use Rattle.sdr_model.specs.TableSteps.{as_table}
-use Rattle.sdr_model.specs.Wire.{Gives, GivesOf, Told, headers_part, source_part, trailers_part, wire_part}
+use Rattle.sdr_model.specs.Wire.{Gives, GivesOf, ToldBytes, headers_part, source_part, trailers_part, wire_part}
 use Rattle.sdr_model.specs.World.{World, as_raw, as_text, block_at, is_marked, misnamed, spot_of, thing_at}
 use Rattle.sdr_model.specs.Zco.{extents_length, object_at, owned_raw, source_at, source_on, space_of, uses_of}
 use Rattle.sdr_model.specs.declared.answer.Reply.{Reply}
@@ -203,14 +203,14 @@ decided w (calls.Shred ticket) _ = found (pending_of w ticket) told (λ _. told)
 decided w call media = absurd (true≢false media)
 
 -- bytes of an object are given, of which the world tells some
-gives_same : (w : World) (o o' : Outcome) (addr count : ℕ) (of : ZcoObject → Told) → GivesOf w o addr count of
+gives_same : (w : World) (o o' : Outcome) (addr count : ℕ) (of : ZcoObject → ToldBytes) → GivesOf w o addr count of
     → GivesOf w o' addr count of → SameButShown o o'
 gives_same w o o' addr count of = by (object_at w addr)
   where
     refused : (refusal : Refusal) → Refuses w o refusal → Refuses w o' refusal → SameButShown o o'
     refused refusal a b = but_shown (same_outcome (a.0 ∙ sym b.0) (a.1 ∙ sym b.1) (a.2 ∙ sym b.2))
 
-    given : (bytes : Told) → Gives w o bytes → Gives w o' bytes → SameButShown o o'
+    given : (bytes : ToldBytes) → Gives w o bytes → Gives w o' bytes → SameButShown o o'
     given bytes a b = record {
       moves = a.0 ∙ sym b.0;
       after = a.1 ∙ ap (λ (v : World). record v { shown = o.after.shown }) (sym b.1);

@@ -12,7 +12,7 @@ use Rattle.sdr_model.specs.Accounts.{pending_in, tickets_of}
 use Rattle.sdr_model.specs.Amounts.{amounts_by, first_above, minus}
 use Rattle.sdr_model.specs.BondSteps.{bond_moves}
 use Rattle.sdr_model.specs.Charges.{rooms}
-use Rattle.sdr_model.specs.Charging.{Charges, RefusesSpace, grant_left, with_used}
+use Rattle.sdr_model.specs.Charging.{Charges, grant_left, no_space, with_used}
 use Rattle.sdr_model.specs.ObjectSteps.{raw_append_moves}
 use Rattle.sdr_model.specs.PartSteps.{clone_moves}
 use Rattle.sdr_model.specs.Queue.{barrier}
@@ -84,7 +84,7 @@ charges w goes acct number charge go =
         MatchOption (barrier uncovered (tickets_of w.accounts acct))
         (MatchOption (first_above uncovered (rooms w acct))
         (goes o (with_used w p (amounts_by charge)))
-        (RefusesSpace w o acct uncovered))
+        (λ space. Refuses w o (no_space w acct uncovered space)))
         (λ t. Refuses w o (refusals.Queue t.number)))
     covered p =
         let uncovered = minus (amounts_by charge) (grant_left p) in

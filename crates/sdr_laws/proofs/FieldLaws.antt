@@ -17,7 +17,7 @@ use Rattle.sdr_model.specs.AccountSteps.{pending_of}
 use Rattle.sdr_model.specs.Fields.{AreBytes, FitsCall, FitsElement, FitsEntry, FitsFields, FitsName, IsWord}
 use Rattle.sdr_model.specs.HashSteps.{HashInsert, HashRemove, HashRevise, as_hash, bucket_place, entry_addr, has_key, is_no_count, is_no_key_length}
 use Rattle.sdr_model.specs.Limits.{is_no_name, longest_raw, longest_read, longest_string}
-use Rattle.sdr_model.specs.ListSteps.{Delete, InsertAt, InsertBeside, Inserts, SetDatum, as_list, ordered_place}
+use Rattle.sdr_model.specs.ListSteps.{Delete, InsertAt, InsertBeside, Inserts, SetDatum, as_list, compare_keys, ordered_place}
 use Rattle.sdr_model.specs.Names.{name_of}
 use Rattle.sdr_model.specs.ObjectSteps.{last_capsule, with_header, with_trailer, without_header, without_trailer}
 use Rattle.sdr_model.specs.RawSteps as raw
@@ -25,7 +25,7 @@ use Rattle.sdr_model.specs.Rows.{ByRow}
 use Rattle.sdr_model.specs.Step.{Step}
 use Rattle.sdr_model.specs.TableSteps.{as_table}
 use Rattle.sdr_model.specs.Valid.{FitTogether, IsValid}
-use Rattle.sdr_model.specs.Wire.{GivesOf, Told, headers_part, source_part, trailers_part, wire_part}
+use Rattle.sdr_model.specs.Wire.{GivesOf, ToldBytes, headers_part, source_part, trailers_part, wire_part}
 use Rattle.sdr_model.specs.World.{World, as_raw, as_text, block_at, is_marked, spot_of, thing_at}
 use Rattle.sdr_model.specs.Zco.{object_at, source_at, source_on}
 use Rattle.sdr_model.specs.declared.answer.Reply.{Reply}
@@ -119,7 +119,7 @@ module _ (w : World) where
       (all_removed FitsEntry h.entries place))) refused)
 
 -- bytes of an object are given
-gives : (w : World) (addr count : ℕ) (of : ZcoObject → Told) → KeepsFields w (λ o. GivesOf w o addr count of)
+gives : (w : World) (addr count : ℕ) (of : ZcoObject → ToldBytes) → KeepsFields w (λ o. GivesOf w o addr count of)
 gives w addr count of =
     found (object_at w addr) refused (λ z is.
     tested (nat_lt longest_read count) refused
@@ -165,7 +165,7 @@ row_fits w (calls.InsertFirst addr datum) valid together fit = inserts_at w addr
 row_fits w (calls.InsertLast addr datum) valid together fit = inserts_at w addr (λ row. length row.elements) datum fit
 row_fits w (calls.InsertBefore element datum) valid together fit = inserts_beside w element (λ place. place) datum fit
 row_fits w (calls.InsertAfter element datum) valid together fit = inserts_beside w element (λ place. place + 1) datum fit
-row_fits w (calls.InsertOrdered addr datum by) valid together fit = inserts_at w addr (ordered_place w by datum) datum fit
+row_fits w (calls.InsertOrdered addr datum by) valid together fit = inserts_at w addr (ordered_place w (compare_keys by) datum) datum fit
 row_fits w (calls.Search addr datum by) valid together fit = found (as_list (thing_at w addr)) refused (λ v is. shown)
 row_fits w (calls.Delete element) valid together fit = deletes w element
 row_fits w (calls.First addr) valid together fit = found (as_list (thing_at w addr)) refused (λ v is. shown)

@@ -21,7 +21,7 @@ use Rattle.sdr_model.proofs.ThingsLemmas.{get-with_at, same_address}
 use Rattle.sdr_model.specs.Accounts.{account_of, no_ticket, pending_in, tickets_of, with_tickets}
 use Rattle.sdr_model.specs.Amounts.{amounts_by, are_within, first_above, minus, plus}
 use Rattle.sdr_model.specs.Charges.{occupancies, rooms}
-use Rattle.sdr_model.specs.Charging.{Charges, RefusesSpace, grant_left, with_used}
+use Rattle.sdr_model.specs.Charging.{Charges, grant_left, no_space, with_used}
 use Rattle.sdr_model.specs.Fields.{AreBytes, FitsFields, FitsName, FitsThing, FitsTicket, IsWord}
 use Rattle.sdr_model.specs.Things.{with_at}
 use Rattle.sdr_model.specs.World.{World, thing_at}
@@ -253,7 +253,7 @@ module _ {w : World} where
           MatchOption (barrier uncovered (tickets_of w.accounts acct))
           (MatchOption (first_above uncovered (rooms w acct))
           (goes o (with_used w p (amounts_by charge)))
-          (RefusesSpace w o acct uncovered))
+          (λ space. Refuses w o (no_space w acct uncovered space)))
           (λ t. Refuses w o (refusals.Queue t.number)))
       covered p fit =
           let uncovered = minus (amounts_by charge) (grant_left p) in

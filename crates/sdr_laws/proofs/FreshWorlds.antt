@@ -11,7 +11,7 @@ use Rattle.sdr_base.specs.declared.account.Acct.{Acct}
 use Rattle.sdr_base.specs.declared.account.Acct.TheVariants as accts
 use Rattle.sdr_laws.proofs.QueueOrder.{pairs}
 use Rattle.sdr_laws.proofs.SourceViews.{fits_to}
-use Rattle.sdr_model.specs.Accounts.{fresh_account, fresh_maxima, most_amount}
+use Rattle.sdr_model.specs.Accounts.{unused_account, fresh_maxima, most_amount}
 use Rattle.sdr_model.specs.Amounts.{amounts_by, are_within}
 use Rattle.sdr_model.specs.Valid.{FitTogether, IsBarred, IsValidAccount, KeepQueues}
 use Rattle.sdr_model.specs.World.{fresh_world}
@@ -51,7 +51,7 @@ none_distinct = tt
 
 pub fresh_queues : (heap : ℕ) → heap ≤ most_amount → KeepQueues (fresh_world heap).accounts
 fresh_queues heap low =
-    let account : IsValidAccount (fresh_account heap) =
+    let account : IsValidAccount (unused_account heap) =
     record { tickets = All-nil _; order = pairs [] tt; maxima = fresh_within heap low } in
     record { inbound = account; outbound = account; distinct = none_distinct; below = All-nil _; next = lit≤ tt }
 

@@ -42,6 +42,7 @@ pub mod GoneShapes
 pub mod GrantLemmas
 pub mod HashLemmas
 pub mod HashShapes
+pub mod KeyOrders
 pub mod ListShapes
 pub mod MachineLaws
 pub mod NameShapes

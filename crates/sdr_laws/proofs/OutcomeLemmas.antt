@@ -19,7 +19,7 @@ use Rattle.sdr_model.specs.Amounts.{amounts_by, first_above, minus}
 use Rattle.sdr_model.specs.Blocks.{addresses_of, blocks_of}
 use Rattle.sdr_model.specs.BondSteps as bond
 use Rattle.sdr_model.specs.Charges.{rooms}
-use Rattle.sdr_model.specs.Charging.{Charges, RefusesSpace, grant_left, with_used}
+use Rattle.sdr_model.specs.Charging.{Charges, grant_left, no_space, with_used}
 use Rattle.sdr_model.specs.Gone.{is_passing, without_things}
 use Rattle.std.specs.FinMap as finite
 use Rattle.sdr_base.specs.declared.moves.Move.TheVariants.{Took}
@@ -140,7 +140,7 @@ module _ {w : World} {call : Call} where
           MatchOption (barrier uncovered (tickets_of w.accounts acct))
           (MatchOption (first_above uncovered (rooms w acct))
           (goes (with_used w p (amounts_by charge)) o)
-          (RefusesSpace w o acct uncovered))
+          (λ space. Refuses w o (no_space w acct uncovered space)))
           (λ t. Refuses w o (refusals.Queue t.number)))
       space p there under =
           let uncovered = minus (amounts_by charge) (grant_left p) in

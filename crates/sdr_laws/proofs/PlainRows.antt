@@ -11,14 +11,14 @@ use Rattle.sdr_laws.proofs.ThingLemmas.{hash_is, list_is, raw_is, table_is}
 use Rattle.sdr_model.specs.Blocks.{addresses_of, blocks_of}
 use Rattle.sdr_model.specs.HashSteps.{HashInsert, HashRemove, HashRevise, as_hash, bucket_place, entry_addr, has_key, is_no_count, is_no_key_length}
 use Rattle.sdr_model.specs.Limits.{is_no_name, longest_raw, longest_read, longest_string}
-use Rattle.sdr_model.specs.ListSteps.{Delete, InsertAt, InsertBeside, Inserts, SetDatum, as_list, ordered_place}
+use Rattle.sdr_model.specs.ListSteps.{Delete, InsertAt, InsertBeside, Inserts, SetDatum, as_list, compare_keys, ordered_place}
 use Rattle.sdr_model.specs.Names.{name_of}
 use Rattle.sdr_model.specs.RawSteps as raw
 use Rattle.sdr_model.specs.Rows.{ByRow}
 use Rattle.sdr_model.specs.Steps.{Outcome, TakesOne, with_thing, without_thing}
 use Rattle.sdr_model.specs.TableSteps.{as_table}
 use Rattle.sdr_model.specs.AccountSteps.{pending_of}
-use Rattle.sdr_model.specs.Wire.{GivesOf, Told}
+use Rattle.sdr_model.specs.Wire.{GivesOf, ToldBytes}
 use Rattle.sdr_model.specs.declared.zco.ZcoObject.{ZcoObject}
 use Rattle.sdr_base.specs.declared.moves.Move.{Move}
 use Rattle.sdr_laws.specs.Fresh.{AreFresh}
@@ -162,7 +162,7 @@ PlainRow w (calls.Shred ticket) = Unit {0}
 PlainRow w call = ArePlain w (λ o. ByRow w o call)
 
 -- a call that gives bytes of an object
-given : (w : World) (addr count : ℕ) (of : ZcoObject → Told) → ArePlain w (λ o. GivesOf w o addr count of)
+given : (w : World) (addr count : ℕ) (of : ZcoObject → ToldBytes) → ArePlain w (λ o. GivesOf w o addr count of)
 given w addr count of =
     found (object_at w addr) refused (λ z is. tested (nat_lt longest_read count) refused (record {
       plain = λ o h. Plain.leaves (ap (λ (v : World). v.things) h.1) (ap (λ (v : World). v.accounts) h.1);
@@ -206,7 +206,7 @@ row_plain w (calls.InsertFirst addr datum) = inserts_at w addr (λ row. 0) datum
 row_plain w (calls.InsertLast addr datum) = inserts_at w addr (λ row. length row.elements) datum
 row_plain w (calls.InsertBefore element datum) = inserts_beside w element (λ place. place) datum
 row_plain w (calls.InsertAfter element datum) = inserts_beside w element (λ place. place + 1) datum
-row_plain w (calls.InsertOrdered addr datum by) = inserts_at w addr (ordered_place w by datum) datum
+row_plain w (calls.InsertOrdered addr datum by) = inserts_at w addr (ordered_place w (compare_keys by) datum) datum
 row_plain w (calls.Search addr datum by) = found (as_list (thing_at w addr)) refused (λ v is. shown)
 row_plain w (calls.Delete element) = deletes w element
 row_plain w (calls.First addr) = found (as_list (thing_at w addr)) refused (λ v is. shown)

@@ -14,7 +14,7 @@ use Rattle.sdr_laws.proofs.Shapes.{Shape, reads_named}
 use Rattle.sdr_laws.proofs.SourceShapes as source
 use Rattle.sdr_laws.proofs.TableShapes as table
 use Rattle.sdr_laws.proofs.WireShapes.{gives_of}
-use Rattle.sdr_model.specs.ListSteps.{ordered_place}
+use Rattle.sdr_model.specs.ListSteps.{compare_keys, ordered_place}
 use Rattle.sdr_model.specs.Rows.{ByRow}
 use Rattle.sdr_model.specs.Steps.{Outcome}
 use Rattle.sdr_model.specs.Wire.{headers_part, source_part, trailers_part, wire_part}
@@ -46,7 +46,7 @@ row_shape w (calls.InsertBefore element datum) o h =
 row_shape w (calls.InsertAfter element datum) o h =
     list.insert_beside refl (λ at. refl) element (λ place. place + 1) datum h
 row_shape w (calls.InsertOrdered addr datum by) o h =
-    list.insert_at refl (λ at. refl) addr (ordered_place w by datum) datum h
+    list.insert_at refl (λ at. refl) addr (ordered_place w (compare_keys by) datum) datum h
 row_shape w (calls.Search addr datum by) o h = reads_named addr _ _ _ h refl (λ r. refl) (λ at. refl) (λ b. refl)
 row_shape w (calls.Delete element) o h = list.delete element h
 row_shape w (calls.First addr) o h = reads_named addr _ _ _ h refl (λ r. refl) (λ at. refl) (λ b. refl)

@@ -22,12 +22,12 @@ use Rattle.sdr_model.specs.Blocks.{addresses_of, blocks_of, thing_blocks}
 use Rattle.sdr_model.specs.Charges.{bytes_charge, rooms, thing_charge}
 use Rattle.sdr_base.specs.declared.kind.Space.{Space}
 use Rattle.sdr_base.specs.declared.kind.Space.TheVariants as spaces
-use Rattle.sdr_model.specs.Charging.{RefusesSpace, with_used}
+use Rattle.sdr_model.specs.Charging.{no_space, with_used}
 use Rattle.sdr_model.specs.Gone.{is_passing}
 use Rattle.sdr_model.specs.ObjectSteps.{AppendsRaw, AppendsSource, with_extent, with_object}
 use Rattle.sdr_model.specs.Rows.{ByRow}
 use Rattle.sdr_model.specs.Step.{Step}
-use Rattle.sdr_model.specs.Steps.{On, Outcome, Takes}
+use Rattle.sdr_model.specs.Steps.{On, Outcome, Refuses, Takes}
 use Rattle.sdr_model.specs.Valid.{FitTogether, HasBytes, HasSubject, IsBarred, IsValid, IsValidCapsule, IsValidThing, IsValidTicket, KeepQueues, LiesInside}
 use Rattle.sdr_model.specs.World.{as_raw, thing_at}
 use Rattle.sdr_model.specs.Zco.{as_object, as_source, is_of_raw, object_at, source_at, uses_in, uses_of}
@@ -224,7 +224,7 @@ row_grows =
     (with_used small_world (Some (record { acct = accts.Inbound; place = 0; ticket = first_ticket }))
     (amounts_by (bytes_charge spaces.File 4))) 32
     (with_extent small_object (record { block = block; source = 8; offset = 0; length = 4 }))) (λ block. replies.Done))
-    (RefusesSpace small_world o accts.Inbound no_amounts)) (sym (none_above (rooms small_world accts.Inbound)))
+    (λ space. Refuses small_world o (no_space small_world accts.Inbound no_amounts space))) (sym (none_above (rooms small_world accts.Inbound)))
     (refl, (refl, refl))))
 
 pub small_grows : Step small_world (calls.AppendExtent 32 1 8 0 4) (Took 32 80 ∷ []) grown_world replies.Done

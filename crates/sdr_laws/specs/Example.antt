@@ -3,7 +3,7 @@ use Rattle.std.specs.Prelude.{ℕ, List, [], ◌∷◌, insert, true, false}
 use Rattle.std.specs.FinMap as finite
 use Rattle.sdr_base.specs.declared.account.Acct.TheVariants as accts
 use Rattle.sdr_base.specs.declared.kind.Kind.TheVariants as kinds
-use Rattle.sdr_model.specs.Accounts.{fresh_account}
+use Rattle.sdr_model.specs.Accounts.{unused_account}
 use Rattle.sdr_model.specs.Hashes.{Hash}
 use Rattle.sdr_model.specs.Steps.{with_thing}
 use Rattle.sdr_model.specs.World.{World}
@@ -76,8 +76,8 @@ example_ticket = record {
 -- the accounts, where the ticket stands in the outbound queue
 abbrev pub example_accounts : Accounts
 example_accounts = record {
-  inbound = fresh_account 32768;
-  outbound = record (fresh_account 32768) { tickets = example_ticket ∷ [] };
+  inbound = unused_account 32768;
+  outbound = record (unused_account 32768) { tickets = example_ticket ∷ [] };
   next = 2;
 }
 

@@ -4,7 +4,7 @@ use Rattle.std.specs.FinMap as finite
 use Rattle.sdr_base.specs.declared.account.Acct.TheVariants as accts
 use Rattle.sdr_base.specs.declared.account.Amounts.{Amounts}
 use Rattle.sdr_base.specs.declared.kind.Space.TheVariants as spaces
-use Rattle.sdr_model.specs.Accounts.{fresh_account}
+use Rattle.sdr_model.specs.Accounts.{unused_account}
 use Rattle.sdr_model.specs.Amounts.{amounts_by, no_amounts}
 use Rattle.sdr_model.specs.Charges.{bytes_charge}
 use Rattle.sdr_model.specs.Charging.{with_used}
@@ -82,8 +82,8 @@ small_world = record {
   things = finite.from_sorted small_things;
   names = [];
   accounts = record {
-    inbound = record (fresh_account 32768) { tickets = first_ticket ∷ second_ticket ∷ [] };
-    outbound = fresh_account 32768;
+    inbound = record (unused_account 32768) { tickets = first_ticket ∷ second_ticket ∷ [] };
+    outbound = unused_account 32768;
     next = 3;
   };
   marks = [];

@@ -22,6 +22,7 @@
 //! 13. Sources and extents fit each other after each step: the source of an extent is never gone, and
 //!     one that goes with its last extent has one until then (`sources_kept`).
 //! 14. So a whole world stays whole (`whole_kept`), and each that is reached without a heap is whole.
+//! 15. Both orders of a list's keys are total (`key_orders_are_total`).
 //!
 //! `example_meets_the_laws`, `small_world_meets_the_laws` and `fresh_world_meets_the_laws` show worlds and
 //! steps that meet what the laws ask for.
@@ -35,6 +36,7 @@ mod fields;
 mod marks;
 mod moves;
 mod occupancies;
+mod orders;
 mod queues;
 mod reading;
 mod refused;
@@ -50,6 +52,7 @@ pub use fields::fields_fit;
 pub use marks::taken_are_marked;
 pub use moves::moves_are_the_rows;
 pub use occupancies::{front_kept, occupancy_moves, served_is_barred};
+pub use orders::key_orders_are_total;
 pub use queues::queues_kept;
 pub use reading::reading_shows;
 pub use refused::{refused_leaves, stops_are_no_rows};

@@ -54,7 +54,7 @@ fn place_behind(so_far: usize, at: usize, order: Ordering) -> usize
 
 // Where a new element goes in order: behind the last one whose key is less or equal.
 fn ordered_place(world: &Undoable, by: Keys, datum: u64, row: &SdrList) -> usize
-    ensures place { result ≡ ordered_place world.now.now by datum row.now }
+    ensures place { result ≡ ordered_place world.now.now (compare_keys by) datum row.now }
     ensures within { result ≤ length row.now.elements }
 {
     let mut place = 0;

@@ -13,7 +13,7 @@ use Rattle.sdr_model.specs.Accounts.{Pending, account_of, most_amount, pending_i
 use Rattle.sdr_model.specs.Amounts.{amounts_by, first_above, in_space, minus}
 use Rattle.sdr_model.specs.BondSteps.{bond_charge, bond_moves, bonded, capsules_of, with_bonded}
 use Rattle.sdr_model.specs.Charges.{bytes_charge, capsule_bytes, object_bytes, object_charge, rooms}
-use Rattle.sdr_model.specs.Charging.{Charges, RefusesSpace, grant_left, with_used}
+use Rattle.sdr_model.specs.Charging.{Charges, grant_left, no_space, with_used}
 use Rattle.sdr_model.specs.Cuts.{placed}
 use Rattle.sdr_model.specs.Few.{HasFewPieces, pieces}
 use Rattle.sdr_model.specs.Gone.{gone_things, without_things}
@@ -84,7 +84,7 @@ module _ (most : ℕ) (w : World) (o : Outcome) (few : HasFewPieces most w.thing
   covered : (acct : Acct) (charge : Space → ℕ) (goes : World → Type 0) (p : Option Pending)
       → MatchOption (barrier (minus (amounts_by charge) (grant_left p)) (tickets_of w.accounts acct))
       (MatchOption (first_above (minus (amounts_by charge) (grant_left p)) (rooms w acct)) (goes (with_used w p (amounts_by charge)))
-      (RefusesSpace w o acct (minus (amounts_by charge) (grant_left p))))
+      (λ space. Refuses w o (no_space w acct (minus (amounts_by charge) (grant_left p)) space)))
       (λ t. Refuses w o (refusals.Queue t.number))
       → ((used : World) → HasFewPieces most used.things → goes used → IsFew) → IsFew
   covered acct charge goes p s f =

@@ -9,7 +9,7 @@ use Rattle.sdr_model.specs.Reading.{reads_media}
 use Rattle.sdr_model.specs.RowMoves.{row_moves}
 use Rattle.sdr_model.specs.Rows.{ByRow}
 use Rattle.sdr_model.specs.Steps.{On, Outcome, Refuses}
-use Rattle.sdr_model.specs.Wire.{Gives, GivesOf, Spells, Told, capsules_told, extent_told, extents_told, known, raw_told, some_of, source_told, subject_told, unknown, wire_told}
+use Rattle.sdr_model.specs.Wire.{Gives, GivesOf, Spells, ToldBytes, capsules_told, extent_told, extents_told, known, raw_told, some_of, source_told, subject_told, unknown, wire_told}
 use Rattle.sdr_model.specs.World.{World, as_raw, thing_at}
 use Rattle.sdr_model.specs.Zco.{object_at, source_at}
 use Rattle.sdr_model.specs.declared.answer.Reply.TheVariants as replies
@@ -89,7 +89,7 @@ module _ {X : Type 0} where
 some-unknown : (skip count many bytes : ℕ) → many ≡ min count (bytes - skip)
     → some_of skip count (unknown bytes) ≡ unknown many
 some-unknown skip count many bytes is =
-    let rest : Told = unknown (bytes - skip) in
+    let rest : ToldBytes = unknown (bytes - skip) in
     ap (take count) (drop-replicate skip bytes None) ∙ sym (take_min count rest)
     ∙ ap (λ k. take k rest) (ap (min count) (length-replicate (bytes - skip) None) ∙ sym is)
     ∙ take-replicate many (bytes - skip) None (omega (arith, is))
@@ -120,7 +120,7 @@ piece_told-none skip many (pieces.Bulk item offset bytes) is = ap unknown is
 pieces_told-kept : (skip many : ℕ) (p : Piece) (rest : List Piece) (b : Bool) → (many == 0) ≡ b
     → pieces_told (cond b rest (piece_part skip many p ∷ rest)) ≡ piece_told (piece_part skip many p) ++ pieces_told rest
 pieces_told-kept skip many p rest true is =
-    ap (λ (t : Told). t ++ pieces_told rest) (sym (piece_told-none skip many p (eqb-true many 0 is)))
+    ap (λ (t : ToldBytes). t ++ pieces_told rest) (sym (piece_told-none skip many p (eqb-true many 0 is)))
 pieces_told-kept skip many p rest false is = flat_map-cons piece_told (piece_part skip many p) rest
 
 -- what is told of pieces that are cut
@@ -132,7 +132,7 @@ pieces_told-cut skip count (p ∷ ps) =
     let over = skip - piece_length p in
     let left = count - many in
     pieces_told-kept skip many p (cut_pieces over left ps) (many == 0) refl
-    ∙ ap₂ (λ (a b : Told). a ++ b) (sym (piece_told-part skip count many p refl)) (pieces_told-cut over left ps)
+    ∙ ap₂ (λ (a b : ToldBytes). a ++ b) (sym (piece_told-part skip count many p refl)) (pieces_told-cut over left ps)
     ∙ sym (some-append skip count over left (piece_told p) (pieces_told ps)
     (ap (λ n. skip - n) (sym (length-piece_told p)))
     (ap (λ n. count - min count (n - skip)) (sym (length-piece_told p))))
@@ -164,7 +164,7 @@ pub pieces_told-extents : (w : World) (es : List Extent) → pieces_told (extent
 pieces_told-extents w [] = refl
 pieces_told-extents w (e ∷ es) =
     flat_map-cons piece_told (extent_piece w e) (extent_pieces w es)
-    ∙ ap₂ (λ (a b : Told). a ++ b) (piece_told-extent w e) (pieces_told-extents w es)
+    ∙ ap₂ (λ (a b : ToldBytes). a ++ b) (piece_told-extent w e) (pieces_told-extents w es)
     ∙ sym (flat_map-cons (extent_told w) e es)
 
 -- what is told of an object on the wire as pieces
@@ -173,9 +173,9 @@ pieces_told-wire w z =
     let headers = capsule_pieces z.headers in
     let extents = extent_pieces w z.extents in
     flat_map-append piece_told (headers ++ extents) (capsule_pieces z.trailers)
-    ∙ ap₂ (λ (a b : Told). a ++ b)
+    ∙ ap₂ (λ (a b : ToldBytes). a ++ b)
     (flat_map-append piece_told headers extents
-    ∙ ap₂ (λ (a b : Told). a ++ b) (pieces_told-capsules z.headers) (pieces_told-extents w z.extents))
+    ∙ ap₂ (λ (a b : ToldBytes). a ++ b) (pieces_told-capsules z.headers) (pieces_told-extents w z.extents))
     (pieces_told-capsules z.trailers)
 
 -- what is told of extents that are cut
@@ -203,14 +203,14 @@ pieces_told-part w (calls.ReceiveTrailers addr place count) z = cut_extents w (m
 pieces_told-part w call z = refl
 
 -- bytes that are told are as many
-pub length-spelled : (told : Told) (bytes : List ℕ) → Spells told bytes → length bytes ≡ length told
+pub length-spelled : (told : ToldBytes) (bytes : List ℕ) → Spells told bytes → length bytes ≡ length told
 length-spelled [] [] spells = refl
 length-spelled [] (b ∷ bytes) spells = absurd spells
 length-spelled (t ∷ told) [] spells = absurd spells
 length-spelled (t ∷ told) (b ∷ bytes) spells = ap suc (length-spelled told bytes spells.1)
 
 -- with zeros for the others, these are those that are told
-pub Spells-filled : (told : Told) → Spells told (filled told)
+pub Spells-filled : (told : ToldBytes) → Spells told (filled told)
 Spells-filled [] = tt
 Spells-filled (None ∷ told) = (tt, Spells-filled told)
 Spells-filled (Some b ∷ told) = (refl, Spells-filled told)
@@ -226,7 +226,7 @@ filled-unknown zero = refl
 filled-unknown (suc bytes) = ap (λ (l : List ℕ). 0 ∷ l) (filled-unknown bytes)
 
 -- so much of a page is at most a page
-length-some : (skip count : ℕ) (told : Told) → count ≤ longest_read → length (some_of skip count told) ≤ longest_read
+length-some : (skip count : ℕ) (told : ToldBytes) → count ≤ longest_read → length (some_of skip count told) ≤ longest_read
 length-some skip count told most = omega (arith, length-take count (drop skip told))
 
 -- at most a page is asked
@@ -265,7 +265,7 @@ abbrev Shows : World → List ℕ → Outcome
 Shows w bytes = record { moves = []; after = record w { shown = bytes }; reply = replies.Bytes (length bytes) }
 
 -- where the object is there, at most a page is asked and the bytes are as they are told, they are given
-gives-page : (w : World) (addr count : ℕ) (named : Option ZcoObject) (z : ZcoObject) (of : ZcoObject → Told)
+gives-page : (w : World) (addr count : ℕ) (named : Option ZcoObject) (z : ZcoObject) (of : ZcoObject → ToldBytes)
     (bytes : List ℕ) → named ≡ Some z → count ≤ longest_read → Spells (of z) bytes
     → On w (Shows w bytes) addr named (λ z.
     MatchBool (nat_lt longest_read count)

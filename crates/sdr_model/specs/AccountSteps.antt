@@ -1,5 +1,5 @@
 -- The steps of accounts and tickets.
-use Rattle.std.specs.Prelude.{ℕ, ◌+◌, ◌==◌, [], ◌∷◌, Bool, false, remove, nat_lt, Option, MatchBool, MatchOption, if◌then◌else◌}
+use Rattle.std.specs.Prelude.{ℕ, ◌+◌, ◌==◌, [], ◌∷◌, Bool, false, remove, nat_lt, Option, if◌then◌else◌}
 use Rattle.std.specs.Option.{option_map_or}
 use Rattle.sdr_base.specs.declared.account.Acct.{Acct}
 use Rattle.sdr_base.specs.declared.account.Amounts.{Amounts}
@@ -9,7 +9,7 @@ use Rattle.sdr_model.specs.Accounts.{Pending, account_of, most_amount, pending_a
 use Rattle.sdr_model.specs.Amounts.{amount, amounts_by, first_above, is_same_space, no_amounts}
 use Rattle.sdr_model.specs.Charges.{occupancy}
 use Rattle.sdr_model.specs.Queue.{enqueued, with_served}
-use Rattle.sdr_model.specs.Steps.{Outcome, Refuses, Reads, Does, Takes, gave}
+use Rattle.sdr_model.specs.Steps.{Outcome, RefusedFor, RefusedIf, RefusedUnless, RefusedWithout, Reads, Does, Takes, gave}
 use Rattle.sdr_model.specs.World.{World}
 use Rattle.sdr_model.specs.declared.accounts.Account.{Account}
 use Rattle.sdr_model.specs.declared.accounts.Ticket.{Ticket}
@@ -38,8 +38,7 @@ with_maximum account space value = record account { maxima = with_amount account
 -- the maximum of a space is set, and the queue is served
 abbrev pub SetMaximum : World → Outcome → Acct → Space → ℕ → Type 0
 SetMaximum w o acct space value =
-    MatchBool (nat_lt most_amount value)
-    (Refuses w o (refusals.TooLarge space value most_amount))
+    RefusedIf w o (nat_lt most_amount value) (refusals.TooLarge space value most_amount)
     (Does o []
     (with_served (record w {
       accounts =
@@ -77,19 +76,17 @@ Request w o acct asked coarse fine =
     let number = w.accounts.next in
     let maxima = (account_of w.accounts acct).maxima in
     let next : ℕ → World = λ block. with_request w acct (new_ticket number block asked coarse fine) in
-    MatchOption (first_above asked maxima)
-    (MatchBool (number == most_amount)
-    (Refuses w o (refusals.BadTicket most_amount))
+    RefusedFor w o (first_above asked maxima) (λ space. refusals.TooLarge space (amount asked space) (amount maxima space))
+    (RefusedIf w o (number == most_amount) (refusals.BadTicket most_amount)
     (Takes w o ticket_need next
     (λ block. replies.Ticket number (is_granted (pending_in (next block).accounts acct number)))))
-    (λ space. Refuses w o (refusals.TooLarge space (amount asked space) (amount maxima space)))
 
 -- the ticket is granted, or the call is refused
 abbrev pub Awarded : World → Outcome → ℕ → Type 0
 Awarded w o number =
-    MatchOption (pending_of w number)
-    (Refuses w o (refusals.BadTicket number))
-    (λ p. MatchBool p.ticket.granted (Reads w o [] replies.Done) (Refuses w o (refusals.NotAwarded number)))
+    RefusedWithout w o (pending_of w number) (refusals.BadTicket number)
+    (λ p. RefusedUnless w o p.ticket.granted (refusals.NotAwarded number)
+    (Reads w o [] replies.Done))
 
 -- the world without a ticket, in which the queue is served
 abbrev pub without_ticket : World → Pending → World
@@ -101,6 +98,5 @@ without_ticket w p =
 -- the ticket goes, with what is left of its grant, and the queue is served
 abbrev pub Shred : World → Outcome → ℕ → Type 0
 Shred w o number =
-    MatchOption (pending_of w number)
-    (Refuses w o (refusals.BadTicket number))
+    RefusedWithout w o (pending_of w number) (refusals.BadTicket number)
     (λ p. Does o (gave (p.ticket.block ∷ [])) (without_ticket w p) replies.Done)

@@ -28,12 +28,12 @@ fresh_maxima heap spaces.Bulk = most_amount
 fresh_maxima heap spaces.Heap = heap
 
 -- an account without tickets
-abbrev pub fresh_account : ℕ → Account
-fresh_account heap = record { tickets = []; maxima = amounts_by (fresh_maxima heap) }
+abbrev pub unused_account : ℕ → Account
+unused_account heap = record { tickets = []; maxima = amounts_by (fresh_maxima heap) }
 
 -- both accounts without tickets; the next ticket has number 1
 abbrev pub fresh_accounts : ℕ → Accounts
-fresh_accounts heap = record { inbound = fresh_account heap; outbound = fresh_account heap; next = 1 }
+fresh_accounts heap = record { inbound = unused_account heap; outbound = unused_account heap; next = 1 }
 
 -- one of both
 abbrev pub account_of : Accounts → Acct → Account

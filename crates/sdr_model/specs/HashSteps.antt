@@ -1,11 +1,11 @@
 -- The steps of hashes.
-use Rattle.std.specs.Prelude.{ℕ, ◌%◌, ◌==◌, Bool, ◌||◌, List, [], ◌∷◌, ◌++◌, length, map, slice_get, sum, insert, remove, set, nat_eq, nat_lt, MatchBool, MatchOption, Option, None, Some, position}
+use Rattle.std.specs.Prelude.{ℕ, ◌%◌, ◌==◌, Bool, ◌||◌, List, [], ◌∷◌, ◌++◌, length, map, slice_get, sum, insert, remove, set, nat_eq, nat_lt, Option, None, Some, position}
 use Rattle.std.specs.Cmp.Lexicographic.{pointwise}
 use Rattle.std.specs.List.{prefix_len}
 use Rattle.sdr_base.specs.declared.refusal.Refusal.TheVariants as refusals
 use Rattle.sdr_model.specs.Hashes.{Hash}
 use Rattle.sdr_model.specs.Limits.{longest_key, most_buckets}
-use Rattle.sdr_model.specs.Steps.{Outcome, Refuses, Reads, Does, Makes, Takes, On, gave, with_thing, without_thing}
+use Rattle.sdr_model.specs.Steps.{Outcome, RefusedFor, RefusedIf, RefusedUnless, RefusedWithout, Reads, Does, Makes, Takes, On, gave, with_thing, without_thing}
 use Rattle.sdr_model.specs.Things.{hash_need, entry_need}
 use Rattle.sdr_model.specs.World.{World, thing_at}
 use Rattle.sdr_model.specs.declared.answer.Reply.TheVariants as replies
@@ -41,22 +41,22 @@ is_no_count buckets = nat_lt buckets 1 || nat_lt most_buckets buckets
 -- a hash without entries is made
 abbrev pub MakeHash : World → Outcome → ℕ → ℕ → Type 0
 MakeHash w o key_length buckets =
-    MatchBool (is_no_key_length key_length)
-    (Refuses w o (refusals.BadKeyLength key_length longest_key))
-    (MatchBool (is_no_count buckets)
-    (Refuses w o (refusals.BadRow buckets most_buckets))
+    RefusedIf w o (is_no_key_length key_length) (refusals.BadKeyLength key_length longest_key)
+    (RefusedIf w o (is_no_count buckets) (refusals.BadRow buckets most_buckets)
     (Makes w o (hash_need buckets) (things.Hash (record { key_length = key_length; buckets = buckets; entries = [] }))))
 
 -- The call is refused where the key hasn't the length of the hash's keys, and else goes on.
 abbrev pub OnHash : World → Outcome → ℕ → List ℕ → (Hash → Type 0) → Type 0
 OnHash w o addr key goes =
     On w o addr (as_hash (thing_at w addr)) (λ hash.
-    MatchBool (length key == hash.key_length) (goes hash) (Refuses w o (refusals.BadKeyLength (length key) hash.key_length)))
+    RefusedUnless w o (length key == hash.key_length) (refusals.BadKeyLength (length key) hash.key_length)
+    (goes hash))
 
 -- The call is refused where the hash has no such key, and else goes on with the place of its entry.
 abbrev pub OnKey : World → Outcome → ℕ → List ℕ → (Hash → ℕ → Type 0) → Type 0
 OnKey w o addr key goes =
-    OnHash w o addr key (λ hash. MatchOption (position (has_key key) hash.entries) (Refuses w o refusals.NotFound) (goes hash))
+    OnHash w o addr key (λ hash.
+    RefusedWithout w o (position (has_key key) hash.entries) refusals.NotFound (goes hash))
 
 -- the value of an entry, 0 where there is none
 abbrev pub value_of : Option HashEntry → ℕ
@@ -80,14 +80,13 @@ entry_addr entries place = addr_of (slice_get entries place)
 abbrev pub HashInsert : World → Outcome → ℕ → List ℕ → ℕ → Type 0
 HashInsert w o addr key value =
     OnHash w o addr key (λ hash.
-    MatchOption (position (has_key key) hash.entries)
+    RefusedFor w o (position (has_key key) hash.entries) (λ place. refusals.KeyTaken (value_at hash.entries place))
     (Takes w o (entry_need (length key))
     (λ block. with_thing w addr (things.Hash (record hash {
       entries =
           insert hash.entries (bucket_place hash key) (record { block = block; key = key; value = value });
     })))
-    (λ block. replies.Done))
-    (λ place. Refuses w o (refusals.KeyTaken (value_at hash.entries place))))
+    (λ block. replies.Done)))
 
 -- the key's value is given
 abbrev pub HashRetrieve : World → Outcome → ℕ → List ℕ → Type 0

@@ -38,8 +38,12 @@ bytes_of (Some bytes) = take longest_sort_key bytes
 abbrev pub sort_key : World → ℕ → List ℕ
 sort_key w datum = bytes_of (as_raw (thing_at w datum))
 
--- how two keys compare
-abbrev pub compare_keys : Keys → List ℕ → List ℕ → Ordering
+-- an order of keys: how two of them compare
+abbrev pub KeyOrder : Type 0
+KeyOrder = List ℕ → List ℕ → Ordering
+
+-- the two orders that a script may name: by the bytes, and by how many they are
+abbrev pub compare_keys : Keys → KeyOrder
 compare_keys keys.ByBytes a b = slice_cmp nat_cmp a b
 compare_keys keys.ByLength a b = nat_cmp (length a) (length b)
 
@@ -120,13 +124,13 @@ SetDatum w o element datum = On w o element (spot_of w element) (λ s.
     Does o [] (with_thing w s.list (things.List (record s.row { elements = set s.row.elements s.place (record { block = element; datum = datum }) }))) replies.Done)
 
 -- where a new element goes in order: behind the last one whose key is less or equal
-abbrev pub ordered_place : World → Keys → ℕ → SdrList → ℕ
-ordered_place w by datum row = place_behind (λ other. not (is_gt (compare_keys by (sort_key w other) (sort_key w datum)))) row.elements
+abbrev pub ordered_place : World → KeyOrder → ℕ → SdrList → ℕ
+ordered_place w order datum row = place_behind (λ other. not (is_gt (order (sort_key w other) (sort_key w datum)))) row.elements
 
 -- the address of the first element with an equal key, 0 where there is none
-abbrev pub equal_addr : World → Keys → ℕ → SdrList → ℕ
-equal_addr w by datum row =
-    found_addr row.elements (position (λ e. is_eq (compare_keys by (sort_key w e.datum) (sort_key w datum))) row.elements)
+abbrev pub equal_addr : World → KeyOrder → ℕ → SdrList → ℕ
+equal_addr w order datum row =
+    found_addr row.elements (position (λ e. is_eq (order (sort_key w e.datum) (sort_key w datum))) row.elements)
 
 -- the address of the element before a place, 0 at the front
 abbrev pub addr_before : Spot → ℕ

@@ -1,9 +1,9 @@
 -- The steps of the catalogue.
-use Rattle.std.specs.Prelude.{ℕ, List, [], ◌∷◌, ◌++◌, length, slice_get, MatchBool, MatchOption}
+use Rattle.std.specs.Prelude.{ℕ, List, [], ◌∷◌, ◌++◌, length, slice_get, MatchOption}
 use Rattle.sdr_base.specs.declared.refusal.Refusal.TheVariants as refusals
 use Rattle.sdr_model.specs.Limits.{longest_name, is_no_name}
 use Rattle.sdr_model.specs.Names.{name_of, without_name}
-use Rattle.sdr_model.specs.Steps.{Outcome, Refuses, Reads, Does, Takes, gave}
+use Rattle.sdr_model.specs.Steps.{Outcome, RefusedIf, RefusedWithout, Refuses, Reads, Does, Takes, gave}
 use Rattle.sdr_model.specs.Things.{name_need}
 use Rattle.sdr_model.specs.World.{World}
 use Rattle.sdr_model.specs.declared.answer.Reply.TheVariants as replies
@@ -12,8 +12,7 @@ use Rattle.sdr_model.specs.declared.name.Name.{Name}
 -- The call is refused where the name has no byte or too many, and else goes on with its entry, if it has one.
 abbrev pub OnName : World → Outcome → List ℕ → Type 0 → (Name → Type 0) → Type 0
 OnName w o name missing found =
-    MatchBool (is_no_name (length name))
-    (Refuses w o (refusals.BadLength (length name) longest_name))
+    RefusedIf w o (is_no_name (length name)) (refusals.BadLength (length name) longest_name)
     (MatchOption (name_of w.names name) missing found)
 
 -- a new name is last in the catalogue
@@ -38,5 +37,5 @@ Uncatlg w o name =
 -- the entry at a place, from 0, is given: its name, type and object
 abbrev pub Entry : World → Outcome → ℕ → Type 0
 Entry w o place =
-    MatchOption (slice_get w.names place) (Refuses w o refusals.NotFound)
+    RefusedWithout w o (slice_get w.names place) refusals.NotFound
     (λ n. Reads w o n.name (replies.Named (length n.name) n.kind n.object))

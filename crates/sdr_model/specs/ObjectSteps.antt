@@ -1,5 +1,5 @@
 -- The steps that make an object, add to it and take from it.
-use Rattle.std.specs.Prelude.{ℕ, ◌+◌, ◌-◌, ◌==◌, ◌||◌, List, [], ◌∷◌, ◌++◌, length, take, drop, map, slice_get, nat_lt, Option, MatchBool, MatchOption, if◌then◌else◌}
+use Rattle.std.specs.Prelude.{ℕ, ◌+◌, ◌-◌, ◌==◌, ◌||◌, List, [], ◌∷◌, ◌++◌, length, take, drop, map, slice_get, nat_lt, Option, MatchOption, if◌then◌else◌}
 use Rattle.sdr_base.specs.declared.account.Acct.{Acct}
 use Rattle.sdr_base.specs.declared.kind.Space.TheVariants as spaces
 use Rattle.sdr_base.specs.declared.moves.Move.{Move}
@@ -12,7 +12,7 @@ use Rattle.sdr_model.specs.Gone.{gone_blocks, gone_things, without_things}
 use Rattle.sdr_model.specs.Limits.{is_no_capsule, longest_capsule}
 use Rattle.sdr_model.specs.Queue.{with_served}
 use Rattle.sdr_model.specs.SourceSteps.{OnUnnamed, new_source}
-use Rattle.sdr_model.specs.Steps.{Outcome, Refuses, Reads, Does, DoesWith, Takes, On, gave, with_thing, without_thing}
+use Rattle.sdr_model.specs.Steps.{Outcome, RefusedIf, RefusedWithout, Reads, Does, DoesWith, Takes, On, gave, with_thing, without_thing}
 use Rattle.sdr_model.specs.Things.{capsule_need, extent_need, object_need, source_need}
 use Rattle.sdr_model.specs.World.{World, thing_at, as_raw}
 use Rattle.sdr_model.specs.Zco.{capsules_length, empty_object, extents_length, object_at, source_at, space_of}
@@ -48,13 +48,12 @@ with_extent z e = record z { extents = z.extents ++ e ∷ []; part = grown_part 
 -- The call is refused where the range has no byte or isn't within the bytes that are there, and else goes on.
 abbrev pub InRange : World → Outcome → ℕ → ℕ → ℕ → Type 0 → Type 0
 InRange w o offset bytes have goes =
-    MatchBool (bytes == 0 || nat_lt have (offset + bytes)) (Refuses w o (refusals.BadRange offset bytes have)) goes
+    RefusedIf w o (bytes == 0 || nat_lt have (offset + bytes)) (refusals.BadRange offset bytes have) goes
 
 -- a part of a source is appended to an object
 abbrev pub AppendsSource : World → Outcome → ℕ → ZcoObject → ℕ → ℕ → ZcoSource → ℕ → ℕ → Type 0
 AppendsSource w o addr z number source s offset bytes =
-    MatchBool s.flagged
-    (Refuses w o refusals.NotFound)
+    RefusedIf w o s.flagged refusals.NotFound
     (InRange w o offset bytes s.length
     (Charges w o z.account number (bytes_charge (space_of s.subject) bytes) (λ used.
     Takes w o extent_need
@@ -89,8 +88,7 @@ AppendExtent w o addr number named offset bytes =
 abbrev pub AddsCapsule : World → Outcome → ℕ → ℕ → List ℕ → (ZcoObject → Capsule → ZcoObject) → Type 0
 AddsCapsule w o addr number text with_capsule =
     On w o addr (object_at w addr) (λ z.
-    MatchBool (is_no_capsule (length text))
-    (Refuses w o (refusals.BadLength (length text) longest_capsule))
+    RefusedIf w o (is_no_capsule (length text)) (refusals.BadLength (length text) longest_capsule)
     (Charges w o z.account number (in_space spaces.Heap (capsule_bytes (length text))) (λ used.
     Takes w o (capsule_need (length text))
     (λ block. with_object used addr (with_capsule z (record { block = block; text = text })))
@@ -115,8 +113,7 @@ AppendTrailer w o addr number text = AddsCapsule w o addr number text with_trail
 -- a header or trailer goes, and the object is another; the queue is served
 abbrev pub Discards : World → Outcome → ℕ → ZcoObject → Option Capsule → ZcoObject → Type 0
 Discards w o addr z capsule after =
-    MatchOption capsule
-    (Refuses w o refusals.NoCapsule)
+    RefusedWithout w o capsule refusals.NoCapsule
     (λ c. Does o (gave (c.block ∷ [])) (with_served (with_object w addr after) z.account) replies.Done)
 
 -- the object without its first header

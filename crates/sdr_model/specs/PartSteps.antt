@@ -1,5 +1,5 @@
 -- The steps that clone a part of an object, set it and cut to it.
-use Rattle.std.specs.Prelude.{ℕ, ◌+◌, List, [], ◌∷◌, map, nat_lt, MatchBool}
+use Rattle.std.specs.Prelude.{ℕ, ◌+◌, List, [], ◌∷◌, map, nat_lt}
 use Rattle.sdr_base.specs.declared.account.Acct.{Acct}
 use Rattle.sdr_base.specs.declared.moves.Move.{Move}
 use Rattle.sdr_base.specs.declared.moves.Move.TheVariants.{Took}
@@ -10,7 +10,7 @@ use Rattle.sdr_model.specs.Cuts.{cut_all, left_out, placed}
 use Rattle.sdr_model.specs.Gone.{gone_blocks, gone_things, without_things}
 use Rattle.sdr_model.specs.ObjectSteps.{InRange, with_object}
 use Rattle.sdr_model.specs.Queue.{with_served}
-use Rattle.sdr_model.specs.Steps.{Outcome, Refuses, Does, DoesWith, On, gave, takes_from}
+use Rattle.sdr_model.specs.Steps.{Outcome, RefusedIf, Does, DoesWith, On, gave, takes_from}
 use Rattle.sdr_model.specs.Things.{extent_need, object_need}
 use Rattle.sdr_model.specs.World.{World}
 use Rattle.sdr_model.specs.Zco.{empty_object, extents_length, object_at, whole_of}
@@ -45,8 +45,7 @@ ClonePart w o addr number offset bytes =
 abbrev pub Delimit : World → Outcome → ℕ → ℕ → ℕ → Type 0
 Delimit w o addr offset bytes =
     On w o addr (object_at w addr) (λ z.
-    MatchBool (nat_lt (extents_length z.extents) (offset + bytes))
-    (Refuses w o (refusals.BadRange offset bytes (extents_length z.extents)))
+    RefusedIf w o (nat_lt (extents_length z.extents) (offset + bytes)) (refusals.BadRange offset bytes (extents_length z.extents))
     (Does o [] (with_object w addr (record z { part = record { offset = offset; length = bytes } })) replies.Done))
 
 -- where the part of an object ends

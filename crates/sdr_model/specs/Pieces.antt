@@ -1,10 +1,10 @@
 -- The pieces in which the bytes that a call asks of an object lie: in the world, in files and in items.
-use Rattle.sdr_base.specs.Media.{Told as Media}
+use Rattle.sdr_base.specs.Media.{Told}
 use Rattle.sdr_base.specs.Parts.{part}
 use Rattle.sdr_model.specs.Limits.{longest_read}
 use Rattle.sdr_model.specs.PartSteps.{part_end}
 use Rattle.sdr_model.specs.Reading.{reads_media}
-use Rattle.sdr_model.specs.Wire.{Told, headers_part, known, source_part, trailers_part, unknown, wire_part}
+use Rattle.sdr_model.specs.Wire.{ToldBytes, headers_part, known, source_part, trailers_part, unknown, wire_part}
 use Rattle.sdr_model.specs.World.{World, thing_at, as_raw}
 use Rattle.sdr_model.specs.Zco.{object_at, source_at}
 use Rattle.sdr_model.specs.declared.call.Call.TheVariants as calls
@@ -26,23 +26,23 @@ piece_length (pieces.File path offset bytes) = bytes
 piece_length (pieces.Bulk item offset bytes) = bytes
 
 -- the bytes of a piece, of which those in a file or an item are left to media
-abbrev pub piece_told : Piece → Told
+abbrev pub piece_told : Piece → ToldBytes
 piece_told (pieces.Known bytes) = known bytes
 piece_told (pieces.File path offset bytes) = unknown bytes
 piece_told (pieces.Bulk item offset bytes) = unknown bytes
 
 -- the bytes of these pieces, one after another
-abbrev pub pieces_told : List Piece → Told
+abbrev pub pieces_told : List Piece → ToldBytes
 pieces_told = flat_map piece_told
 
 -- the bytes that are had of a piece where it is read from such media: fewer than it has where a file or item ends before
-abbrev pub media_bytes : Media → Piece → List ℕ
+abbrev pub media_bytes : Told → Piece → List ℕ
 media_bytes media (pieces.Known bytes) = bytes
 media_bytes media (pieces.File path offset bytes) = part offset bytes (media.files path)
 media_bytes media (pieces.Bulk item offset bytes) = part offset bytes (media.items item)
 
 -- the bytes that are had of these pieces, one after another
-abbrev pub bytes_by : Media → List Piece → List ℕ
+abbrev pub bytes_by : Told → List Piece → List ℕ
 bytes_by media = flat_map (media_bytes media)
 
 -- so many bytes of a piece from a place on
@@ -132,7 +132,7 @@ asked_count (calls.ReceiveTrailers addr place count) = count
 asked_count call = 0
 
 -- the bytes that a call asks of an object that it names
-abbrev pub part_asked : World → Call → ZcoObject → Told
+abbrev pub part_asked : World → Call → ZcoObject → ToldBytes
 part_asked w (calls.Transmit addr place count) z = wire_part w place count z
 part_asked w (calls.ReceiveHeaders addr place count) z = headers_part w place count z
 part_asked w (calls.ReceiveSource addr place count) z = source_part w place count z
@@ -162,5 +162,5 @@ pub record AsksBytes (w : World) (call : Call) : Type 0 where
   pub there : AsksPage (object_at w (asked_addr call)) (asked_count call)
 
 -- the bytes that are told, with zeros in the place of those that aren't
-abbrev pub filled : Told → List ℕ
+abbrev pub filled : ToldBytes → List ℕ
 filled = map (λ byte. unwrap_or byte 0)

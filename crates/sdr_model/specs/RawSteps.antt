@@ -1,10 +1,10 @@
 -- The steps of raw objects and strings.
-use Rattle.std.specs.Prelude.{ℕ, ◌+◌, ◌-◌, List, [], ◌∷◌, ◌++◌, length, take, replicate, nat_lt, MatchBool, Option, None, Some}
+use Rattle.std.specs.Prelude.{ℕ, ◌+◌, ◌-◌, List, [], ◌∷◌, ◌++◌, length, take, replicate, nat_lt, Option, None, Some}
 use Rattle.sdr_base.specs.Parts.{overwrite, part}
 use Rattle.sdr_base.specs.declared.refusal.Refusal.TheVariants as refusals
 use Rattle.sdr_model.specs.Limits.{longest_raw, longest_string, longest_read}
 use Rattle.sdr_model.specs.SourceSteps.{OnUnnamed}
-use Rattle.sdr_model.specs.Steps.{Outcome, Refuses, Reads, Does, Makes, On, gave, with_thing, without_thing}
+use Rattle.sdr_model.specs.Steps.{Outcome, RefusedIf, RefusedUnless, Refuses, Reads, Does, Makes, On, gave, with_thing, without_thing}
 use Rattle.sdr_model.specs.Things.{raw_need, text_need}
 use Rattle.sdr_model.specs.World.{World, thing_at, block_at, misnamed, as_raw, as_text, is_marked}
 use Rattle.sdr_model.specs.declared.answer.Reply.TheVariants as replies
@@ -15,8 +15,7 @@ use Rattle.sdr_base.specs.declared.kind.Kind.TheVariants as kinds
 -- a raw object of so many zero bytes is made
 abbrev pub Malloc : World → Outcome → ℕ → Type 0
 Malloc w o bytes =
-    MatchBool (nat_lt longest_raw bytes)
-    (Refuses w o (refusals.BadLength bytes longest_raw))
+    RefusedIf w o (nat_lt longest_raw bytes) (refusals.BadLength bytes longest_raw)
     (Makes w o (raw_need bytes) (things.Raw (replicate bytes 0)))
 
 -- the thing at an address goes
@@ -46,37 +45,30 @@ Length w o addr = On w o addr (block_at w addr) (λ b. Reads w o [] (replies.Val
 abbrev pub Read : World → Outcome → ℕ → ℕ → ℕ → Type 0
 Read w o addr place count =
     On w o addr (as_raw (thing_at w addr)) (λ bytes.
-    MatchBool (nat_lt longest_read count)
-    (Refuses w o (refusals.BadLength count longest_read))
-    (MatchBool (nat_lt (length bytes) (place + count))
-    (Refuses w o (refusals.OutOfBounds addr place count))
+    RefusedIf w o (nat_lt longest_read count) (refusals.BadLength count longest_read)
+    (RefusedIf w o (nat_lt (length bytes) (place + count)) (refusals.OutOfBounds addr place count)
     (Reads w o (part place count bytes) (replies.Bytes count))))
 
 -- the bytes are written into the raw object from a place on, where it was taken or staged in this transaction
 abbrev pub Write : World → Outcome → ℕ → ℕ → List ℕ → Type 0
 Write w o addr place from =
     On w o addr (as_raw (thing_at w addr)) (λ bytes.
-    MatchBool (nat_lt (length bytes) (place + length from))
-    (Refuses w o (refusals.OutOfBounds addr place (length from)))
-    (MatchBool (is_marked w addr)
-    (Does o [] (with_thing w addr (things.Raw (overwrite place from bytes))) replies.Done)
-    (Refuses w o (refusals.NotStaged addr))))
+    RefusedIf w o (nat_lt (length bytes) (place + length from)) (refusals.OutOfBounds addr place (length from))
+    (RefusedUnless w o (is_marked w addr) (refusals.NotStaged addr)
+    (Does o [] (with_thing w addr (things.Raw (overwrite place from bytes))) replies.Done)))
 
 -- the first bytes of the raw object are given, and it may be written from now on
 abbrev pub Stage : World → Outcome → ℕ → ℕ → Type 0
 Stage w o addr count =
     On w o addr (as_raw (thing_at w addr)) (λ bytes.
-    MatchBool (nat_lt longest_read count)
-    (Refuses w o (refusals.BadLength count longest_read))
-    (MatchBool (nat_lt (length bytes) count)
-    (Refuses w o (refusals.OutOfBounds addr 0 count))
+    RefusedIf w o (nat_lt longest_read count) (refusals.BadLength count longest_read)
+    (RefusedIf w o (nat_lt (length bytes) count) (refusals.OutOfBounds addr 0 count)
     (Reads (record w { marks = w.marks ++ addr ∷ [] }) o (take count bytes) (replies.Bytes count))))
 
 -- a string of the text is made
 abbrev pub Text : World → Outcome → List ℕ → Type 0
 Text w o text =
-    MatchBool (nat_lt longest_string (length text))
-    (Refuses w o (refusals.BadLength (length text) longest_string))
+    RefusedIf w o (nat_lt longest_string (length text)) (refusals.BadLength (length text) longest_string)
     (Makes w o (text_need (length text)) (things.Text text))
 
 -- the length of the string is given

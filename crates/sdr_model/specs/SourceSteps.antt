@@ -1,10 +1,10 @@
 -- The steps of sources.
-use Rattle.std.specs.Prelude.{ℕ, ◌==◌, List, [], ◌∷◌, true, false, length, nat_lt, is_some, MatchBool, MatchOption}
+use Rattle.std.specs.Prelude.{ℕ, ◌==◌, List, [], ◌∷◌, true, false, length, nat_lt, is_some, MatchBool}
 use Rattle.sdr_base.specs.Kinds.{kind_number}
 use Rattle.sdr_base.specs.declared.kind.Kind.TheVariants as kinds
 use Rattle.sdr_base.specs.declared.refusal.Refusal.TheVariants as refusals
 use Rattle.sdr_model.specs.Limits.{is_no_path, longest_path, longest_source}
-use Rattle.sdr_model.specs.Steps.{Outcome, Refuses, Reads, Does, Makes, On, gave, with_thing, without_thing}
+use Rattle.sdr_model.specs.Steps.{Outcome, RefusedFor, RefusedIf, Reads, Does, Makes, On, gave, with_thing, without_thing}
 use Rattle.sdr_model.specs.Things.{source_need}
 use Rattle.sdr_model.specs.World.{World, thing_at, as_raw}
 use Rattle.sdr_model.specs.Zco.{owned_raw, source_at, source_on, uses_of}
@@ -21,22 +21,19 @@ new_source subject bytes = record { subject = subject; length = bytes; flagged =
 -- The call is refused where a source names the raw object, and else goes on.
 abbrev pub OnUnnamed : World → Outcome → ℕ → Type 0 → Type 0
 OnUnnamed w o raw goes =
-    MatchOption (source_on w raw) goes (λ source. Refuses w o (refusals.InUse raw (uses_of w source)))
+    RefusedFor w o (source_on w raw) (λ source. refusals.InUse raw (uses_of w source)) goes
 
 -- a source of the first bytes of a file is made
 abbrev pub FileRef : World → Outcome → List ℕ → ℕ → Type 0
 FileRef w o path bytes =
-    MatchBool (is_no_path (length path))
-    (Refuses w o (refusals.BadLength (length path) longest_path))
-    (MatchBool (nat_lt longest_source bytes)
-    (Refuses w o (refusals.BadLength bytes longest_source))
+    RefusedIf w o (is_no_path (length path)) (refusals.BadLength (length path) longest_path)
+    (RefusedIf w o (nat_lt longest_source bytes) (refusals.BadLength bytes longest_source)
     (Makes w o (source_need (length path)) (things.Source (new_source (subjects.File path) bytes))))
 
 -- a source of the first bytes of an item is made
 abbrev pub BulkRef : World → Outcome → ℕ → ℕ → Type 0
 BulkRef w o item bytes =
-    MatchBool (nat_lt longest_source bytes)
-    (Refuses w o (refusals.BadLength bytes longest_source))
+    RefusedIf w o (nat_lt longest_source bytes) (refusals.BadLength bytes longest_source)
     (Makes w o (source_need 0) (things.Source (new_source (subjects.Bulk item) bytes)))
 
 -- a source of a raw object is made, which stays with its owner
@@ -53,10 +50,8 @@ flagged source = record source { flagged = true }
 abbrev pub DestroyRef : World → Outcome → ℕ → Type 0
 DestroyRef w o addr =
     On w o addr (source_at w addr) (λ source.
-    MatchBool (is_some (owned_raw source))
-    (Refuses w o (refusals.WrongKind addr (kind_number kinds.Source)))
-    (MatchBool source.flagged
-    (Refuses w o refusals.NotFound)
+    RefusedIf w o (is_some (owned_raw source)) (refusals.WrongKind addr (kind_number kinds.Source))
+    (RefusedIf w o source.flagged refusals.NotFound
     (MatchBool (uses_of w addr == 0)
     (Does o (gave (addr ∷ [])) (without_thing w addr) replies.Done)
     (Does o [] (with_thing w addr (things.Source (flagged source))) replies.Done))))

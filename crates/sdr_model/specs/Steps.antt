@@ -1,5 +1,5 @@
 -- What a step of the machine may do, in the words of which each call's step is made.
-use Rattle.std.specs.Prelude.{◌≡◌, ℕ, suc, List, [], ◌∷◌, ◌++◌, map, slice_index, Option, MatchOption}
+use Rattle.std.specs.Prelude.{◌≡◌, ℕ, suc, Bool, List, [], ◌∷◌, ◌++◌, map, slice_index, Option, MatchBool, MatchOption}
 use Rattle.std.specs.FinMap as finite
 use Rattle.sdr_base.specs.declared.moves.Move.{Move}
 use Rattle.sdr_base.specs.declared.moves.Move.TheVariants.{Took, Gave}
@@ -18,6 +18,22 @@ pub record Outcome : Type 0 where
 -- the call is refused, and leaves the world
 abbrev pub Refuses : World → Outcome → Refusal → Type 0
 Refuses w o refusal = (o.moves ≡ []) × (o.after ≡ w) × (o.reply ≡ replies.Refused refusal)
+
+-- The call is refused where the test holds, and else goes on.
+abbrev pub RefusedIf : World → Outcome → Bool → Refusal → Type 0 → Type 0
+RefusedIf w o test refusal goes = MatchBool test (Refuses w o refusal) goes
+
+-- The call is refused where the test doesn't hold, and else goes on.
+abbrev pub RefusedUnless : World → Outcome → Bool → Refusal → Type 0 → Type 0
+RefusedUnless w o test refusal goes = MatchBool test goes (Refuses w o refusal)
+
+-- The call is refused for what was found, if anything was, and else goes on.
+abbrev pub RefusedFor : {X : Type 0} → World → Outcome → Option X → (X → Refusal) → Type 0 → Type 0
+RefusedFor w o found refusal goes = MatchOption found goes (λ x. Refuses w o (refusal x))
+
+-- The call is refused where nothing was found, and else goes on with what was.
+abbrev pub RefusedWithout : {X : Type 0} → World → Outcome → Option X → Refusal → (X → Type 0) → Type 0
+RefusedWithout w o found refusal goes = MatchOption found (Refuses w o refusal) goes
 
 -- the call only reads: the world shows these bytes, and else stays
 abbrev pub Reads : World → Outcome → List ℕ → Reply → Type 0
@@ -79,4 +95,4 @@ gave = map (λ addr. Gave addr)
 
 -- The call is refused where the address isn't that of what it takes, and else goes on with what it names.
 abbrev pub On : {X : Type 0} → World → Outcome → ℕ → Option X → (X → Type 0) → Type 0
-On w o addr named goes = MatchOption named (Refuses w o (misnamed w addr)) goes
+On w o addr named goes = RefusedWithout w o named (misnamed w addr) goes

@@ -1,6 +1,6 @@
 // Accounts of space, and the tickets in their queues.
 ghost use Rattle.std.specs.Prelude.{◌≡◌, ◌<◌, ◌==◌, IfOk, IfSome, length, map, position};
-ghost use Rattle.sdr_model.specs.Accounts.{Stands, account_of, fresh_account, fresh_accounts, pending_among, pending_in, ticket_block, ticket_blocks, with_account};
+ghost use Rattle.sdr_model.specs.Accounts.{Stands, account_of, unused_account, fresh_accounts, pending_among, pending_in, ticket_block, ticket_blocks, with_account};
 ghost use Rattle.sdr_model.specs.Things.{block_among};
 ghost use Rattle.sdr_model.specs.declared.accounts.Account.{Account};
 
@@ -76,7 +76,7 @@ fn place_of(tickets: &[Ticket], number: u64) -> Option<usize>
 impl Account {
     /// An account without tickets, whose heap space has this maximum. It takes no memory.
     fn fresh(alloc: Global, heap: u64) -> Account
-        ensures { result ≡ fresh_account heap }
+        ensures { result ≡ unused_account heap }
     {
         Account {
             tickets: Items::new(alloc),

@@ -7,7 +7,7 @@ use Rattle.std.proofs.lemmas.List.{length-map, length-replicate, length-take}
 use Rattle.sdr_base.specs.Media.{GivesFrom, Told, file_bytes, item_bytes}
 use Rattle.sdr_machine.specs.Asking.{IsFirstShort}
 use Rattle.sdr_model.specs.Pieces.{bytes_by, media_bytes, piece_length, piece_told, pieces_told}
-use Rattle.sdr_model.specs.Wire.{Spells, Told as ToldBytes, known, unknown}
+use Rattle.sdr_model.specs.Wire.{Spells, ToldBytes, known, unknown}
 use Rattle.sdr_model.specs.declared.piece.Piece.{Piece}
 use Rattle.sdr_model.specs.declared.piece.Piece.TheVariants as pieces
 use Rattle.sdr_shell.specs.declared.media.Gap.{Gap}

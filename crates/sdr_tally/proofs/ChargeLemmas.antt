@@ -15,7 +15,7 @@ use Rattle.sdr_model.specs.declared.accounts.Pending.{Pending}
 use Rattle.sdr_tally.specs.Allowed.{HasRoomFor, IsBound, IsGrantOf, MayCharge, MayTakeBack, RefusesCharge, refusal_by, refusal_of, space_refusal, with_back}
 use Rattle.sdr_model.specs.Amounts.{amount, amounts_by, first_above, minus, no_amounts}
 use Rattle.sdr_model.specs.Charges.{left_in, occupancies, occupancy, rooms}
-use Rattle.sdr_model.specs.Charging.{Charges, OnTicket, RefusesSpace, grant_left, with_used}
+use Rattle.sdr_model.specs.Charging.{Charges, OnTicket, grant_left, no_space, with_used}
 use Rattle.sdr_parts.specs.Grants.{KeepGrants}
 use Rattle.sdr_model.specs.Queue.{barrier}
 use Rattle.sdr_model.specs.Steps.{Outcome, Refuses}
@@ -197,7 +197,7 @@ charge_allowed w o acct number charge amounts p goes is may g =
     on_grant w o acct number p
     (λ p. MatchOption (barrier (minus (amounts_by charge) (grant_left p)) (tickets_of w.accounts acct))
     (MatchOption (first_above (minus (amounts_by charge) (grant_left p)) (rooms w acct)) (goes (with_used w p (amounts_by charge)))
-    (RefusesSpace w o acct (minus (amounts_by charge) (grant_left p)))) (λ t. Refuses w o (refusals.Queue t.number)))
+    (λ space. Refuses w o (no_space w acct (minus (amounts_by charge) (grant_left p)) space))) (λ t. Refuses w o (refusals.Queue t.number)))
     may.ticket
     (not_refused w o (barrier (minus (amounts_by charge) (grant_left p)) (tickets_of w.accounts acct))
     (first_above (minus (amounts_by charge) (grant_left p)) (rooms w acct))
@@ -222,7 +222,7 @@ charge_refused_by w acct number amounts p refusal granted is =
     on_grant w o acct number p
     (λ p. MatchOption (barrier (minus amounts (grant_left p)) (tickets_of w.accounts acct))
     (MatchOption (first_above (minus amounts (grant_left p)) (rooms w acct)) ⊥
-    (RefusesSpace w o acct (minus amounts (grant_left p)))) (λ t. Refuses w o (refusals.Queue t.number)))
+    (λ space. Refuses w o (no_space w acct (minus amounts (grant_left p)) space))) (λ t. Refuses w o (refusals.Queue t.number)))
     granted
     (refused_by w refusal (barrier (minus amounts (grant_left p)) (tickets_of w.accounts acct))
     (first_above (minus amounts (grant_left p)) (rooms w acct)) (space_refusal w acct (minus amounts (grant_left p))) ⊥ is)
@@ -254,9 +254,9 @@ charge_refused w o acct number charge amounts refusal goes is refuses h =
 
     covered : (p : Option Pending) → let uncovered = minus (amounts_by charge) (grant_left p) in
         MatchOption (barrier uncovered (tickets_of w.accounts acct))
-        (MatchOption (first_above uncovered (rooms w acct)) ⊥ (RefusesSpace w first acct uncovered)) (λ t. Refuses w first (refusals.Queue t.number))
+        (MatchOption (first_above uncovered (rooms w acct)) ⊥ (λ space. Refuses w first (no_space w acct uncovered space))) (λ t. Refuses w first (refusals.Queue t.number))
         → MatchOption (barrier uncovered (tickets_of w.accounts acct))
-        (MatchOption (first_above uncovered (rooms w acct)) (goes (with_used w p (amounts_by charge))) (RefusesSpace w o acct uncovered))
+        (MatchOption (first_above uncovered (rooms w acct)) (goes (with_used w p (amounts_by charge))) (λ space. Refuses w o (no_space w acct uncovered space)))
         (λ t. Refuses w o (refusals.Queue t.number))
     covered p =
         let uncovered = minus (amounts_by charge) (grant_left p) in

@@ -22,6 +22,6 @@ names_kept names (kept.Front len) = take len names
 names_kept names (kept.All all) = all
 
 -- a front that was kept is there
-abbrev pub IsWithin : List Name → Kept → Type 0
-IsWithin names (kept.Front len) = len ≤ length names
-IsWithin names (kept.All all) = Unit {0}
+abbrev pub HasFront : List Name → Kept → Type 0
+HasFront names (kept.Front len) = len ≤ length names
+HasFront names (kept.All all) = Unit {0}

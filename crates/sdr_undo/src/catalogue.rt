@@ -36,7 +36,7 @@ impl Model for Catalogue {
 
     ghost view = { λ s. record { begun = catalogue.names_kept s.names s.kept; now = s.names } };
 
-    ghost invariant = { λ s. catalogue.IsWithin s.names s.kept };
+    ghost invariant = { λ s. catalogue.HasFront s.names s.kept };
 }
 
 impl Catalogue {
