@@ -1,11 +1,12 @@
 -- What follows one another in a ground.
-use Rattle.std.proofs.Common.{◌≡◌, ◌∙◌, ◌≤◌, ◌+◌, ℕ, suc, List, Bool, true, false, refl, sym, ap, subst, inl, inr, arith}
+use Rattle.std.proofs.Common.{◌≡◌, ◌∙◌, ◌≤◌, ◌+◌, ℕ, suc, List, Bool, true, false, refl, subst, inl, arith}
 use Rattle.std.proofs.Common.{nat_le}
 use Rattle.std.proofs.lemmas.Bool.{leb-false, leb-true}
 use Rattle.sdr_base.proofs.WrittenLemmas.{rose_later}
 use Rattle.sdr_lock.specs.Crash.{LeavesBefore, LeavesEither, LeavesOr}
+use Rattle.sdr_lock.specs.Gaps.{Gaps, GapsLast}
 use Rattle.sdr_lock.specs.Ground.{State, HasHeap}
-use Rattle.sdr_lock.specs.Serving.{Brings, KeepsGround, MeetsFault, StandsFor, StandsStill}
+use Rattle.sdr_lock.specs.Serving.{Brings, KeepsGround, MeetsFault, StandsStill}
 use Rattle.sdr_lock.specs.Standing.{Standing}
 use Rattle.sdr_lock.specs.declared.has_ground.HasGround.{Ghosts}
 
@@ -38,22 +39,33 @@ still_same v = record { before = refl; now = refl }
 pub still_then : (v v' v'' : Standing) → StandsStill v v' → StandsStill v' v'' → StandsStill v v''
 still_then v v' v'' first second = record { before = second.before ∙ first.before; now = second.now ∙ first.now }
 
+-- counts that didn't fall
+pub gaps_same : (gaps : Gaps) → GapsLast gaps gaps
+gaps_same gaps = record { faults = omega arith; short = omega arith }
+
+gaps_then : (a b c : Gaps) → GapsLast a b → GapsLast b c → GapsLast a c
+gaps_then a b c first second = record {
+  faults = omega (arith, first.faults, second.faults);
+  short = omega (arith, first.short, second.short);
+}
+
 module _ {T : Type 0} (g : Ghosts T) where
   -- where nothing is asked, a ground is kept
   pub keeps_same : (t : T) → KeepsGround g false t t
-  keeps_same t = record { later = omega arith; media = refl; lasts = λ n lasts. lasts }
+  keeps_same t = record { later = omega arith; gaps = gaps_same (g.gaps t); media = refl; lasts = λ n lasts. lasts }
 
   -- it is kept one after another
   pub keeps_then : {a b c : T} → KeepsGround g false a b → KeepsGround g false b c → KeepsGround g false a c
   keeps_then first second = record {
     later = omega (arith, first.later, second.later);
+    gaps = gaps_then _ _ _ first.gaps second.gaps;
     media = second.media ∙ first.media;
     lasts = λ n lasts. second.lasts n (first.lasts n lasts);
   }
 
   -- fewer calls are spent
   pub keeps_more : {a b : T} → KeepsGround g false a b → KeepsGround g true a b
-  keeps_more {a} kept = record { later = kept.later; media = kept.media; lasts = λ n lasts. kept.lasts n (g.lasts_less a n lasts) }
+  keeps_more {a} kept = record { later = kept.later; gaps = kept.gaps; media = kept.media; lasts = λ n lasts. kept.lasts n (g.lasts_less a n lasts) }
 
   -- a fault behind something that stood still
   pub fault_then : {a b c : T} → Brings g.stands a b StandsStill → KeepsGround g false a b → MeetsFault g b c → MeetsFault g a c

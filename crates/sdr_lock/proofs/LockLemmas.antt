@@ -1,6 +1,6 @@
 -- How a lock's answer to an event is a step of the machine.
 use Rattle.sdr_lock.specs.Transaction.{bytes_given}
-use Rattle.std.proofs.Common.{◌≡◌, ◌∙◌, ℕ, List, [], if◌then◌else◌, Bool, true, false, true≢false, Result, Ok, Err, IfOk, Option, None, Some, IsSome, is_some, refl, sym, ap, subst}
+use Rattle.std.proofs.Common.{◌≡◌, ◌∙◌, ℕ, List, [], if◌then◌else◌, Bool, true, false, true≢false, Result, Ok, Err, IfOk, Option, None, Some, is_some, refl, sym, ap, subst}
 use Rattle.sdr_model.specs.declared.answer.Answer.{Answer}
 use Rattle.sdr_model.specs.declared.answer.Answer.TheVariants as answers
 use Rattle.sdr_model.specs.declared.answer.Reply.TheVariants as replies
@@ -9,7 +9,8 @@ use Rattle.sdr_model.specs.declared.event.Event.TheVariants as events
 use Rattle.sdr_base.specs.Media.{Told}
 use Rattle.sdr_base.specs.declared.refusal.Refusal.TheVariants as refusals
 use Rattle.sdr_lock.specs.Agreeing.{AgreesReading, AgreesWith}
-use Rattle.sdr_lock.specs.Crash.{LeavesBefore, LeavesOr}
+use Rattle.sdr_lock.specs.Crash.{LeavesOr}
+use Rattle.sdr_lock.specs.Gaps.{Gaps, HasGapCause}
 use Rattle.sdr_lock.specs.Machine.{Machine, Made, Goes, Faults, with_roll}
 use Rattle.sdr_lock.specs.Roll.{Roll, with_drawn, with_fault}
 use Rattle.sdr_lock.specs.Serving.{Acts, Asks, Brings, KeepsGround, Locked, MeetsFault, is_disk_fault, is_sight, machine_at, made_by}
@@ -45,6 +46,12 @@ agrees_untold (Some media) w (events.Say call) given bytes untold = λ reads. ag
     agrees (answers.Reply (replies.Refused (refusals.SourceShort have want))) untold = absurd (true≢false untold)
     agrees a untold = tt
 agrees_untold (Some media) w event given bytes untold = tt
+
+-- and needs no cause of theirs
+pub no_gap_cause : (a : Answer) (old new : Gaps) → tells_media a ≡ false → HasGapCause a old new
+no_gap_cause (answers.Reply replies.MediaFault) old new untold = absurd (true≢false untold)
+no_gap_cause (answers.Reply (replies.Refused (refusals.SourceShort have want))) old new untold = absurd (true≢false untold)
+no_gap_cause a old new untold = tt
 
 -- an answer to a look is no disk fault, and tells nothing of media
 pub sight_no_fault : (a : Answer) → is_sight a ≡ true → is_disk_fault (told a) ≡ false
@@ -87,16 +94,18 @@ module _ {T : Type 0} (g : Ghosts T) where
     asks = record {
       kept = acts.asks.kept;
       cause = acts.asks.cause;
+      gap = acts.asks.gap;
       any_moment = leaves_or g keeps acts.asks.any_moment;
       failed = acts.asks.failed;
     };
   }
 
   -- nothing was asked of the ground
-  asks_same : (keeps : Bool) (a : Came) (old new : Locked T) → new.base ≡ old.base → is_disk_fault a ≡ false → Asks g keeps a old new
-  asks_same keeps a old new base no_fault = record {
+  asks_same : (keeps : Bool) (a : Came) (old new : Locked T) → new.base ≡ old.base → is_disk_fault a ≡ false → tells_media a.answer ≡ false → Asks g keeps a old new
+  asks_same keeps a old new base no_fault untold = record {
     kept = subst (λ t. KeepsGround g true old.base t) (sym base) (keeps_more g (keeps_same g old.base));
     cause = λ fault. absurd (true≢false (sym fault ∙ no_fault));
+    gap = no_gap_cause a.answer _ _ untold;
     any_moment = subst (λ t. LeavesOr keeps g old.base t) (sym base) (leaves_or g keeps (leaves_same g old.base));
     failed = λ _. base;
   }
@@ -124,7 +133,7 @@ module _ {T : Type 0} (g : Ghosts T) where
             };
           };
         };
-        asks = asks_same keeps (told answer) old new base no_fault;
+        asks = asks_same keeps (told answer) old new base no_fault untold;
       }))
 
   -- an event that changes nothing
@@ -140,10 +149,11 @@ module _ {T : Type 0} (g : Ghosts T) where
   pub acts_asked : (keeps : Bool) (R : Machine → Made → Machine → Type 0) (P : Standing → Standing → Type 0) (daemon : ℕ) (event : Event) (b a : Came) (old self new : Locked T)
       → old ≡ self → a ≡ b → is_disk_fault b ≡ false → (b.called ≡ true → new.roll.failed ≡ None) → self.roll.failed ≡ None
       → Brings g.stands old.base new.base P → KeepsGround g true old.base new.base → LeavesOr keeps g old.base new.base
+      → HasGapCause b.answer (g.gaps old.base) (g.gaps new.base)
       → ((v v' : Standing) → P v v' → AgreesWith (g.told old.base) v.now.world event b.answer (if b.called then bytes_given b.answer v'.now.world.shown else []))
       → ((v v' : Standing) (line : ℕ) → P v v' → step_of R daemon event b old new v v' line)
       → Acts g keeps R daemon event a self new
-  acts_asked keeps R P daemon event b a old self new view is no_fault still sound brings kept leaves media step =
+  acts_asked keeps R P daemon event b a old self new view is no_fault still sound brings kept leaves gap media step =
       let none : old.roll.failed ≡ None = ap (λ (l : Locked T). l.roll.failed) view ∙ sound in
       subst (λ o. Acts g keeps R daemon event a o new) view (subst (λ x. Acts g keeps R daemon event x old new) (sym is) (record {
         leads = record {
@@ -157,6 +167,7 @@ module _ {T : Type 0} (g : Ghosts T) where
         asks = record {
           kept = kept;
           cause = λ fault. absurd (true≢false (sym fault ∙ no_fault));
+          gap = gap;
           any_moment = leaves;
           failed = λ some. absurd (true≢false (sym some ∙ ap is_some none));
         };
@@ -191,6 +202,7 @@ module _ {T : Type 0} (g : Ghosts T) where
         asks = record {
           kept = kept;
           cause = λ _. fails.cause;
+          gap = tt;
           any_moment = leaves;
           failed = λ some. absurd (true≢false (sym some ∙ ap is_some none));
         };
@@ -208,5 +220,5 @@ module _ {T : Type 0} (g : Ghosts T) where
       each = λ v stood. let s = acts.leads.each v stood in
           record { for = s.for; stood = s.stood; tells = record { sound = s.tells.sound; step = λ line. also v s.for line (s.tells.step line); media = s.tells.media } };
     };
-    asks = record { kept = acts.asks.kept; cause = acts.asks.cause; any_moment = acts.asks.any_moment; failed = acts.asks.failed };
+    asks = record { kept = acts.asks.kept; cause = acts.asks.cause; gap = acts.asks.gap; any_moment = acts.asks.any_moment; failed = acts.asks.failed };
   }

@@ -1,5 +1,5 @@
 -- How what a lock has done for an event is a step of the machine.
-use Rattle.std.proofs.Common.{◌≡◌, ◌⊎◌, ◌∙◌, ◌&&◌, ◌==◌, ℕ, List, [], ◌∷◌, Bool, true, false, not, if◌then◌else◌, true≢false, Option, None, Some, is_none, nat_le, find, cond, arith, MatchBool, MatchOption, refl, sym, ap, subst, inl, inr}
+use Rattle.std.proofs.Common.{◌≡◌, ◌⊎◌, ◌∙◌, ◌&&◌, ◌==◌, ℕ, List, [], ◌∷◌, Bool, true, false, not, if◌then◌else◌, true≢false, Option, None, Some, is_none, IsSome, option_and_then, ◌<◌, ◌^◌, find, cond, arith, MatchBool, MatchOption, refl, sym, ap, subst, inl, inr}
 use Rattle.std.proofs.lemmas.Bool.Decides.{nat_tests}
 use Rattle.std.specs.Option.{option_map, option_map_or}
 use Rattle.sdr_base.specs.declared.refusal.Reason.{Reason}
@@ -16,13 +16,12 @@ use Rattle.sdr_model.specs.declared.event.Event.{Event}
 use Rattle.sdr_model.specs.declared.event.Event.TheVariants as events
 use Rattle.sdr_model.specs.declared.event.Leave.{Leave}
 use Rattle.sdr_model.specs.declared.journal.Said.{Said}
-use Rattle.sdr_model.specs.World.{World}
 use Rattle.sdr_lock.specs.Crash.{is_kept, keeps_by, keeps_in, keeps_of, keeps_under}
 use Rattle.sdr_lock.specs.Ground.{State, Steps}
-use Rattle.sdr_lock.specs.Machine.{Machine, Made, Closes, Comes, Enters, Goes, Holds, Looks, LooksAt, Serves, Works, is_of_work, is_outside, roll_closed, with_roll}
+use Rattle.sdr_lock.specs.Machine.{Machine, Made, Closes, Comes, Enters, Goes, Holds, Looks, LooksAt, Works, is_of_work, is_outside, roll_closed, with_roll}
 use Rattle.sdr_lock.specs.Nesting.{Inner, closing, noted}
-use Rattle.sdr_lock.specs.Roll.{Roll, after_number, after_entry, after_wait, at_nesting, daemon_of, is_stalled, served_number, waits_for, with_daemon, with_drawn}
-use Rattle.sdr_lock.specs.Serving.{Calls, Settles, after_look, answer_seen, machine_at, shown_in, sight, waiting_answer}
+use Rattle.sdr_lock.specs.Roll.{MayDraw, Roll, after_number, after_entry, after_wait, at_nesting, daemon_of, held_by, is_stalled, served_number, waits_for, with_daemon, with_drawn}
+use Rattle.sdr_lock.specs.Serving.{Settles, after_look, answer_seen, machine_at, sight, waiting_answer}
 use Rattle.sdr_lock.specs.Standing.{Standing}
 use Rattle.sdr_lock.specs.Transaction.{Nests, Transaction, Transacts, IsAnswered, asks_disk, bytes_given, is_closing, left_by, refused, transaction_of}
 use Rattle.sdr_lock.specs.declared.daemon.Daemon.{Daemon}
@@ -252,3 +251,12 @@ pub looks_drawn : (r : Roll) (v : Standing) (m' : Machine) (d : Daemon) (e : Mad
     → Looks (machine_at (with_drawn r) v) d e ticket (with_drawn r) m' → Looks (machine_at r v) d e ticket (with_drawn r) m'
 looks_drawn r v m' d e ticket (inl looks) = inl looks
 looks_drawn r v m' d e ticket (inr faults) = inr (record { heap = faults.heap; told = faults.told; after = faults.after })
+
+-- A daemon that is found may draw a number where the daemon of its number may.
+pub may_draw_found : (r : Roll) (id : ℕ) (d : Daemon) → daemon_of r id ≡ Some d → MayDraw r (held_by r id) → MayDraw r d.holds
+may_draw_found r id d found may = subst (λ (o : Option Daemon). MayDraw r (option_and_then (λ (d : Daemon). d.holds) o)) found may
+
+-- One that holds no number may only where another can be drawn.
+pub may_draw_free : (r : Roll) (held : Option Holding) → held ≡ None → MayDraw r held → r.drawn < 2 ^ 60
+may_draw_free r held free (inl holds) = absurd (true≢false (sym (subst IsSome free holds)))
+may_draw_free r held free (inr below) = below

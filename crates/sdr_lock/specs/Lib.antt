@@ -4,6 +4,7 @@ pub mod CodedRoll
 pub mod Core
 pub mod Crash
 pub mod Demand
+pub mod Gaps
 pub mod Ground
 pub mod Leaving
 pub mod Legal

@@ -1,5 +1,5 @@
 -- The roll of a machine: its daemons, how many numbers they have drawn, and whether the disk has failed.
-use Rattle.std.specs.Prelude.{ℕ, ◌+◌, ◌==◌, ◌||◌, List, [], ◌∷◌, Bool, true, false, Option, None, Some, find, map, min, not, position, slice_set, if◌then◌else◌}
+use Rattle.std.specs.Prelude.{ℕ, ◌+◌, ◌<◌, ◌^◌, ◌⊎◌, ◌==◌, ◌||◌, List, [], ◌∷◌, Bool, true, false, Option, None, Some, IsSome, option_and_then, find, map, min, not, position, slice_set, if◌then◌else◌}
 use Rattle.std.specs.List.{list_all}
 use Rattle.std.specs.Option.{option_map_or}
 use Rattle.sdr_model.specs.AccountSteps.{is_granted, pending_of}
@@ -48,6 +48,14 @@ least_held (d ∷ ds) = lesser_of d.holds (least_held ds)
 -- The number that is served: the least that was drawn and isn't done; 0 where there is none.
 abbrev pub served_number : Roll → ℕ
 served_number r = least_held r.daemons
+
+-- the daemon holds a number, or another number can be drawn
+abbrev pub MayDraw : Roll → Option Holding → Type 0
+MayDraw r held = IsSome held ⊎ (r.drawn < 2 ^ 60)
+
+-- the number that the daemon of a number holds
+abbrev pub held_by : Roll → ℕ → Option Holding
+held_by r id = option_and_then (λ (d : Daemon). d.holds) (daemon_of r id)
 
 -- the number that an event of a daemon is made under: the one that it holds, else the next
 abbrev pub number_of : Roll → Daemon → ℕ

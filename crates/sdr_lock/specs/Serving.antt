@@ -21,6 +21,7 @@ use Rattle.sdr_model.specs.declared.event.Event.TheVariants as events
 use Rattle.sdr_model.specs.declared.journal.Said.{Said}
 use Rattle.sdr_lock.specs.Agreeing.{AgreesWith}
 use Rattle.sdr_lock.specs.Crash.{LeavesOr}
+use Rattle.sdr_lock.specs.Gaps.{GapsLast, HasGapCause}
 use Rattle.sdr_lock.specs.Ground.{State, HasHeap, Steps, kept, put_back}
 use Rattle.sdr_lock.specs.Machine.{Machine, Made}
 use Rattle.sdr_lock.specs.Roll.{Roll, after_entry, after_number, after_wait, at_nesting, daemon_of, is_stalled, is_stuck, served_number, waits_for, with_daemon}
@@ -89,10 +90,11 @@ pub record MeetsFault {T : Type 0} (g : Ghosts T) (old new : T) : Type 0 where
   pub heap : (v : Standing) → g.stands old v → HasHeap v.before.base
   pub cause : Rose (g.faults old) (g.faults new)
 
--- What a ground keeps in whatever it is asked, where a call is spent or none: its count of faults doesn't fall, its media tell
--- the same, and it lasts for as many calls, but for the one that is spent.
+-- What a ground keeps in whatever it is asked, where a call is spent or none: no count of faults falls, its media tell the
+-- same, and it lasts for as many calls, but for the one that is spent.
 pub record KeepsGround {T : Type 0} (g : Ghosts T) (spent : Bool) (old new : T) : Type 0 where
   pub later : g.faults old ≤ g.faults new
+  pub gaps : GapsLast (g.gaps old) (g.gaps new)
   pub media : g.told new ≡ g.told old
   pub lasts : (n : ℕ) → g.lasts old (if spent then suc n else n) → g.lasts new n
 
@@ -158,11 +160,12 @@ pub record Makes {T : Type 0} (g : Ghosts T) (R : Machine → Made → Machine �
 abbrev pub is_disk_fault : Came → Bool
 is_disk_fault a = not a.called && is_fault_answer a.answer
 
--- What an event leaves of the ground: a disk fault has its cause, and a crash leaves the state before the transaction, or where
--- the event may keep it, the one that is kept. Where the disk had failed, the ground isn't asked.
+-- What an event leaves of the ground: a fault of the disk or of media has its cause, and a crash leaves the state before the
+-- transaction, or where the event may keep it, the one that is kept. Where the disk had failed, the ground isn't asked.
 pub record Asks {T : Type 0} (g : Ghosts T) (keeps : Bool) (a : Came) (old new : Locked T) : Type 0 where
   pub kept : KeepsGround g true old.base new.base
   pub cause : is_disk_fault a ≡ true → Rose (g.faults old.base) (g.faults new.base)
+  pub gap : HasGapCause a.answer (g.gaps old.base) (g.gaps new.base)
   pub any_moment : LeavesOr keeps g old.base new.base
   pub failed : IsSome old.roll.failed → new.base ≡ old.base
 

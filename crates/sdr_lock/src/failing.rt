@@ -1,5 +1,6 @@
 // The roll of a lock whose disk has failed.
 ghost use Rattle.std.specs.Prelude.{◌≡◌, ◌<◌, ◌^◌};
+ghost use Rattle.sdr_lock.specs.Roll.{MayDraw, held_by};
 ghost use Rattle.sdr_lock.specs.Machine.{roll_acting, roll_coming, roll_failed, roll_holding};
 
 use crate::{Daemon, Holding, Roll};
@@ -41,7 +42,7 @@ fn hold_failed(roll: &mut Roll, daemon: Daemon, holding: &Holding, event: &Event
 
 // An event of a daemon of the roll's.
 fn act_failed(roll: &mut Roll, daemon: Daemon, event: &Event)
-    requires { roll.old.drawn < 2 ^ 60 }
+    requires { MayDraw roll.old daemon.holds }
     ensures acts { roll.new ≡ roll_acting roll.old daemon event.now }
     ensures failed { roll.new.failed ≡ roll.old.failed }
 {
@@ -56,7 +57,7 @@ fn act_failed(roll: &mut Roll, daemon: Daemon, event: &Event)
 
 /// An event, where the disk has failed.
 pub fn go_failed(roll: &mut Roll, id: u8, event: &Event)
-    requires { roll.old.drawn < 2 ^ 60 }
+    requires { MayDraw roll.old (held_by roll.old id) }
     ensures goes { roll.new ≡ roll_failed roll.old id event.now }
     ensures failed { roll.new.failed ≡ roll.old.failed }
 {

@@ -1,6 +1,7 @@
 // A ground that stands for states of the machine.
 ghost use Rattle.std.specs.Prelude.{ℕ, List, Option, suc};
 ghost use Rattle.sdr_base.specs.Media.{Told};
+ghost use Rattle.sdr_lock.specs.Gaps.{Gaps};
 ghost use Rattle.sdr_lock.specs.Ground.{State};
 ghost use Rattle.sdr_lock.specs.Standing.{Standing};
 
@@ -14,6 +15,9 @@ pub trait HasGround {
 
     /// How many faults of the disk there were.
     ghost faults: { Self → ℕ };
+
+    /// How often its media have failed, and have given fewer bytes than were asked for.
+    ghost gaps: { Self → Gaps };
 
     /// What its media tell.
     ghost told: { Self → Option Told };

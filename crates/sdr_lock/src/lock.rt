@@ -3,7 +3,7 @@ ghost use Rattle.std.specs.Prelude.{◌&&◌, ◌==◌, not, ◌≡◌, ◌<◌,
 ghost use Rattle.sdr_lock.specs.Crash.{keeps_by, keeps_in, keeps_of, keeps_under};
 ghost use Rattle.sdr_lock.specs.Ground.{State};
 ghost use Rattle.sdr_lock.specs.Machine.{MachineStep, Answers, Comes, ComesLooking, Holds, Serves, Performs, Enters, Looks, LooksHolding, Opens, Closes, FaultsWithin, ComesLeaving, Draws, IsSuspended, LeavesHolding, is_of_work, is_outside};
-ghost use Rattle.sdr_lock.specs.Roll.{after_entry, at_nesting, first_roll, with_daemon, with_fault, with_number};
+ghost use Rattle.sdr_lock.specs.Roll.{MayDraw, after_entry, at_nesting, first_roll, held_by, with_daemon, with_fault, with_number};
 ghost use Rattle.sdr_lock.specs.Serving.{Acts, is_served};
 ghost use Rattle.sdr_lock.specs.Transaction.{is_closing, transaction_of};
 
@@ -298,7 +298,7 @@ impl<T: Serves> Lock<T> {
 
     // An event, where the disk has failed at a moment.
     fn fail_again(&mut self, daemon: u8, event: &Event, moment: u64) -> Came
-        requires drawn { self.old.roll.drawn < 2 ^ 60 }
+        requires drawn { MayDraw self.old.roll (held_by self.old.roll daemon) }
         requires failed { self.old.roll.failed ≡ Some moment }
         ensures { Acts T.HasGround false MachineStep daemon event.now result self.old self.new }
     {
@@ -380,7 +380,7 @@ impl<T: Serves> Lock<T> {
 
     // One event of a daemon of the lock's.
     fn perform(&mut self, daemon: Daemon, event: &Event) -> Result<Came, NoMemory>
-        requires drawn { self.old.roll.drawn < 2 ^ 60 }
+        requires drawn { MayDraw self.old.roll daemon.holds }
         requires sound { self.old.roll.failed ≡ None }
         requires lasts { T.lasts self.old.base 1 }
         ensures performs { IfOk result (λ came. Acts T.HasGround (keeps_of self.old.roll daemon event.now)
@@ -398,7 +398,7 @@ impl<T: Serves> Lock<T> {
 
     // An event, where the disk hasn't failed.
     fn answer(&mut self, id: u8, event: &Event) -> Result<Came, NoMemory>
-        requires drawn { self.old.roll.drawn < 2 ^ 60 }
+        requires drawn { MayDraw self.old.roll (held_by self.old.roll id) }
         requires sound { self.old.roll.failed ≡ None }
         requires lasts { T.lasts self.old.base 1 }
         ensures answers { IfOk result (λ came. Acts T.HasGround (keeps_by self.old.roll id event.now) (λ m e m'. Answers m e m')
@@ -413,7 +413,7 @@ impl<T: Serves> Lock<T> {
 
     /// Makes an event of a daemon. Want of memory leaves all as before.
     pub fn event(&mut self, daemon: u8, event: &Event) -> Result<Came, NoMemory>
-        requires drawn { self.old.roll.drawn < 2 ^ 60 }
+        requires drawn { MayDraw self.old.roll (held_by self.old.roll daemon) }
         requires lasts { T.lasts self.old.base 1 }
         ensures step { IfOk result (λ came. Acts T.HasGround (keeps_by self.old.roll daemon event.now) MachineStep
             daemon event.now came self.old self.new) }

@@ -1,10 +1,11 @@
 // The ground of a lock.
 ghost use Rattle.std.specs.Prelude.{true, false, ◌≡◌, IfOk, OnOk, OnErr, IsErrOf};
 ghost use Rattle.sdr_lock.specs.Crash.{LeavesBefore, LeavesEither};
+ghost use Rattle.sdr_lock.specs.Gaps.{HasGapCause};
 ghost use Rattle.sdr_lock.specs.Serving.{Brings, Calls, Keeps, KeepsGround, MeetsFault, PutsBack, Shows};
 
 use crate::{Fault, Halt, HasGround};
-use sdr_model::{Call, Reply};
+use sdr_model::{Answer, Call, Reply};
 
 /// A world that calls change within a transaction, which is then kept or put back. A transaction begins
 /// with the first call after that.
@@ -17,6 +18,7 @@ pub trait Serves: HasGround {
     fn call(&mut self, call: &Call) -> Result<Reply, Halt>
         requires { Self.lasts self.old 1 }
         ensures answered { IfOk result (λ reply. Brings Self.stands self.old self.new (Calls (Self.told self.old) call.now reply)) }
+        ensures gap { IfOk result (λ reply. HasGapCause (Answer.Reply reply) (Self.gaps self.old) (Self.gaps self.new)) }
         ensures memory { IsErrOf result Halt.Memory → self.new ≡ self.old }
         ensures fault { IsErrOf result Halt.Fault → MeetsFault Self.HasGround self.old self.new }
         ensures keeps { KeepsGround Self.HasGround true self.old self.new }

@@ -1,12 +1,12 @@
-use Rattle.std.proofs.Common.{◌≡◌, ◌∙◌, IfOk, None, Some, ap, false, refl, subst, sym, true}
+use Rattle.std.proofs.Common.{◌≡◌, ◌∙◌, IfOk, None, Some, ap, refl, subst, sym}
 use Rattle.sdr_base.specs.declared.refusal.Refusal.TheVariants as refusals
-use Rattle.sdr_lock.specs.Crash.{keeps_by, keeps_of}
+use Rattle.sdr_lock.specs.Crash.{keeps_of}
 use Rattle.sdr_lock.specs.Machine.{Performs}
 use Rattle.sdr_lock.specs.Roll.{daemon_of}
 use Rattle.sdr_lock.specs.Serving.{Acts, Locked}
 use Rattle.sdr_lock.specs.Transaction.{refused}
 use Rattle.sdr_lock.proofs.LockLemmas.{acts_also, acts_same, if_ok, told}
-use Rattle.sdr_lock.proofs.WorkLemmas.{found_id, keeps_found, on_none, on_some}
+use Rattle.sdr_lock.proofs.WorkLemmas.{found_id, keeps_found, may_draw_found, on_none, on_some}
 use Rattle.sdr_lock.proofs.lock.Lock.answer.Goals as goal
 
 pub returns-in-None-clause-answers : goal.returns-in-None-clause-answers
@@ -28,3 +28,11 @@ returns-in-Some-clause-answers g c =
     (keeps_found self.roll c.args.id d c.args.event.now some)
     (λ v v' line performs. on_some _ _ _ d some performs) acts)
     (subst (λ id. IfOk c.perform.result (λ a. Acts g.T.HasGround (keeps_of self.roll d c.args.event.now) (λ m e m'. Performs m d e m') id c.args.event.now a self c.perform.new.self)) same c.perform.ensures.performs)
+
+pub perform-requires-clause-drawn : goal.perform-requires-clause-drawn
+perform-requires-clause-drawn g c =
+    let T = g.row.T.Denot in
+    let self : Locked T = c.args.self.now in
+    let d = c.in-Some.daemon in
+    let some : daemon_of self.roll c.args.id ≡ Some d = subst (λ (l : Locked T). daemon_of l.roll c.args.id ≡ Some d) c.self.view_is (sym c.in-Some.ensures) in
+    may_draw_found self.roll c.args.id d some c.requires.drawn

@@ -1,12 +1,10 @@
-use Rattle.std.proofs.Common.{◌≡◌, ◌∙◌, Err, ap, inl, inr, is_none, refl, sym, subst, true, false}
+use Rattle.std.proofs.Common.{◌≡◌, ◌∙◌, Err, ap, inl, inr, is_none, refl, sym, subst, true}
 use Rattle.sdr_model.specs.declared.answer.Answer.TheVariants as answers
-use Rattle.sdr_base.specs.declared.refusal.Refusal.TheVariants as refusals
 use Rattle.sdr_lock.specs.Crash.{LeavesBefore}
 use Rattle.sdr_lock.specs.Machine.{roll_closed}
 use Rattle.sdr_lock.specs.Nesting.{noted}
 use Rattle.sdr_lock.specs.Roll.{Roll, at_nesting, with_daemon}
 use Rattle.sdr_lock.specs.Serving.{Calls, KeepsGround, Locked, MeetsFault, machine_at}
-use Rattle.sdr_lock.specs.Standing.{Standing}
 use Rattle.sdr_lock.specs.declared.came.Came.{Came}
 use Rattle.sdr_lock.proofs.LockLemmas.{acts_asked, acts_failed}
 use Rattle.sdr_lock.proofs.WorkLemmas.{works_called}
@@ -25,7 +23,7 @@ returns-in-Ok-clause-serves g c =
     c.put.ensures ∙ ap (with_daemon old.roll) (c.at_nesting.ensures ∙ ap (at_nesting d h) c.note.ensures) in
     acts_asked g.T.HasGround _ _ (Calls (g.T.HasGround.told old.base) c.args.call.now reply) d.id _ a a old _ new c.self.view_is refl refl
     (λ called. ap (λ (r : Roll). r.failed) put ∙ ap (λ (l : Locked T). l.roll.failed) c.self.view_is ∙ c.requires.sound) c.requires.sound
-    c.in-Ok.ensures.answered c.in-Ok.ensures.keeps c.in-Ok.ensures.any_moment
+    c.in-Ok.ensures.answered c.in-Ok.ensures.keeps c.in-Ok.ensures.any_moment c.in-Ok.ensures.gap
     (λ v v' called. called.media)
     (λ v v' line called. inl (works_called (machine_at old.roll v) (machine_at new.roll v') d h c.args.call.now reply _ v'
     c.requires.undoomed called.steps refl refl refl (λ i. record { roll = put i; before = called.before i; now = v'.now })))

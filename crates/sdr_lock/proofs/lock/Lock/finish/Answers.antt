@@ -1,12 +1,11 @@
-use Rattle.std.proofs.Common.{[], ◌≡◌, ◌∙◌, Bool, ap, inl, inr, refl, sym, subst, true, false, true≢false}
+use Rattle.std.proofs.Common.{[], ◌≡◌, ◌∙◌, ap, inl, inr, refl, sym, subst, true, true≢false}
 use Rattle.sdr_model.specs.declared.answer.Answer.TheVariants as answers
 use Rattle.sdr_lock.specs.Crash.{LeavesOr, is_kept, keeps_in}
 use Rattle.sdr_lock.specs.Ground.{State, NoHeap, resting}
 use Rattle.sdr_model.specs.World.{empty_world}
 use Rattle.sdr_lock.specs.Machine.{roll_closed}
-use Rattle.sdr_lock.specs.Roll.{Roll, after_entry, with_daemon}
-use Rattle.sdr_lock.specs.Serving.{KeepsGround, Locked, MeetsFault, Settles, machine_at}
-use Rattle.sdr_lock.specs.Standing.{Standing}
+use Rattle.sdr_lock.specs.Roll.{with_daemon}
+use Rattle.sdr_lock.specs.Serving.{KeepsGround, Locked, MeetsFault, Settles}
 use Rattle.sdr_lock.specs.Transaction.{transaction_of}
 use Rattle.sdr_lock.proofs.GroundLemmas.{keeps_more}
 use Rattle.sdr_lock.proofs.LockLemmas.{acts_asked, acts_failed, agrees_untold, told}
@@ -30,7 +29,7 @@ returns-in-Ok g c =
     acts_asked g.T.HasGround _ _ (Settles close) d.id _ (told (answers.Closed close)) c.told.result old _ new
     c.self.view_is c.told.ensures refl (λ called. absurd (true≢false (sym called))) c.requires.sound c.in-Ok.ensures.left
     (keeps_more g.T.HasGround c.in-Ok.ensures.keeps)
-    (subst (λ k. LeavesOr k g.T.HasGround old.base c.settle.new.base) keeps c.in-Ok.ensures.any_moment)
+    (subst (λ k. LeavesOr k g.T.HasGround old.base c.settle.new.base) keeps c.in-Ok.ensures.any_moment) tt
     (λ v v' left. agrees_untold (g.T.HasGround.told old.base) v.now.world c.args.event.now (answers.Closed close) [] refl)
     (λ v v' line left. inl (closes_so old.roll new.roll d h _ close v v' c.closing-close.ensures
     (record { answer = refl; moves = refl; bytes = refl }) left roll))

@@ -1,4 +1,4 @@
-use Rattle.std.proofs.Common.{◌==◌, ◌≡◌, ◌⊎◌, ◌∙◌, ap, arith, false, refl, subst, true}
+use Rattle.std.proofs.Common.{◌==◌, ◌≡◌, ◌⊎◌, ◌∙◌, ap, arith, false, refl, true}
 use Rattle.sdr_model.specs.declared.answer.Answer.TheVariants as answers
 use Rattle.sdr_model.specs.declared.answer.Reply.TheVariants as replies
 use Rattle.sdr_base.specs.declared.refusal.Refusal.TheVariants as refusals

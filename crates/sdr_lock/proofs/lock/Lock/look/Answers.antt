@@ -1,12 +1,10 @@
 use Rattle.std.proofs.Common.{◌≡◌, ◌∙◌, ap, false, inl, inr, refl, subst, sym, true, true≢false, []}
-use Rattle.sdr_model.specs.declared.answer.Answer.TheVariants as answers
 use Rattle.sdr_model.specs.declared.event.Event.TheVariants as events
 use Rattle.sdr_lock.specs.Crash.{LeavesBefore}
-use Rattle.sdr_lock.specs.Roll.{Roll, after_entry, with_daemon}
-use Rattle.sdr_lock.specs.Serving.{KeepsGround, Locked, MeetsFault, Sees, after_look, is_disk_fault, machine_at, sight}
-use Rattle.sdr_lock.specs.Standing.{Standing}
+use Rattle.sdr_lock.specs.Roll.{after_entry, with_daemon}
+use Rattle.sdr_lock.specs.Serving.{KeepsGround, Locked, MeetsFault, Sees, after_look, machine_at}
 use Rattle.sdr_lock.proofs.GroundLemmas.{keeps_more}
-use Rattle.sdr_lock.proofs.LockLemmas.{acts_asked, acts_failed, agrees_untold, sight_no_fault, sight_untold, told}
+use Rattle.sdr_lock.proofs.LockLemmas.{acts_asked, acts_failed, agrees_untold, no_gap_cause, sight_no_fault, sight_untold, told}
 use Rattle.sdr_lock.proofs.WorkLemmas.{looks_so}
 use Rattle.sdr_lock.proofs.lock.Lock.look.Goals as goal
 
@@ -23,6 +21,7 @@ returns-in-Ok g c =
     c.self.view_is c.told.ensures
     (sight_no_fault answer c.in-Ok.ensures.kind) (λ called. absurd (true≢false (sym called))) c.requires.sound c.in-Ok.ensures.seen
     (keeps_more g.T.HasGround c.in-Ok.ensures.keeps) c.in-Ok.ensures.any_moment
+    (no_gap_cause answer _ _ (sight_untold answer c.in-Ok.ensures.kind))
     (λ v v' sees. agrees_untold (g.T.HasGround.told old.base) v.now.world (events.Look ticket) answer [] (sight_untold answer c.in-Ok.ensures.kind))
     (λ v v' line sees. inl (looks_so (machine_at old.roll v) (machine_at new.roll v') d _ ticket old.roll (record {
       told = record { answer = sees.seen; moves = refl; bytes = refl };

@@ -1,11 +1,8 @@
-use Rattle.std.proofs.Common.{◌≡◌, ◌∙◌, ap, false, refl, subst, sym, true, Option}
+use Rattle.std.proofs.Common.{◌∙◌, ap, refl}
 use Rattle.sdr_base.specs.declared.refusal.Refusal.TheVariants as refusals
-use Rattle.sdr_lock.specs.Crash.{keeps_of, keeps_under}
-use Rattle.sdr_lock.specs.Serving.{Locked}
 use Rattle.sdr_lock.specs.Transaction.{refused}
-use Rattle.sdr_lock.specs.declared.daemon.Holding.{Holding}
 use Rattle.sdr_lock.proofs.LockLemmas.{acts_also, acts_or, acts_same, if_ok, told}
-use Rattle.sdr_lock.proofs.WorkLemmas.{keeps_holding, on_false, on_none, on_some, on_true}
+use Rattle.sdr_lock.proofs.WorkLemmas.{keeps_holding, may_draw_free, on_false, on_none, on_some, on_true}
 use Rattle.sdr_lock.proofs.lock.Lock.perform.Goals as goal
 
 pub returns-then-daemon-clause-performs : goal.returns-then-daemon-clause-performs
@@ -25,3 +22,9 @@ returns-in-Some-clause-performs g c =
     if_ok c.hold.result _ _ (λ a acts. acts_also g.T.HasGround _ _ _ _ c.args.daemon.id c.args.event.now a c.args.self.now c.hold.new.self
     (keeps_holding c.args.self.now.roll c.args.daemon h c.args.event.now c.in-Some.is)
     (λ v v' line holds. on_false _ _ _ c.if-daemon.false (on_some _ _ _ h c.in-Some.is holds)) acts) c.hold.ensures.holds
+
+pub come-requires : goal.come-requires
+come-requires g c = record {
+  drawn = may_draw_free c.args.self.now.roll c.args.daemon.holds c.in-None.is c.requires.drawn;
+  sound = c.requires.sound;
+}

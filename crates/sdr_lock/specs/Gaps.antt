@@ -1,0 +1,23 @@
+-- How often media have failed, and when an answer may tell so.
+use Rattle.std.specs.Prelude.{◌≤◌, ℕ, ⊤}
+use Rattle.sdr_base.specs.Causes.{Rose}
+use Rattle.sdr_base.specs.declared.refusal.Refusal.TheVariants as refusals
+use Rattle.sdr_model.specs.declared.answer.Answer.{Answer}
+use Rattle.sdr_model.specs.declared.answer.Answer.TheVariants as answers
+use Rattle.sdr_model.specs.declared.answer.Reply.TheVariants as replies
+
+-- how often media have failed, and have given fewer bytes than were asked for
+pub record Gaps : Type 0 where
+  pub faults : ℕ
+  pub short : ℕ
+
+-- the counts have not fallen
+pub record GapsLast (old new : Gaps) : Type 0 where
+  pub faults : old.faults ≤ new.faults
+  pub short : old.short ≤ new.short
+
+-- where an answer tells that media failed, or gave fewer bytes than were asked for, the count of that rose
+abbrev pub HasGapCause : Answer → Gaps → Gaps → Type 0
+HasGapCause (answers.Reply replies.MediaFault) old new = Rose old.faults new.faults
+HasGapCause (answers.Reply (replies.Refused (refusals.SourceShort have want))) old new = Rose old.short new.short
+HasGapCause answer old new = ⊤
