@@ -1,11 +1,11 @@
 -- What follows one another in a ground.
-use Rattle.std.proofs.Common.{◌≡◌, ◌∙◌, ◌≤◌, ◌+◌, ℕ, suc, List, Bool, true, false, refl, sym, ap, subst, inl, inr, arith}
+use Rattle.std.proofs.Common.{◌≡◌, ◌∙◌, ◌≤◌, ◌+◌, ℕ, suc, List, Bool, true, false, refl, subst, inl, arith}
 use Rattle.std.proofs.Common.{nat_le}
 use Rattle.std.proofs.lemmas.Bool.{leb-false, leb-true}
 use Rattle.sdr_base.proofs.WrittenLemmas.{rose_later}
 use Rattle.sdr_lock.specs.Crash.{LeavesBefore, LeavesEither, LeavesOr}
 use Rattle.sdr_lock.specs.Ground.{State, HasHeap}
-use Rattle.sdr_lock.specs.Serving.{Brings, KeepsGround, MeetsFault, StandsFor, StandsStill}
+use Rattle.sdr_lock.specs.Serving.{Brings, KeepsGround, MeetsFault, StandsStill}
 use Rattle.sdr_lock.specs.Standing.{Standing}
 use Rattle.sdr_lock.specs.declared.has_ground.HasGround.{Ghosts}
 

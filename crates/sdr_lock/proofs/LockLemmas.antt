@@ -1,6 +1,6 @@
 -- How a lock's answer to an event is a step of the machine.
 use Rattle.sdr_lock.specs.Transaction.{bytes_given}
-use Rattle.std.proofs.Common.{◌≡◌, ◌∙◌, ℕ, List, [], if◌then◌else◌, Bool, true, false, true≢false, Result, Ok, Err, IfOk, Option, None, Some, IsSome, is_some, refl, sym, ap, subst}
+use Rattle.std.proofs.Common.{◌≡◌, ◌∙◌, ℕ, List, [], if◌then◌else◌, Bool, true, false, true≢false, Result, Ok, Err, IfOk, Option, None, Some, is_some, refl, sym, ap, subst}
 use Rattle.sdr_model.specs.declared.answer.Answer.{Answer}
 use Rattle.sdr_model.specs.declared.answer.Answer.TheVariants as answers
 use Rattle.sdr_model.specs.declared.answer.Reply.TheVariants as replies
@@ -9,7 +9,7 @@ use Rattle.sdr_model.specs.declared.event.Event.TheVariants as events
 use Rattle.sdr_base.specs.Media.{Told}
 use Rattle.sdr_base.specs.declared.refusal.Refusal.TheVariants as refusals
 use Rattle.sdr_lock.specs.Agreeing.{AgreesReading, AgreesWith}
-use Rattle.sdr_lock.specs.Crash.{LeavesBefore, LeavesOr}
+use Rattle.sdr_lock.specs.Crash.{LeavesOr}
 use Rattle.sdr_lock.specs.Machine.{Machine, Made, Goes, Faults, with_roll}
 use Rattle.sdr_lock.specs.Roll.{Roll, with_drawn, with_fault}
 use Rattle.sdr_lock.specs.Serving.{Acts, Asks, Brings, KeepsGround, Locked, MeetsFault, is_disk_fault, is_sight, machine_at, made_by}

@@ -4,13 +4,12 @@ use Rattle.std.proofs.lemmas.List.{take_all}
 use Rattle.std.specs.List.{list_all}
 use Rattle.std.specs.Option.{option_map, option_map_or}
 use Rattle.sdr_model.specs.AccountSteps.{is_granted, pending_of}
-use Rattle.sdr_model.specs.World.{World}
 use Rattle.sdr_model.specs.declared.accounts.Pending.{Pending}
 use Rattle.sdr_model.specs.declared.answer.Answer.{Answer}
 use Rattle.sdr_model.specs.declared.answer.Answer.TheVariants as answers
 use Rattle.sdr_lock.specs.Ground.{State}
 use Rattle.sdr_lock.specs.Roll.{Roll, is_stalled, is_stuck, waits_for}
-use Rattle.sdr_lock.specs.Serving.{Doubts, Finds, Sees, Shows, StandsStill, answer_seen, shown_in, waiting_answer}
+use Rattle.sdr_lock.specs.Serving.{Doubts, Finds, Sees, Shows, answer_seen, waiting_answer}
 use Rattle.sdr_lock.specs.Standing.{Standing}
 use Rattle.sdr_lock.specs.declared.daemon.Daemon.{Daemon}
 use Rattle.sdr_lock.proofs.GroundLemmas.{still_same, still_then}

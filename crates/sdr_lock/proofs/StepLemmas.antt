@@ -1,7 +1,6 @@
 -- What a step of the machine may be.
-use Rattle.std.proofs.Common.{◌≡◌, ◌≤◌, ◌⊎◌, ◌∙◌, ◌==◌, ◌+◌, ◌&&◌, ℕ, List, [], Bool, true, false, Option, None, Some, nat_le, if◌then◌else◌, arith, MatchBool, MatchOption, refl, sym, ap, subst, inl, inr}
+use Rattle.std.proofs.Common.{◌≡◌, ◌≤◌, ◌⊎◌, ◌∙◌, ◌==◌, ◌+◌, ◌&&◌, ℕ, [], Bool, true, false, Option, None, Some, nat_le, if◌then◌else◌, arith, MatchBool, MatchOption, refl, sym, ap, subst, inl, inr}
 use Rattle.std.specs.Option.{option_map_or}
-use Rattle.sdr_base.specs.declared.refusal.Reason.{Reason}
 use Rattle.sdr_base.specs.declared.refusal.Reason.TheVariants as reasons
 use Rattle.sdr_base.specs.declared.refusal.Refusal.TheVariants as refusals
 use Rattle.sdr_model.specs.AccountSteps.{pending_of}
@@ -13,8 +12,8 @@ use Rattle.sdr_model.specs.declared.call.Call.{Call}
 use Rattle.sdr_model.specs.declared.event.Event.{Event}
 use Rattle.sdr_model.specs.declared.event.Event.TheVariants as events
 use Rattle.sdr_lock.specs.Ground.{HasHeap}
-use Rattle.sdr_lock.specs.Machine.{Machine, Made, MachineStep, Answers, Closes, Comes, Departs, Enters, Faults, FaultsWithin, Goes, Holds, Looks, LooksAt, Performs, Serves, Works, is_outside, roll_acting, roll_coming, roll_failed, roll_holding}
-use Rattle.sdr_lock.specs.Nesting.{Inner, cancelled, comes_to, deepened, deepest, doomed_for, ended}
+use Rattle.sdr_lock.specs.Machine.{Machine, Made, MachineStep, Answers, Closes, Comes, Enters, Faults, FaultsWithin, Goes, Holds, Looks, Serves, Works, is_outside, roll_acting, roll_coming, roll_failed, roll_holding}
+use Rattle.sdr_lock.specs.Nesting.{comes_to, deepened, deepest, doomed_for}
 use Rattle.sdr_lock.specs.Roll.{Roll, after_leave, daemon_of, is_stalled, served_number, waits_for, with_daemon, with_drawn, with_number}
 use Rattle.sdr_lock.specs.Transaction.{Replies, Transaction, Transacts, is_closing, is_opening, left_by, transaction_of}
 use Rattle.sdr_lock.specs.declared.daemon.Daemon.{Daemon}

@@ -1,5 +1,5 @@
 -- How what a lock has done for an event is a step of the machine.
-use Rattle.std.proofs.Common.{◌≡◌, ◌⊎◌, ◌∙◌, ◌&&◌, ◌==◌, ℕ, List, [], ◌∷◌, Bool, true, false, not, if◌then◌else◌, true≢false, Option, None, Some, is_none, nat_le, find, cond, arith, MatchBool, MatchOption, refl, sym, ap, subst, inl, inr}
+use Rattle.std.proofs.Common.{◌≡◌, ◌⊎◌, ◌∙◌, ◌&&◌, ◌==◌, ℕ, List, [], ◌∷◌, Bool, true, false, not, if◌then◌else◌, true≢false, Option, None, Some, is_none, find, cond, arith, MatchBool, MatchOption, refl, sym, ap, subst, inl, inr}
 use Rattle.std.proofs.lemmas.Bool.Decides.{nat_tests}
 use Rattle.std.specs.Option.{option_map, option_map_or}
 use Rattle.sdr_base.specs.declared.refusal.Reason.{Reason}
@@ -16,13 +16,12 @@ use Rattle.sdr_model.specs.declared.event.Event.{Event}
 use Rattle.sdr_model.specs.declared.event.Event.TheVariants as events
 use Rattle.sdr_model.specs.declared.event.Leave.{Leave}
 use Rattle.sdr_model.specs.declared.journal.Said.{Said}
-use Rattle.sdr_model.specs.World.{World}
 use Rattle.sdr_lock.specs.Crash.{is_kept, keeps_by, keeps_in, keeps_of, keeps_under}
 use Rattle.sdr_lock.specs.Ground.{State, Steps}
-use Rattle.sdr_lock.specs.Machine.{Machine, Made, Closes, Comes, Enters, Goes, Holds, Looks, LooksAt, Serves, Works, is_of_work, is_outside, roll_closed, with_roll}
+use Rattle.sdr_lock.specs.Machine.{Machine, Made, Closes, Comes, Enters, Goes, Holds, Looks, LooksAt, Works, is_of_work, is_outside, roll_closed, with_roll}
 use Rattle.sdr_lock.specs.Nesting.{Inner, closing, noted}
 use Rattle.sdr_lock.specs.Roll.{Roll, after_number, after_entry, after_wait, at_nesting, daemon_of, is_stalled, served_number, waits_for, with_daemon, with_drawn}
-use Rattle.sdr_lock.specs.Serving.{Calls, Settles, after_look, answer_seen, machine_at, shown_in, sight, waiting_answer}
+use Rattle.sdr_lock.specs.Serving.{Settles, after_look, answer_seen, machine_at, sight, waiting_answer}
 use Rattle.sdr_lock.specs.Standing.{Standing}
 use Rattle.sdr_lock.specs.Transaction.{Nests, Transaction, Transacts, IsAnswered, asks_disk, bytes_given, is_closing, left_by, refused, transaction_of}
 use Rattle.sdr_lock.specs.declared.daemon.Daemon.{Daemon}

@@ -1,5 +1,5 @@
 -- Whether what a call that reads media gave agrees with what they hold.
-use Rattle.std.specs.Prelude.{◌≡◌, ℕ, List, [], ◌∷◌, Bool, true, length, Option, None, Some, nat_lt, MatchBool, ⊤}
+use Rattle.std.specs.Prelude.{◌≡◌, ℕ, List, [], ◌∷◌, true, length, Option, Some, nat_lt, MatchBool, ⊤}
 use Rattle.sdr_base.specs.Media.{Told}
 use Rattle.sdr_base.specs.declared.refusal.Refusal.TheVariants as refusals
 use Rattle.sdr_model.specs.Pieces.{bytes_by, media_bytes, piece_length, pieces_asked}

@@ -1,5 +1,5 @@
 -- The machine at the lock: daemons draw numbers, the least number that isn't done is served, and its daemon's transaction goes on.
-use Rattle.std.specs.Prelude.{◌≡◌, ◌⊎◌, ℕ, ◌+◌, List, Bool, false, true, Option, None, if◌then◌else◌, ◌==◌, ◌&&◌, MatchBool, MatchOption}
+use Rattle.std.specs.Prelude.{◌≡◌, ◌⊎◌, ℕ, ◌+◌, List, Bool, false, true, if◌then◌else◌, ◌==◌, ◌&&◌, MatchBool, MatchOption}
 use Rattle.std.specs.Option.{option_map_or}
 use Rattle.sdr_base.specs.declared.refusal.Refusal.TheVariants as refusals
 use Rattle.sdr_model.specs.AccountSteps.{pending_of}

@@ -1,5 +1,5 @@
 -- The nesting of a transaction: its depth, its doom, and whether it has changed something.
-use Rattle.std.specs.Prelude.{ℕ, ◌+◌, ◌-◌, false, true, Option, Some, None, unwrap_or, nat_le, if◌then◌else◌}
+use Rattle.std.specs.Prelude.{ℕ, ◌+◌, ◌-◌, false, true, Some, None, unwrap_or, nat_le, if◌then◌else◌}
 use Rattle.std.specs.Option.{option_map_or}
 use Rattle.sdr_base.specs.Refusal.{refusal_number}
 use Rattle.sdr_base.specs.declared.refusal.Reason.{Reason}

@@ -1,4 +1,3 @@
-use Rattle.std.proofs.Common.{true, false}
 use Rattle.sdr_lock.proofs.GroundLemmas.{brings_also, brings_same, brings_then}
 use Rattle.sdr_lock.proofs.LockLemmas.{if_ok}
 use Rattle.sdr_lock.proofs.SeeingLemmas.{finds_first, finds_none, finds_others, first_of, none_of}

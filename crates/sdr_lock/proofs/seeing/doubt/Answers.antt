@@ -1,5 +1,4 @@
-use Rattle.std.proofs.Common.{◌≡◌, ◌∙◌, ap, false, sym, true}
-use Rattle.sdr_lock.specs.Roll.{waits_for}
+use Rattle.std.proofs.Common.{◌∙◌, ap, sym, true}
 use Rattle.sdr_lock.specs.Serving.{waiting_answer}
 use Rattle.sdr_lock.proofs.GroundLemmas.{brings_also, brings_same}
 use Rattle.sdr_lock.proofs.SeeingLemmas.{doubts_again, doubts_new}

@@ -1,4 +1,4 @@
-use Rattle.std.proofs.Common.{◌≡◌, ◌∙◌, Bool, Option, Some, ap, sym}
+use Rattle.std.proofs.Common.{◌∙◌, Bool, Option, Some, ap, sym}
 use Rattle.sdr_lock.specs.Serving.{answer_seen}
 use Rattle.sdr_lock.proofs.GroundLemmas.{brings_also, brings_then}
 use Rattle.sdr_lock.proofs.LockLemmas.{if_ok}

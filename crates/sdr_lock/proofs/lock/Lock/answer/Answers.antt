@@ -1,6 +1,6 @@
-use Rattle.std.proofs.Common.{◌≡◌, ◌∙◌, IfOk, None, Some, ap, false, refl, subst, sym, true}
+use Rattle.std.proofs.Common.{◌≡◌, ◌∙◌, IfOk, None, Some, ap, refl, subst, sym}
 use Rattle.sdr_base.specs.declared.refusal.Refusal.TheVariants as refusals
-use Rattle.sdr_lock.specs.Crash.{keeps_by, keeps_of}
+use Rattle.sdr_lock.specs.Crash.{keeps_of}
 use Rattle.sdr_lock.specs.Machine.{Performs}
 use Rattle.sdr_lock.specs.Roll.{daemon_of}
 use Rattle.sdr_lock.specs.Serving.{Acts, Locked}

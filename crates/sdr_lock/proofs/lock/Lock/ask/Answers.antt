@@ -1,12 +1,10 @@
-use Rattle.std.proofs.Common.{◌≡◌, ◌∙◌, Err, ap, inl, inr, is_none, refl, sym, subst, true, false}
+use Rattle.std.proofs.Common.{◌≡◌, ◌∙◌, Err, ap, inl, inr, is_none, refl, sym, subst, true}
 use Rattle.sdr_model.specs.declared.answer.Answer.TheVariants as answers
-use Rattle.sdr_base.specs.declared.refusal.Refusal.TheVariants as refusals
 use Rattle.sdr_lock.specs.Crash.{LeavesBefore}
 use Rattle.sdr_lock.specs.Machine.{roll_closed}
 use Rattle.sdr_lock.specs.Nesting.{noted}
 use Rattle.sdr_lock.specs.Roll.{Roll, at_nesting, with_daemon}
 use Rattle.sdr_lock.specs.Serving.{Calls, KeepsGround, Locked, MeetsFault, machine_at}
-use Rattle.sdr_lock.specs.Standing.{Standing}
 use Rattle.sdr_lock.specs.declared.came.Came.{Came}
 use Rattle.sdr_lock.proofs.LockLemmas.{acts_asked, acts_failed}
 use Rattle.sdr_lock.proofs.WorkLemmas.{works_called}

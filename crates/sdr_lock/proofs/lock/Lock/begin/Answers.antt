@@ -1,4 +1,4 @@
-use Rattle.std.proofs.Common.{Bool, ℕ, ◌+◌, nat_le, if◌then◌else◌, ◌==◌, ◌≡◌, ◌∙◌, arith, ap, false, inl, refl, true}
+use Rattle.std.proofs.Common.{Bool, ◌+◌, nat_le, if◌then◌else◌, ◌==◌, ◌≡◌, ◌∙◌, arith, ap, false, inl, refl, true}
 use Rattle.sdr_model.specs.declared.event.Event.TheVariants as events
 use Rattle.std.proofs.lemmas.Bool.Decides.{nat_tests}
 use Rattle.sdr_lock.specs.Machine.{Opens}

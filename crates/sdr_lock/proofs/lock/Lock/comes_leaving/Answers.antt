@@ -1,9 +1,8 @@
-use Rattle.std.proofs.Common.{◌==◌, ◌≡◌, ◌∙◌, arith, ap, false, refl, subst, true}
+use Rattle.std.proofs.Common.{◌==◌, ◌≡◌, ◌∙◌, arith, false, refl, subst, true}
 use Rattle.sdr_model.specs.declared.answer.Answer.TheVariants as answers
 use Rattle.sdr_model.specs.declared.answer.Reply.TheVariants as replies
 use Rattle.std.proofs.lemmas.Bool.Decides.{nat_tests}
-use Rattle.sdr_lock.specs.Machine.{IsSuspended}
-use Rattle.sdr_lock.specs.Roll.{after_leave, served_number, with_daemon, with_drawn, with_number}
+use Rattle.sdr_lock.specs.Roll.{after_leave, served_number, with_daemon, with_drawn}
 use Rattle.sdr_lock.specs.Serving.{Locked}
 use Rattle.sdr_lock.proofs.LockLemmas.{acts_also, acts_told}
 use Rattle.sdr_lock.proofs.WorkLemmas.{on_false, on_true}

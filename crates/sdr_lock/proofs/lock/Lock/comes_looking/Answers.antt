@@ -1,4 +1,4 @@
-use Rattle.std.proofs.Common.{◌==◌, ◌≡◌, ◌∙◌, arith, ap, false, refl, subst, sym, true}
+use Rattle.std.proofs.Common.{◌==◌, ◌≡◌, arith, false, refl, subst, sym, true}
 use Rattle.sdr_model.specs.declared.event.Event.{Event}
 use Rattle.sdr_model.specs.declared.event.Event.TheVariants as events
 use Rattle.std.proofs.lemmas.Bool.Decides.{nat_tests}

@@ -1,4 +1,4 @@
-use Rattle.std.proofs.Common.{◌≡◌, None, false, refl, subst, sym}
+use Rattle.std.proofs.Common.{◌≡◌, None, refl, subst, sym}
 use Rattle.sdr_lock.specs.Machine.{MachineStep}
 use Rattle.sdr_lock.specs.Serving.{Locked}
 use Rattle.sdr_lock.proofs.LockLemmas.{acts_also, acts_or, if_ok}

@@ -1,9 +1,9 @@
-use Rattle.std.proofs.Common.{◌≡◌, ◌∙◌, ap, false, refl, subst, sym, IfOk}
+use Rattle.std.proofs.Common.{false, refl, subst, sym}
 use Rattle.sdr_model.specs.declared.answer.Answer.TheVariants as answers
 use Rattle.sdr_model.specs.declared.event.Event.{Event}
 use Rattle.sdr_model.specs.declared.event.Event.TheVariants as events
 use Rattle.sdr_lock.specs.Crash.{keeps_under}
-use Rattle.sdr_lock.specs.Machine.{Holds, LeavesHolding, LooksHolding}
+use Rattle.sdr_lock.specs.Machine.{Holds, LeavesHolding}
 use Rattle.sdr_lock.specs.Serving.{Acts}
 use Rattle.sdr_lock.proofs.LockLemmas.{acts_also, acts_or, acts_same, if_ok}
 use Rattle.sdr_lock.proofs.WorkLemmas.{holds_entering, is_work}

@@ -1,10 +1,8 @@
 use Rattle.std.proofs.Common.{◌≡◌, ◌∙◌, ap, false, inl, inr, refl, subst, sym, true, true≢false, []}
-use Rattle.sdr_model.specs.declared.answer.Answer.TheVariants as answers
 use Rattle.sdr_model.specs.declared.event.Event.TheVariants as events
 use Rattle.sdr_lock.specs.Crash.{LeavesBefore}
-use Rattle.sdr_lock.specs.Roll.{Roll, after_entry, with_daemon}
-use Rattle.sdr_lock.specs.Serving.{KeepsGround, Locked, MeetsFault, Sees, after_look, is_disk_fault, machine_at, sight}
-use Rattle.sdr_lock.specs.Standing.{Standing}
+use Rattle.sdr_lock.specs.Roll.{after_entry, with_daemon}
+use Rattle.sdr_lock.specs.Serving.{KeepsGround, Locked, MeetsFault, Sees, after_look, machine_at}
 use Rattle.sdr_lock.proofs.GroundLemmas.{keeps_more}
 use Rattle.sdr_lock.proofs.LockLemmas.{acts_asked, acts_failed, agrees_untold, sight_no_fault, sight_untold, told}
 use Rattle.sdr_lock.proofs.WorkLemmas.{looks_so}

@@ -1,8 +1,7 @@
 use Rattle.std.proofs.Common.{false, ◌≡◌, ◌∙◌, ap, refl}
 use Rattle.sdr_model.specs.declared.answer.Answer.TheVariants as answers
 use Rattle.sdr_lock.specs.Nesting.{nested}
-use Rattle.sdr_lock.specs.Roll.{Roll, at_nesting, with_daemon}
-use Rattle.sdr_lock.specs.declared.daemon.Daemon.{Daemon}
+use Rattle.sdr_lock.specs.Roll.{at_nesting, with_daemon}
 use Rattle.sdr_lock.specs.Serving.{Locked}
 use Rattle.sdr_lock.proofs.LockLemmas.{acts_told}
 use Rattle.sdr_lock.proofs.lock.Lock.open.Goals as goal

@@ -1,9 +1,6 @@
-use Rattle.std.proofs.Common.{◌≡◌, ◌∙◌, ap, false, refl, subst, sym, true, Option}
+use Rattle.std.proofs.Common.{◌∙◌, ap, refl}
 use Rattle.sdr_base.specs.declared.refusal.Refusal.TheVariants as refusals
-use Rattle.sdr_lock.specs.Crash.{keeps_of, keeps_under}
-use Rattle.sdr_lock.specs.Serving.{Locked}
 use Rattle.sdr_lock.specs.Transaction.{refused}
-use Rattle.sdr_lock.specs.declared.daemon.Holding.{Holding}
 use Rattle.sdr_lock.proofs.LockLemmas.{acts_also, acts_or, acts_same, if_ok, told}
 use Rattle.sdr_lock.proofs.WorkLemmas.{keeps_holding, on_false, on_none, on_some, on_true}
 use Rattle.sdr_lock.proofs.lock.Lock.perform.Goals as goal

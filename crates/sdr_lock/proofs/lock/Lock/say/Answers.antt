@@ -1,4 +1,4 @@
-use Rattle.std.proofs.Common.{false, ◌≡◌, ◌∙◌, ap, inl, refl}
+use Rattle.std.proofs.Common.{◌∙◌, ap, inl, refl}
 use Rattle.sdr_base.specs.declared.refusal.Refusal.TheVariants as refusals
 use Rattle.sdr_lock.specs.Roll.{at_nesting, with_daemon}
 use Rattle.sdr_lock.specs.Serving.{Locked, machine_at}
