@@ -98,7 +98,7 @@ impl Serves for Bare {
         Ok(reply)
     }
 
-    fn keep(&mut self) -> Result<(), Fault> {
+    fn keep(&mut self) -> Result<(), Halt> {
         self.world.keep();
         Ok(())
     }

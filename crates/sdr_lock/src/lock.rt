@@ -115,21 +115,24 @@ impl<T: Serves> Lock<T> {
         }
     }
 
-    // Keeps or puts back the transaction, whose number is then done.
-    fn finish(&mut self, daemon: Daemon, holding: &Holding, event: &Event) -> Came
+    // Keeps or puts back the transaction, whose number is then done. Only one that is kept may find no memory.
+    fn finish(&mut self, daemon: Daemon, holding: &Holding, event: &Event) -> Result<Came, NoMemory>
         requires sound { self.old.roll.failed ≡ None }
         requires closing { (s : State) → is_closing (transaction_of holding.now s) event.now ≡ true }
-        ensures { Acts T.HasGround (keeps_in holding.now.nesting event.now)
+        ensures closes { IfOk result (λ came. Acts T.HasGround (keeps_in holding.now.nesting event.now)
             (λ m e m'. Closes m daemon holding.now e m' ⊎ FaultsWithin m daemon holding.now event.now e m')
-            daemon.id event.now result self.old self.new }
+            daemon.id event.now came self.old self.new) }
+        ensures err { OnErr result (self.new ≡ self.old) }
+        ensures kept { OnErr result (keeps_in holding.now.nesting event.now ≡ true) }
     {
         let close = holding.nesting.closing(event);
         match settle(&mut self.base, close) {
             Ok(()) => {
                 self.roll.put(daemon.after_entry());
-                told(Answer::Closed(close))
+                Ok(told(Answer::Closed(close)))
             }
-            Err(Fault) => self.fail(daemon),
+            Err(Halt::Memory) => Err(AllocError),
+            Err(Halt::Fault) => Ok(self.fail(daemon)),
         }
     }
 
@@ -156,10 +159,11 @@ impl<T: Serves> Lock<T> {
     }
 
     // An end: the outermost one, or an inner one.
-    fn end(&mut self, daemon: Daemon, holding: Holding) -> Came
+    fn end(&mut self, daemon: Daemon, holding: Holding) -> Result<Came, NoMemory>
         requires sound { self.old.roll.failed ≡ None }
-        ensures { Acts T.HasGround (keeps_in holding.nesting Event.End) (λ m e m'. Serves m daemon holding Event.End e m')
-            daemon.id Event.End result self.old self.new }
+        ensures closes { IfOk result (λ came. Acts T.HasGround (keeps_in holding.nesting Event.End) (λ m e m'. Serves m daemon holding Event.End e m')
+            daemon.id Event.End came self.old self.new) }
+        ensures err { OnErr result (self.new ≡ self.old) }
     {
         let mut nesting = holding.nesting;
         if nesting.depth <= 1 {
@@ -167,13 +171,15 @@ impl<T: Serves> Lock<T> {
         }
         let answer = nesting.end();
         self.roll.put(daemon.at_nesting(holding, nesting));
-        told(answer)
+        Ok(told(answer))
     }
 
     // An exit: the outermost one, or an inner one.
-    fn exit(&mut self, daemon: Daemon, holding: Holding) -> Came
+    fn exit(&mut self, daemon: Daemon, holding: Holding) -> Result<Came, NoMemory>
         requires sound { self.old.roll.failed ≡ None }
-        ensures { Acts T.HasGround false (λ m e m'. Serves m daemon holding Event.Exit e m') daemon.id Event.Exit result self.old self.new }
+        ensures closes { IfOk result (λ came. Acts T.HasGround false (λ m e m'. Serves m daemon holding Event.Exit e m')
+            daemon.id Event.Exit came self.old self.new) }
+        ensures err { OnErr result (self.new ≡ self.old) }
     {
         let mut nesting = holding.nesting;
         if nesting.depth <= 1 {
@@ -181,13 +187,15 @@ impl<T: Serves> Lock<T> {
         }
         let answer = nesting.end();
         self.roll.put(daemon.at_nesting(holding, nesting));
-        told(answer)
+        Ok(told(answer))
     }
 
     // A cancel: the outermost one, or an inner one.
-    fn cancel(&mut self, daemon: Daemon, holding: Holding) -> Came
+    fn cancel(&mut self, daemon: Daemon, holding: Holding) -> Result<Came, NoMemory>
         requires sound { self.old.roll.failed ≡ None }
-        ensures { Acts T.HasGround false (λ m e m'. Serves m daemon holding Event.Cancel e m') daemon.id Event.Cancel result self.old self.new }
+        ensures closes { IfOk result (λ came. Acts T.HasGround false (λ m e m'. Serves m daemon holding Event.Cancel e m')
+            daemon.id Event.Cancel came self.old self.new) }
+        ensures err { OnErr result (self.new ≡ self.old) }
     {
         let mut nesting = holding.nesting;
         if nesting.depth <= 1 {
@@ -195,7 +203,7 @@ impl<T: Serves> Lock<T> {
         }
         let answer = nesting.cancel();
         self.roll.put(daemon.at_nesting(holding, nesting));
-        told(answer)
+        Ok(told(answer))
     }
 
     // A daemon without a number draws the next one, at this depth.
@@ -290,7 +298,10 @@ impl<T: Serves> Lock<T> {
             return told(refused(Refusal::Suspended { serving, mine }));
         }
         if holding.nesting.depth > 0 {
-            return self.finish(daemon, holding, event);
+            let Ok(came) = self.finish(daemon, holding, event) else {
+                unreachable!();
+            };
+            return came;
         }
         self.roll.put(daemon.after_leave());
         told(Answer::Reply(Reply::Done))
@@ -371,9 +382,9 @@ impl<T: Serves> Lock<T> {
         match event {
             Event::Begin => Ok(self.begin(daemon, holding)),
             Event::Say(call) => self.say(daemon, holding, call),
-            Event::End => Ok(self.end(daemon, holding)),
-            Event::Cancel => Ok(self.cancel(daemon, holding)),
-            Event::Exit => Ok(self.exit(daemon, holding)),
+            Event::End => self.end(daemon, holding),
+            Event::Cancel => self.cancel(daemon, holding),
+            Event::Exit => self.exit(daemon, holding),
             _ => unreachable!(),
         }
     }

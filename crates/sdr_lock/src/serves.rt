@@ -24,10 +24,11 @@ pub trait Serves: HasGround {
         ensures keeps { KeepsGround Self.HasGround true self.old self.new }
         ensures any_moment { LeavesBefore Self.HasGround self.old self.new };
 
-    /// Keeps what the transaction has done.
-    fn keep(&mut self) -> Result<(), Fault>
+    /// Keeps what the transaction has done. Want of memory leaves all as before.
+    fn keep(&mut self) -> Result<(), Halt>
         ensures kept { OnOk result (Brings Self.stands self.old self.new Keeps) }
-        ensures fault { OnErr result (MeetsFault Self.HasGround self.old self.new) }
+        ensures memory { IsErrOf result Halt.Memory → self.new ≡ self.old }
+        ensures fault { IsErrOf result Halt.Fault → MeetsFault Self.HasGround self.old self.new }
         ensures keeps { KeepsGround Self.HasGround false self.old self.new }
         ensures any_moment { LeavesEither Self.HasGround self.old self.new };
 

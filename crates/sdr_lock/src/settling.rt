@@ -1,22 +1,39 @@
 // How a transaction is kept or put back.
-ghost use Rattle.std.specs.Prelude.{false, OnErr, OnOk};
-ghost use Rattle.sdr_lock.specs.Crash.{LeavesOr, is_kept};
-ghost use Rattle.sdr_lock.specs.Serving.{Brings, KeepsGround, MeetsFault, Settles};
+ghost use Rattle.std.specs.Prelude.{◌≡◌, false, true, IsErrOf, OnErr, OnOk};
+ghost use Rattle.sdr_lock.specs.Crash.{LeavesBefore, LeavesOr, is_kept};
+ghost use Rattle.sdr_lock.specs.Serving.{Brings, KeepsGround, MeetsFault, PutsBack, Settles};
 
-use crate::{Fault, Serves};
+use crate::{Fault, Halt, Serves};
 use sdr_model::Close;
 
-/// Keeps the open transaction or puts it back, by how it closes.
-pub fn settle<T: Serves>(base: &mut T, close: Close) -> Result<(), Fault>
-    ensures left { OnOk result (Brings T.stands base.old base.new (Settles close)) }
+// Puts back what was before the transaction.
+fn put_back<T: Serves>(base: &mut T) -> Result<(), Halt>
+    ensures put_back { OnOk result (Brings T.stands base.old base.new PutsBack) }
     ensures fault { OnErr result (MeetsFault T.HasGround base.old base.new) }
+    ensures only { IsErrOf result Halt.Memory → ⊥ }
+    ensures keeps { KeepsGround T.HasGround false base.old base.new }
+    ensures any_moment { LeavesBefore T.HasGround base.old base.new }
+{
+    match base.put_back() {
+        Ok(()) => Ok(()),
+        Err(Fault) => Err(Halt::Fault),
+    }
+}
+
+/// Keeps the open transaction or puts it back, by how it closes. Only one that is kept may find no memory, which
+/// leaves all as before.
+pub fn settle<T: Serves>(base: &mut T, close: Close) -> Result<(), Halt>
+    ensures left { OnOk result (Brings T.stands base.old base.new (Settles close)) }
+    ensures memory { IsErrOf result Halt.Memory → base.new ≡ base.old }
+    ensures only { IsErrOf result Halt.Memory → is_kept close ≡ true }
+    ensures fault { IsErrOf result Halt.Fault → MeetsFault T.HasGround base.old base.new }
     ensures keeps { KeepsGround T.HasGround false base.old base.new }
     ensures any_moment { LeavesOr (is_kept close) T.HasGround base.old base.new }
 {
     match close {
         Close::Ended => base.keep(),
-        Close::Exited => base.put_back(),
-        Close::Cancelled(_) => base.put_back(),
-        Close::Faulted => base.put_back(),
+        Close::Exited => put_back(base),
+        Close::Cancelled(_) => put_back(base),
+        Close::Faulted => put_back(base),
     }
 }

@@ -5,19 +5,19 @@ use Rattle.sdr_lock.specs.Machine.{Closes, FaultsWithin}
 use Rattle.sdr_lock.specs.Nesting.{Inner, ended}
 use Rattle.sdr_lock.specs.Roll.{at_nesting, with_daemon}
 use Rattle.sdr_lock.specs.Serving.{Locked, machine_at}
-use Rattle.sdr_lock.proofs.LockLemmas.{acts_also, acts_told, told}
+use Rattle.sdr_lock.proofs.LockLemmas.{acts_also, acts_told, if_ok, told}
 use Rattle.sdr_lock.proofs.WorkLemmas.{closes_outermost, on_false, works_nests}
 use Rattle.sdr_lock.proofs.lock.Lock.exit.Goals as goal
 
-pub returns-then-nesting-le1 : goal.returns-then-nesting-le1
-returns-then-nesting-le1 g c =
+pub returns-then-nesting-le1-clause-closes : goal.returns-then-nesting-le1-clause-closes
+returns-then-nesting-le1-clause-closes g c =
     let d = c.args.daemon in
     let h = c.args.holding in
-    acts_also g.T.HasGround _ _ (λ m e m'. Closes m d h e m' ⊎ FaultsWithin m d h events.Exit e m') _ d.id events.Exit c.finish.result c.args.self.now c.finish.new.self refl
-    (λ v v' line closes. closes_outermost _ _ _ (nat_le h.nesting.depth 1) (grind (arith, nat_tests)) closes) c.finish.ensures
+    if_ok c.finish.result _ _ (λ came acts. acts_also g.T.HasGround _ _ (λ m e m'. Closes m d h e m' ⊎ FaultsWithin m d h events.Exit e m') _ d.id events.Exit came c.args.self.now c.finish.new.self refl
+    (λ v v' line closes. closes_outermost _ _ _ (nat_le h.nesting.depth 1) (grind (arith, nat_tests)) closes) acts) c.finish.ensures.closes
 
-pub returns : goal.returns
-returns g c =
+pub returns-clause-closes : goal.returns-clause-closes
+returns-clause-closes g c =
     let h = c.args.holding in
     let d = c.args.daemon in
     let inner : Inner = ended h.nesting in

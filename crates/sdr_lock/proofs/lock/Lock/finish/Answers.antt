@@ -1,4 +1,4 @@
-use Rattle.std.proofs.Common.{[], ◌≡◌, ◌∙◌, ap, inl, inr, refl, sym, subst, true, true≢false}
+use Rattle.std.proofs.Common.{[], ◌≡◌, ◌∙◌, ap, inl, inr, refl, sym, subst, true, true≢false, Err}
 use Rattle.sdr_model.specs.declared.answer.Answer.TheVariants as answers
 use Rattle.sdr_lock.specs.Crash.{LeavesOr, is_kept, keeps_in}
 use Rattle.sdr_lock.specs.Ground.{State, NoHeap, resting}
@@ -16,8 +16,8 @@ use Rattle.sdr_lock.proofs.lock.Lock.finish.Goals as goal
 some_state : State
 some_state = resting empty_world NoHeap
 
-pub returns-in-Ok : goal.returns-in-Ok
-returns-in-Ok g c =
+pub returns-in-Ok-clause-closes : goal.returns-in-Ok-clause-closes
+returns-in-Ok-clause-closes g c =
     let h = c.args.holding.now in
     let d = c.args.daemon in
     let close = c.closing-close.result in
@@ -34,8 +34,8 @@ returns-in-Ok g c =
     (λ v v' line left. inl (closes_so old.roll new.roll d h _ close v v' c.closing-close.ensures
     (record { answer = refl; moves = refl; bytes = refl }) left roll))
 
-pub returns-in-Err : goal.returns-in-Err
-returns-in-Err g c =
+pub returns-in-Err-Fault-clause-closes : goal.returns-in-Err-Fault-clause-closes
+returns-in-Err-Fault-clause-closes g c =
     let h = c.args.holding.now in
     let d = c.args.daemon in
     let T = g.row.T.Denot in
@@ -44,9 +44,14 @@ returns-in-Err g c =
     let keeps = ap is_kept c.closing-close.ensures ∙ keeps_closing h.number h.nesting some_state c.args.event.now (c.requires.closing some_state) in
     acts_failed g.T.HasGround _ _ d.id _ c.fail.result old _ c.fail.new.self (roll_closed old.roll d)
     c.self.view_is c.fail.ensures.answer c.requires.sound
-    (subst (λ (t : T). MeetsFault g.T.HasGround old.base t) (sym base) c.in-Err.ensures.fault)
-    (subst (λ (t : T). KeepsGround g.T.HasGround true old.base t) (sym base) (keeps_more g.T.HasGround c.in-Err.ensures.keeps))
+    (subst (λ (t : T). MeetsFault g.T.HasGround old.base t) (sym base) (c.in-Err-Fault.ensures.fault (ap Err c.in-Err-Fault.field-0-is)))
+    (subst (λ (t : T). KeepsGround g.T.HasGround true old.base t) (sym base) (keeps_more g.T.HasGround c.in-Err-Fault.ensures.keeps))
     (subst (λ (t : T). LeavesOr (keeps_in h.nesting c.args.event.now) g.T.HasGround old.base t) (sym base)
-    (subst (λ k. LeavesOr k g.T.HasGround old.base c.settle.new.base) keeps c.in-Err.ensures.any_moment))
+    (subst (λ k. LeavesOr k g.T.HasGround old.base c.settle.new.base) keeps c.in-Err-Fault.ensures.any_moment))
     c.fail.ensures.roll
     (λ v line faults. inr (record { asks = asks_closing (transaction_of h v.now) c.args.event.now (c.requires.closing v.now); faults = faults }))
+
+pub returns-in-Err-Memory-clause-kept : goal.returns-in-Err-Memory-clause-kept
+returns-in-Err-Memory-clause-kept g c =
+    let h = c.args.holding.now in
+    sym (keeps_closing h.number h.nesting some_state c.args.event.now (c.requires.closing some_state)) ∙ sym (ap is_kept c.closing-close.ensures) ∙ c.in-Err-Memory.ensures.only (ap Err c.in-Err-Memory.field-0-is)

@@ -31,8 +31,8 @@ returns-then-holding-gt0 g c =
     let serving : c.serving-serving.result ≡ served_number self.roll = c.serving-serving.ensures ∙ ap (λ (l : Locked T). served_number l.roll) c.self.view_is in
     let mine : (served_number self.roll == h.number) ≡ true = grind (arith, nat_tests, serving, c.if-serving-mine.false) in
     let deep : (h.nesting.depth == 0) ≡ false = grind (arith, nat_tests, c.if-holding-gt0.true) in
-    acts_also g.T.HasGround _ _ (λ m e m'. Closes m d h e m' ⊎ FaultsWithin m d h c.args.event.now e m') _ d.id c.args.event.now c.finish.result self c.finish.new.self c.requires.no_end
-    (λ v v' line closes. on_true _ _ _ mine (on_false _ _ _ deep closes)) c.finish.ensures
+    acts_also g.T.HasGround _ _ (λ m e m'. Closes m d h e m' ⊎ FaultsWithin m d h c.args.event.now e m') _ d.id c.args.event.now c.in-Ok.came self c.finish.new.self c.requires.no_end
+    (λ v v' line closes. on_true _ _ _ mine (on_false _ _ _ deep closes)) c.in-Ok.ensures.closes
 
 pub returns : goal.returns
 returns g c =

@@ -15,19 +15,19 @@ pub returns-in-End-clause-serves : goal.returns-in-End-clause-serves
 returns-in-End-clause-serves g c =
     let h = c.args.holding in
     let d = c.args.daemon in
-    subst (λ (ev : Event). Acts g.T.HasGround (keeps_in h.nesting ev) (λ m e m'. Serves m d h ev e m') d.id ev c.end.result c.args.self.now c.end.new.self) (sym c.in-End.is) c.end.ensures
+    subst (λ (ev : Event). IfOk c.end.result (λ a. Acts g.T.HasGround (keeps_in h.nesting ev) (λ m e m'. Serves m d h ev e m') d.id ev a c.args.self.now c.end.new.self)) (sym c.in-End.is) c.end.ensures.closes
 
 pub returns-in-Cancel-clause-serves : goal.returns-in-Cancel-clause-serves
 returns-in-Cancel-clause-serves g c =
     let h = c.args.holding in
     let d = c.args.daemon in
-    subst (λ (ev : Event). Acts g.T.HasGround (keeps_in h.nesting ev) (λ m e m'. Serves m d h ev e m') d.id ev c.cancel.result c.args.self.now c.cancel.new.self) (sym c.in-Cancel.is) c.cancel.ensures
+    subst (λ (ev : Event). IfOk c.cancel.result (λ a. Acts g.T.HasGround (keeps_in h.nesting ev) (λ m e m'. Serves m d h ev e m') d.id ev a c.args.self.now c.cancel.new.self)) (sym c.in-Cancel.is) c.cancel.ensures.closes
 
 pub returns-in-Exit-clause-serves : goal.returns-in-Exit-clause-serves
 returns-in-Exit-clause-serves g c =
     let h = c.args.holding in
     let d = c.args.daemon in
-    subst (λ (ev : Event). Acts g.T.HasGround (keeps_in h.nesting ev) (λ m e m'. Serves m d h ev e m') d.id ev c.exit.result c.args.self.now c.exit.new.self) (sym c.in-Exit.is) c.exit.ensures
+    subst (λ (ev : Event). IfOk c.exit.result (λ a. Acts g.T.HasGround (keeps_in h.nesting ev) (λ m e m'. Serves m d h ev e m') d.id ev a c.args.self.now c.exit.new.self)) (sym c.in-Exit.is) c.exit.ensures.closes
 
 pub returns-in-Say-clause-serves : goal.returns-in-Say-clause-serves
 returns-in-Say-clause-serves g c =

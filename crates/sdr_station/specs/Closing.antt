@@ -1,0 +1,18 @@
+-- How the transaction of a heap on an image closes.
+use Rattle.std.specs.Prelude.{ℕ, List, [], false, length, replicate}
+use Rattle.sdr_heap.specs.Noted.{Held}
+use Rattle.sdr_image.specs.Opened.{Opened}
+
+-- the heap whose bytes were kept on this disk: there is no mark, and no line is touched
+abbrev pub committed : {D : Type 0} → Held (Opened D) → D → Held (Opened D)
+committed h disk = record h {
+  cells = record h.cells { disk = disk; begun = h.cells.bytes; touched = []; is_open = false };
+  marks = replicate (length h.marks) false;
+}
+
+-- the heap whose bytes were put back to those at begin, on this disk: there is no mark, and no line is touched
+abbrev pub put_back : {D : Type 0} → Held (Opened D) → D → Held (Opened D)
+put_back h disk = record h {
+  cells = record h.cells { disk = disk; bytes = h.cells.begun; touched = []; is_open = false };
+  marks = replicate (length h.marks) false;
+}

@@ -1,0 +1,20 @@
+-- What a crash now leaves of a heap on an image.
+use Rattle.std.proofs.Common.{◌≡◌, ◌∙◌, ◌≤◌, ◌+◌, ℕ, List, [], suc, true, false, Bool, Option, None, Some, refl, sym, ap, subst, inl, inr, arith}
+use Rattle.sdr_disk.specs.Moments.{AtEach}
+use Rattle.sdr_image.specs.Opened.{Opened, Rests}
+use Rattle.sdr_image.proofs.OpenedLemmas.{rests_leaves}
+use Rattle.sdr_lock.specs.Standing.{Standing}
+use Rattle.sdr_log.specs.Frame.{room_of}
+use Rattle.sdr_station.specs.Grounded.{Grounded, Leaves, Opens, Stands}
+
+module _ {D : Type 0} (told : D → Option (List ℕ)) (moment : D → ℕ) (may_leave : D → ℕ → List ℕ → Type 0) where
+  -- a crash now leaves what opens to the state before the transaction
+  pub crash_now : (g : Grounded D) (v : Standing) (image : List ℕ) → Stands told moment may_leave g v
+      → Leaves told may_leave g.heap.cells.disk g.moment image → Opens image v.before
+  crash_now g v image at l = record {
+    heap = g.heap.cells.begun;
+    back = rests_leaves told moment may_leave g.heap.cells at.sound at.rests l.bytes l.tells image
+        (subst (λ (m : ℕ). may_leave g.heap.cells.disk m image) (at.moment_is l.bytes l.tells) l.left);
+    room = room_of g.heap.cells.frame;
+    stands = at.before;
+  }

@@ -1,0 +1,100 @@
+-- A heap on an image as the ground of a lock: what it stands for.
+use Rattle.std.specs.Prelude.{◌≡◌, ◌≤◌, ℕ, Bool, false, List, [], length, Option, Some}
+use Rattle.sdr_audit.specs.Standing.{HeapStandsFor, StandsForWhole}
+use Rattle.sdr_base.specs.KeptHeap.{KeepsRegion, block_in, root_in}
+use Rattle.sdr_base.specs.Objects.{Heap}
+use Rattle.sdr_base.specs.Pools.{Pools}
+use Rattle.sdr_disk.specs.Told.{Told}
+use Rattle.sdr_heap.specs.Noted.{Held, marked_in}
+use Rattle.sdr_image.specs.Opened.{Opened, Rests}
+use Rattle.sdr_lock.specs.Demand.{most_lines, no_demand}
+use Rattle.sdr_lock.specs.Ground.{Ground, State}
+use Rattle.sdr_lock.specs.Standing.{Standing}
+use Rattle.sdr_log.specs.Frame.{room_of}
+use Rattle.sdr_log.specs.Log.{put_back_of}
+use Rattle.sdr_model.specs.Fields.{FitsFields}
+use Rattle.sdr_model.specs.Whole.{IsWhole}
+use Rattle.sdr_model.specs.World.{World}
+
+-- the heap; the bytes that the last answered call gave; whether the transaction can only be put back; and the disk's moment
+pub record Grounded (D : Type 0) : Type 0 where
+  pub heap : Held (Opened D)
+  pub shown : List ℕ
+  pub stopped : Bool
+  pub moment : ℕ
+
+-- the blocks, the control words, the marks and the moves of a heap on an image
+abbrev pub heap_in : {D : Type 0} → Held (Opened D) → Heap
+heap_in h = record {
+  size = h.size;
+  blocks = block_in h.cells.bytes;
+  roots = root_in h.cells.bytes;
+  marks = marked_in h.marks;
+  moves = h.moves;
+  spare = h.spare;
+}
+
+-- a world without tickets
+pub record HasNoTickets (w : World) : Type 0 where
+  pub inbound : w.accounts.inbound.tickets ≡ []
+  pub outbound : w.accounts.outbound.tickets ≡ []
+
+-- the bytes of a heap with this log room stand for the state, in which no transaction is open
+pub record StandsAtRest (room : ℕ) (bytes : List ℕ) (s : State) : Type 0 where
+  pub pools : Pools
+  pub base : s.base ≡ Ground.OnHeap room pools
+  pub stands : StandsForWhole bytes s.world pools
+  pub tickets : HasNoTickets s.world
+  pub demand : s.demand ≡ no_demand
+
+-- The heap stands for the state that the open transaction has made, whose world is whole and fits its fields. These bytes are
+-- shown, and the transaction has touched no more lines than it may by what it has asked.
+pub record StandsWithin {D : Type 0} (h : Held (Opened D)) (shown : List ℕ) (s : State) : Type 0 where
+  pub pools : Pools
+  pub base : s.base ≡ Ground.OnHeap (room_of h.cells.frame) pools
+  pub keeps : KeepsRegion h.size h.cells.bytes pools
+  pub heap : HeapStandsFor (heap_in h) s.world
+  pub whole : IsWhole s.world
+  pub fits : FitsFields s.world
+  pub next : 1 ≤ s.world.accounts.next
+  pub tickets : HasNoTickets s.world
+  pub gave : s.world.shown ≡ shown
+  pub lines : length h.cells.touched ≤ most_lines s.demand
+
+-- A heap on an image whose disk hasn't failed stands for the states before the transaction and now: the bytes at begin stand
+-- for the one, and for the other the heap does, unless a call was stopped on its way. The disk rests, and the moves are the
+-- heap's.
+pub record Stands {D : Type 0} (told : D → Option (List ℕ)) (moment : D → ℕ) (may_leave : D → ℕ → List ℕ → Type 0)
+    (g : Grounded D) (v : Standing) : Type 0 where
+  pub sound : g.heap.cells.failed ≡ false
+  pub rests : Rests told moment may_leave g.heap.cells
+  pub moment_is : Told (told g.heap.cells.disk) (λ _. g.moment ≡ moment g.heap.cells.disk)
+  pub size : length g.heap.cells.begun ≡ g.heap.size
+  pub before : StandsAtRest (room_of g.heap.cells.frame) g.heap.cells.begun v.before
+  pub taken : v.now.world.taken ≡ 0
+  pub now : g.stopped ≡ false → StandsWithin g.heap g.shown v.now
+  pub moves : v.moves ≡ g.heap.moves
+
+-- it stands for something
+pub record StandsSome {D : Type 0} (told : D → Option (List ℕ)) (moment : D → ℕ) (may_leave : D → ℕ → List ℕ → Type 0)
+    (g : Grounded D) : Type 0 where
+  pub for : Standing
+  pub holds : Stands told moment may_leave g for
+
+-- a heap on an image lasts where it stands for something, unless the disk has failed
+abbrev pub Lasts : {D : Type 0} → (D → Option (List ℕ)) → (D → ℕ) → (D → ℕ → List ℕ → Type 0) → Grounded D → Type 0
+Lasts told moment may_leave g = g.heap.cells.failed ≡ false → StandsSome told moment may_leave g
+
+-- what a crash at a moment may leave of a disk that tells its bytes
+pub record Leaves {D : Type 0} (told : D → Option (List ℕ)) (may_leave : D → ℕ → List ℕ → Type 0) (disk : D) (m : ℕ)
+    (image : List ℕ) : Type 0 where
+  pub bytes : List ℕ
+  pub tells : told disk ≡ Some bytes
+  pub left : may_leave disk m image
+
+-- opening the image gives bytes that stand for the state
+pub record Opens (image : List ℕ) (s : State) : Type 0 where
+  pub heap : List ℕ
+  pub back : put_back_of image ≡ Some heap
+  pub room : ℕ
+  pub stands : StandsAtRest room heap s

@@ -1,0 +1,61 @@
+// How the transaction of a heap on an image closes.
+ghost use Rattle.std.specs.Prelude.{◌≡◌, false, max, OnErr, OnOk};
+ghost use Rattle.sdr_base.specs.Transaction.{HasReason, IfRefused};
+ghost use Rattle.sdr_disk.specs.Moments.{AtEach};
+ghost use Rattle.sdr_disk.specs.Told.{Told};
+ghost use Rattle.sdr_image.specs.Changed.{GivesEither};
+ghost use Rattle.sdr_image.specs.Opened.{Rests, StaysAt, transaction_of};
+ghost use Rattle.sdr_log.specs.Calls.{KeepsDisk};
+ghost use Rattle.sdr_log.specs.Logged.{Gives};
+ghost use Rattle.sdr_station.specs.Closing.{committed, put_back};
+
+use sdr_base::Stop;
+use sdr_disk::Disk;
+use sdr_heap::Heap;
+use sdr_image::Image;
+
+/// Keeps the bytes of a heap, and takes its marks off.
+pub fn commit<D: Disk>(heap: &mut Heap<Image<D>>) -> Result<(), Stop>
+    ensures ended { OnOk result (heap.new ≡ committed heap.old heap.new.cells.disk) }
+    ensures stops { OnErr result (heap.new ≡ record heap.old { cells = heap.new.cells }) }
+    ensures rests { Rests D.bytes D.moment D.may_leave heap.old.cells
+        → Rests D.bytes D.moment D.may_leave heap.new.cells }
+    ensures answered { IfRefused result (λ _. ⊥) }
+    ensures cause { HasReason (transaction_of D.faults heap.old.cells) (transaction_of D.faults heap.new.cells) result }
+    ensures stays { StaysAt result heap.old.cells heap.new.cells }
+    ensures disk { KeepsDisk D.size D.bytes heap.old.cells.disk heap.new.cells.disk }
+    ensures any_moment { heap.old.cells.failed ≡ false → Rests D.bytes D.moment D.may_leave heap.old.cells
+        → Told (D.bytes heap.old.cells.disk) (λ _. AtEach D.moment D.may_leave heap.old.cells.disk heap.new.cells.disk
+        (GivesEither heap.old.cells.begun heap.old.cells.bytes)) }
+{
+    heap.cells().commit()?;
+    heap.unmark();
+    Ok(())
+}
+
+/// Puts the bytes of a heap back, and takes its marks off.
+pub fn cancel<D: Disk>(heap: &mut Heap<Image<D>>) -> Result<(), Stop>
+    ensures ended { OnOk result (heap.new ≡ put_back heap.old heap.new.cells.disk) }
+    ensures stops { OnErr result (heap.new ≡ record heap.old { cells = heap.new.cells }) }
+    ensures rests { Rests D.bytes D.moment D.may_leave heap.old.cells
+        → Rests D.bytes D.moment D.may_leave heap.new.cells }
+    ensures answered { IfRefused result (λ _. ⊥) }
+    ensures cause { HasReason (transaction_of D.faults heap.old.cells) (transaction_of D.faults heap.new.cells) result }
+    ensures stays { StaysAt result heap.old.cells heap.new.cells }
+    ensures disk { KeepsDisk D.size D.bytes heap.old.cells.disk heap.new.cells.disk }
+    ensures any_moment { heap.old.cells.failed ≡ false → Rests D.bytes D.moment D.may_leave heap.old.cells
+        → Told (D.bytes heap.old.cells.disk) (λ _. AtEach D.moment D.may_leave heap.old.cells.disk heap.new.cells.disk
+        (Gives heap.old.cells.begun)) }
+{
+    heap.cells().cancel()?;
+    heap.unmark();
+    Ok(())
+}
+
+/// The disk's moment, but none before this one.
+pub fn moment_since<D: Disk>(before: u64, heap: &mut Heap<Image<D>>) -> u64
+    ensures moment { result ≡ max before (D.moment heap.new.cells.disk) }
+    ensures same { heap.new ≡ heap.old }
+{
+    heap.cells().now().max(before)
+}

@@ -1,0 +1,11 @@
+//! Transactions on the disk.
+//!
+//! 1. `HeapGround` is a heap on an image as the ground of a lock. What it stands for is a relation: the bytes at begin stand
+//!    for the world before the transaction, and the heap now for the one that it has made.
+#![tactic(auto)]
+
+mod closing;
+mod ground;
+mod page;
+
+pub use ground::HeapGround;
