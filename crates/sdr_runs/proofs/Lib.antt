@@ -1,0 +1,2 @@
+pub mod RollLemmas
+pub mod RowReplies
