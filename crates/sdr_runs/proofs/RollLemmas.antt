@@ -36,6 +36,9 @@ same_number a b e = grind (arith, nat_tests)
 pub number_same : (a b : ℕ) → a ≡ b → (a == b) ≡ true
 number_same a b e = grind (arith, nat_tests)
 
+pub turned : (a b : ℕ) → (a == b) ≡ false → (b == a) ≡ false
+turned a b e = grind (arith, nat_tests)
+
 -- where two things are told of one test
 pub contrary : {R : Type 0} {b : Bool} → b ≡ true → b ≡ false → R
 contrary is isnt = absurd (true≢false (sym is ∙ isnt))

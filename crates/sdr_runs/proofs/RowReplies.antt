@@ -18,7 +18,7 @@ use Rattle.sdr_model.specs.Queue.{barrier}
 use Rattle.sdr_model.specs.Zco.{empty_object, extents_length, object_at, owned_raw, source_at, source_on, space_of, uses_of}
 use Rattle.sdr_model.specs.declared.accounts.Pending.{Pending}
 use Rattle.sdr_model.specs.Rows.{ByRow}
-use Rattle.sdr_model.specs.Step.{Step, StopsWith}
+use Rattle.sdr_model.specs.Step.{Step, Stops, StopsWith}
 use Rattle.sdr_model.specs.Steps.{DoesWith, Outcome, On, Refuses, Takes, TakesOne, with_thing}
 use Rattle.sdr_model.specs.World.{World, as_raw, as_text, block_at, is_marked, misnamed, refusal_for, spot_of, thing_at}
 use Rattle.sdr_model.specs.Amounts.{amounts_by, first_above, in_space, minus}
@@ -246,7 +246,10 @@ stop_fair (replies.Refused refusal) call all moves s = absurd s
 stop_fair replies.MediaFault call all moves s = refl
 stop_fair reply call all moves s = absurd s
 
+pub stops_fair : (w : World) (o : Outcome) (call : Call) → Stops w o call → is_of_call o.reply ≡ true
+stops_fair w o call stops = stop_fair o.reply call stops.aim.moves o.moves stops.stopped
+
 -- a step answers for itself
 pub step_fair : (w w' : World) (call : Call) (moves : List Move) (reply : Reply) → Step w call moves w' reply → is_of_call reply ≡ true
 step_fair w w' call moves reply (inl row) = row_fair w (record { moves = moves; after = w'; reply = reply }) call row
-step_fair w w' call moves reply (inr stops) = stop_fair reply call stops.aim.moves moves stops.stopped
+step_fair w w' call moves reply (inr stops) = stops_fair w (record { moves = moves; after = w'; reply = reply }) call stops

@@ -1,0 +1,2 @@
+-- The open transactions of a machine.
+use Rattle.std.proofs.Common.{◌≡◌}
