@@ -1,7 +1,9 @@
+pub mod CoreLemmas
 pub mod CurrentLemmas
 pub mod JournalLemmas
 pub mod KeepLemmas
 pub mod RollLemmas
 pub mod RowReplies
 pub mod TransactLemmas
+pub mod TurnLemmas
 pub mod WorkLemmas
