@@ -1,9 +1,11 @@
+pub mod CaseLemmas
 pub mod CoreLemmas
 pub mod CurrentLemmas
 pub mod JournalLemmas
 pub mod KeepLemmas
 pub mod RollLemmas
 pub mod RowReplies
+pub mod StalledLemmas
 pub mod TransactLemmas
 pub mod TurnLemmas
 pub mod WorkLemmas
