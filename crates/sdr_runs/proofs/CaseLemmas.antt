@@ -53,7 +53,7 @@ refused_adds_none u (events.Look ticket) refusal stays = refl
 refused_adds_none u event refusal stays = refl
 
 -- what a daemon has said that is in no transaction
-said_nothing : (told : Option Told) (said : List Said) (o : Option Holding) → Untouched told said o → ((h : Holding) → o ≡ Some h → (h.nesting.depth == 0) ≡ true) → said ≡ []
+pub said_nothing : (told : Option Told) (said : List Said) (o : Option Holding) → Untouched told said o → ((h : Holding) → o ≡ Some h → (h.nesting.depth == 0) ≡ true) → said ≡ []
 said_nothing told said None is outside = is
 said_nothing told said (Some h) is outside = by (h.nesting.depth == 0) (outside h refl) is
   where
@@ -62,7 +62,7 @@ said_nothing told said (Some h) is outside = by (h.nesting.depth == 0) (outside 
     by false e is = contrary e refl
 
 -- no close is a fault
-closing_whole : (n : Nesting) (event : Event) (said : List Said) → is_fault (whats.Work said (closing n event)) ≡ false
+pub closing_whole : (n : Nesting) (event : Event) (said : List Said) → is_fault (whats.Work said (closing n event)) ≡ false
 closing_whole n event said = by n.doom
   where
     exited : (b : Bool) → is_fault (whats.Work said (if b then closes.Cancelled Reason.Modified else closes.Exited)) ≡ false
@@ -80,15 +80,15 @@ closing_whole n event said = by n.doom
     by (Some reason) = refl
 
 -- the daemon that has drawn the next number, at a depth
-abbrev drawn_by : Roll → Daemon → ℕ → Daemon
+abbrev pub drawn_by : Roll → Daemon → ℕ → Daemon
 drawn_by r d depth = record d { holds = Some (record { number = r.drawn + 1; nesting = nested depth }) }
 
 -- the daemon that is done with its number
-abbrev done_with : Daemon → Bool → Option ℕ → Daemon
+abbrev pub done_with : Daemon → Bool → Option ℕ → Daemon
 done_with d left waits = record d { left = left; waits = waits; holds = None }
 
 -- the machine in which it is, where so many are drawn
-abbrev with_done : Machine → Daemon → Bool → Option ℕ → ℕ → Machine
+abbrev pub with_done : Machine → Daemon → Bool → Option ℕ → ℕ → Machine
 with_done m d left waits drawn = with_roll m (record { daemons = put_daemon m.roll.daemons (done_with d left waits); drawn = drawn; failed = m.roll.failed })
 
 -- nobody works, and the daemon is in no transaction
@@ -98,7 +98,7 @@ pub record IsIdle (told : Option Told) (m : Machine) (works : List Work) (d : Da
 
 module _ {told : Option Told} {daemons : List ℕ} {first : State} {c : Core} {e : Made} (p : IsNext told daemons first c e) {d : Daemon} (found : daemon_of c.machine.roll e.daemon ≡ Some d) where
   -- a daemon that stays as it was hasn't left by the event
-  left_same : (m' : Machine) (d' : Daemon) → daemon_of m'.roll d.id ≡ Some d' → d'.left ≡ d.left → (has_left m'.roll d.id && not d.left) ≡ false
+  pub left_same : (m' : Machine) (d' : Daemon) → daemon_of m'.roll d.id ≡ Some d' → d'.left ≡ d.left → (has_left m'.roll d.id && not d.left) ≡ false
   left_same m' d' there same =
       ap (λ o. option_map_or (λ (x : Daemon). x.left) o false && not d.left) there ∙ ap (λ b. b && not d.left) same ∙ and_not d.left
 
@@ -223,7 +223,7 @@ module _ {told : Option Told} {daemons : List ℕ} {first : State} {c : Core} {e
       (λ sound. done_works left waits drawn (idle sound) (p.keeps.works sound))
 
   module _ {h : Holding} (holds : d.holds ≡ Some h) where
-    mine : Held c.machine.roll d.id d h
+    pub mine : Held c.machine.roll d.id d h
     mine = record { found = found_there p found; holds = holds }
 
     -- a look in its transaction is refused

@@ -1,4 +1,5 @@
 pub mod CaseLemmas
+pub mod ClosingLemmas
 pub mod CoreLemmas
 pub mod CurrentLemmas
 pub mod JournalLemmas
