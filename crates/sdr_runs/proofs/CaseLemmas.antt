@@ -103,7 +103,7 @@ module _ {told : Option Told} {daemons : List ℕ} {first : State} {c : Core} {e
       ap (λ o. option_map_or (λ (x : Daemon). x.left) o false && not d.left) there ∙ ap (λ b. b && not d.left) same ∙ and_not d.left
 
   -- the machine stays
-  unchanged : {event : Event} {answer : Answer} → e.said.event ≡ event → e.said.answer ≡ answer → passes event answer ≡ true → closed_by answer ≡ None
+  pub unchanged : {event : Event} {answer : Answer} → e.said.event ≡ event → e.said.answer ≡ answer → passes event answer ≡ true → closed_by answer ≡ None
       → ((u : Under) → u.left ≡ false → what_else u event answer ≡ None) → StepKeeps told daemons first c e c.machine
   unchanged {event = event} {answer = answer} is told_so outside unclosed adds =
       adds_none p found c.machine c.log.works (next_outside p found is told_so outside)
@@ -189,6 +189,13 @@ module _ {told : Option Told} {daemons : List ℕ} {first : State} {c : Core} {e
             (found_there p found) (λ other y apart there. rest.1 other y there)
             (said_nothing told (said_by c.log.works d.id) d.holds (rest.1 d.id d (found_there p found)) idle.outside) (λ other apart. refl);
       }
+
+  -- where no number is served, nobody works
+  pub idle_fresh : d.holds ≡ None → (served_number c.machine.roll == 0) ≡ true → IsIdle told c.machine c.log.works d
+  idle_fresh none free = record {
+    nobody = λ id y h is. none_held daemons c.log.journal c.machine.roll id y h p.keeps.roll free is.held;
+    outside = λ h is. absurd cc;
+  }
 
   -- it is done with its number, and no entry is added
   pub done_none : {event : Event} {answer : Answer} {drawn : ℕ} (waits : Option ℕ) → e.said.event ≡ event → e.said.answer ≡ answer → passes event answer ≡ true → closed_by answer ≡ None

@@ -7,6 +7,7 @@ pub mod KeepLemmas
 pub mod RollLemmas
 pub mod RowReplies
 pub mod StalledLemmas
+pub mod StepLemmas
 pub mod TransactLemmas
 pub mod TurnLemmas
 pub mod WorkLemmas
