@@ -2,6 +2,7 @@
 use Rattle.std.proofs.Common.{◌≡◌, ◌≤◌, ◌<◌, ◌⊎◌, ◌∙◌, ◌==◌, ◌+◌, ℕ, List, [], ◌∷◌, ◌++◌, Bool, true, false, Option, None, Some, arith, refl, sym, ap, subst, map, inl, inr, length}
 use Rattle.std.proofs.lemmas.Bool.Decides.{nat_tests}
 use Rattle.sdr_base.specs.Media.{Told}
+use Rattle.std.specs.List.{AllByRecursion}
 use Rattle.sdr_model.specs.declared.journal.Entry.{Entry}
 use Rattle.sdr_lock.specs.Ground.{State}
 use Rattle.sdr_lock.specs.Legal.{EndsWithLeaves, Lead, MayStand, Rise, is_fault, is_leave, last_entry}
@@ -10,7 +11,7 @@ use Rattle.sdr_lock.specs.declared.daemon.Daemon.{Daemon}
 use Rattle.sdr_lock.specs.declared.daemon.Holding.{Holding}
 use Rattle.sdr_runs.specs.LastEntries.{AgreesWithJournal, AgreesWithLast}
 use Rattle.sdr_runs.proofs.JournalLemmas.{AreSound, ends_after_sound, ends_with_leave, last_done, last_done-more, last_entry-other, last_entry-own, last_number, last_number-more, lead_more, rise_more, sound_more}
-use Rattle.sdr_runs.proofs.RollLemmas.{Each, HoldsWithin, IsWithin, among, contrary, each_also, each_put, found_number, found_put, least_found, number_same, numbers_put, other_put, same_number, turned}
+use Rattle.sdr_runs.proofs.RollLemmas.{HoldsWithin, IsWithin, among, contrary, each_also, each_put, found_number, found_put, least_found, number_same, numbers_put, other_put, same_number, turned}
 
 -- the daemon of a number holds this
 pub record Held (r : Roll) (id : ℕ) (d : Daemon) (h : Holding) : Type 0 where
@@ -21,7 +22,7 @@ pub record Held (r : Roll) (id : ℕ) (d : Daemon) (h : Holding) : Type 0 where
 -- journal.
 pub record KeepsRoll (daemons : List ℕ) (journal : List Entry) (r : Roll) : Type 0 where
   pub numbers : map (λ (d : Daemon). d.id) r.daemons ≡ daemons
-  pub within : Each (IsWithin r.drawn) r.daemons
+  pub within : AllByRecursion (IsWithin r.drawn) r.daemons
   pub last : last_number 0 journal ≤ r.drawn
   pub above : (id : ℕ) (d : Daemon) (h : Holding) → Held r id d h → last_number 0 journal < h.number
   pub apart : (id other : ℕ) (d d' : Daemon) (h h' : Holding) → Held r id d h → Held r other d' h' → h.number ≡ h'.number → id ≡ other

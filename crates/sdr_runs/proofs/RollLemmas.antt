@@ -1,6 +1,6 @@
 -- The daemons of a roll, where one is put in its place.
 use Rattle.std.proofs.Common.{◌≡◌, ◌≤◌, ◌<◌, ◌∙◌, ◌==◌, ◌+◌, ◌&&◌, ℕ, zero, suc, List, [], ◌∷◌, Bool, true, false, not, Option, None, Some, arith, refl, sym, ap, subst, cond, map, min, nat_lt, length, find, true≢false}
-use Rattle.std.specs.List.{list_all, position, prefix_len}
+use Rattle.std.specs.List.{AllByRecursion, position, prefix_len}
 use Rattle.std.specs.Prelude.{if◌then◌else◌, slice_set, ⊤}
 use Rattle.std.specs.Option.{option_map_or}
 use Rattle.std.proofs.lemmas.Bool.Decides.{nat_tests}
@@ -48,23 +48,19 @@ abbrev pub among : ℕ → List Daemon → Option Daemon
 among id ds = find (λ (d : Daemon). d.id == id) ds
 
 -- what holds of each of these daemons
-abbrev pub Each : (Daemon → Type 0) → List Daemon → Type 0
-Each P [] = ⊤
-Each P (d ∷ ds) = P d × Each P ds
-
-pub each_also : (P Q : Daemon → Type 0) → ((d : Daemon) → P d → Q d) → (ds : List Daemon) → Each P ds → Each Q ds
+pub each_also : (P Q : Daemon → Type 0) → ((d : Daemon) → P d → Q d) → (ds : List Daemon) → AllByRecursion P ds → AllByRecursion Q ds
 each_also P Q also [] all = tt
 each_also P Q also (d ∷ ds) all = (also d all.0, each_also P Q also ds all.1)
 
-pub each_put : (P : Daemon → Type 0) (ds : List Daemon) (d : Daemon) → Each P ds → P d → Each P (put_daemon ds d)
+pub each_put : (P : Daemon → Type 0) (ds : List Daemon) (d : Daemon) → AllByRecursion P ds → P d → AllByRecursion P (put_daemon ds d)
 each_put P [] d all p = tt
 each_put P (x ∷ ds) d all p = by (x.id == d.id) refl (each_put P ds d all.1 p)
   where
-    by : (b : Bool) → (x.id == d.id) ≡ b → Each P (put_daemon ds d) → Each P (put_daemon (x ∷ ds) d)
-    by true e rest = subst (Each P) (sym (put_here x ds d e)) (p, all.1)
-    by false e rest = subst (Each P) (sym (put_later x ds d e)) (all.0, rest)
+    by : (b : Bool) → (x.id == d.id) ≡ b → AllByRecursion P (put_daemon ds d) → AllByRecursion P (put_daemon (x ∷ ds) d)
+    by true e rest = subst (AllByRecursion P) (sym (put_here x ds d e)) (p, all.1)
+    by false e rest = subst (AllByRecursion P) (sym (put_later x ds d e)) (all.0, rest)
 
-pub each_found : (P : Daemon → Type 0) (ds : List Daemon) (id : ℕ) (d : Daemon) → among id ds ≡ Some d → Each P ds → P d
+pub each_found : (P : Daemon → Type 0) (ds : List Daemon) (id : ℕ) (d : Daemon) → among id ds ≡ Some d → AllByRecursion P ds → P d
 each_found P [] id d found all = absurd cc
 each_found P (x ∷ ds) id d found all = by (x.id == id) found (λ rest. each_found P ds id d rest all.1)
   where
@@ -149,7 +145,7 @@ lesser_other n most some = by (n == 0) refl
     by false e = omega arith
 
 -- where a daemon holds a number, the least is 1 at least, and no more than it
-pub least_found : (ds : List Daemon) (drawn id : ℕ) (d : Daemon) (h : Holding) → Each (IsWithin drawn) ds → among id ds ≡ Some d → d.holds ≡ Some h
+pub least_found : (ds : List Daemon) (drawn id : ℕ) (d : Daemon) (h : Holding) → AllByRecursion (IsWithin drawn) ds → among id ds ≡ Some d → d.holds ≡ Some h
     → (1 ≤ least_held ds) × (least_held ds ≤ h.number)
 least_found [] drawn id d h all found holds = absurd cc
 least_found (x ∷ ds) drawn id d h all found holds =
@@ -201,7 +197,7 @@ least_put (y ∷ ds) d x found same = by (y.id == d.id) refl found (least_put ds
     by false e found rest = ap least_held (put_later y ds d e) ∙ ap (lesser_of y.holds) (rest found same)
 
 -- the least of these numbers is one that may be held
-least_within : (ds : List Daemon) (drawn : ℕ) → Each (IsWithin drawn) ds → least_held ds ≤ drawn
+least_within : (ds : List Daemon) (drawn : ℕ) → AllByRecursion (IsWithin drawn) ds → least_held ds ≤ drawn
 least_within [] drawn all = omega arith
 least_within (x ∷ ds) drawn all = by x.holds all.0 (least_within ds drawn all.1)
   where
@@ -236,7 +232,7 @@ lesser_twice a b n one other = by (n == 0) refl
         rw (p, q) (omega arith)
 
 -- the least number where a daemon has drawn one above all
-least_drawn : (ds : List Daemon) (drawn : ℕ) (d x : Daemon) (h : Holding) → Each (IsWithin drawn) ds → among d.id ds ≡ Some x → x.holds ≡ None
+least_drawn : (ds : List Daemon) (drawn : ℕ) (d x : Daemon) (h : Holding) → AllByRecursion (IsWithin drawn) ds → among d.id ds ≡ Some x → x.holds ≡ None
     → d.holds ≡ Some h → 1 ≤ h.number → least_held (put_daemon ds d) ≡ lesser_of (Some h) (least_held ds)
 least_drawn [] drawn d x h all found none holds one = absurd cc
 least_drawn (y ∷ ds) drawn d x h all found none holds one =
@@ -257,13 +253,13 @@ least_drawn (y ∷ ds) drawn d x h all found none holds one =
     by false e found rest = ap least_held (put_later y ds d e) ∙ ap (lesser_of y.holds) (rest found) ∙ turn y.holds all.0
 
 -- a number that is drawn is not served before those that are held
-pub least_stays : (ds : List Daemon) (drawn : ℕ) (d x : Daemon) (h : Holding) → Each (IsWithin drawn) ds → among d.id ds ≡ Some x → x.holds ≡ None
+pub least_stays : (ds : List Daemon) (drawn : ℕ) (d x : Daemon) (h : Holding) → AllByRecursion (IsWithin drawn) ds → among d.id ds ≡ Some x → x.holds ≡ None
     → d.holds ≡ Some h → drawn < h.number → 1 ≤ least_held ds → least_held (put_daemon ds d) ≡ least_held ds
 least_stays ds drawn d x h all found none holds above some =
     least_drawn ds drawn d x h all found none holds (omega arith) ∙ lesser_drawn (least_held ds) h.number drawn some (least_within ds drawn all) above
 
 -- no daemon has come
-pub each_newcomer : (P : Daemon → Type 0) → ((id : ℕ) → P (newcomer id)) → (ids : List ℕ) → Each P (map newcomer ids)
+pub each_newcomer : (P : Daemon → Type 0) → ((id : ℕ) → P (newcomer id)) → (ids : List ℕ) → AllByRecursion P (map newcomer ids)
 each_newcomer P is [] = tt
 each_newcomer P is (id ∷ ids) = (is id, each_newcomer P is ids)
 

@@ -1,6 +1,6 @@
 -- Who waits and who has left, by the roll and by the journal.
 use Rattle.std.proofs.Common.{◌≡◌, ◌∙◌, ◌==◌, ◌&&◌, ◌||◌, ℕ, List, [], ◌∷◌, Bool, true, false, not, Option, None, Some, refl, sym, ap, subst, cond, map, true≢false}
-use Rattle.std.specs.List.{IsDistinct, list_all}
+use Rattle.std.specs.List.{AllByRecursion, IsDistinct, list_all}
 use Rattle.std.specs.Option.{option_map_or}
 use Rattle.std.specs.Bool.{nat_eq}
 use Rattle.std.specs.Prelude.{⊤}
@@ -15,7 +15,7 @@ use Rattle.sdr_lock.specs.Roll.{Roll, is_stalled, is_stuck, waits_for}
 use Rattle.sdr_lock.specs.declared.daemon.Daemon.{Daemon}
 use Rattle.sdr_runs.specs.LastEntries.{AgreesWithLast, left_by, waited_ticket, waits_by}
 use Rattle.sdr_runs.proofs.KeepLemmas.{KeepsRoll}
-use Rattle.sdr_runs.proofs.RollLemmas.{Each, among, each_also, each_found, number_same}
+use Rattle.sdr_runs.proofs.RollLemmas.{among, each_also, each_found, number_same}
 
 -- whether a daemon waits for a ticket, by its last entry
 pub waits_agree : (last : Option Entry) (d : Daemon) (ticket : ℕ) → AgreesWithLast last d
@@ -49,11 +49,11 @@ both_pass : (a b : Bool) → (a && b) ≡ true → (a ≡ true) × (b ≡ true)
 both_pass true b e = (refl, e)
 both_pass false b e = absurd (true≢false (sym e))
 
-each_passes : (test : Daemon → Bool) (ds : List Daemon) → list_all test ds ≡ true → Each (λ d. test d ≡ true) ds
+each_passes : (test : Daemon → Bool) (ds : List Daemon) → list_all test ds ≡ true → AllByRecursion (λ d. test d ≡ true) ds
 each_passes test [] all = tt
 each_passes test (d ∷ ds) all = let b = both_pass (test d) (list_all test ds) all in (b.0, each_passes test ds b.1)
 
-passes_by_number : (test : ℕ → Bool) (ds : List Daemon) → Each (λ d. test d.id ≡ true) ds → list_all test (map (λ (d : Daemon). d.id) ds) ≡ true
+passes_by_number : (test : ℕ → Bool) (ds : List Daemon) → AllByRecursion (λ d. test d.id ≡ true) ds → list_all test (map (λ (d : Daemon). d.id) ds) ≡ true
 passes_by_number test [] all = refl
 passes_by_number test (d ∷ ds) all = ap (λ b. b && list_all test (map (λ (x : Daemon). x.id) ds)) all.0 ∙ passes_by_number test ds all.1
 
@@ -69,7 +69,7 @@ found_later x ds id is = by (x.id == id) refl
     by true e = record { daemon = x; found = ap (λ b. cond b (Some x) (among id ds)) e }
     by false e = record { daemon = is.daemon; found = ap (λ b. cond b (Some x) (among id ds)) e ∙ is.found }
 
-each_is_found : (ds : List Daemon) → Each (λ d. IsFound ds d.id) ds
+each_is_found : (ds : List Daemon) → AllByRecursion (λ d. IsFound ds d.id) ds
 each_is_found [] = tt
 each_is_found (x ∷ ds) =
     (record { daemon = x; found = ap (λ b. cond b (Some x) (among x.id ds)) (number_same x.id x.id refl) },
