@@ -12,7 +12,7 @@ use Rattle.sdr_model.specs.declared.journal.What.{What}
 use Rattle.sdr_model.specs.declared.journal.What.TheVariants as whats
 use Rattle.sdr_lock.specs.Core.{closed_by}
 use Rattle.sdr_lock.specs.Ground.{State}
-use Rattle.sdr_lock.specs.Legal.{Lead, MayStand}
+use Rattle.sdr_lock.specs.Legal.{IsLegal, Lead, MayStand}
 use Rattle.sdr_lock.specs.Transaction.{Finishes, GoesOn, Runs, Transaction, begun_in}
 use Rattle.sdr_runs.specs.Framed.{FramesWork, IsFramed}
 use Rattle.sdr_runs.proofs.TransactLemmas.{transacts_within}
@@ -73,9 +73,13 @@ stands_framed : (told : Option Told) (daemons : List ℕ) (journal : List Entry)
 stands_framed told daemons journal s number daemon (whats.Work said close) s' stands = runs_framed told s number said close s' stands
 stands_framed told daemons journal s number daemon what s' stands = tt
 
-pub lead_framed : (told : Option Told) (daemons : List ℕ) (before : List Entry) (s : State) (entries : List Entry) (s' : State) → Lead told daemons before s entries s'
+lead_framed : (told : Option Told) (daemons : List ℕ) (before : List Entry) (s : State) (entries : List Entry) (s' : State) → Lead told daemons before s entries s'
     → All (λ (e : Entry). FramesWork e.number e.what) entries
 lead_framed told daemons before s [] s' lead = All-nil (λ (e : Entry). FramesWork e.number e.what)
 lead_framed told daemons before s (e ∷ entries) s' lead =
     All-cons (λ (e : Entry). FramesWork e.number e.what) e entries (stands_framed told daemons before s e.number e.daemon e.what lead.after lead.stands)
     (lead_framed told daemons (before ++ e ∷ []) lead.after entries s' lead.rest)
+
+pub legal_framed : (told : Option Told) (daemons : List ℕ) (first : State) (journal : List Entry) → IsLegal told daemons first journal
+    → All (λ (e : Entry). FramesWork e.number e.what) journal
+legal_framed told daemons first journal legal = lead_framed told daemons [] first journal legal.last_state legal.leads

@@ -1,7 +1,8 @@
 -- A journal with one more entry.
 use Rattle.std.proofs.Common.{◌≡◌, ◌≤◌, ◌<◌, ◌∙◌, ◌==◌, ◌&&◌, ℕ, List, [], ◌∷◌, ◌++◌, Bool, true, false, not, Option, None, Some, MatchBool, refl, sym, ap, subst, cond, arith, find, reverse, take, length, append_assoc, append-nil, true≢false}
 use Rattle.std.specs.List.{list_all}
-use Rattle.std.specs.Prelude.{⊤}
+use Rattle.std.specs.Prelude.{All, ⊤}
+use Rattle.std.proofs.lemmas.List.Elements.{All-cons, All-nil}
 use Rattle.std.proofs.lemmas.List.{reverse-append}
 use Rattle.sdr_base.specs.Media.{Told}
 use Rattle.sdr_model.specs.declared.journal.Entry.{Entry}
@@ -109,3 +110,23 @@ ends_with_leave (first ∷ entries) e ends leaves = by (is_fault first.what) end
 pub take_all : (entries : List Entry) → take (length entries) entries ≡ entries
 take_all [] = refl
 take_all (e ∷ entries) = ap (λ rest. e ∷ rest) (take_all entries)
+
+-- where numbers rise, none is above the last
+pub rise_below : (number done : ℕ) (entries : List Entry) → Rise number done entries → number ≤ last_number number entries
+rise_below number done [] rise = omega arith
+rise_below number done (e ∷ entries) rise =
+    let rest : e.number ≤ last_number e.number entries = rise_below e.number e.done entries rise.1 in
+    let higher : number < e.number = rise.0.higher in
+    omega arith
+
+pub all_below : (number done most : ℕ) (entries : List Entry) → Rise number done entries → last_number number entries ≤ most → All (λ (e : Entry). e.number ≤ most) entries
+all_below number done most [] rise last = All-nil (λ (e : Entry). e.number ≤ most)
+all_below number done most (e ∷ entries) rise last =
+    All-cons (λ (e : Entry). e.number ≤ most) e entries (let below = rise_below e.number e.done entries rise.1 in omega arith)
+    (all_below e.number e.done most entries rise.1 last)
+
+pub all_above : (number done above : ℕ) (entries : List Entry) → Rise number done entries → last_number number entries < above → All (λ (e : Entry). e.number < above) entries
+all_above number done above [] rise last = All-nil (λ (e : Entry). e.number < above)
+all_above number done above (e ∷ entries) rise last =
+    All-cons (λ (e : Entry). e.number < above) e entries (let below = rise_below e.number e.done entries rise.1 in omega arith)
+    (all_above e.number e.done above entries rise.1 last)

@@ -2,26 +2,28 @@
 use Rattle.std.proofs.Common.{◌≡◌, ◌≤◌, ◌<◌, ◌∙◌, ◌==◌, ◌&&◌, ◌++◌, ℕ, List, [], ◌∷◌, Bool, true, false, Option, None, Some, arith, refl, sym, ap, subst, cond, find, length, map, nat_eq, take, append-nil}
 use Rattle.std.specs.List.{AllByRecursion, IsDistinct, list_all}
 use Rattle.std.specs.Option.{option_map, option_map_or, option_to_list}
-use Rattle.std.specs.Prelude.{⊤}
+use Rattle.std.specs.Prelude.{All, ⊤}
 use Rattle.sdr_base.specs.Media.{Told}
 use Rattle.sdr_model.specs.World.{World}
 use Rattle.sdr_model.specs.declared.journal.Entry.{Entry}
 use Rattle.sdr_lock.specs.Core.{AreInTime, Core, CoreStep, Log, RunsCore, core_after, entry_of, first_core, log_after, under, what_of}
 use Rattle.sdr_lock.specs.Ground.{State, resting}
 use Rattle.sdr_lock.specs.Legal as legal
-use Rattle.sdr_lock.specs.Legal.{IsAfter, IsLegal, Lead, have_stalled, last_entry}
+use Rattle.sdr_lock.specs.Legal.{IsAfter, IsLegal, Lead, Rise, have_stalled}
 use Rattle.sdr_lock.specs.Machine.{Made}
 use Rattle.sdr_lock.specs.Roll.{daemon_of, is_stalled, is_stuck, newcomer}
 use Rattle.sdr_lock.specs.declared.daemon.Daemon.{Daemon}
 use Rattle.sdr_lock.specs.declared.daemon.Holding.{Holding}
 use Rattle.sdr_runs.specs.Adding.{AddsRightly, entry_added}
+use Rattle.sdr_runs.specs.LastEntries.{AgreesWithJournal}
 use Rattle.sdr_runs.proofs.CoreLemmas.{KeepsCore}
 use Rattle.sdr_runs.proofs.CurrentLemmas.{Current}
-use Rattle.sdr_runs.proofs.JournalLemmas.{take_all}
+use Rattle.sdr_runs.proofs.JournalLemmas.{all_above, all_below, take_all}
 use Rattle.sdr_runs.proofs.KeepLemmas.{Held}
 use Rattle.sdr_runs.proofs.RollLemmas.{IsWithin, among, each_found, each_newcomer, numbers_of_newcomers}
-use Rattle.sdr_runs.proofs.StalledLemmas.{stuck_agree}
+use Rattle.sdr_runs.proofs.StalledLemmas.{stalled_same}
 use Rattle.sdr_runs.proofs.StepLemmas.{step_keeps}
+use Rattle.sdr_runs.proofs.TurnLemmas.{held_within}
 use Rattle.sdr_runs.proofs.WorkLemmas.{Untouched}
 
 -- the moment at which the last of these events was done
@@ -100,3 +102,47 @@ step_adds told c e c' step =
         ≡ c.log.journal ++ option_to_list (option_map_or (λ (d : Daemon). let u = under c.machine.roll d step.next.roll e.said.event in option_map (entry_of u.number e) (what_of u c.log.works e)) o None)
     by None = sym (append-nil c.log.journal)
     by (Some d) = refl
+
+-- one more event that is made in time
+time_last : (moment : ℕ) (made : List Made) (e : Made) → AreInTime moment (made ++ e ∷ []) → AreInTime moment made × (last_moment moment made ≤ e.begun) × (e.begun ≤ e.done)
+time_last moment [] e time = (tt, time.0, time.1)
+time_last moment (x ∷ made) e time =
+    let rest : AreInTime x.done made × (last_moment x.done made ≤ e.begun) × (e.begun ≤ e.done) = time_last x.done made e time.2 in
+    ((time.0, time.1, rest.0), rest.1, rest.2)
+
+-- the entry that one more event adds may stand
+pub run_adds : (told : Option Told) (daemons : List ℕ) (first : State) (moment : ℕ) (made : List Made) (core : Core) (e : Made) (next : Core)
+    → AreInTime moment (made ++ e ∷ []) → RunsCore told (first_core daemons first) made core → CoreStep told core e next → AddsRightly told daemons core e next.machine
+run_adds told daemons first moment made core e next time runs step =
+    let t : AreInTime moment made × (last_moment moment made ≤ e.begun) × (e.begun ≤ e.done) = time_last moment made e time in
+    (core_step_keeps told daemons first (last_moment moment made) core e next (run_keeps told daemons first moment made core t.0 runs) t.1 t.2 step).1
+
+-- the numbers of a run
+pub run_rises : (told : Option Told) (daemons : List ℕ) (first : State) (moment : ℕ) (made : List Made) (core : Core) → AreInTime moment made
+    → RunsCore told (first_core daemons first) made core → Rise 0 0 core.log.journal
+run_rises told daemons first moment made core time runs = (run_keeps told daemons first moment made core time runs).journal.rise
+
+pub run_drawn : (told : Option Told) (daemons : List ℕ) (first : State) (moment : ℕ) (made : List Made) (core : Core) → AreInTime moment made
+    → RunsCore told (first_core daemons first) made core → All (λ (x : Entry). x.number ≤ core.machine.roll.drawn) core.log.journal
+run_drawn told daemons first moment made core time runs =
+    let keeps = run_keeps told daemons first moment made core time runs in
+    all_below 0 0 core.machine.roll.drawn core.log.journal keeps.journal.rise keeps.roll.last
+
+pub run_held : (told : Option Told) (daemons : List ℕ) (first : State) (moment : ℕ) (made : List Made) (core : Core) → AreInTime moment made
+    → RunsCore told (first_core daemons first) made core → (id : ℕ) (d : Daemon) (h : Holding) → daemon_of core.machine.roll id ≡ Some d → d.holds ≡ Some h
+    → (h.number ≤ core.machine.roll.drawn) × All (λ (x : Entry). x.number < h.number) core.log.journal
+run_held told daemons first moment made core time runs id d h found holds =
+    let keeps = run_keeps told daemons first moment made core time runs in
+    let held : Held core.machine.roll id d h = record { found = found; holds = holds } in
+    ((held_within keeps.roll held).1,
+    all_above 0 0 h.number core.log.journal keeps.journal.rise (keeps.roll.above id d h held))
+
+-- the roll and the journal of a run
+pub run_agrees : (told : Option Told) (daemons : List ℕ) (first : State) (moment : ℕ) (made : List Made) (core : Core) → AreInTime moment made
+    → RunsCore told (first_core daemons first) made core → AgreesWithJournal core.log.journal core.machine.roll
+run_agrees told daemons first moment made core time runs = (run_keeps told daemons first moment made core time runs).roll.agree
+
+pub run_stalls : (told : Option Told) (daemons : List ℕ) (first : State) (moment : ℕ) (made : List Made) (core : Core) → IsDistinct nat_eq daemons → AreInTime moment made
+    → RunsCore told (first_core daemons first) made core → (w : World) → is_stalled core.machine.roll w ≡ have_stalled daemons core.log.journal w
+run_stalls told daemons first moment made core distinct time runs w =
+    stalled_same daemons core.log.journal core.machine.roll w (run_keeps told daemons first moment made core time runs).roll distinct

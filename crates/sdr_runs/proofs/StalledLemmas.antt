@@ -85,3 +85,30 @@ stalled_by_roll daemons journal r w keeps stalled =
     (λ d is. sym (stuck_agree w (last_entry journal d.id) is.daemon (keeps.agree d.id is.daemon is.found))
     ∙ each_found (λ y. is_stuck w y ≡ true) r.daemons d.id is.daemon is.found (each_passes (is_stuck w) r.daemons stalled))
     r.daemons (each_is_found r.daemons)))
+
+-- where the numbers are each another, each daemon is found by its own
+each_found_itself : (ds : List Daemon) → IsDistinct nat_eq (map (λ (d : Daemon). d.id) ds) → AllByRecursion (λ d. among d.id ds ≡ Some d) ds
+unfolding IsDistinct
+each_found_itself [] distinct = tt
+each_found_itself (x ∷ ds) distinct =
+    (ap (λ b. cond b (Some x) (among x.id ds)) (number_same x.id x.id refl), later ds distinct.0 (each_found_itself ds distinct.1))
+  where
+    later : (es : List Daemon) → AllByRecursion (λ n. nat_eq x.id n ≡ false) (map (λ (d : Daemon). d.id) es) → AllByRecursion (λ d. among d.id ds ≡ Some d) es
+        → AllByRecursion (λ d. among d.id (x ∷ ds) ≡ Some d) es
+    later [] apart all = tt
+    later (d ∷ es) apart all = (ap (λ b. cond b (Some x) (among d.id ds)) apart.0 ∙ all.0, later es apart.1 all.1)
+
+same_tests : (test : Daemon → Bool) (by : ℕ → Bool) (ds : List Daemon) → AllByRecursion (λ d. test d ≡ by d.id) ds
+    → list_all test ds ≡ list_all by (map (λ (d : Daemon). d.id) ds)
+same_tests test by [] all = refl
+same_tests test by (d ∷ ds) all = λ i. all.0 i && same_tests test by ds all.1 i
+
+-- all have stalled by the roll just where they have by the journal
+pub stalled_same : (daemons : List ℕ) (journal : List Entry) (r : Roll) (w : World) → KeepsRoll daemons journal r → IsDistinct nat_eq daemons
+    → is_stalled r w ≡ have_stalled daemons journal w
+stalled_same daemons journal r w keeps distinct =
+    same_tests (is_stuck w) (λ id. option_map_or (λ (e : Entry). legal.is_stuck w e.what) (last_entry journal id) false) r.daemons
+    (each_also (λ d. among d.id r.daemons ≡ Some d) (λ d. is_stuck w d ≡ option_map_or (λ (e : Entry). legal.is_stuck w e.what) (last_entry journal d.id) false)
+    (λ d found. stuck_agree w (last_entry journal d.id) d (keeps.agree d.id d found)) r.daemons
+    (each_found_itself r.daemons (subst (IsDistinct nat_eq) (sym keeps.numbers) distinct)))
+    ∙ ap (λ ids. have_stalled ids journal w) keeps.numbers
