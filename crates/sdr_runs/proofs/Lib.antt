@@ -1,0 +1,15 @@
+pub mod CaseLemmas
+pub mod ClosingLemmas
+pub mod CoreLemmas
+pub mod CurrentLemmas
+pub mod FrameLemmas
+pub mod JournalLemmas
+pub mod KeepLemmas
+pub mod RollLemmas
+pub mod RowReplies
+pub mod RunLemmas
+pub mod StalledLemmas
+pub mod StepLemmas
+pub mod TransactLemmas
+pub mod TurnLemmas
+pub mod WorkLemmas

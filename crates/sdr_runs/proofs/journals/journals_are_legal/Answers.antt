@@ -1,0 +1,8 @@
+use Rattle.sdr_runs.proofs.RunLemmas.{run_is_after, run_is_legal}
+use Rattle.sdr_runs.proofs.journals.journals_are_legal.Goals as goal
+
+pub returns-clause-legal : goal.returns-clause-legal
+returns-clause-legal c = run_is_legal
+
+pub returns-clause-after : goal.returns-clause-after
+returns-clause-after c = run_is_after

@@ -1,0 +1,4 @@
+pub mod Adding
+pub mod Framed
+pub mod LastEntries
+pub mod Replying

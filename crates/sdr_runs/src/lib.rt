@@ -1,0 +1,10 @@
+//! Laws of core runs and of the journals that they keep. Each law is the contract of a function that does nothing.
+#![tactic(auto)]
+
+mod journals;
+mod replies;
+mod stalled;
+
+pub use journals::{entries_may_stand, journals_are_legal, numbers_rise, transactions_are_framed};
+pub use replies::calls_answer_for_themselves;
+pub use stalled::rolls_agree_with_journals;
