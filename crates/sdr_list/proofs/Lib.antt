@@ -1,0 +1,7 @@
+pub mod ChainLemmas
+mod KeptLemmas
+mod LinkLemmas
+mod GapLemmas
+mod InsertLemmas
+mod PlaceLemmas
+mod DeleteLemmas

@@ -1,0 +1,3 @@
+pub mod Gaps
+pub mod Kept
+pub mod Calls
