@@ -5,3 +5,5 @@ mod GapLemmas
 mod InsertLemmas
 mod PlaceLemmas
 mod DeleteLemmas
+pub mod GivingLemmas
+mod DestroyLemmas

@@ -1,3 +1,7 @@
 pub mod Gaps
 pub mod Kept
+pub mod Orders
+pub mod Preorders
 pub mod Calls
+pub mod Destroying
+pub mod Giving

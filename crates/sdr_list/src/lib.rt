@@ -5,13 +5,19 @@
 //! 3. A chain is walked by the list's length, and never for ever.
 #![tactic(auto)]
 
+mod collation;
+mod destroying;
 mod element;
 mod insert;
 mod link;
 mod list;
+mod orders;
 mod remove;
 
+pub use collation::{Collate, Collation, LONGEST_KEY};
+pub use destroying::destroy;
 pub use element::{datum, next, prev, set_datum};
 pub use insert::{insert_after, insert_before, insert_first, insert_last};
 pub use list::{create, first, last, length, set_user_data, user_data};
+pub use orders::{Compare, Keys, Stored};
 pub use remove::delete;
