@@ -5,5 +5,8 @@ mod GapLemmas
 mod InsertLemmas
 mod PlaceLemmas
 mod DeleteLemmas
+mod KeyLemmas
+mod WalkLemmas
+mod OrderedLemmas
 pub mod GivingLemmas
 mod DestroyLemmas

@@ -44,6 +44,18 @@ pub record IsPlace (blocks : Blocks) (list prev next : ℕ) (row : ListRow) (pla
   pub at_prev : prev ≡ addr_before row place
   pub at_next : next ≡ addr_from row place
 
+-- the number that follows in whichever list is kept, at each place behind `prev`
+pub record FollowsIn (blocks : Blocks) (list prev next : ℕ) : Type 0 where
+  pub follows : (row : ListRow) (place : ℕ) → KeepsList blocks list row → prev ≡ addr_before row place →
+      next ≡ addr_from row place
+
+-- some list is kept with such a place behind `prev`
+pub record SomePlaceBehind (blocks : Blocks) (list prev : ℕ) : Type 0 where
+  pub row : ListRow
+  pub place : ℕ
+  pub keeps : KeepsList blocks list row
+  pub at_prev : prev ≡ addr_before row place
+
 -- some list is kept with such a place
 pub record SomePlace (blocks : Blocks) (list prev next : ℕ) : Type 0 where
   pub row : ListRow

@@ -4,10 +4,12 @@ use Rattle.std.specs.Ordering.{ordering_reverse, is_eq, is_gt}
 use Rattle.std.specs.declared.cmp.Ordering.{Ordering}
 use Rattle.std.specs.declared.cmp.Ordering.TheVariants.{Less, Equal}
 use Rattle.sdr_base.specs.Blocks.{Block, Blocks}
-use Rattle.sdr_base.specs.Lists.{ListElement, ListRow}
+use Rattle.sdr_base.specs.Lists.{ListElement, ListRow, KeepsList}
+use Rattle.sdr_base.specs.Words.{HasWord}
 use Rattle.sdr_base.specs.declared.kind.Kind.{Kind}
 use Rattle.sdr_base.specs.declared.kind.Kind.TheVariants as kinds
 use Rattle.sdr_base.specs.declared.layout.raw.TheConstants.{BYTES}
+use Rattle.sdr_list.specs.Kept.{addr_before}
 use Rattle.sdr_list.specs.declared.collation.TheConstants.{LONGEST_KEY}
 
 -- the key is one that is compared
@@ -42,17 +44,34 @@ place_behind test (x ∷ xs) =
     let place = place_behind test xs in
     if place == 0 && not (test x.datum) then 0 else place + 1
 
--- where a new element goes in order: behind the last one whose key is less or equal
-abbrev pub ordered_place : (List ℕ → List ℕ → Ordering) → Blocks → ℕ → ListRow → ℕ
-ordered_place order blocks datum row =
-    place_behind (λ other. not (is_gt (order (sort_key blocks other) (sort_key blocks datum)))) row.elements
+-- where a key goes in order: behind the last element whose key is less or equal
+abbrev pub ordered_place : (List ℕ → List ℕ → Ordering) → Blocks → List ℕ → ListRow → ℕ
+ordered_place order blocks key row = place_behind (λ other. not (is_gt (order (sort_key blocks other) key))) row.elements
 
 -- the address of the element, 0 where there is none
 abbrev pub found_addr : Option ListElement → ℕ
 found_addr None = 0
 found_addr (Some element) = element.addr
 
--- the address of the first element whose key is equal, 0 where there is none
-abbrev pub equal_addr : (List ℕ → List ℕ → Ordering) → Blocks → ℕ → ListRow → ℕ
-equal_addr order blocks datum row =
-    found_addr (find (λ x. is_eq (order (sort_key blocks x.datum) (sort_key blocks datum))) row.elements)
+-- the address of the first element of equal key, 0 where there is none
+abbrev pub equal_addr : (List ℕ → List ℕ → Ordering) → Blocks → List ℕ → ListRow → ℕ
+equal_addr order blocks key row = found_addr (find (λ x. is_eq (order (sort_key blocks x.datum) key)) row.elements)
+
+-- the first bytes of a buffer, so many, are the key in a block
+pub record ReadsKey (found : Option Block) (count : ℕ) (into : List ℕ) : Type 0 where
+  pub short : count ≤ LONGEST_KEY
+  pub key : take count into ≡ key_in found
+
+-- an element's datum was read, and its key compared with another
+pub record Compares (order : List ℕ → List ℕ → Ordering) (blocks : Blocks) (element : ℕ) (key : List ℕ) (answer : Ordering) : Type 0 where
+  pub datum : ℕ
+  pub word : HasWord (blocks element) 3 datum
+  pub is : answer ≡ order (sort_key blocks datum) key
+
+-- behind the element at this address, or at the front where that is 0, a key has its place in whichever list is kept
+pub record FindsPlace (order : List ℕ → List ℕ → Ordering) (blocks : Blocks) (list : ℕ) (key : List ℕ) (prev : ℕ) : Type 0 where
+  pub place : (row : ListRow) → KeepsList blocks list row → prev ≡ addr_before row (ordered_place order blocks key row)
+
+-- this is the first element of equal key in whichever list is kept, or 0
+pub record FindsEqual (order : List ℕ → List ℕ → Ordering) (blocks : Blocks) (list : ℕ) (key : List ℕ) (found : ℕ) : Type 0 where
+  pub equal : (row : ListRow) → KeepsList blocks list row → found ≡ equal_addr order blocks key row

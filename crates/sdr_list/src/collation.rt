@@ -27,7 +27,7 @@ pub trait Collate {
 /// A comparison, beside the fact that it is a total preorder on keys: its bound keeps that.
 #[derive(Drop)]
 pub struct Collation<F: Collate> {
-    by: F,
+    pub by: F,
 }
 
 impl<F: Collate> Collation<F> {

@@ -9,8 +9,10 @@ mod collation;
 mod destroying;
 mod element;
 mod insert;
+mod key;
 mod link;
 mod list;
+mod ordered;
 mod orders;
 mod remove;
 
@@ -19,5 +21,6 @@ pub use destroying::destroy;
 pub use element::{datum, next, prev, set_datum};
 pub use insert::{insert_after, insert_before, insert_first, insert_last};
 pub use list::{create, first, last, length, set_user_data, user_data};
+pub use ordered::{insert_ordered, search};
 pub use orders::{Compare, Keys, Stored};
 pub use remove::delete;

@@ -45,6 +45,18 @@ pub struct Stored {
         → Compare.post compare a b r → r ≡ order_of keys a.now b.now },
 }
 
+impl Stored {
+    /// Stores a function that compares by `keys`.
+    pub fn new(compare: Compare, keys: Keys) -> Stored
+        requires callable { (a b : _) → IsKey a.now → IsKey b.now → Compare.pre compare a b }
+        requires answers { (a b : _) (r : Ordering) → IsKey a.now → IsKey b.now
+            → Compare.post compare a b r → r ≡ order_of keys a.now b.now }
+        ensures { ⟦<Stored as Collate>⟧.order result ≡ order_of keys }
+    {
+        Stored { compare, keys }
+    }
+}
+
 impl Collate for Stored {
     ghost use Rattle.sdr_list.specs.Preorders.{order_of, order_total};
 
