@@ -1,0 +1,12 @@
+pub mod ChainLemmas
+mod KeptLemmas
+mod LinkLemmas
+mod GapLemmas
+mod InsertLemmas
+mod PlaceLemmas
+mod DeleteLemmas
+mod KeyLemmas
+mod WalkLemmas
+mod OrderedLemmas
+pub mod GivingLemmas
+mod DestroyLemmas

@@ -1,0 +1,77 @@
+-- A chain of blocks that is given back, the first one first.
+use Rattle.std.specs.Prelude.{◌≡◌, ◌-◌, ℕ, List, ◌++◌, length, map, All}
+use Rattle.sdr_base.specs.Blocks.{Block, Blocks}
+use Rattle.sdr_base.specs.Entries.{Entries, Stands}
+use Rattle.sdr_base.specs.Linked.{first_of, linked}
+use Rattle.sdr_base.specs.Lists.{ElementFits, ListElement, addr_of, element_block, elements_between}
+use Rattle.sdr_base.specs.Making.{Made}
+use Rattle.sdr_base.specs.Objects.{AreFirstOf, Heap, OnlyFault}
+use Rattle.sdr_base.specs.declared.moves.Move.{Move}
+use Rattle.sdr_base.specs.declared.moves.Move.TheVariants.{Gave}
+use Rattle.sdr_base.specs.declared.refusal.Refusal.TheVariants.{LogFull}
+use Rattle.sdr_base.specs.declared.stop.Stop.{Stop}
+use Rattle.sdr_base.specs.declared.stop.Stop.TheVariants.{Refused}
+
+-- the blocks at these addresses are given back, in order
+abbrev pub gave : List ℕ → List Move
+gave = map (λ addr. Gave addr)
+
+-- some first ones of these were given back, and no other move was made
+pub record GaveSome (addrs : List ℕ) (old new : Heap) : Type 0 where
+  pub made : List Move
+  pub first : AreFirstOf (gave addrs) made
+  pub moves : new.moves ≡ old.moves ++ made
+  pub spare : new.spare ≡ old.spare - length made
+
+-- of a chain of any layout so many first ones were given back; the next one is at the cursor, and P holds of all
+pub record Part {X : Type 0} (P : X → Type 0) (addr : X → ℕ) (block : ℕ → ℕ → X → Block) (next : ℕ) (old now : Heap)
+    (cursor i : ℕ) (xs : List X) (rest : Entries) : Type 0 where
+  pub gone : List X
+  pub left : List X
+  pub prev : ℕ
+  pub whole : xs ≡ gone ++ left
+  pub passed : length gone ≡ i
+  pub at_cursor : cursor ≡ first_of addr next left
+  pub holds : All P left
+  pub stands : Stands now.blocks (linked addr block prev next left ++ rest)
+  pub made : Made (gave (map addr gone)) old now
+
+-- a chain of elements stands there, so many, with other blocks
+pub record ChainAt (blocks : Blocks) (first count list prev : ℕ) (xs : List ListElement) (rest : Entries) : Type 0 where
+  pub stands : Stands blocks (elements_between list prev 0 xs ++ rest)
+  pub at_first : first ≡ first_of addr_of 0 xs
+  pub counted : count ≡ length xs
+  pub fits : All ElementFits xs
+
+-- some chain of elements stands there
+pub record SomeChain (blocks : Blocks) (first count : ℕ) : Type 0 where
+  pub list : ℕ
+  pub prev : ℕ
+  pub xs : List ListElement
+  pub rest : Entries
+  pub is : ChainAt blocks first count list prev xs rest
+
+-- of whichever chain stands there so many first ones were given back
+pub record Gives (old now : Heap) (first count cursor i : ℕ) : Type 0 where
+  pub gives : (list prev : ℕ) (xs : List ListElement) (rest : Entries) → ChainAt old.blocks first count list prev xs rest →
+      Part ElementFits addr_of (element_block list) 0 old now cursor i xs rest
+
+-- the chain was given back, and the other blocks stand
+pub record Gone (old new : Heap) (xs : List ListElement) (rest : Entries) : Type 0 where
+  pub stands : Stands new.blocks rest
+  pub made : Made (gave (map addr_of xs)) old new
+
+-- whichever chain stands there was given back
+pub record GivesChain (old new : Heap) (first count : ℕ) : Type 0 where
+  pub gives : (list prev : ℕ) (xs : List ListElement) (rest : Entries) → ChainAt old.blocks first count list prev xs rest →
+      Gone old new xs rest
+
+-- of whichever chain stands there some first ones were given back
+pub record GivesSome (old new : Heap) (first count : ℕ) : Type 0 where
+  pub gives : (list prev : ℕ) (xs : List ListElement) (rest : Entries) → ChainAt old.blocks first count list prev xs rest →
+      GaveSome (map addr_of xs) old new
+
+-- why a chain isn't given back: there is no log room; or a fault
+abbrev pub GiveStops : ℕ → ℕ → Heap → Heap → Stop → Type 0
+GiveStops first count old new (Refused (LogFull lines room)) = GivesSome old new first count
+GiveStops first count old new stop = OnlyFault stop

@@ -1,0 +1,27 @@
+-- The orders by bytes and by length are total preorders.
+use Rattle.std.specs.Prelude.{ℕ, List, length}
+use Rattle.std.specs.Cmp.{IsTotalOrder, nat_cmp_total, on_total}
+use Rattle.std.specs.Cmp.Lexicographic.{nat_list_cmp_total, slice_cmp}
+use Rattle.std.specs.Ordering.{nat_cmp}
+use Rattle.std.specs.declared.cmp.Ordering.{Ordering}
+use Rattle.sdr_list.specs.Orders.{IsPreorder}
+use Rattle.sdr_list.specs.declared.orders.Keys.{Keys}
+use Rattle.sdr_list.specs.declared.orders.Keys.TheVariants as keys
+
+-- how two keys compare by these
+abbrev pub order_of : Keys → List ℕ → List ℕ → Ordering
+order_of keys.ByBytes a b = slice_cmp nat_cmp a b
+order_of keys.ByLength a b = nat_cmp (length a) (length b)
+
+-- a total order of all lists of bytes is a total preorder of keys
+on_keys : {order : List ℕ → List ℕ → Ordering} → IsTotalOrder order → IsPreorder order
+on_keys o = record {
+  turned = λ a b p q. o.antisymm a b;
+  trans = λ a b c p q r f s. o.trans a b c f s;
+  alike = λ a b c p q r f. o.congr a b c f;
+}
+
+-- each is a total preorder of keys
+pub order_total : (by : Keys) → IsPreorder (order_of by)
+order_total keys.ByBytes = on_keys nat_list_cmp_total
+order_total keys.ByLength = on_keys (on_total (λ (xs : List ℕ). length xs) nat_cmp_total)

@@ -1,0 +1,26 @@
+//! Lists: doubly linked elements, each in a block of its own.
+//!
+//! 1. A list's block has its length and its two ends, an element's its list and its two neighbours.
+//! 2. An element comes and goes between two neighbours, each of which is an element or the list's end.
+//! 3. A chain is walked by the list's length, and never for ever.
+#![tactic(auto)]
+
+mod collation;
+mod destroying;
+mod element;
+mod insert;
+mod key;
+mod link;
+mod list;
+mod ordered;
+mod orders;
+mod remove;
+
+pub use collation::{Collate, Collation, LONGEST_KEY};
+pub use destroying::destroy;
+pub use element::{datum, next, prev, set_datum};
+pub use insert::{insert_after, insert_before, insert_first, insert_last};
+pub use list::{create, first, last, length, set_user_data, user_data};
+pub use ordered::{insert_ordered, search};
+pub use orders::{Compare, Keys, Stored};
+pub use remove::delete;
