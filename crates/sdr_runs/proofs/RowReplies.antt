@@ -22,7 +22,7 @@ use Rattle.sdr_model.specs.Step.{Step, Stops, StopsWith}
 use Rattle.sdr_model.specs.Steps.{DoesWith, Outcome, On, Refuses, Takes, TakesOne, with_thing}
 use Rattle.sdr_model.specs.World.{World, as_raw, as_text, block_at, is_marked, misnamed, refusal_for, spot_of, thing_at}
 use Rattle.sdr_model.specs.Amounts.{amounts_by, first_above, in_space, minus}
-use Rattle.sdr_model.specs.Charging.{Charges, OnTicket, RefusesSpace, grant_left, with_used}
+use Rattle.sdr_model.specs.Charging.{Charges, OnTicket, grant_left, no_space, with_used}
 use Rattle.sdr_model.specs.HashSteps as hash
 use Rattle.sdr_model.specs.ListSteps as list
 use Rattle.sdr_model.specs.NameSteps.{OnName}
@@ -95,7 +95,7 @@ module _ (w : World) (o : Outcome) where
       → MatchOption (barrier (minus (amounts_by charge) (grant_left p)) (tickets_of w.accounts acct))
       (MatchOption (first_above (minus (amounts_by charge) (grant_left p)) (rooms w acct))
       (goes (with_used w p (amounts_by charge)))
-      (RefusesSpace w o acct (minus (amounts_by charge) (grant_left p))))
+      (λ space. Refuses w o (no_space w acct (minus (amounts_by charge) (grant_left p)) space)))
       (λ t. Refuses w o (refusals.Queue t.number))
       → ((used : World) → goes used → IsFair o) → IsFair o
   covers acct charge goes p h then =
@@ -135,7 +135,7 @@ module _ (w : World) (o : Outcome) where
       (λ used. Takes w o (capsule_need (length text)) (λ block. with_object used addr (with_capsule z (record { block = block; text = text }))) (λ block. replies.Done))
       c (λ used t. takes _ _ _ (λ _. refl) t)))
 
-  gives : (addr count : ℕ) (of : ZcoObject → wire.Told) → wire.GivesOf w o addr count of → IsFair o
+  gives : (addr count : ℕ) (of : ZcoObject → wire.ToldBytes) → wire.GivesOf w o addr count of → IsFair o
   gives addr count of h = on addr (object_at w addr) h (λ z r. tests (nat_lt longest_read count) r (λ f. refuses f refl) (λ g. answers _ refl g.3))
 
   frees : (addr : ℕ) (bytes text : Option (List ℕ)) → raw.FreesThing w o addr bytes text → IsFair o
