@@ -240,3 +240,19 @@ find_free p (x ∷ xs) d found none = by (find_free p xs d) (p x) refl found (bo
         → (is_none x.holds ≡ true) × (hold_none xs ≡ true) → is_none d.holds ≡ true
     by among true is here parts = let same : x ≡ d = cc in subst (λ (y : Daemon). is_none y.holds ≡ true) same parts.0
     by among false is there parts = among there parts.1
+
+-- where one is found that holds a number, there is one
+pub found_some : (p : Daemon → Bool) (ds : List Daemon) (d : Daemon) → find p ds ≡ Some d → IsSome d.holds → 1 ≤ holders ds
+found_some p [] d found holds = absurd cc
+found_some p (x ∷ xs) d found holds = by (λ there. found_some p xs d there holds) (p x) refl found
+  where
+    more : (b : Bool) (n : ℕ) → 1 ≤ n → 1 ≤ (if b then n + 1 else n)
+    more true n some = omega arith
+    more false n some = some
+
+    by : (find p xs ≡ Some d → 1 ≤ holders xs) → (b : Bool) → p x ≡ b → cond b (Some x) (find p xs) ≡ Some d → 1 ≤ holders (x ∷ xs)
+    by among true is here =
+        let same : x ≡ d = cc in
+        let holds_here : is_some x.holds ≡ true = subst (λ (y : Daemon). is_some y.holds ≡ true) (sym same) holds in
+        subst (λ b. 1 ≤ (if b then holders xs + 1 else holders xs)) (sym holds_here) (omega arith)
+    by among false is there = more (is_some x.holds) (holders xs) (among there)

@@ -24,11 +24,11 @@ pub record KeepsHolders (r r' : Roll) : Type 0 where
   pub first : HoldFirst [] r.daemons → HoldFirst [] r'.daemons
 
 -- the same daemons
-same_holders : (r r' : Roll) → r'.daemons ≡ r.daemons → KeepsHolders r r'
+pub same_holders : (r r' : Roll) → r'.daemons ≡ r.daemons → KeepsHolders r r'
 same_holders r r' same = record { length = ap length same; first = λ first. subst (HoldFirst []) (sym same) first }
 
 -- one is put in its place that hasn't left, or holds no number
-put_holders : (r r' : Roll) (d : Daemon) → r'.daemons ≡ (with_daemon r d).daemons → (IsSome d.holds → d.left ≡ false) → KeepsHolders r r'
+pub put_holders : (r r' : Roll) (d : Daemon) → r'.daemons ≡ (with_daemon r d).daemons → (IsSome d.holds → d.left ≡ false) → KeepsHolders r r'
 put_holders r r' d same stays = record {
   length = ap length same ∙ put_length d r.daemons;
   first = λ first. subst (HoldFirst []) (sym same) (put_first d [] r.daemons stays refl first);

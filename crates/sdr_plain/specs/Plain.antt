@@ -1,6 +1,7 @@
 -- A plain machine, as contracts see it.
-use Rattle.std.specs.Prelude.{◌≡◌, ◌≤◌, ℕ, ◌+◌, None}
+use Rattle.std.specs.Prelude.{◌≡◌, ◌≤◌, ℕ, ◌+◌, [], None}
 use Rattle.sdr_model.specs.Few.{most_pieces}
+use Rattle.sdr_lock.specs.Holders.{HoldFirst}
 use Rattle.sdr_lock.specs.Machine.{Machine}
 use Rattle.sdr_lock.specs.Roll.{Roll}
 use Rattle.sdr_plain.specs.Bare.{LastsBare, Worlds, machine_on}
@@ -15,8 +16,10 @@ pub record Plain : Type 0 where
 abbrev pub machine_of : Plain → Machine
 machine_of p = machine_on p.roll p.worlds
 
--- After so many events no more numbers were drawn, the disk hasn't failed, and as many calls as are left of 2^22 can be made.
+-- After so many events no more numbers were drawn, the disk hasn't failed, each daemon that holds a number may, and as many
+-- calls as are left of 2^22 can be made.
 pub record IsKept (events : ℕ) (r : Roll) (w : Worlds) : Type 0 where
   pub drawn : r.drawn ≤ events
   pub sound : r.failed ≡ None
+  pub first : HoldFirst [] r.daemons
   pub lasts : (n : ℕ) → events + n ≤ most_pieces → LastsBare w n

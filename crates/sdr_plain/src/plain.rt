@@ -1,15 +1,16 @@
 // The machine on a plain world.
-ghost use Rattle.std.specs.Prelude.{ℕ, false, ◌≡◌, ◌<◌, ◌≤◌, ◌+◌, ◌*◌, IfOk, IfSome, None, Ok, OnOk, OnErr, length};
+ghost use Rattle.std.specs.Prelude.{ℕ, filter, map, not, true, false, ◌≡◌, ◌<◌, ◌≤◌, ◌+◌, ◌*◌, IfOk, IfSome, None, Ok, OnOk, OnErr, length};
+ghost use Rattle.sdr_lock.specs.Holders.{hold_none, holders};
 ghost use Rattle.sdr_lock.specs.Roll.{first_roll};
 ghost use Rattle.sdr_lock.specs.Serving.{roll_settled};
 ghost use Rattle.sdr_model.specs.World.{empty_world};
 ghost use Rattle.sdr_plain.specs.Asking.{Asks, AsksNothing, StepsAt, bytes_of, is_gap, settled};
-ghost use Rattle.sdr_plain.specs.Leaves.{AllLeave, HoldersLeave, LeaveInTurn, staying};
+ghost use Rattle.sdr_plain.specs.Leaves.{AllLeaveFrom, HoldersLeaveFrom, LeaveInTurnFrom};
 ghost use Rattle.sdr_plain.specs.Plain.{machine_of};
 
 use crate::Bare;
 use sdr_base::{Bytes, Items, NoMemory};
-use sdr_lock::{Came, Lock};
+use sdr_lock::{Came, Daemon, Lock};
 use sdr_model::{Answer, Call, Event, Leave, Piece, Reply};
 use std::alloc::Global;
 use std::marker::Model;
@@ -35,6 +36,18 @@ impl Model for Plain {
     ghost view = { λ s. record { roll = s.lock.roll; worlds = s.lock.base; events = s.events } };
 
     ghost invariant = { λ s. plain.IsKept s.events s.lock.roll s.lock.base };
+}
+
+// Those of these daemons that haven't left.
+fn staying(alloc: Global, daemons: &[Daemon]) -> Result<Vec<u8>, NoMemory>
+    ensures { IfOk result (λ left. left.items ≡ map (λ d. d.id) (filter (λ d. not d.left) daemons.now)) }
+{
+    daemons
+        .iter()
+        .copied()
+        .filter(|daemon| !daemon.left)
+        .map(|daemon| daemon.id)
+        .collect(alloc)
 }
 
 impl Plain {
@@ -74,6 +87,8 @@ impl Plain {
         ensures step { IfOk result (λ came. (line : ℕ) → StepsAt (machine_of self.old) daemon line event.now came (machine_of self.new)) }
         ensures whole { IfOk result (λ came. is_gap came.answer ≡ false) }
         ensures events { OnOk result (self.new.events ≡ self.old.events + 1) }
+        ensures daemons { length self.new.roll.daemons ≡ length self.old.roll.daemons }
+        ensures sound { OnOk result (self.old.roll.failed ≡ None) }
         ensures err { OnErr result (self.new ≡ self.old) }
     {
         let came = self.lock.event(daemon, event)?;
@@ -87,6 +102,7 @@ impl Plain {
         ensures step { IfOk result (λ came. (line : ℕ) → StepsAt (machine_of self.old) daemon line event.now came (machine_of self.new)) }
         ensures whole { IfOk result (λ came. is_gap came.answer ≡ false) }
         ensures events { OnOk result (self.new.events ≡ self.old.events + 1) }
+        ensures daemons { length self.new.roll.daemons ≡ length self.old.roll.daemons }
         ensures err { OnErr result (self.new ≡ self.old) }
     {
         self.make(daemon, event)
@@ -121,6 +137,7 @@ impl Plain {
         requires events { self.old.events < 2_097_152 }
         ensures machine { machine_of self.new ≡ settled (machine_of self.old) daemon given }
         ensures events { self.new.events ≡ self.old.events + 1 }
+        ensures daemons { length self.new.roll.daemons ≡ length self.old.roll.daemons }
     {
         self.lock.settle(daemon, given);
         self.events += 1;
@@ -129,7 +146,8 @@ impl Plain {
     // These daemons make a leave each, in this order.
     fn leave_in_turn(&mut self, daemons: &[u8], leave: Leave) -> Result<(), NoMemory>
         requires events { self.old.events + length daemons.now ≤ 4_194_304 }
-        ensures left { OnOk result (LeaveInTurn leave daemons.now (machine_of self.old) (machine_of self.new)) }
+        ensures left { OnOk result (LeaveInTurnFrom leave daemons.now (machine_of self.old) (machine_of self.new)) }
+        ensures none { OnOk result (hold_none self.old.roll.daemons ≡ true → hold_none self.new.roll.daemons ≡ true) }
     {
         match daemons {
             [] => Ok(()),
@@ -140,43 +158,32 @@ impl Plain {
         }
     }
 
-    // The daemon whose number is served makes a leave, until none holds one, or as often as there are such daemons.
-    fn holders_leave(&mut self, daemons: &[u8], leave: Leave) -> Result<(), NoMemory>
-        requires events { self.old.events + length daemons.now ≤ 4_194_304 }
-        ensures left { OnOk result (HoldersLeave leave daemons.now (machine_of self.old) (machine_of self.new)) }
-        ensures events { OnOk result (self.new.events ≤ self.old.events + length daemons.now) }
+    // The daemon whose number is served makes a leave, until none is.
+    fn holders_leave(&mut self, leave: Leave) -> Result<(), NoMemory>
+        requires events { self.old.events + holders self.old.roll.daemons ≤ 4_194_304 }
+        ensures left { OnOk result (HoldersLeaveFrom leave (machine_of self.old) (machine_of self.new)) }
+        ensures none { OnOk result (hold_none self.new.roll.daemons ≡ true) }
+        ensures events { OnOk result (self.new.events ≤ self.old.events + holders self.old.roll.daemons) }
+        ensures daemons { length self.new.roll.daemons ≡ length self.old.roll.daemons }
     {
-        match daemons {
-            [] => Ok(()),
-            [_, others @ ..] => match self.lock.roll().served() {
-                None => Ok(()),
-                Some(daemon) => {
-                    self.make(daemon.id, &Event::Leaves(leave))?;
-                    self.holders_leave(others, leave)
-                }
-            },
+        match self.lock.roll().served() {
+            None => Ok(()),
+            Some(daemon) => {
+                self.make(daemon.id, &Event::Leaves(leave))?;
+                self.holders_leave(leave)
+            }
         }
     }
 
-    // Those of these daemons that haven't left.
-    fn staying(&self, daemons: &[u8]) -> Result<Vec<u8>, NoMemory>
-        ensures { IfOk result (λ left. left.items ≡ staying self.now.roll daemons.now) }
+    /// Makes the leaves at the end of the input: the daemons that hold a number make one, in lock order, and then
+    /// those that haven't left yet do, in their order. No number is held then.
+    pub fn leave_all(&mut self, leave: Leave) -> Result<(), NoMemory>
+        requires events { self.old.events + 2 * length self.old.roll.daemons ≤ 4_194_304 }
+        ensures left { OnOk result (AllLeaveFrom leave (machine_of self.old) (machine_of self.new)) }
+        ensures none { OnOk result (hold_none self.new.roll.daemons ≡ true) }
     {
-        daemons
-            .iter()
-            .copied()
-            .filter(|daemon| !self.lock.roll().has_left(*daemon))
-            .collect(self.alloc)
-    }
-
-    /// Makes the leaves at the end of the input: those that hold a number make one, in lock order, at most as
-    /// many as these daemons are, and then those of these daemons that haven't left yet do, in their order.
-    pub fn leave_all(&mut self, daemons: &[u8], leave: Leave) -> Result<(), NoMemory>
-        requires events { self.old.events + 2 * length daemons.now ≤ 4_194_304 }
-        ensures { OnOk result (AllLeave leave daemons.now (machine_of self.old) (machine_of self.new)) }
-    {
-        self.holders_leave(daemons, leave)?;
-        let staying = self.staying(daemons)?;
+        self.holders_leave(leave)?;
+        let staying = staying(self.alloc, self.lock.roll().daemons())?;
         self.leave_in_turn(&staying, leave)
     }
 }

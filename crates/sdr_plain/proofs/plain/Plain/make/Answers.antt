@@ -1,4 +1,4 @@
-use Rattle.std.proofs.Common.{subst}
+use Rattle.std.proofs.Common.{◌∙◌, ap, length, subst}
 use Rattle.sdr_plain.proofs.PlainLemmas.{answered_so, no_gap}
 use Rattle.sdr_plain.specs.Asking.{StepsAt}
 use Rattle.sdr_plain.specs.Bare.{machine_on}
@@ -20,3 +20,9 @@ returns-clause-step c = λ line.
 
 pub returns-clause-whole : goal.returns-clause-whole
 returns-clause-whole c = no_gap c.in_ok-came.came.answer c.in_ok-came.ensures.step.asks.gap
+
+pub returns-clause-daemons : goal.returns-clause-daemons
+returns-clause-daemons c =
+    let answered = answered_so _ c.self.inside.lock.roll c.self.inside.lock.base c.event.new.self c.args.daemon c.args.event.now c.in_ok-came.came
+    c.self.invariant.sound c.in_ok-came.ensures.step in
+    answered.daemons ∙ ap (λ (p : Plain). length p.roll.daemons) c.self.view_is
