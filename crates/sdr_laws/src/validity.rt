@@ -6,12 +6,13 @@ ghost use Rattle.sdr_laws.specs.Fresh.{AreFresh};
 ghost use Rattle.sdr_laws.specs.ValidDry.{IsValidDry};
 ghost use Rattle.sdr_model.specs.Whole.{IsWhole};
 ghost use Rattle.sdr_model.specs.Blocks.{addresses_of, blocks_of};
-ghost use Rattle.sdr_machine.specs.Core.{Core, RunsCore, first_core};
-ghost use Rattle.sdr_model.specs.Made.{Made};
+ghost use Rattle.sdr_lock.specs.Core.{Core, RunsCore, first_core};
+ghost use Rattle.sdr_lock.specs.Ground.{bare};
+ghost use Rattle.sdr_lock.specs.Machine.{Made};
 ghost use Rattle.sdr_model.specs.Dry.{StepsDry};
 ghost use Rattle.sdr_model.specs.Step.{Step};
 ghost use Rattle.sdr_model.specs.Valid.{IsValid};
-ghost use Rattle.sdr_model.specs.World.{World};
+ghost use Rattle.sdr_model.specs.World.{World, empty_world};
 ghost use Rattle.sdr_model.specs.declared.answer.Reply.{Reply};
 ghost use Rattle.sdr_model.specs.declared.call.Call.{Call};
 
@@ -39,5 +40,6 @@ pub fn valid_kept_dry()
 /// transactions and the one that the served transaction has made, whatever media tell. It does nothing.
 pub fn dry_worlds_are_valid()
     ensures { (told : Option Told) (daemons : List ℕ) (made : List Made) (c : Core) →
-        RunsCore told (first_core daemons) made c → IsValidDry c.machine.world × IsValidDry c.machine.current }
+        RunsCore told (first_core daemons (bare empty_world)) made c →
+        IsValidDry c.machine.before.world × IsValidDry c.machine.now.world }
 {}

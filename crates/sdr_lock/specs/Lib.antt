@@ -6,6 +6,7 @@ pub mod Crash
 pub mod Demand
 pub mod Gaps
 pub mod Ground
+pub mod Holders
 pub mod Leaving
 pub mod Legal
 pub mod Machine

@@ -1,2 +1,3 @@
 pub mod AskingLemmas
-pub mod CountLemmas
+pub mod BareLemmas
+pub mod PlainLemmas

@@ -1,2 +1,5 @@
-pub mod After
+pub mod Asking
+pub mod Bare
+pub mod CodedPlain
+pub mod Leaves
 pub mod Plain

@@ -1,13 +1,25 @@
 -- A plain machine, as contracts see it.
-use Rattle.std.specs.Prelude.{ℕ, refl}
-use Rattle.std.specs.Coded.{Coded, code_by, coded×, coded_ℕ}
-use Rattle.sdr_machine.specs.Machine.{Machine, coded_machine}
+use Rattle.std.specs.Prelude.{◌≡◌, ◌≤◌, ℕ, ◌+◌, [], None}
+use Rattle.sdr_model.specs.Few.{most_pieces}
+use Rattle.sdr_lock.specs.Holders.{HoldFirst}
+use Rattle.sdr_lock.specs.Machine.{Machine}
+use Rattle.sdr_lock.specs.Roll.{Roll}
+use Rattle.sdr_plain.specs.Bare.{LastsBare, Worlds, machine_on}
 
--- the machine, and how many events were made on it
+-- the roll of its lock, its worlds, and how many events were made
 pub record Plain : Type 0 where
-  pub machine : Machine
+  pub roll : Roll
+  pub worlds : Worlds
   pub events : ℕ
 
--- a plain machine as a pair
-abbrev pub coded_plain : Coded Plain
-coded_plain = code_by (Machine × ℕ) (coded× coded_machine coded_ℕ) (λ p. (p.machine, p.events)) (λ p. record { machine = p.0; events = p.1 }) (λ _. refl)
+-- the machine that it is
+abbrev pub machine_of : Plain → Machine
+machine_of p = machine_on p.roll p.worlds
+
+-- After so many events no more numbers were drawn, the disk hasn't failed, each daemon that holds a number may, and as many
+-- calls as are left of 2^22 can be made.
+pub record IsKept (events : ℕ) (r : Roll) (w : Worlds) : Type 0 where
+  pub drawn : r.drawn ≤ events
+  pub sound : r.failed ≡ None
+  pub first : HoldFirst [] r.daemons
+  pub lasts : (n : ℕ) → events + n ≤ most_pieces → LastsBare w n

@@ -1,6 +1,6 @@
 // What is asked of media before a call is answered.
 ghost use Rattle.std.specs.Prelude.{◌≡◌, true, IfOk, IfSome, None, Ok};
-ghost use Rattle.sdr_machine.specs.Asking.{HasPieces};
+ghost use Rattle.sdr_plain.specs.Asking.{HasPieces};
 ghost use Rattle.sdr_model.specs.Pieces.{AsksBytes};
 ghost use Rattle.sdr_model.specs.Reading.{reads_media};
 

@@ -1,13 +1,17 @@
-//! The machine in memory: `apply` makes one call on a world, the lock serves the least number that isn't done, and
+//! The machine in memory: `apply` makes one call on a world, `Bare` is a world in memory as the ground of a lock, and
 //! `Plain` makes a core run's events for `dry`.
+//!
+//! 1. `Bare` meets all that a lock asks of its ground: its calls are steps whose blocks have the next addresses, it never
+//!    fails, and a crash leaves nothing of it.
+//! 2. It lasts for 2^22 calls, by which no object has more pieces and no more than 2^46 blocks are taken.
+//! 3. Media are asked from outside: `pieces` tells what a call asks of them, and `settle` gives it what they gave.
 #![tactic(auto)]
 
 mod asking;
+mod bare;
 mod calls;
-mod lock;
 mod plain;
-mod transaction;
 
+pub use bare::Bare;
 pub use calls::apply;
-use lock::Lock;
 pub use plain::Plain;

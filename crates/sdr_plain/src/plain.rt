@@ -1,12 +1,17 @@
 // The machine on a plain world.
-ghost use Rattle.std.specs.Prelude.{◌≡◌, ◌<◌, ◌≤◌, ◌+◌, ◌*◌, IfOk, IfSome, None, Ok, OnOk, OnErr, length};
-ghost use Rattle.sdr_machine.specs.Asking.{Asks, AsksNothing, settled};
-ghost use Rattle.sdr_machine.specs.Leaving.{AllLeave, LeaveInTurn};
-ghost use Rattle.sdr_machine.specs.Machine.{MachineStep, event_moves, first_machine};
+ghost use Rattle.std.specs.Prelude.{ℕ, filter, map, not, true, false, ◌≡◌, ◌<◌, ◌≤◌, ◌+◌, ◌*◌, IfOk, IfSome, None, Ok, OnOk, OnErr, length};
+ghost use Rattle.sdr_lock.specs.Holders.{hold_none, holders};
+ghost use Rattle.sdr_lock.specs.Roll.{first_roll};
+ghost use Rattle.sdr_lock.specs.Serving.{roll_settled};
+ghost use Rattle.sdr_model.specs.World.{empty_world};
+ghost use Rattle.sdr_plain.specs.Asking.{Asks, AsksNothing, StepsAt, bytes_of, is_gap, settled};
+ghost use Rattle.sdr_plain.specs.Leaves.{AllLeaveFrom, HoldersLeaveFrom, LeaveInTurnFrom};
+ghost use Rattle.sdr_plain.specs.Plain.{machine_of};
 
-use crate::Lock;
+use crate::Bare;
 use sdr_base::{Bytes, Items, NoMemory};
-use sdr_model::{Answer, Event, Leave, Piece};
+use sdr_lock::{Came, Daemon, Lock};
+use sdr_model::{Answer, Call, Event, Leave, Piece, Reply};
 use std::alloc::Global;
 use std::marker::Model;
 
@@ -14,59 +19,90 @@ use std::marker::Model;
 /// call takes has address 8 k, and there is always one.
 #[derive(Drop)]
 pub struct Plain {
-    lock: Lock,
+    lock: Lock<Bare>,
     /// How many events were made.
     events: u64,
+    alloc: Global,
 }
 
 impl Model for Plain {
-    ghost use Rattle.sdr_plain.specs.After.{IsAfter};
+    ghost use Rattle.sdr_plain.specs.CodedPlain.{coded_plain};
     ghost use Rattle.sdr_plain.specs.Plain as plain;
 
     ghost Value = { plain.Plain };
 
-    ghost coded = { plain.coded_plain };
+    ghost coded = { coded_plain };
 
-    ghost view = { λ s. record { machine = s.lock; events = s.events } };
+    ghost view = { λ s. record { roll = s.lock.roll; worlds = s.lock.base; events = s.events } };
 
-    ghost invariant = { λ s. IsAfter s.events s.lock };
+    ghost invariant = { λ s. plain.IsKept s.events s.lock.roll s.lock.base };
+}
+
+// Those of these daemons that haven't left.
+fn staying(alloc: Global, daemons: &[Daemon]) -> Result<Vec<u8>, NoMemory>
+    ensures { IfOk result (λ left. left.items ≡ map (λ d. d.id) (filter (λ d. not d.left) daemons.now)) }
+{
+    daemons
+        .iter()
+        .copied()
+        .filter(|daemon| !daemon.left)
+        .map(|daemon| daemon.id)
+        .collect(alloc)
 }
 
 impl Plain {
     /// A machine of these daemons, before any event.
     pub fn new(alloc: Global, daemons: &[u8]) -> Result<Plain, NoMemory>
-        ensures { IfOk result (λ plain. plain ≡ record { machine = first_machine daemons.now; events = 0 }) }
+        ensures { IfOk result (λ plain. plain ≡ record {
+          roll = first_roll daemons.now;
+          worlds = record { begun = empty_world; now = empty_world };
+          events = 0;
+        }) }
     {
-        let lock = Lock::new(alloc, daemons)?;
-        Ok(Plain { lock, events: 0 })
+        match Lock::new(alloc, daemons, Bare::new(alloc)) {
+            Ok(lock) => Ok(Plain {
+                lock,
+                events: 0,
+                alloc,
+            }),
+            Err((why, _)) => Err(why),
+        }
     }
 
-    /// The bytes that the last answered call of the served transaction gave.
-    pub fn shown(&self) -> &[u8]
-        ensures { result.now ≡ self.now.machine.current.shown }
+    /// The bytes that the last event gave, which was answered so.
+    pub fn given(&self, came: &Came) -> &[u8]
+        ensures { result.now ≡ bytes_of came.now (machine_of self.now) }
     {
-        self.lock.shown()
+        match came.answer {
+            Answer::Reply(Reply::Refused(_)) => &[],
+            Answer::Reply(Reply::MediaFault) => &[],
+            _ if came.called => self.lock.base().shown(),
+            _ => &[],
+        }
     }
 
     // Makes an event of a daemon. Want of memory leaves all as before.
-    fn make(&mut self, daemon: u8, event: &Event) -> Result<Answer, NoMemory>
+    fn make(&mut self, daemon: u8, event: &Event) -> Result<Came, NoMemory>
         requires events { self.old.events < 4_194_304 }
-        ensures step { IfOk result (λ answer. MachineStep self.old.machine daemon event.now answer
-            (event_moves self.old.machine event.now answer) self.new.machine) }
+        ensures step { IfOk result (λ came. (line : ℕ) → StepsAt (machine_of self.old) daemon line event.now came (machine_of self.new)) }
+        ensures whole { IfOk result (λ came. is_gap came.answer ≡ false) }
         ensures events { OnOk result (self.new.events ≡ self.old.events + 1) }
+        ensures daemons { length self.new.roll.daemons ≡ length self.old.roll.daemons }
+        ensures sound { OnOk result (self.old.roll.failed ≡ None) }
         ensures err { OnErr result (self.new ≡ self.old) }
     {
-        let answer = self.lock.event(daemon, event)?;
+        let came = self.lock.event(daemon, event)?;
         self.events += 1;
-        Ok(answer)
+        Ok(came)
     }
 
-    /// Makes an event of a daemon, of a statement on this line. Want of memory leaves all as before.
-    pub fn event(&mut self, daemon: u8, _line: u64, event: &Event) -> Result<Answer, NoMemory>
+    /// Makes an event of a daemon, for which media aren't asked. Want of memory leaves all as before.
+    pub fn event(&mut self, daemon: u8, event: &Event) -> Result<Came, NoMemory>
         requires events { self.old.events < 2_097_152 }
-        ensures step { IfOk result (λ answer. MachineStep self.old.machine daemon event.now answer
-            (event_moves self.old.machine event.now answer) self.new.machine) }
+        ensures step { IfOk result (λ came. (line : ℕ) → StepsAt (machine_of self.old) daemon line event.now came (machine_of self.new)) }
+        ensures whole { IfOk result (λ came. is_gap came.answer ≡ false) }
         ensures events { OnOk result (self.new.events ≡ self.old.events + 1) }
+        ensures daemons { length self.new.roll.daemons ≡ length self.old.roll.daemons }
         ensures err { OnErr result (self.new ≡ self.old) }
     {
         self.make(daemon, event)
@@ -75,17 +111,33 @@ impl Plain {
     /// The pieces that are asked of media before an event is answered: those of the bytes that its call gives. It
     /// changes nothing. Where there are none, `event` answers it.
     pub fn pieces(&self, daemon: u8, event: &Event) -> Result<Option<Items<Piece>>, NoMemory>
-        ensures some { IfOk result (λ asked. IfSome asked (Asks self.now.machine daemon event.now)) }
-        ensures none { result ≡ Ok None → AsksNothing self.now.machine daemon event.now }
+        ensures some { IfOk result (λ asked. IfSome asked (Asks (machine_of self.now) daemon event.now)) }
+        ensures none { result ≡ Ok None → AsksNothing (machine_of self.now) daemon event.now }
     {
-        self.lock.pieces(daemon, event)
+        match event {
+            Event::Say(call) => self.call_pieces(daemon, call),
+            _ => Ok(None),
+        }
+    }
+
+    // The same of a call.
+    fn call_pieces(&self, daemon: u8, call: &Call) -> Result<Option<Items<Piece>>, NoMemory>
+        ensures some { IfOk result (λ asked. IfSome asked (Asks (machine_of self.now) daemon (Event.Say call.now))) }
+        ensures none { result ≡ Ok None → AsksNothing (machine_of self.now) daemon (Event.Say call.now) }
+    {
+        if !self.lock.makes_calls(daemon) {
+            return Ok(None);
+        }
+        self.lock.base().pieces(call)
     }
 
     /// Makes the event of a daemon of which pieces were asked: its call gives the bytes that they are, or media
     /// stopped it.
     pub fn settle(&mut self, daemon: u8, given: Option<Bytes>)
         requires events { self.old.events < 2_097_152 }
-        ensures { self.new ≡ record { machine = settled self.old.machine daemon given; events = self.old.events + 1 } }
+        ensures machine { machine_of self.new ≡ settled (machine_of self.old) daemon given }
+        ensures events { self.new.events ≡ self.old.events + 1 }
+        ensures daemons { length self.new.roll.daemons ≡ length self.old.roll.daemons }
     {
         self.lock.settle(daemon, given);
         self.events += 1;
@@ -94,24 +146,44 @@ impl Plain {
     // These daemons make a leave each, in this order.
     fn leave_in_turn(&mut self, daemons: &[u8], leave: Leave) -> Result<(), NoMemory>
         requires events { self.old.events + length daemons.now ≤ 4_194_304 }
-        ensures left { OnOk result (LeaveInTurn leave daemons.now self.old.machine self.new.machine) }
-        ensures events { OnOk result (self.new.events ≡ self.old.events + length daemons.now) }
+        ensures left { OnOk result (LeaveInTurnFrom leave daemons.now (machine_of self.old) (machine_of self.new)) }
+        ensures none { OnOk result (hold_none self.old.roll.daemons ≡ true → hold_none self.new.roll.daemons ≡ true) }
     {
-        for daemon in daemons {
-            self.make(*daemon, &Event::Leaves(leave))?;
+        match daemons {
+            [] => Ok(()),
+            [first, others @ ..] => {
+                self.make(*first, &Event::Leaves(leave))?;
+                self.leave_in_turn(others, leave)
+            }
         }
-        Ok(())
     }
 
-    /// Makes the leaves at the end of the input: each daemon that holds a number makes one, in lock order, and then
-    /// those of these daemons that haven't left yet do, in their order.
-    pub fn leave_all(&mut self, daemons: &[u8], leave: Leave) -> Result<(), NoMemory>
-        requires events { 2 * self.old.events + length daemons.now ≤ 4_194_304 }
-        ensures { OnOk result (AllLeave leave daemons.now self.old.machine self.new.machine) }
+    // The daemon whose number is served makes a leave, until none is.
+    fn holders_leave(&mut self, leave: Leave) -> Result<(), NoMemory>
+        requires events { self.old.events + holders self.old.roll.daemons ≤ 4_194_304 }
+        ensures left { OnOk result (HoldersLeaveFrom leave (machine_of self.old) (machine_of self.new)) }
+        ensures none { OnOk result (hold_none self.new.roll.daemons ≡ true) }
+        ensures events { OnOk result (self.new.events ≤ self.old.events + holders self.old.roll.daemons) }
+        ensures daemons { length self.new.roll.daemons ≡ length self.old.roll.daemons }
     {
-        let holding = self.lock.holding()?;
-        self.leave_in_turn(&holding, leave)?;
-        let staying = self.lock.staying(daemons)?;
+        match self.lock.roll().served() {
+            None => Ok(()),
+            Some(daemon) => {
+                self.make(daemon.id, &Event::Leaves(leave))?;
+                self.holders_leave(leave)
+            }
+        }
+    }
+
+    /// Makes the leaves at the end of the input: the daemons that hold a number make one, in lock order, and then
+    /// those that haven't left yet do, in their order. No number is held then.
+    pub fn leave_all(&mut self, leave: Leave) -> Result<(), NoMemory>
+        requires events { self.old.events + 2 * length self.old.roll.daemons ≤ 4_194_304 }
+        ensures left { OnOk result (AllLeaveFrom leave (machine_of self.old) (machine_of self.new)) }
+        ensures none { OnOk result (hold_none self.new.roll.daemons ≡ true) }
+    {
+        self.holders_leave(leave)?;
+        let staying = staying(self.alloc, self.lock.roll().daemons())?;
         self.leave_in_turn(&staying, leave)
     }
 }

@@ -1,46 +1,44 @@
-use Rattle.std.proofs.Common.{◌∙◌, ℕ, ap, arith, length, not, refl, subst}
-use Rattle.std.proofs.lemmas.List.{length-map}
-use Rattle.std.proofs.lemmas.List.Filters.{length-filter_both}
+use Rattle.std.proofs.Common.{ℕ, List, ◌≡◌, ◌∙◌, ap, arith, filter, length, map, not, subst}
 use Rattle.std.proofs.lemmas.Result.{on_ok_weaker}
-use Rattle.sdr_machine.specs.Leaving.{LeaveInTurn, holding, staying}
-use Rattle.sdr_machine.specs.Machine.{has_left}
-use Rattle.sdr_plain.specs.Plain.{Plain}
-use Rattle.sdr_model.specs.declared.holder.Holder.{Holder}
+use Rattle.sdr_lock.proofs.HolderLemmas.{holders_few}
+use Rattle.sdr_lock.specs.Leaving.{staying}
+use Rattle.sdr_lock.specs.Roll.{Roll}
+use Rattle.sdr_lock.specs.declared.daemon.Daemon.{Daemon}
+use Rattle.sdr_plain.proofs.PlainLemmas.{all_leave, staying_few}
+use Rattle.sdr_plain.specs.Leaves.{LeaveInTurnFrom}
+use Rattle.sdr_plain.specs.Plain.{Plain, machine_of}
 use Rattle.sdr_plain.proofs.plain.Plain.leave_all.Goals as goal
 
-pub leave_in_turn-requires-2 : goal.leave_in_turn-requires-2
-leave_in_turn-requires-2 c =
-    let left = λ (d : ℕ). has_left c.self-2.inside.lock d in
+pub holders_leave-requires : goal.holders_leave-requires
+holders_leave-requires c = record { events = omega (arith, c.requires.events, holders_few c.args.self.now.roll.daemons) }
+
+pub leave_in_turn-requires : goal.leave_in_turn-requires
+leave_in_turn-requires c =
+    let between : Plain = c.holders_leave.new.self in
+    let items : c.deref.result.now ≡ staying between.roll =
+    c.deref.ensures.value ∙ c.in_ok-staying.ensures
+    ∙ ap (λ (ds : List Daemon). map (λ (d : Daemon). d.id) (filter (λ (d : Daemon). not d.left) ds))
+    (c.daemons.ensures ∙ ap (λ (r : Roll). r.daemons) (c.roll.ensures ∙ ap (λ (p : Plain). p.roll) c.self.view_is)) in
     record {
       events = omega (
         arith,
         c.requires.events,
-        c.self.invariant.held,
-        ap (λ (p : Plain). p.events) c.self.view_is,
-        c.in_ok-leave_in_turn.ensures.events,
-        ap length c.deref.ensures.value,
-        ap length c.in_ok-holding.ensures,
-        length-map c.self.inside.lock.holders (λ (h : Holder). h.daemon),
-        ap length c.deref-2.ensures.value,
-        ap length c.in_ok-staying.ensures,
-        length-filter_both (λ d. not (left d)) (λ d. not (not (left d))) (λ d. refl) c.args.daemons.now,
+        c.in_ok-holders_leave.ensures.events,
+        c.in_ok-holders_leave.ensures.daemons,
+        holders_few c.args.self.now.roll.daemons,
+        ap length items,
+        staying_few between.roll,
       );
     }
 
-pub returns : goal.returns
-returns c =
-    let old = c.args.self.now.machine in
-    let between = c.leave_in_turn.new.self.machine in
-    let new = c.leave_in_turn-2.new.self.machine in
-    on_ok_weaker c.leave_in_turn-2.result
-    (λ others. record {
-      between = between;
-      holders = subst (λ ds. LeaveInTurn c.args.leave ds old between)
-          (c.deref.ensures.value ∙ c.in_ok-holding.ensures ∙ ap (λ (p : Plain). holding p.machine) c.self.view_is)
-          c.in_ok-leave_in_turn.ensures.left;
-      others = subst (λ ds. LeaveInTurn c.args.leave ds between new)
-          (c.deref-2.ensures.value ∙ c.in_ok-staying.ensures
-          ∙ ap (λ (p : Plain). staying p.machine c.args.daemons.now) c.self-2.view_is)
-          others;
-    })
-    c.leave_in_turn-2.ensures.left
+pub returns-clause-left : goal.returns-clause-left
+returns-clause-left c =
+    let between : Plain = c.holders_leave.new.self in
+    let items : c.deref.result.now ≡ staying between.roll =
+    c.deref.ensures.value ∙ c.in_ok-staying.ensures
+    ∙ ap (λ (ds : List Daemon). map (λ (d : Daemon). d.id) (filter (λ (d : Daemon). not d.left) ds))
+    (c.daemons.ensures ∙ ap (λ (r : Roll). r.daemons) (c.roll.ensures ∙ ap (λ (p : Plain). p.roll) c.self.view_is)) in
+    on_ok_weaker c.leave_in_turn.result
+    (λ others. all_leave c.args.leave (machine_of c.args.self.now) (machine_of between) (machine_of c.leave_in_turn.new.self) c.in_ok-holders_leave.ensures.left
+    (subst (λ (ds : List ℕ). LeaveInTurnFrom c.args.leave ds (machine_of between) (machine_of c.leave_in_turn.new.self)) items others))
+    c.leave_in_turn.ensures.left

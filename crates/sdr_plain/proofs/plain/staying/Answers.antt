@@ -1,0 +1,12 @@
+use Rattle.std.proofs.Common.{not, rules}
+use Rattle.std.proofs.lemmas.Iterator.{YieldsList-from_map, YieldsList-from_slice, items_from_collect}
+use Rattle.std.proofs.lemmas.Iterator.Consumers.{YieldsList-from_copied, YieldsList-from_filter}
+use Rattle.sdr_lock.specs.declared.daemon.Daemon.{Daemon}
+use Rattle.sdr_plain.proofs.plain.staying.Goals as goal
+
+pub returns : goal.returns
+returns c =
+    items_from_collect c.collect.result c.collect.ensures.ran
+    (YieldsList-from_map _ (λ (d : Daemon). d.id)
+    (YieldsList-from_filter _ (λ (d : Daemon). not d.left) (YieldsList-from_copied (YieldsList-from_slice c.args.daemons.now (cc))) (cc) (λ x b q k. search rules))
+    (cc) (λ x r q k. search rules))
