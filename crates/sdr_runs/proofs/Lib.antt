@@ -6,6 +6,7 @@ pub mod FrameLemmas
 pub mod JournalLemmas
 pub mod KeepLemmas
 pub mod RollLemmas
+pub mod RowLemmas
 pub mod RowReplies
 pub mod RunLemmas
 pub mod StalledLemmas

@@ -3,8 +3,10 @@
 
 mod journals;
 mod replies;
+mod rows;
 mod stalled;
 
 pub use journals::{entries_may_stand, journals_are_legal, numbers_rise, transactions_are_framed};
 pub use replies::calls_answer_for_themselves;
+pub use rows::an_inner_cancel_dooms;
 pub use stalled::rolls_agree_with_journals;
