@@ -1,6 +1,9 @@
 pub mod Adding
+pub mod DeepRow
+pub mod FaultRow
 pub mod Framed
 pub mod LastEntries
+pub mod LookRows
 pub mod NestedRow
 pub mod Replying
 pub mod Rows
