@@ -2,6 +2,7 @@ pub mod CaseLemmas
 pub mod ClosingLemmas
 pub mod CoreLemmas
 pub mod CurrentLemmas
+pub mod DeepLemmas
 pub mod FrameLemmas
 pub mod JournalLemmas
 pub mod KeepLemmas
