@@ -6,6 +6,7 @@ pub mod DeepLemmas
 pub mod FrameLemmas
 pub mod JournalLemmas
 pub mod KeepLemmas
+pub mod OutcomeLemmas
 pub mod RollLemmas
 pub mod RowLemmas
 pub mod RowReplies

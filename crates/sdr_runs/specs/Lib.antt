@@ -1,4 +1,5 @@
 pub mod Adding
+pub mod Choosing
 pub mod DeepRow
 pub mod FaultRow
 pub mod Framed
