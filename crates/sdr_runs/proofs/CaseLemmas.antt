@@ -1,5 +1,5 @@
 -- The kinds of events: what a core keeps after each.
-use Rattle.std.proofs.Common.{◌≡◌, ◌≤◌, ◌<◌, ◌⊎◌, ◌∙◌, ◌==◌, ◌+◌, ◌&&◌, ◌||◌, ℕ, List, [], ◌∷◌, ◌++◌, Bool, true, false, not, Option, None, Some, MatchBool, arith, refl, sym, ap, subst, inl, inr}
+use Rattle.std.proofs.Common.{◌≡◌, ◌⊎◌, ◌∙◌, ◌==◌, ◌+◌, ◌&&◌, ℕ, List, [], ◌∷◌, ◌++◌, Bool, true, false, not, Option, None, Some, MatchBool, arith, refl, sym, ap, subst}
 use Rattle.std.specs.Option.{option_map_or}
 use Rattle.std.specs.Prelude.{if◌then◌else◌}
 use Rattle.sdr_base.specs.Media.{Told}
@@ -8,35 +8,31 @@ use Rattle.sdr_base.specs.declared.refusal.Refusal.{Refusal}
 use Rattle.sdr_base.specs.declared.refusal.Refusal.TheVariants as refusals
 use Rattle.sdr_model.specs.declared.answer.Answer.{Answer}
 use Rattle.sdr_model.specs.declared.answer.Answer.TheVariants as answers
-use Rattle.sdr_model.specs.declared.answer.Close.{Close}
 use Rattle.sdr_model.specs.declared.answer.Close.TheVariants as closes
-use Rattle.sdr_model.specs.declared.answer.Reply.TheVariants as replies
 use Rattle.sdr_model.specs.declared.event.Event.{Event}
 use Rattle.sdr_model.specs.declared.event.Event.TheVariants as events
-use Rattle.sdr_model.specs.declared.journal.Entry.{Entry}
 use Rattle.sdr_model.specs.declared.journal.Said.{Said}
 use Rattle.sdr_model.specs.declared.journal.What.{What}
 use Rattle.sdr_model.specs.declared.journal.What.TheVariants as whats
-use Rattle.sdr_lock.specs.Agreeing.{AgreesWith}
-use Rattle.sdr_lock.specs.Core.{Core, Under, Work, all_said, closed_by, entry_of, has_left, said_by, under, what_else, with_said, without_work}
+use Rattle.sdr_lock.specs.Core.{Core, Under, Work, closed_by, entry_of, has_left, said_by, under, what_else, with_said}
 use Rattle.sdr_lock.specs.Ground.{State}
-use Rattle.sdr_lock.specs.Legal.{MayStand, is_fault, is_leave, last_entry}
-use Rattle.sdr_lock.specs.Machine.{Machine, Made, Works, roll_closed, with_roll, with_transaction}
+use Rattle.sdr_lock.specs.Legal.{MayStand, is_fault, is_leave}
+use Rattle.sdr_lock.specs.Machine.{Machine, Made, with_roll}
 use Rattle.sdr_lock.specs.Nesting.{closing, nested}
 use Rattle.sdr_lock.specs.Closing.{close_of}
-use Rattle.sdr_lock.specs.Roll.{Roll, after_entry, at_nesting, daemon_of, number_of, put_daemon, served_number, with_daemon, with_fault, with_number}
-use Rattle.sdr_lock.specs.Transaction.{ClosesSo, FaultsSo, Finishes, IsAnswered, IsOpening, Runs, Transaction, asks_disk, is_closing, refused, transaction_of}
+use Rattle.sdr_lock.specs.Roll.{Roll, at_nesting, daemon_of, number_of, put_daemon, served_number, with_daemon, with_number}
+use Rattle.sdr_lock.specs.Transaction.{IsAnswered, IsOpening, refused, transaction_of}
 use Rattle.sdr_lock.specs.declared.daemon.Daemon.{Daemon}
 use Rattle.sdr_lock.specs.declared.daemon.Holding.{Holding}
 use Rattle.sdr_lock.specs.declared.nesting.Nesting.{Nesting}
 use Rattle.sdr_runs.specs.LastEntries.{AgreesWithLast}
-use Rattle.sdr_runs.proofs.CoreLemmas.{IsNext, KeepsWorks, StepKeeps, adds_none, adds_some, and_not, found_there, made_under, next_closed, next_inside, next_outside, number_is, what_closed, what_unclosed}
-use Rattle.sdr_runs.proofs.CurrentLemmas.{AllUntouched, Current, IsWorking, OthersUntouched, at_rest, current_drawn, current_looked, none_works, others_put, own_untouched, rests_put, served_far}
-use Rattle.sdr_runs.proofs.KeepLemmas.{Held, KeepsRoll, none_held}
-use Rattle.sdr_runs.proofs.RollLemmas.{contrary, found_put, least_put, least_stays}
-use Rattle.sdr_runs.proofs.TransactLemmas.{IsWithin, StaysOpen, asking_inside, closing_inside, passes, transacts_open, transacts_within}
+use Rattle.sdr_runs.proofs.CoreLemmas.{IsNext, KeepsWorks, StepKeeps, adds_none, adds_some, and_not, found_there, next_inside, next_outside, number_is, what_unclosed}
+use Rattle.sdr_runs.proofs.CurrentLemmas.{AllUntouched, Current, IsWorking, at_rest, current_drawn, current_looked, none_works, own_untouched, rests_put}
+use Rattle.sdr_runs.proofs.KeepLemmas.{Held, none_held}
+use Rattle.sdr_runs.proofs.RollLemmas.{contrary, found_put, least_stays}
+use Rattle.sdr_runs.proofs.TransactLemmas.{passes}
 use Rattle.sdr_runs.proofs.TurnLemmas.{IsTurn, done_roll, drawn_roll, entry_roll, nested_roll}
-use Rattle.sdr_runs.proofs.WorkLemmas.{SoFar, Untouched, apart_said, apart_without, runs_last, said_more, said_none, said_other, said_without, so_far_more}
+use Rattle.sdr_runs.proofs.WorkLemmas.{SoFar, Untouched, apart_said, said_more, said_other}
 
 -- a refusal outside a transaction
 pub not_begun_passes : (event : Event) → passes event (refused refusals.NotBegun) ≡ true

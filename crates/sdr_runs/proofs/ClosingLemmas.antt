@@ -1,9 +1,8 @@
 -- A transaction goes on or closes: what a core keeps after that.
-use Rattle.std.proofs.Common.{◌≡◌, ◌⊎◌, ◌∙◌, ◌==◌, ◌+◌, ℕ, List, [], ◌∷◌, ◌++◌, Bool, true, false, Option, None, Some, refl, sym, ap, subst, inl, inr}
+use Rattle.std.proofs.Common.{◌≡◌, ◌∙◌, ◌==◌, ◌+◌, ℕ, List, [], ◌∷◌, ◌++◌, true, false, Option, None, Some, refl, sym, ap, subst, inl}
 use Rattle.std.specs.Option.{option_map_or}
 use Rattle.std.specs.Prelude.{if◌then◌else◌}
 use Rattle.sdr_base.specs.Media.{Told}
-use Rattle.sdr_base.specs.declared.refusal.Refusal.TheVariants as refusals
 use Rattle.sdr_model.specs.declared.answer.Answer.{Answer}
 use Rattle.sdr_model.specs.declared.answer.Answer.TheVariants as answers
 use Rattle.sdr_model.specs.declared.answer.Close.{Close}
@@ -11,24 +10,21 @@ use Rattle.sdr_model.specs.declared.answer.Close.TheVariants as closes
 use Rattle.sdr_model.specs.declared.answer.Reply.TheVariants as replies
 use Rattle.sdr_model.specs.declared.event.Event.{Event}
 use Rattle.sdr_model.specs.declared.event.Event.TheVariants as events
-use Rattle.sdr_model.specs.declared.journal.Entry.{Entry}
-use Rattle.sdr_model.specs.declared.journal.Said.{Said}
 use Rattle.sdr_model.specs.declared.journal.What.TheVariants as whats
 use Rattle.sdr_lock.specs.Agreeing.{AgreesWith}
 use Rattle.sdr_lock.specs.Core.{Core, Under, all_said, entry_of, said_by, under, what_else, with_said, without_work}
 use Rattle.sdr_lock.specs.Ground.{HasHeap, State}
 use Rattle.sdr_lock.specs.Legal.{MayStand, is_fault}
 use Rattle.sdr_lock.specs.Machine.{Machine, Made, roll_closed, with_transaction}
-use Rattle.sdr_lock.specs.Nesting.{closing}
-use Rattle.sdr_lock.specs.Roll.{Roll, after_entry, at_nesting, daemon_of, number_of, put_daemon, served_number, with_daemon, with_fault}
-use Rattle.sdr_lock.specs.Transaction.{ClosesSo, FaultsSo, Finishes, IsAnswered, Runs, Transaction, Transacts, asks_disk, is_closing, transaction_of}
+use Rattle.sdr_lock.specs.Roll.{after_entry, at_nesting, daemon_of, number_of, put_daemon, served_number, with_fault}
+use Rattle.sdr_lock.specs.Transaction.{ClosesSo, Finishes, IsAnswered, Runs, Transaction, Transacts, asks_disk, is_closing, transaction_of}
 use Rattle.sdr_lock.specs.declared.daemon.Daemon.{Daemon}
 use Rattle.sdr_lock.specs.declared.daemon.Holding.{Holding}
-use Rattle.sdr_runs.proofs.CaseLemmas.{IsIdle, closing_whole, left_same, mine, refused_adds_none, said_nothing}
+use Rattle.sdr_runs.proofs.CaseLemmas.{IsIdle, closing_whole, left_same, mine, said_nothing}
 use Rattle.sdr_runs.proofs.CoreLemmas.{IsNext, KeepsWorks, StepKeeps, adds_none, adds_some, found_there, next_closed, next_inside, number_is, what_closed, what_unclosed}
 use Rattle.sdr_runs.proofs.CurrentLemmas.{Current, OthersUntouched, at_rest, others_put, rests_put, served_far}
 use Rattle.sdr_runs.proofs.RollLemmas.{found_put, least_put, number_held}
-use Rattle.sdr_runs.proofs.TransactLemmas.{IsWithin, StaysOpen, asking_inside, closing_inside, passes, transacts_open, transacts_within}
+use Rattle.sdr_runs.proofs.TransactLemmas.{IsWithin, StaysOpen, asking_inside, closing_inside, transacts_open, transacts_within}
 use Rattle.sdr_runs.proofs.TurnLemmas.{IsTurn, entry_roll, nested_roll, turn_mine}
 use Rattle.sdr_runs.proofs.WorkLemmas.{SoFar, apart_said, apart_without, runs_last, said_more, said_none, said_other, said_without, so_far_more}
 

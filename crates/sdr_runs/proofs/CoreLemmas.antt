@@ -1,5 +1,5 @@
 -- What a core keeps in its run, and what an event adds to its journal.
-use Rattle.std.proofs.Common.{◌≡◌, ◌≤◌, ◌<◌, ◌⊎◌, ◌∙◌, ◌==◌, ◌+◌, ◌&&◌, ◌||◌, ℕ, List, [], ◌∷◌, ◌++◌, Bool, true, false, not, Option, None, Some, MatchBool, MatchOption, arith, refl, sym, ap, subst, inl, inr, append-nil}
+use Rattle.std.proofs.Common.{◌≡◌, ◌≤◌, ◌<◌, ◌⊎◌, ◌∙◌, ◌&&◌, ◌||◌, ℕ, List, [], ◌∷◌, ◌++◌, Bool, true, false, not, Option, None, Some, MatchOption, arith, refl, sym, ap, subst, append-nil}
 use Rattle.std.specs.Option.{option_map, option_map_or, option_to_list}
 use Rattle.std.specs.Prelude.{if◌then◌else◌}
 use Rattle.sdr_base.specs.Media.{Told}
@@ -9,15 +9,15 @@ use Rattle.sdr_model.specs.declared.event.Event.{Event}
 use Rattle.sdr_model.specs.declared.journal.Entry.{Entry}
 use Rattle.sdr_model.specs.declared.journal.What.{What}
 use Rattle.sdr_model.specs.declared.journal.What.TheVariants as whats
-use Rattle.sdr_lock.specs.Core.{Core, Log, Under, Work, all_said, closed_by, core_after, entry_of, is_outside, log_after, under, what_else, what_of, with_said, without_work, works_after}
+use Rattle.sdr_lock.specs.Core.{Core, Under, Work, all_said, closed_by, core_after, entry_of, is_outside, log_after, under, what_else, what_of, with_said, without_work, works_after}
 use Rattle.sdr_lock.specs.Ground.{State}
 use Rattle.sdr_lock.specs.Legal.{Lead, MayStand, is_fault, is_leave}
 use Rattle.sdr_lock.specs.Machine.{Machine, Made}
-use Rattle.sdr_lock.specs.Roll.{Roll, daemon_of, number_of}
+use Rattle.sdr_lock.specs.Roll.{daemon_of, number_of}
 use Rattle.sdr_lock.specs.declared.daemon.Daemon.{Daemon}
 use Rattle.sdr_runs.specs.Adding.{AddsRightly, entry_added, entry_under}
 use Rattle.sdr_runs.proofs.CurrentLemmas.{Current}
-use Rattle.sdr_runs.proofs.JournalLemmas.{AreSound, last_number}
+use Rattle.sdr_runs.proofs.JournalLemmas.{last_number}
 use Rattle.sdr_runs.proofs.KeepLemmas.{KeepsJournal, KeepsRoll, journal_more}
 use Rattle.sdr_runs.proofs.RollLemmas.{found_number, same_number}
 use Rattle.sdr_runs.proofs.TransactLemmas.{passes}

@@ -1,10 +1,7 @@
 -- The open transactions of a machine: at most one has done something, and its number is served.
-use Rattle.std.proofs.Common.{◌≡◌, ◌≤◌, ◌<◌, ◌∙◌, ◌==◌, ◌+◌, ℕ, List, [], ◌∷◌, ◌++◌, Bool, true, false, Option, None, Some, MatchBool, arith, refl, sym, ap, subst, cond}
+use Rattle.std.proofs.Common.{◌≡◌, ◌≤◌, ◌∙◌, ◌==◌, ℕ, List, [], Bool, true, false, Option, None, Some, MatchBool, refl, sym, ap, subst}
 use Rattle.sdr_base.specs.Media.{Told}
 use Rattle.sdr_base.specs.declared.refusal.Refusal.TheVariants as refusals
-use Rattle.sdr_model.specs.declared.answer.Answer.{Answer}
-use Rattle.sdr_model.specs.declared.answer.Answer.TheVariants as answers
-use Rattle.sdr_model.specs.declared.event.Event.{Event}
 use Rattle.sdr_model.specs.declared.event.Event.TheVariants as events
 use Rattle.sdr_model.specs.declared.journal.Entry.{Entry}
 use Rattle.sdr_model.specs.declared.journal.Said.{Said}
@@ -13,12 +10,12 @@ use Rattle.sdr_lock.specs.Core.{Work, said_by, with_said}
 use Rattle.sdr_lock.specs.Ground.{State}
 use Rattle.sdr_lock.specs.Machine.{Machine, with_roll}
 use Rattle.sdr_lock.specs.Roll.{Roll, daemon_of, least_held, put_daemon, served_number}
-use Rattle.sdr_lock.specs.Transaction.{IsAnswered, Transaction, Transacts, is_closing, refused, transaction_of}
+use Rattle.sdr_lock.specs.Transaction.{IsAnswered, Transacts, is_closing, refused, transaction_of}
 use Rattle.sdr_lock.specs.declared.daemon.Daemon.{Daemon}
 use Rattle.sdr_lock.specs.declared.daemon.Holding.{Holding}
 use Rattle.sdr_lock.proofs.LockLemmas.{agrees_untold}
 use Rattle.sdr_runs.proofs.KeepLemmas.{Held, KeepsRoll}
-use Rattle.sdr_runs.proofs.RollLemmas.{among, contrary, found_put, least_found, number_same, other_put, same_number, turned}
+use Rattle.sdr_runs.proofs.RollLemmas.{among, contrary, found_put, least_found, number_same, other_put, same_number}
 use Rattle.sdr_runs.proofs.WorkLemmas.{AreApart, SoFar, Untouched, said_more, said_other, so_far_more}
 
 -- the daemons have said nothing, or have only begun, but this one
@@ -108,20 +105,22 @@ module _ (told : Option Told) (daemons : List ℕ) (journal : List Entry) (m : M
   pub served_far : (id : ℕ) (d : Daemon) (h : Holding) → Current told m works → Held m.roll id d h → (h.nesting.depth == 0) ≡ false
       → (served_number m.roll == h.number) ≡ true
       → SoFar told m.before h.number (said_by works id) (transaction_of h m.now) × OthersUntouched told m.roll works id
-  served_far id d h (Current.rests still all) held inside served =
-      (subst (λ s. SoFar told m.before h.number (said_by works id) (transaction_of h s)) (sym still)
-      (open_one (h.nesting.depth == 0) inside (subst (Untouched told (said_by works id)) held.holds (all id d held.found))),
-      (λ other y apart there. all other y there))
+  served_far id d h (Current.rests still all) held inside served = (
+    subst (λ s. SoFar told m.before h.number (said_by works id) (transaction_of h s)) (sym still)
+        (open_one (h.nesting.depth == 0) inside (subst (Untouched told (said_by works id)) held.holds (all id d held.found))),
+    (λ other y apart there. all other y there),
+  )
     where
       open_one : (b : Bool) → b ≡ false → MatchBool b (said_by works id ≡ []) ((s : State) → SoFar told s h.number (said_by works id) (transaction_of h s))
           → SoFar told m.before h.number (said_by works id) (transaction_of h m.before)
       open_one true e all = contrary refl e
       open_one false e all = all m.before
   served_far id d h (Current.working other y k is others) held inside served =
-      let same = works_alone id d h other y k held served is in
-      (subst (λ (z : Holding). SoFar told m.before z.number (said_by works id) (transaction_of z m.now)) same.2
-      (subst (λ n. SoFar told m.before k.number (said_by works n) (transaction_of k m.now)) same.0 is.far),
-      subst (OthersUntouched told m.roll works) same.0 others)
+      let same = works_alone id d h other y k held served is in (
+        subst (λ (z : Holding). SoFar told m.before z.number (said_by works id) (transaction_of z m.now)) same.2
+            (subst (λ n. SoFar told m.before k.number (said_by works n) (transaction_of k m.now)) same.0 is.far),
+        subst (OthersUntouched told m.roll works) same.0 others,
+      )
 
   -- nobody works where the one that is served is in no transaction
   pub none_works : (id : ℕ) (d : Daemon) (h : Holding) → Held m.roll id d h → (served_number m.roll == h.number) ≡ true → (h.nesting.depth == 0) ≡ true

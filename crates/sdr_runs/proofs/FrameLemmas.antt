@@ -1,11 +1,10 @@
 -- Each transaction of a legal journal is framed by its first begin and its close.
-use Rattle.std.proofs.Common.{◌≡◌, ◌⊎◌, ◌∙◌, ◌&&◌, ℕ, List, [], ◌∷◌, ◌++◌, Bool, true, Option, None, Some, is_none, refl, sym, ap, inl, inr}
-use Rattle.std.specs.Prelude.{All, ⊤}
+use Rattle.std.proofs.Common.{◌≡◌, ◌∙◌, ◌&&◌, ℕ, List, [], ◌∷◌, ◌++◌, true, Option, Some, is_none, refl, sym, ap, inl, inr}
+use Rattle.std.specs.Prelude.{All}
 use Rattle.std.specs.List.{list_all}
 use Rattle.std.proofs.lemmas.List.Elements.{All-cons, All-nil}
 use Rattle.sdr_base.specs.Media.{Told}
 use Rattle.sdr_model.specs.declared.answer.Close.{Close}
-use Rattle.sdr_model.specs.declared.answer.Close.TheVariants as closes
 use Rattle.sdr_model.specs.declared.journal.Entry.{Entry}
 use Rattle.sdr_model.specs.declared.journal.Said.{Said}
 use Rattle.sdr_model.specs.declared.journal.What.{What}
@@ -14,7 +13,7 @@ use Rattle.sdr_lock.specs.Core.{closed_by}
 use Rattle.sdr_lock.specs.Ground.{State}
 use Rattle.sdr_lock.specs.Legal.{IsLegal, Lead, MayStand}
 use Rattle.sdr_lock.specs.Transaction.{Finishes, GoesOn, Runs, Transaction, begun_in}
-use Rattle.sdr_runs.specs.Framed.{FramesWork, IsFramed}
+use Rattle.sdr_runs.specs.Framed.{FramesWork}
 use Rattle.sdr_runs.proofs.TransactLemmas.{transacts_within}
 
 -- what finishes a transaction closes it so

@@ -1,15 +1,13 @@
 -- A journal with one more entry.
-use Rattle.std.proofs.Common.{◌≡◌, ◌≤◌, ◌<◌, ◌∙◌, ◌==◌, ◌&&◌, ℕ, List, [], ◌∷◌, ◌++◌, Bool, true, false, not, Option, None, Some, MatchBool, refl, sym, ap, subst, cond, arith, find, reverse, take, length, append_assoc, append-nil, true≢false}
+use Rattle.std.proofs.Common.{◌≡◌, ◌≤◌, ◌<◌, ◌∙◌, ◌==◌, ◌&&◌, ℕ, List, [], ◌∷◌, ◌++◌, Bool, true, false, Option, Some, MatchBool, refl, sym, ap, subst, cond, arith, find, take, length, append_assoc, append-nil, true≢false}
 use Rattle.std.specs.List.{list_all}
 use Rattle.std.specs.Prelude.{All, ⊤}
 use Rattle.std.proofs.lemmas.List.Elements.{All-cons, All-nil}
 use Rattle.std.proofs.lemmas.List.{reverse-append}
 use Rattle.sdr_base.specs.Media.{Told}
 use Rattle.sdr_model.specs.declared.journal.Entry.{Entry}
-use Rattle.sdr_lock.specs.Crash.{is_whole}
 use Rattle.sdr_lock.specs.Ground.{State}
-use Rattle.sdr_lock.specs.Legal.{ComesAfter, EndsWithLeaves, IsAfter, Lead, LeadThen, MayStand, Rise, is_fault, is_leave, last_entry}
-use Rattle.sdr_runs.proofs.RollLemmas.{contrary}
+use Rattle.sdr_lock.specs.Legal.{ComesAfter, EndsWithLeaves, Lead, MayStand, Rise, is_fault, is_leave, last_entry}
 
 -- the entries lead on by one more that may stand behind them
 pub lead_more : (told : Option Told) (daemons : List ℕ) (before : List Entry) (s : State) (entries : List Entry) (s' : State) (e : Entry) (s'' : State)
@@ -17,8 +15,8 @@ pub lead_more : (told : Option Told) (daemons : List ℕ) (before : List Entry) 
     → Lead told daemons before s (entries ++ e ∷ []) s''
 lead_more told daemons before s [] s' e s'' lead stands =
     let from : MayStand told daemons before s e.number e.daemon e.what s'' =
-        subst (λ x. MayStand told daemons before x e.number e.daemon e.what s'') lead
-        (subst (λ xs. MayStand told daemons xs s' e.number e.daemon e.what s'') (append-nil before) stands) in
+    subst (λ x. MayStand told daemons before x e.number e.daemon e.what s'') lead
+    (subst (λ xs. MayStand told daemons xs s' e.number e.daemon e.what s'') (append-nil before) stands) in
     record { after = s''; stands = from; rest = refl }
 lead_more told daemons before s (first ∷ entries) s' e s'' lead stands = record {
   after = lead.after;

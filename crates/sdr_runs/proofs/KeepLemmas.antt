@@ -1,5 +1,5 @@
 -- What a core keeps in its run: its roll and its journal.
-use Rattle.std.proofs.Common.{◌≡◌, ◌≤◌, ◌<◌, ◌⊎◌, ◌∙◌, ◌==◌, ◌+◌, ℕ, List, [], ◌∷◌, ◌++◌, Bool, true, false, Option, None, Some, arith, refl, sym, ap, subst, map, inl, inr, length}
+use Rattle.std.proofs.Common.{◌≡◌, ◌≤◌, ◌<◌, ◌⊎◌, ◌∙◌, ◌==◌, ℕ, List, [], ◌∷◌, ◌++◌, Bool, true, false, Option, None, Some, arith, refl, sym, ap, subst, map, inl, inr}
 use Rattle.std.proofs.lemmas.Bool.Decides.{nat_tests}
 use Rattle.sdr_base.specs.Media.{Told}
 use Rattle.std.specs.List.{AllByRecursion}
@@ -10,8 +10,8 @@ use Rattle.sdr_lock.specs.Roll.{Roll, daemon_of, least_held, put_daemon, served_
 use Rattle.sdr_lock.specs.declared.daemon.Daemon.{Daemon}
 use Rattle.sdr_lock.specs.declared.daemon.Holding.{Holding}
 use Rattle.sdr_runs.specs.LastEntries.{AgreesWithJournal, AgreesWithLast}
-use Rattle.sdr_runs.proofs.JournalLemmas.{AreSound, ends_after_sound, ends_with_leave, last_done, last_done-more, last_entry-other, last_entry-own, last_number, last_number-more, lead_more, rise_more, sound_more}
-use Rattle.sdr_runs.proofs.RollLemmas.{HoldsWithin, IsWithin, among, contrary, each_also, each_put, found_number, found_put, least_found, number_same, numbers_put, other_put, same_number, turned}
+use Rattle.sdr_runs.proofs.JournalLemmas.{AreSound, ends_after_sound, ends_with_leave, last_done, last_done-more, last_number, lead_more, rise_more, sound_more}
+use Rattle.sdr_runs.proofs.RollLemmas.{HoldsWithin, IsWithin, among, contrary, each_also, each_put, found_put, least_found, number_same, numbers_put, other_put, same_number}
 
 -- the daemon of a number holds this
 pub record Held (r : Roll) (id : ℕ) (d : Daemon) (h : Holding) : Type 0 where

@@ -2,10 +2,13 @@ pub mod CaseLemmas
 pub mod ClosingLemmas
 pub mod CoreLemmas
 pub mod CurrentLemmas
+pub mod DeepLemmas
 pub mod FrameLemmas
 pub mod JournalLemmas
 pub mod KeepLemmas
+pub mod OutcomeLemmas
 pub mod RollLemmas
+pub mod RowLemmas
 pub mod RowReplies
 pub mod RunLemmas
 pub mod StalledLemmas

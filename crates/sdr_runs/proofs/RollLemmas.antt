@@ -1,10 +1,10 @@
 -- The daemons of a roll, where one is put in its place.
-use Rattle.std.proofs.Common.{◌≡◌, ◌≤◌, ◌<◌, ◌∙◌, ◌==◌, ◌+◌, ◌&&◌, ℕ, zero, suc, List, [], ◌∷◌, Bool, true, false, not, Option, None, Some, arith, refl, sym, ap, subst, cond, map, min, nat_lt, length, find, true≢false}
-use Rattle.std.specs.List.{AllByRecursion, position, prefix_len}
+use Rattle.std.proofs.Common.{◌≡◌, ◌≤◌, ◌<◌, ◌∙◌, ◌==◌, ◌+◌, ℕ, suc, List, [], ◌∷◌, Bool, true, false, not, Option, None, Some, arith, refl, sym, ap, subst, cond, map, min, nat_lt, length, find, true≢false}
+use Rattle.std.specs.List.{AllByRecursion, prefix_len}
 use Rattle.std.specs.Prelude.{if◌then◌else◌, slice_set, ⊤}
 use Rattle.std.specs.Option.{option_map_or}
 use Rattle.std.proofs.lemmas.Bool.Decides.{nat_tests}
-use Rattle.sdr_lock.specs.Roll.{Roll, daemon_of, least_held, lesser_of, newcomer, put_daemon, served_number, with_daemon}
+use Rattle.sdr_lock.specs.Roll.{least_held, lesser_of, newcomer, put_daemon}
 use Rattle.sdr_lock.specs.declared.daemon.Daemon.{Daemon}
 use Rattle.sdr_lock.specs.declared.daemon.Holding.{Holding}
 

@@ -1,5 +1,5 @@
 -- No row answers for the lock or the nesting.
-use Rattle.std.proofs.Common.{◌≡◌, ◌∙◌, ◌==◌, ◌&&◌, ◌||◌, ℕ, List, [], ◌∷◌, Bool, true, false, Option, None, Some, MatchBool, MatchOption, refl, ap, length, nat_lt, nat_le, ◌+◌, ◌*◌, inl, inr}
+use Rattle.std.proofs.Common.{◌≡◌, ◌∙◌, ◌==◌, ◌||◌, ℕ, List, [], ◌∷◌, Bool, true, false, Option, None, Some, MatchBool, MatchOption, refl, ap, length, nat_lt, nat_le, ◌+◌, ◌*◌, inl, inr}
 use Rattle.std.specs.Prelude.{position, is_some, slice_get}
 use Rattle.sdr_base.specs.declared.account.Acct.{Acct}
 use Rattle.sdr_base.specs.declared.kind.Space.{Space}
@@ -22,7 +22,11 @@ use Rattle.sdr_model.specs.Step.{Step, Stops, StopsWith}
 use Rattle.sdr_model.specs.Steps.{DoesWith, Outcome, On, Refuses, Takes, TakesOne, with_thing}
 use Rattle.sdr_model.specs.World.{World, as_raw, as_text, block_at, is_marked, misnamed, refusal_for, spot_of, thing_at}
 use Rattle.sdr_model.specs.Amounts.{amounts_by, first_above, in_space, minus}
+<<<<<<< HEAD
 use Rattle.sdr_model.specs.Charging.{Charges, OnTicket, grant_left, no_space, with_used}
+=======
+use Rattle.sdr_model.specs.Charging.{Charges, RefusesSpace, grant_left, with_used}
+>>>>>>> 474accb294742abf5629e30f9c281d2a6b985595
 use Rattle.sdr_model.specs.HashSteps as hash
 use Rattle.sdr_model.specs.ListSteps as list
 use Rattle.sdr_model.specs.NameSteps.{OnName}
@@ -40,7 +44,6 @@ use Rattle.sdr_model.specs.Tables.{Table}
 use Rattle.sdr_model.specs.declared.zco.Capsule.{Capsule}
 use Rattle.sdr_model.specs.declared.zco.ZcoObject.{ZcoObject}
 use Rattle.sdr_model.specs.RawSteps as raw
-use Rattle.sdr_model.specs.SourceSteps as source
 use Rattle.sdr_model.specs.TableSteps as table
 use Rattle.sdr_model.specs.Wire as wire
 use Rattle.sdr_model.specs.declared.answer.Reply.{Reply}
@@ -202,7 +205,7 @@ module _ (w : World) (o : Outcome) where
   row_fair (calls.SetMaximum acct space value) h = tests (nat_lt most_amount value) h (λ f. refuses f refl) (λ h. answers _ refl h.2)
   row_fair (calls.Create acct ticket) h = charges acct ticket (in_space spaces.Heap object_bytes)
       (λ used. Takes w o object_need (λ addr. with_object used addr (empty_object acct)) (λ addr. replies.At addr)) h (λ used h. takes _ _ _ (λ _. refl) h)
-  row_fair (calls.AppendExtent addr ticket named offset bytes) h = 
+  row_fair (calls.AppendExtent addr ticket named offset bytes) h =
       on addr (object_at w addr) h (λ z r. options (source_at w named) r
       (λ q. on named (as_raw (thing_at w named)) q (λ text p. unnamed named _ p (λ s. in_range offset bytes (length text) _ s
       (λ c. charges z.account ticket (bytes_charge spaces.Heap bytes)

@@ -1,17 +1,16 @@
 -- What a core keeps in its run.
-use Rattle.std.proofs.Common.{◌≡◌, ◌≤◌, ◌<◌, ◌∙◌, ◌==◌, ◌&&◌, ◌++◌, ℕ, List, [], ◌∷◌, Bool, true, false, Option, None, Some, arith, refl, sym, ap, subst, cond, find, length, map, nat_eq, take, append-nil}
-use Rattle.std.specs.List.{AllByRecursion, IsDistinct, list_all}
+use Rattle.std.proofs.Common.{◌≡◌, ◌≤◌, ◌<◌, ◌∙◌, ◌++◌, ℕ, List, [], ◌∷◌, false, Option, None, Some, arith, refl, sym, ap, subst, length, map, nat_eq, append-nil}
+use Rattle.std.specs.List.{IsDistinct}
 use Rattle.std.specs.Option.{option_map, option_map_or, option_to_list}
-use Rattle.std.specs.Prelude.{All, ⊤}
+use Rattle.std.specs.Prelude.{All}
 use Rattle.sdr_base.specs.Media.{Told}
 use Rattle.sdr_model.specs.World.{World}
 use Rattle.sdr_model.specs.declared.journal.Entry.{Entry}
-use Rattle.sdr_lock.specs.Core.{AreInTime, Core, CoreStep, Log, RunsCore, core_after, entry_of, first_core, log_after, under, what_of}
+use Rattle.sdr_lock.specs.Core.{AreInTime, Core, CoreStep, RunsCore, entry_of, first_core, log_after, under, what_of}
 use Rattle.sdr_lock.specs.Ground.{State, resting}
-use Rattle.sdr_lock.specs.Legal as legal
 use Rattle.sdr_lock.specs.Legal.{IsAfter, IsLegal, Lead, Rise, have_stalled}
 use Rattle.sdr_lock.specs.Machine.{Made}
-use Rattle.sdr_lock.specs.Roll.{daemon_of, is_stalled, is_stuck, newcomer}
+use Rattle.sdr_lock.specs.Roll.{daemon_of, is_stalled, newcomer}
 use Rattle.sdr_lock.specs.declared.daemon.Daemon.{Daemon}
 use Rattle.sdr_lock.specs.declared.daemon.Holding.{Holding}
 use Rattle.sdr_runs.specs.Adding.{AddsRightly, entry_added}
@@ -61,9 +60,10 @@ first_keeps told daemons first moment = record {
 pub core_step_keeps : (told : Option Told) (daemons : List ℕ) (first : State) (moment : ℕ) (c : Core) (e : Made) (c' : Core) → KeepsCore told daemons first moment c
     → moment ≤ e.begun → e.begun ≤ e.done → CoreStep told c e c' → KeepsCore told daemons first e.done c' × AddsRightly told daemons c e c'.machine
 core_step_keeps told daemons first moment c e c' keeps later lasts step =
-    let after = step_keeps (record { moment = moment; keeps = keeps; later = later; lasts = lasts }) step.next step.step step.media in
-    (subst (KeepsCore told daemons first e.done) (sym step.history) after.keeps,
-    subst (λ (x : Core). AddsRightly told daemons c e x.machine) (sym step.history) after.adds)
+    let after = step_keeps (record { moment = moment; keeps = keeps; later = later; lasts = lasts }) step.next step.step step.media in (
+      subst (KeepsCore told daemons first e.done) (sym step.history) after.keeps,
+      subst (λ (x : Core). AddsRightly told daemons c e x.machine) (sym step.history) after.adds,
+    )
 
 -- a run of it
 run_keeps_on : (told : Option Told) (daemons : List ℕ) (first : State) (moment : ℕ) (made : List Made) (c c' : Core) → KeepsCore told daemons first moment c
@@ -133,9 +133,10 @@ pub run_held : (told : Option Told) (daemons : List ℕ) (first : State) (moment
     → (h.number ≤ core.machine.roll.drawn) × All (λ (x : Entry). x.number < h.number) core.log.journal
 run_held told daemons first moment made core time runs id d h found holds =
     let keeps = run_keeps told daemons first moment made core time runs in
-    let held : Held core.machine.roll id d h = record { found = found; holds = holds } in
-    ((held_within keeps.roll held).1,
-    all_above 0 0 h.number core.log.journal keeps.journal.rise (keeps.roll.above id d h held))
+    let held : Held core.machine.roll id d h = record { found = found; holds = holds } in (
+      (held_within keeps.roll held).1,
+      all_above 0 0 h.number core.log.journal keeps.journal.rise (keeps.roll.above id d h held),
+    )
 
 -- the roll and the journal of a run
 pub run_agrees : (told : Option Told) (daemons : List ℕ) (first : State) (moment : ℕ) (made : List Made) (core : Core) → AreInTime moment made

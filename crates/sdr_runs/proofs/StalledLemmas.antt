@@ -3,7 +3,6 @@ use Rattle.std.proofs.Common.{◌≡◌, ◌∙◌, ◌==◌, ◌&&◌, ◌||◌
 use Rattle.std.specs.List.{AllByRecursion, IsDistinct, list_all}
 use Rattle.std.specs.Option.{option_map_or}
 use Rattle.std.specs.Bool.{nat_eq}
-use Rattle.std.specs.Prelude.{⊤}
 use Rattle.sdr_model.specs.AccountSteps.{is_granted, pending_of}
 use Rattle.sdr_model.specs.World.{World}
 use Rattle.sdr_model.specs.declared.journal.Entry.{Entry}
@@ -71,9 +70,10 @@ found_later x ds id is = by (x.id == id) refl
 
 each_is_found : (ds : List Daemon) → AllByRecursion (λ d. IsFound ds d.id) ds
 each_is_found [] = tt
-each_is_found (x ∷ ds) =
-    (record { daemon = x; found = ap (λ b. cond b (Some x) (among x.id ds)) (number_same x.id x.id refl) },
-    each_also (λ d. IsFound ds d.id) (λ d. IsFound (x ∷ ds) d.id) (λ d is. found_later x ds d.id is) ds (each_is_found ds))
+each_is_found (x ∷ ds) = (
+  record { daemon = x; found = ap (λ b. cond b (Some x) (among x.id ds)) (number_same x.id x.id refl) },
+  each_also (λ d. IsFound ds d.id) (λ d. IsFound (x ∷ ds) d.id) (λ d is. found_later x ds d.id is) ds (each_is_found ds),
+)
 
 -- where all have stalled by the roll, they have by the journal
 pub stalled_by_roll : (daemons : List ℕ) (journal : List Entry) (r : Roll) (w : World) → KeepsRoll daemons journal r → is_stalled r w ≡ true

@@ -1,5 +1,5 @@
 -- What a core keeps after each step of its machine.
-use Rattle.std.proofs.Common.{◌≡◌, ◌⊎◌, ◌∙◌, ◌==◌, ◌+◌, ◌&&◌, ◌||◌, ℕ, List, [], ◌∷◌, Bool, true, false, not, Option, None, Some, MatchBool, MatchOption, refl, sym, ap, subst, inl, inr, true≢false, nat_le}
+use Rattle.std.proofs.Common.{◌≡◌, ◌⊎◌, ◌∙◌, ◌==◌, ◌+◌, ◌&&◌, ℕ, List, Bool, true, false, not, Option, None, Some, MatchBool, refl, sym, ap, subst, inl, inr, true≢false}
 use Rattle.std.specs.Option.{option_map_or}
 use Rattle.std.specs.Prelude.{if◌then◌else◌}
 use Rattle.sdr_base.specs.Media.{Told}
@@ -16,17 +16,17 @@ use Rattle.sdr_model.specs.declared.journal.What.TheVariants as whats
 use Rattle.sdr_lock.specs.Agreeing.{AgreesWith}
 use Rattle.sdr_lock.specs.Core.{Core, Under, has_left, what_else}
 use Rattle.sdr_lock.specs.Ground.{State}
-use Rattle.sdr_lock.specs.Legal.{have_stalled, last_entry, waited_for}
-use Rattle.sdr_lock.specs.Machine.{Machine, Made, MachineStep, Answers, Closes, Comes, Enters, FaultsWithin, Holds, Looks, LooksAt, Performs, Serves, Works, is_outside, roll_acting, roll_coming, roll_failed, roll_holding, with_roll}
-use Rattle.sdr_lock.specs.Roll.{Roll, after_leave, daemon_of, is_stalled, served_number, waits_for, with_daemon, with_drawn, with_number}
-use Rattle.sdr_lock.specs.Transaction.{Transaction, Transacts, asks_disk, is_closing, is_opening, refused, transaction_of}
+use Rattle.sdr_lock.specs.Legal.{last_entry, waited_for}
+use Rattle.sdr_lock.specs.Machine.{Machine, Made, MachineStep, Answers, Closes, Comes, Enters, FaultsWithin, Holds, Looks, LooksAt, Serves, Works, is_outside, roll_acting, roll_coming, roll_failed, roll_holding, with_roll}
+use Rattle.sdr_lock.specs.Roll.{after_leave, daemon_of, is_stalled, served_number, waits_for, with_daemon, with_drawn, with_number}
+use Rattle.sdr_lock.specs.Transaction.{Transaction, Transacts, asks_disk, is_closing, is_opening, transaction_of}
 use Rattle.sdr_lock.specs.declared.daemon.Daemon.{Daemon}
 use Rattle.sdr_lock.specs.declared.daemon.Holding.{Holding}
 use Rattle.sdr_lock.proofs.StepLemmas.{from_option, from_test}
 use Rattle.sdr_runs.proofs.CaseLemmas.{IsIdle, begins, done_none, done_some, draws, idle_fresh, idle_mine, looked_inside, not_begun, opens, refused_adds_none, requested, suspended, unchanged, with_done}
 use Rattle.sdr_runs.proofs.ClosingLemmas.{closes_so, faults_so, goes_on, look_faults}
 use Rattle.sdr_runs.proofs.CoreLemmas.{IsNext, StepKeeps, found_there, or_true, unknown}
-use Rattle.sdr_runs.proofs.RollLemmas.{contrary, found_put, same_number}
+use Rattle.sdr_runs.proofs.RollLemmas.{found_put, same_number}
 use Rattle.sdr_runs.proofs.StalledLemmas.{stalled_by_roll, waits_agree}
 use Rattle.sdr_runs.proofs.TransactLemmas.{passes}
 use Rattle.sdr_runs.proofs.TurnLemmas.{IsTurn, turn_fresh, turn_mine}
@@ -86,9 +86,12 @@ module _ {told : Option Told} {daemons : List ℕ} {first : State} {c : Core} {e
           (λ waiting rest. from_test (waits_for d ticket && is_stalled c.machine.roll c.machine.before.world) rest
           (λ stalled goes. subst KeepsAt (sym goes.after)
           (let both = both_pass (waits_for d ticket) (is_stalled c.machine.roll c.machine.before.world) stalled in
-          done_some p found d.left None (whats.Stalled ticket) is goes.told.answer refl refl refl turn (λ _. idle) (record { left = stays; waits = refl })
-          ((ap is_granted there ∙ waiting, ap (λ o. option_map_or (λ (x : Pending). true) o false) there), sym waited ∙ both.0,
-          stalled_by_roll daemons c.log.journal c.machine.roll c.machine.before.world p.keeps.roll both.1, refl) (inl sound) refl))
+          done_some p found d.left None (whats.Stalled ticket) is goes.told.answer refl refl refl turn (λ _. idle) (record { left = stays; waits = refl }) (
+            (ap is_granted there ∙ waiting, ap (λ o. option_map_or (λ (x : Pending). true) o false) there),
+            sym waited ∙ both.0,
+            stalled_by_roll daemons c.log.journal c.machine.roll c.machine.before.world p.keeps.roll both.1,
+            refl,
+          ) (inl sound) refl))
           (λ _ goes. subst KeepsAt (sym goes.after) (waits (waits_for d ticket) refl goes.told.answer (ap is_granted there ∙ waiting)
           (ap (λ o. option_map_or (λ (x : Pending). true) o false) there)))))
         where

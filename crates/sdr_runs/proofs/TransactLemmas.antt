@@ -1,15 +1,13 @@
 -- What an event of an open transaction is answered, and what the transaction then is.
-use Rattle.std.proofs.Common.{◌≡◌, ◌⊎◌, ◌∙◌, ◌==◌, ◌||◌, ◌+◌, ◌-◌, ◌≤◌, ℕ, List, [], Bool, true, false, Option, None, Some, MatchBool, MatchOption, arith, refl, sym, ap, subst, inl, inr, nat_le, true≢false}
+use Rattle.std.proofs.Common.{◌≡◌, ◌⊎◌, ◌∙◌, ◌==◌, ◌||◌, ◌+◌, ◌-◌, ℕ, Bool, true, false, Option, None, Some, MatchOption, arith, refl, sym, ap, inl, inr, nat_le, true≢false}
 use Rattle.std.specs.Prelude.{if◌then◌else◌, unwrap_or}
 use Rattle.std.proofs.lemmas.Bool.Decides.{nat_tests}
 use Rattle.sdr_base.specs.declared.refusal.Reason.{Reason}
 use Rattle.sdr_base.specs.declared.refusal.Reason.TheVariants as reasons
-use Rattle.sdr_base.specs.declared.refusal.Refusal.{Refusal}
 use Rattle.sdr_base.specs.declared.refusal.Refusal.TheVariants as refusals
 use Rattle.sdr_base.specs.Refusal.{refusal_number}
 use Rattle.sdr_model.specs.Dry.{StepsDry, StopsReading}
 use Rattle.sdr_model.specs.Reading.{is_reading}
-use Rattle.sdr_model.specs.Step.{Step}
 use Rattle.sdr_model.specs.declared.answer.Answer.{Answer}
 use Rattle.sdr_model.specs.declared.answer.Answer.TheVariants as answers
 use Rattle.sdr_model.specs.declared.answer.Close.{Close}
@@ -21,11 +19,10 @@ use Rattle.sdr_model.specs.declared.event.Event.TheVariants as events
 use Rattle.sdr_model.specs.declared.journal.Said.{Said}
 use Rattle.sdr_lock.specs.Core.{closed_by, is_failed, is_passed_over}
 use Rattle.sdr_lock.specs.Ground.{Ground, NoHeap, OnHeap, Replied, State, StepsOn}
-use Rattle.sdr_lock.specs.Nesting.{Inner, cancelled, comes_to, deepened, deepest, doomed_for, ended, noted}
+use Rattle.sdr_lock.specs.Nesting.{comes_to, deepened, deepest, doomed_for, noted}
 use Rattle.sdr_lock.specs.Transaction.{Becomes, Replies, Transaction, Transacts, asks_disk, is_closing}
 use Rattle.sdr_lock.specs.declared.nesting.Nesting.{Nesting}
 use Rattle.sdr_runs.specs.Replying.{is_of_call}
-use Rattle.sdr_runs.proofs.RollLemmas.{contrary}
 use Rattle.sdr_runs.proofs.RowReplies.{row_fair, step_fair, stops_fair}
 
 -- whether an event that is answered so stands in no transaction

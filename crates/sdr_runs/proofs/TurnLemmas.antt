@@ -1,7 +1,6 @@
 -- The roll after a daemon has drawn a number, gone on under it, or is done with it.
 use Rattle.std.proofs.Common.{◌≡◌, ◌≤◌, ◌<◌, ◌∙◌, ◌==◌, ◌+◌, ℕ, List, [], ◌∷◌, ◌++◌, Bool, true, false, Option, None, Some, arith, refl, sym, ap, subst}
 use Rattle.std.specs.Option.{option_map_or}
-use Rattle.std.specs.List.{AllByRecursion}
 use Rattle.sdr_model.specs.declared.journal.Entry.{Entry}
 use Rattle.sdr_lock.specs.Legal.{last_entry}
 use Rattle.sdr_lock.specs.Nesting.{nested}

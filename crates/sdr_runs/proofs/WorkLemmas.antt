@@ -1,15 +1,14 @@
 -- What is said in the open transactions, and what it leads to.
-use Rattle.std.proofs.Common.{◌≡◌, ◌∙◌, ◌==◌, ℕ, List, [], ◌∷◌, ◌++◌, Bool, true, false, not, Option, None, Some, MatchBool, refl, sym, ap, subst, cond, true≢false, append_assoc, append-nil}
+use Rattle.std.proofs.Common.{◌≡◌, ◌∙◌, ◌==◌, ℕ, List, [], ◌∷◌, ◌++◌, Bool, true, false, not, Option, None, Some, MatchBool, refl, sym, ap, subst, cond, append-nil}
 use Rattle.std.specs.List.{filter, flat_map}
 use Rattle.std.specs.Prelude.{if◌then◌else◌, ⊤}
 use Rattle.sdr_base.specs.Media.{Told}
 use Rattle.sdr_model.specs.declared.answer.Close.{Close}
-use Rattle.sdr_model.specs.declared.event.Event.TheVariants as events
 use Rattle.sdr_model.specs.declared.journal.Said.{Said}
 use Rattle.sdr_lock.specs.Agreeing.{AgreesWith}
 use Rattle.sdr_lock.specs.Core.{Work, said_by, with_said, without_work}
 use Rattle.sdr_lock.specs.Ground.{State}
-use Rattle.sdr_lock.specs.Transaction.{Finishes, GoesOn, IsOpening, LooksInVain, Runs, SaysThen, Transaction, Transacts, begun_in, is_closing, transaction_of}
+use Rattle.sdr_lock.specs.Transaction.{Finishes, GoesOn, IsOpening, Runs, SaysThen, Transaction, Transacts, begun_in, is_closing, transaction_of}
 use Rattle.sdr_lock.specs.declared.daemon.Holding.{Holding}
 use Rattle.sdr_runs.proofs.RollLemmas.{contrary, number_same, same_number, turned}
 

@@ -1,4 +1,10 @@
 pub mod Adding
+pub mod Choosing
+pub mod DeepRow
+pub mod FaultRow
 pub mod Framed
 pub mod LastEntries
+pub mod LookRows
+pub mod NestedRow
 pub mod Replying
+pub mod Rows

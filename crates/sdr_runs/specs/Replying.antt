@@ -1,7 +1,6 @@
 -- What a call may be answered.
 use Rattle.std.specs.Prelude.{Bool, true, false}
 use Rattle.sdr_base.specs.declared.refusal.Refusal.TheVariants as refusals
-use Rattle.sdr_base.specs.declared.refusal.Reason.{Reason}
 use Rattle.sdr_model.specs.declared.answer.Reply.{Reply}
 use Rattle.sdr_model.specs.declared.answer.Reply.TheVariants as replies
 

@@ -1,0 +1,5 @@
+use Rattle.sdr_runs.proofs.RowLemmas.{stalled_row}
+use Rattle.sdr_runs.proofs.rows.all_have_stalled.Goals as goal
+
+pub returns : goal.returns
+returns c = stalled_row

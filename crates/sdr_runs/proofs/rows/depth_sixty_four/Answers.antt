@@ -1,0 +1,5 @@
+use Rattle.sdr_runs.proofs.DeepLemmas.{deep_row}
+use Rattle.sdr_runs.proofs.rows.depth_sixty_four.Goals as goal
+
+pub returns : goal.returns
+returns c = deep_row
