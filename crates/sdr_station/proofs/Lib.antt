@@ -4,4 +4,6 @@ pub mod GroundLemmas
 pub mod RestLemmas
 pub mod EntryLemmas
 pub mod RawLemmas
+pub mod KindLemmas
 pub mod MallocLemmas
+pub mod ReadingLemmas
