@@ -7,3 +7,4 @@ pub mod RawLemmas
 pub mod KindLemmas
 pub mod MallocLemmas
 pub mod ReadingLemmas
+pub mod WriteLemmas

@@ -176,24 +176,24 @@ read_bytes heap w addr place count into r has =
     here ∙ part_of_raw ((ties_of w).named_by addr) place count r.bytes
 
 -- so many bytes of a raw object are the world's
-room_in : (heap : Heap) (w : World) (addr end : ℕ) (r : IsRawAt heap w addr) → HasRoom (heap.blocks addr) end → end ≤ length r.bytes
+pub room_in : (heap : Heap) (w : World) (addr end : ℕ) (r : IsRawAt heap w addr) → HasRoom (heap.blocks addr) end → end ≤ length r.bytes
 room_in heap w addr end r has =
     let here : 8 + end ≤ length (raw_block ((ties_of w).named_by addr) r.bytes).bytes = subst (λ found. HasRoom found end) r.block has in
     omega (arith, here, length_of_raw ((ties_of w).named_by addr) r.bytes)
 
 -- and no more
-no_room_in : (heap : Heap) (w : World) (addr end : ℕ) (r : IsRawAt heap w addr) → Exceeds (heap.blocks addr) end → length r.bytes < end
+pub no_room_in : (heap : Heap) (w : World) (addr end : ℕ) (r : IsRawAt heap w addr) → Exceeds (heap.blocks addr) end → length r.bytes < end
 no_room_in heap w addr end r has =
     let here : length (raw_block ((ties_of w).named_by addr) r.bytes).bytes < 8 + end = subst (λ found. Exceeds found end) r.block has in
     omega (arith, here, length_of_raw ((ties_of w).named_by addr) r.bytes)
 
 -- the row of a read goes on where the thing is a raw object
-on_raw : (w : World) (o : Outcome) (addr : ℕ) (bytes : List ℕ) (goes : List ℕ → Type 0) → thing_at w addr ≡ Some (things.Raw bytes) → goes bytes
+pub on_raw : (w : World) (o : Outcome) (addr : ℕ) (bytes : List ℕ) (goes : List ℕ → Type 0) → thing_at w addr ≡ Some (things.Raw bytes) → goes bytes
     → On w o addr (as_raw (thing_at w addr)) goes
 on_raw w o addr bytes goes there holds = on_some _ goes (as_raw (thing_at w addr)) bytes (ap as_raw there) holds
 
 -- and refuses the address of what isn't one
-raw_missed : (w : World) (addr : ℕ) (refusal : Refusal) (goes : List ℕ → Type 0) → (as_raw (thing_at w addr) ≡ None) × (refusal ≡ misnamed w addr)
+pub raw_missed : (w : World) (addr : ℕ) (refusal : Refusal) (goes : List ℕ → Type 0) → (as_raw (thing_at w addr) ≡ None) × (refusal ≡ misnamed w addr)
     → On w (record { moves = []; after = w; reply = replies.Refused refusal }) addr (as_raw (thing_at w addr)) goes
 raw_missed w addr refusal goes m = on_none _ goes (as_raw (thing_at w addr)) m.0 (refl, refl, ap (λ r. replies.Refused r) m.1)
 
