@@ -124,6 +124,7 @@ pub record Frees (addr : ℕ) (old new : Heap) : Type 0 where
 pub record ReadsRaw (found : Option Block) (place count : ℕ) (into : List ℕ) : Type 0 where
   pub raw : IsKind found kinds.Raw
   pub few : count ≤ LONGEST_READ
+  pub inside : HasRoom found (place + count)
   pub bytes : HasBytes found (BYTES + place) count into
 
 -- bytes were written into a raw object that was taken or staged in this transaction

@@ -1,3 +1,10 @@
+pub mod CallLemmas
 pub mod ClosingLemmas
 pub mod GroundLemmas
 pub mod RestLemmas
+pub mod EntryLemmas
+pub mod RawLemmas
+pub mod KindLemmas
+pub mod MallocLemmas
+pub mod ReadingLemmas
+pub mod WriteLemmas

@@ -4,6 +4,7 @@
 //!    for the world before the transaction, and the heap now for the one that it has made.
 #![tactic(auto)]
 
+mod calls;
 mod closing;
 mod ground;
 mod page;

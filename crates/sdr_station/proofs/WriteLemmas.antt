@@ -1,0 +1,144 @@
+-- A write into a raw object, as a step.
+use Rattle.std.proofs.Common.{◌≡◌, ◌≢◌, ◌∙◌, ◌≤◌, ◌<◌, ◌+◌, ◌-◌, ◌==◌, ℕ, List, [], ◌∷◌, ◌++◌, Bool, true, false, true≢false, inl, inr, Option, Some, None, refl, sym, ap, subst, arith, length, append-nil, nat_lt}
+use Rattle.std.proofs.lemmas.Bool.Decides.{nat_tests}
+use Rattle.std.specs.List.{list_any}
+use Rattle.sdr_audit.proofs.ChangeLemmas.{changes}
+use Rattle.sdr_audit.specs.Standing.{HeapStandsFor, with_taken_marked}
+use Rattle.sdr_audit.specs.Ties.{ties_of}
+use Rattle.sdr_base.proofs.StandingLemmas.{written_at}
+use Rattle.sdr_base.specs.Blocks as base
+use Rattle.sdr_base.specs.Blocks.{IsKind, overwritten, with_block}
+use Rattle.sdr_base.specs.Entries.{Changes, Stands}
+use Rattle.sdr_base.specs.Making.{Made, besides, with_moves}
+use Rattle.sdr_base.specs.Objects.{Heap, with_bytes}
+use Rattle.sdr_base.specs.Parts.{overwrite}
+use Rattle.sdr_base.specs.Raws.{raw_block, raw_entries}
+use Rattle.sdr_base.specs.declared.kind.Kind.TheVariants as kinds
+use Rattle.sdr_base.specs.declared.moves.Move.{Move}
+use Rattle.sdr_base.specs.declared.refusal.Refusal.{Refusal}
+use Rattle.sdr_base.specs.declared.refusal.Refusal.TheVariants as refusals
+use Rattle.sdr_base.specs.declared.stop.Stop.TheVariants as stops
+use Rattle.sdr_heap.specs.Raw.{HasRoom, MissesRaw, WriteStops, WritesRaw}
+use Rattle.sdr_lock.proofs.WorkLemmas.{on_false, on_true}
+use Rattle.sdr_model.specs.Rows.{ByRow}
+use Rattle.sdr_model.specs.Steps.{Outcome, with_thing}
+use Rattle.sdr_model.specs.Whole.{IsWhole}
+use Rattle.sdr_model.specs.World.{World, is_marked}
+use Rattle.sdr_model.specs.declared.answer.Reply.TheVariants as replies
+use Rattle.sdr_model.specs.declared.call.Call.TheVariants as calls
+use Rattle.sdr_model.specs.declared.things.Thing.TheVariants as things
+use Rattle.sdr_station.proofs.KindLemmas.{IsRawAt, raw_is_at}
+use Rattle.sdr_station.proofs.RawLemmas.{overwrite_raw}
+use Rattle.sdr_station.proofs.ReadingLemmas.{misses, no_room_in, on_raw, raw_missed, room_in, row_refused, unmoved_answered}
+use Rattle.sdr_station.specs.Answering.{Aim, Answered, IsRefused}
+
+-- the world after bytes were written into a raw object
+abbrev pub after_write : World → ℕ → ℕ → List ℕ → List ℕ → World
+after_write w addr place from bytes = record (with_thing w addr (things.Raw (overwrite place from bytes))) { shown = [] }
+
+-- the row of a write that fits a marked raw object
+pub write_row : (heap : Heap) (w : World) (addr place : ℕ) (from : List ℕ) (r : IsRawAt heap w addr) → HeapStandsFor heap w
+    → HasRoom (heap.blocks addr) (place + length from) → heap.marks addr ≡ true
+    → ByRow w (record { moves = []; after = after_write w addr place from r.bytes; reply = replies.Done }) (calls.Write addr place from)
+write_row heap w addr place from r s room marked =
+    let fits = room_in heap w addr (place + length from) r room in
+    let inside : nat_lt (length r.bytes) (place + length from) ≡ false = grind (arith, nat_tests, fits) in
+    on_raw w (record { moves = []; after = after_write w addr place from r.bytes; reply = replies.Done }) addr r.bytes _ r.there
+    (on_false _ _ _ inside (on_true _ _ _ (sym (s.marks addr) ∙ marked) (refl, refl, refl)))
+
+-- the block of a raw object becomes that of one with other bytes
+raw_changes : (heap new : Heap) (w : World) (addr place : ℕ) (from : List ℕ) (r : IsRawAt heap w addr) → new ≡ with_bytes heap addr (8 + place) from
+    → Changes heap.blocks new.blocks (raw_entries addr ((ties_of w).named_by addr) r.bytes)
+      (raw_entries addr ((ties_of w).named_by addr) (overwrite place from r.bytes))
+raw_changes heap new w addr place from r is =
+    let named = (ties_of w).named_by addr in
+    let becomes : overwritten (heap.blocks addr) (8 + place) from ≡ Some (raw_block named (overwrite place from r.bytes)) =
+        ap (λ found. overwritten found (8 + place) from) r.block
+        ∙ ap (λ (bytes : List ℕ). Some (record { kind = kinds.Raw; bytes = bytes })) (overwrite_raw named place from r.bytes) in
+    record {
+      kept = λ rest s.
+          subst (λ (b : base.Blocks). Stands b (raw_entries addr named (overwrite place from r.bytes) ++ rest))
+          (ap (λ o. with_block heap.blocks addr o) (sym becomes) ∙ sym (ap (λ (h : Heap). h.blocks) is))
+          (written_at heap.blocks addr (raw_block named r.bytes) (raw_block named (overwrite place from r.bytes)) [] rest s);
+    }
+
+-- no move was made
+unmade : (old : Heap) → besides old ≡ besides (with_moves old [])
+unmade old =
+    let spare : old.spare ≡ old.spare - 0 = omega arith in
+    λ i. record {
+      size = old.size;
+      blocks = λ addr. None;
+      roots = old.roots;
+      marks = old.marks;
+      moves = sym (append-nil old.moves) i;
+      spare = spare i;
+    }
+
+-- with no move no mark is new
+same_marks : (heap : Heap) (w : World) → HeapStandsFor heap (with_taken_marked w []) → HeapStandsFor heap (record w { shown = [] })
+same_marks heap w s = record {
+  blocks = s.blocks;
+  roots = s.roots;
+  marks = λ q. s.marks q ∙ ap (λ (ms : List ℕ). list_any (λ m. m == q) ms) (append-nil w.marks);
+}
+
+-- bytes were written
+pub write_answered : (addr place : ℕ) (from : List ℕ) (old new : Heap) (w : World) → old.moves ≡ [] → WritesRaw addr place from old new
+    → HeapStandsFor old w → IsWhole w → Answered w (calls.Write addr place from) new [] replies.Done
+write_answered addr place from old new w unmoved writes s whole =
+    let r = raw_is_at old w addr s whole.valid writes.raw in
+    unmoved_answered w (after_write w addr place from r.bytes) (calls.Write addr place from) new [] replies.Done
+    (ap (λ (h : Heap). h.moves) writes.written ∙ unmoved) (write_row old w addr place from r s writes.inside writes.marked) refl
+    (same_marks new (with_thing w addr (things.Raw (overwrite place from r.bytes)))
+    (changes addr old new w (things.Raw r.bytes) (things.Raw (overwrite place from r.bytes)) [] r.there tt tt s
+    (raw_changes old new w addr place from r writes.written)
+    (record { all = ap besides writes.written ∙ unmade old })))
+    refl refl refl
+
+-- why bytes weren't written
+pub write_refused : (addr place : ℕ) (from : List ℕ) (old new : Heap) (w : World) (was : List ℕ) (refusal : Refusal) → old.moves ≡ []
+    → HeapStandsFor old w → IsWhole w → WriteStops (old.blocks addr) addr place (length from) old new (stops.Refused refusal)
+    → IsRefused w (calls.Write addr place from) old new was was refusal
+write_refused addr place from old new w was (refusals.OutOfBounds bad at asked) unmoved s whole m = record {
+  step =
+      let r = raw_is_at old w addr s whole.valid m.4 in
+      let above = no_room_in old w addr (place + length from) r m.3 in
+      let outside : nat_lt (length r.bytes) (place + length from) ≡ true = grind (arith, nat_tests, above) in
+      let row = on_raw w (record { moves = []; after = w; reply = replies.Refused (refusals.OutOfBounds bad at asked) }) addr r.bytes _ r.there
+          (on_true _ _ _ outside (refl, refl, λ i. replies.Refused (refusals.OutOfBounds (m.0 i) (m.1 i) (m.2 i)))) in
+      inl (row_refused w (calls.Write addr place from) new (refusals.OutOfBounds bad at asked) (ap (λ (h : Heap). h.moves) m.5 ∙ unmoved) row);
+  left = λ reads. m.5;
+  gave = refl;
+}
+write_refused addr place from old new w was (refusals.NotStaged bad) unmoved s whole m = record {
+  step =
+      let r = raw_is_at old w addr s whole.valid m.3 in
+      let fits = room_in old w addr (place + length from) r m.2 in
+      let inside : nat_lt (length r.bytes) (place + length from) ≡ false = grind (arith, nat_tests, fits) in
+      let row = on_raw w (record { moves = []; after = w; reply = replies.Refused (refusals.NotStaged bad) }) addr r.bytes _ r.there
+          (on_false _ _ _ inside (on_false _ _ _ (sym (s.marks addr) ∙ m.1) (refl, refl, ap (λ a. replies.Refused (refusals.NotStaged a)) m.0))) in
+      inl (row_refused w (calls.Write addr place from) new (refusals.NotStaged bad) (ap (λ (h : Heap). h.moves) m.4 ∙ unmoved) row);
+  left = λ reads. m.4;
+  gave = refl;
+}
+write_refused addr place from old new w was (refusals.LogFull lines room) unmoved s whole m = record {
+  step =
+      let r = raw_is_at old w addr s whole.valid m.2 in
+      (record { to = _; row = write_row old w addr place from r s m.1 m.0; answered = refl }, refl);
+  left = λ reads. absurd (true≢false (sym reads));
+  gave = refl;
+}
+write_refused addr place from old new w was (refusals.BadAddress bad) unmoved s whole m = record {
+  step = inl (row_refused w (calls.Write addr place from) new (refusals.BadAddress bad) (ap (λ (h : Heap). h.moves) m.1 ∙ unmoved)
+      (raw_missed w addr (refusals.BadAddress bad) _ (misses old w addr (refusals.BadAddress bad) s whole m.0)));
+  left = λ reads. m.1;
+  gave = refl;
+}
+write_refused addr place from old new w was (refusals.WrongKind bad number) unmoved s whole m = record {
+  step = inl (row_refused w (calls.Write addr place from) new (refusals.WrongKind bad number) (ap (λ (h : Heap). h.moves) m.1 ∙ unmoved)
+      (raw_missed w addr (refusals.WrongKind bad number) _ (misses old w addr (refusals.WrongKind bad number) s whole m.0)));
+  left = λ reads. m.1;
+  gave = refl;
+}
+write_refused addr place from old new w was refusal unmoved s whole m = absurd m.0

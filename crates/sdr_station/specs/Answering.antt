@@ -1,0 +1,77 @@
+-- What a call comes to on a heap that stands for a world.
+use Rattle.std.specs.Prelude.{◌≡◌, ◌+◌, ◌/◌, ℕ, Bool, true, false, List, [], length, ⊤, All, Result, Ok, Err}
+use Rattle.sdr_audit.specs.Standing.{HeapStandsFor}
+use Rattle.sdr_base.specs.Objects.{Heap}
+use Rattle.sdr_base.specs.declared.moves.Move.{Move}
+use Rattle.sdr_base.specs.declared.refusal.Refusal.{Refusal}
+use Rattle.sdr_base.specs.declared.refusal.Refusal.TheVariants as refusals
+use Rattle.sdr_base.specs.declared.stop.Stop.{Stop}
+use Rattle.sdr_base.specs.declared.stop.Stop.TheVariants as stops
+use Rattle.sdr_laws.specs.Fresh.{AreFresh}
+use Rattle.sdr_model.specs.Blocks.{addresses_of, blocks_of}
+use Rattle.sdr_model.specs.Fields.{IsWord}
+use Rattle.sdr_model.specs.Reading.{is_reading}
+use Rattle.sdr_model.specs.Rows.{ByRow}
+use Rattle.sdr_model.specs.Step.{StepTo, is_answer}
+use Rattle.sdr_model.specs.Steps.{Outcome, taken_addresses}
+use Rattle.sdr_model.specs.Whole.{IsWhole}
+use Rattle.sdr_model.specs.World.{World}
+use Rattle.sdr_model.specs.declared.answer.Reply.{Reply}
+use Rattle.sdr_model.specs.declared.answer.Reply.TheVariants as replies
+use Rattle.sdr_model.specs.declared.call.Call.{Call}
+use Rattle.sdr_model.specs.declared.call.Call.TheVariants as calls
+
+-- whether the call is served
+abbrev pub built : Call → Bool
+built (calls.Malloc bytes) = true
+built (calls.Length addr) = true
+built (calls.Read addr place count) = true
+built (calls.Write addr place bytes) = true
+built (calls.Stage addr count) = true
+built call = false
+
+-- so many lines a call that is served touches at most
+abbrev pub lines_of : Call → ℕ
+lines_of (calls.Malloc bytes) = 24 + (8 + bytes) / 64
+lines_of (calls.Write addr place bytes) = 2 + length bytes / 64
+lines_of call = 0
+
+-- what the row of a call gives, where it is answered
+pub record Aim (w : World) (call : Call) : Type 0 where
+  pub to : Outcome
+  pub row : ByRow w to call
+  pub answered : is_answer to.reply ≡ true
+
+-- A call that had no move before is answered by its row, with the heap's moves, of which each takes a block where none was. The
+-- heap stands for the world after it, which shows these bytes.
+pub record Answered (w : World) (call : Call) (new : Heap) (shown : List ℕ) (reply : Reply) : Type 0 where
+  pub after : World
+  pub row : ByRow w (record { moves = new.moves; after = after; reply = reply }) call
+  pub answered : is_answer reply ≡ true
+  pub fresh : AreFresh (addresses_of (blocks_of w)) new.moves
+  pub stands : HeapStandsFor new after
+  pub gave : after.shown ≡ shown
+  pub words : All IsWord (taken_addresses new.moves)
+  pub accounts : after.accounts ≡ w.accounts
+  pub taken : after.taken ≡ w.taken
+
+-- The call is refused by a step that leaves the world. Where log room is wanting, its row would answer it; one that reads
+-- leaves the heap.
+abbrev pub StepsRefused : World → Call → List Move → Refusal → Type 0
+StepsRefused w call moves (refusals.LogFull lines room) = Aim w call × (is_reading call ≡ false)
+StepsRefused w call moves refusal = StepTo w (record { moves = moves; after = w; reply = replies.Refused refusal }) call
+
+pub record IsRefused (w : World) (call : Call) (old new : Heap) (was shown : List ℕ) (refusal : Refusal) : Type 0 where
+  pub step : StepsRefused w call new.moves refusal
+  pub left : is_reading call ≡ true → new ≡ old
+  pub gave : shown ≡ was
+
+-- what a call comes to in a world
+abbrev pub ComesIn : World → Call → Heap → Heap → List ℕ → List ℕ → Result Reply Stop → Type 0
+ComesIn w call old new was shown (Ok reply) = Answered w call new shown reply
+ComesIn w call old new was shown (Err (stops.Refused refusal)) = IsRefused w call old new was shown refusal
+ComesIn w call old new was shown (Err stop) = ⊤
+
+-- what a call comes to in each whole world for which the heap stood
+pub record Comes (call : Call) (old new : Heap) (was shown : List ℕ) (result : Result Reply Stop) : Type 0 where
+  pub each : (w : World) → HeapStandsFor old w → IsWhole w → ComesIn w call old new was shown result
