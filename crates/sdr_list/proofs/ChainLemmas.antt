@@ -1,9 +1,9 @@
 -- One in a chain: what its block is, and the chain around it.
-use Rattle.std.proofs.Common.{◌≡◌, ℕ, List, [], ◌∷◌, ◌++◌, Option, Some, refl, sym, ap, ◌∙◌, subst, append_assoc}
+use Rattle.std.proofs.Common.{◌≡◌, ℕ, List, [], ◌∷◌, ◌++◌, Option, Some, sym, ap, ◌∙◌, subst, append_assoc}
 use Rattle.sdr_base.specs.Blocks.{Block, Blocks}
 use Rattle.sdr_base.specs.Entries.{Entries, Stands}
 use Rattle.sdr_base.specs.Linked.{first_of, last_of, linked}
-use Rattle.sdr_base.proofs.LinkedLemmas.{linked-append, first-append, last-append}
+use Rattle.sdr_base.proofs.LinkedLemmas.{linked-append}
 use Rattle.sdr_base.proofs.StandingLemmas.{found}
 
 module _ {X : Type 0} (addr : X → ℕ) (block : ℕ → ℕ → X → Block) where

@@ -1,19 +1,18 @@
 -- An element is taken out of its list, or is given another datum.
-use Rattle.std.proofs.Common.{◌≡◌, ◌≢◌, ℕ, suc, ◌+◌, ◌-◌, ◌*◌, ◌≤◌, ◌<◌, ◌^◌, List, [], ◌∷◌, ◌++◌, length, take, drop, Option, Some, None}
-use Rattle.std.proofs.Common.{refl, sym, ap, ◌∙◌, arith, subst, append_assoc, length-append}
+use Rattle.std.proofs.Common.{◌≡◌, ℕ, suc, ◌+◌, ◌-◌, ◌≤◌, ◌<◌, List, [], ◌∷◌, ◌++◌, length, take, drop}
+use Rattle.std.proofs.Common.{sym, ap, ◌∙◌, arith, subst, length-append}
 use Rattle.std.proofs.lemmas.List.{set_split}
-use Rattle.std.specs.Prelude.{set}
 use Rattle.sdr_base.specs.Blocks.{Block, Blocks, IsKind, Reaches}
-use Rattle.sdr_base.specs.Entries.{Changes, Entries, Stands}
+use Rattle.sdr_base.specs.Entries.{Entries, Stands}
 use Rattle.sdr_base.specs.Linked.{first_of, last_of}
-use Rattle.sdr_base.specs.Lists.{ListElement, ListRow, KeepsList, addr_of, element_block, elements_between, list_block, list_entries}
+use Rattle.sdr_base.specs.Lists.{ListElement, KeepsList, addr_of, elements_between, list_block, list_entries}
 use Rattle.sdr_base.specs.Making.{Made, besides}
 use Rattle.sdr_base.specs.Objects.{Heap, with_given}
-use Rattle.sdr_base.specs.Words.{HasWord, layout, with_word}
+use Rattle.sdr_base.specs.Words.{HasWord, with_word}
 use Rattle.sdr_base.specs.declared.kind.Kind.TheVariants as kinds
 use Rattle.sdr_base.specs.declared.moves.Move.TheVariants.{Gave}
 use Rattle.sdr_base.proofs.HeapLemmas.{heap_blocks}
-use Rattle.sdr_base.proofs.WritingLemmas.{block, word_set}
+use Rattle.sdr_base.proofs.WritingLemmas.{word_set}
 use Rattle.sdr_list.specs.Calls.{DeletesElement, SetsInElement}
 use Rattle.sdr_list.specs.Gaps.{Gap, IsBetween, LinksNext, LinksPrevious, Opened, Unlinks}
 use Rattle.sdr_list.specs.Kept.{IsSpot, Spot, addr_before, addr_from, with_datum, without_element}

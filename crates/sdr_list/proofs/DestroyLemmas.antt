@@ -1,15 +1,14 @@
 -- The elements of a list are given back, and then the list.
-use Rattle.std.proofs.Common.{◌≡◌, ℕ, suc, ◌+◌, ◌-◌, ◌*◌, ◌≤◌, ◌<◌, ◌^◌, List, [], ◌∷◌, ◌++◌, length, map, None, Some}
-use Rattle.std.proofs.Common.{refl, sym, ap, ◌∙◌, subst, arith, append_assoc, append-nil, length-append, Option}
+use Rattle.std.proofs.Common.{◌≡◌, ℕ, ◌+◌, ◌-◌, ◌≤◌, ◌<◌, List, [], ◌∷◌, ◌++◌, length, map, None, Some}
+use Rattle.std.proofs.Common.{sym, ap, ◌∙◌, subst, arith, append_assoc, append-nil, Option}
 use Rattle.std.specs.Prelude.{All, Ok}
 use Rattle.std.proofs.lemmas.List.{map-append}
 use Rattle.std.proofs.lemmas.List.Elements.{All-tail}
 use Rattle.sdr_base.specs.Blocks.{Block, Blocks, IsKind, Reaches}
-use Rattle.sdr_base.specs.Entries.{Changes, Entries, Stands}
+use Rattle.sdr_base.specs.Entries.{Entries, Stands}
 use Rattle.sdr_base.specs.Linked.{first_of, last_of}
 use Rattle.sdr_base.specs.Stored.{number_at}
-use Rattle.sdr_base.specs.Lists.{ElementFits, ListElement, ListRow, KeepsList, addr_of, element_block, elements_between, list_block, list_entries}
-use Rattle.sdr_base.specs.Making.{Made, besides}
+use Rattle.sdr_base.specs.Lists.{ElementFits, ListRow, KeepsList, addr_of, element_block, elements_between, list_block, list_entries}
 use Rattle.sdr_base.specs.Objects.{Heap, OnlyUnmoved, with_given}
 use Rattle.sdr_base.specs.Words.{HasWord}
 use Rattle.sdr_base.specs.Works.{Works}
@@ -26,7 +25,7 @@ use Rattle.sdr_base.proofs.LayoutLemmas.{number_at-layout}
 use Rattle.sdr_base.proofs.StandingLemmas.{found, moved_back, went}
 use Rattle.sdr_base.proofs.WritingLemmas.{reaches, word_is}
 use Rattle.sdr_list.specs.Destroying.{DestroysList, DestroyStops}
-use Rattle.sdr_list.specs.Giving.{ChainAt, GaveSome, GiveStops, Gives, GivesChain, GivesSome, Gone, Part, SomeChain, gave}
+use Rattle.sdr_list.specs.Giving.{ChainAt, GaveSome, GiveStops, Gives, GivesChain, Gone, SomeChain, gave}
 use Rattle.sdr_list.proofs.GivingLemmas.{length-addrs, one_more, part_begun, part_found, part_given, part_made, part_more, part_some, part_spare, part_stands}
 use Rattle.sdr_list.specs.Kept.{SomeList, elements_in, if_list}
 use Rattle.sdr_list.proofs.KeptLemmas.{first_fits, first_is, length_is, list_there, list_words, words}

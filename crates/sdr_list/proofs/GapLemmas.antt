@@ -1,8 +1,7 @@
 -- A list is opened at a place, changed there, and closed.
-use Rattle.std.proofs.Common.{◌≡◌, ◌≢◌, ℕ, suc, ◌+◌, ◌-◌, ◌*◌, ◌≤◌, ◌<◌, List, [], ◌∷◌, ◌++◌, length, take, drop, Option, Some, None}
+use Rattle.std.proofs.Common.{◌≡◌, ◌≢◌, ℕ, List, [], ◌∷◌, ◌++◌, length, Some}
 use Rattle.std.proofs.Common.{refl, sym, ap, ◌∙◌, arith, subst, append_assoc}
-use Rattle.std.proofs.lemmas.List.{take-append-drop}
-use Rattle.sdr_base.specs.Blocks.{Block, Blocks, Reaches, with_block}
+use Rattle.sdr_base.specs.Blocks.{Block, Blocks, Reaches}
 use Rattle.sdr_base.specs.Entries.{Entries, Stands}
 use Rattle.sdr_base.specs.Linked.{first_of, last_of, linked}
 use Rattle.sdr_base.specs.Lists.{ListElement, ListRow, addr_of, element_block, elements_between, list_block, list_entries}
@@ -24,14 +23,24 @@ row_of user elements = record { user = user; elements = elements }
 -- opened between two parts, with nothing between them
 abbrev pub shut : ℕ → List ListElement → List ListElement → Gap
 shut user xs ys = record {
-  user = user; count = length (xs ++ ys); before = xs; behind = ys;
-  next = first_of addr_of 0 ys; previous = last_of addr_of 0 xs; between = [];
+  user = user;
+  count = length (xs ++ ys);
+  before = xs;
+  behind = ys;
+  next = first_of addr_of 0 ys;
+  previous = last_of addr_of 0 xs;
+  between = [];
 }
 
 -- opened around an element
 abbrev pub filled : ℕ → ℕ → List ListElement → ListElement → List ListElement → Gap
 filled list user xs x ys = record {
-  user = user; count = length (xs ++ (x ∷ ys)); before = xs; behind = ys; next = x.addr; previous = x.addr;
+  user = user;
+  count = length (xs ++ (x ∷ ys));
+  before = xs;
+  behind = ys;
+  next = x.addr;
+  previous = x.addr;
   between = (x.addr, element_block list (last_of addr_of 0 xs) (first_of addr_of 0 ys) x) ∷ [];
 }
 

@@ -1,13 +1,13 @@
 -- A chain of any layout is given back, one after another.
-use Rattle.std.proofs.Common.{◌≡◌, ℕ, suc, ◌+◌, ◌-◌, ◌*◌, ◌≤◌, ◌<◌, Bool, List, [], ◌∷◌, ◌++◌, length, map, None, Some}
+use Rattle.std.proofs.Common.{◌≡◌, ℕ, suc, ◌+◌, ◌-◌, ◌<◌, Bool, List, [], ◌∷◌, ◌++◌, length, map, Some}
 use Rattle.std.proofs.Common.{refl, sym, ap, ◌∙◌, subst, arith, append_assoc, append-nil, length-append}
 use Rattle.std.specs.Prelude.{All}
 use Rattle.std.proofs.lemmas.List.{map-append}
 use Rattle.std.proofs.lemmas.List.Elements.{All-tail}
-use Rattle.sdr_base.specs.Blocks.{Block, Blocks, with_block}
+use Rattle.sdr_base.specs.Blocks.{Block, Blocks}
 use Rattle.sdr_base.specs.Entries.{Entries, Stands}
 use Rattle.sdr_base.specs.Linked.{first_of, linked}
-use Rattle.sdr_base.specs.Making.{Made, besides, marked_by, with_moves}
+use Rattle.sdr_base.specs.Making.{Made, besides, marked_by}
 use Rattle.sdr_base.specs.Objects.{Heap, with_given}
 use Rattle.sdr_base.specs.declared.moves.Move.{Move}
 use Rattle.sdr_base.specs.declared.moves.Move.TheVariants.{Gave}
@@ -67,7 +67,15 @@ module _ {X : Type 0} (P : X → Type 0) (addr : X → ℕ) (block : ℕ → ℕ
   pub part_begun : {old : Heap} {first : ℕ} (prev : ℕ) (xs : List X) (rest : Entries) → Stands old.blocks (linked addr block prev next xs ++ rest) →
       first ≡ first_of addr next xs → All P xs → Part P addr block next old old first 0 xs rest
   part_begun {old} prev xs rest s f h = record {
-    gone = []; left = xs; prev = prev; whole = refl; passed = refl; at_cursor = f; holds = h; stands = s; made = none_made old;
+    gone = [];
+    left = xs;
+    prev = prev;
+    whole = refl;
+    passed = refl;
+    at_cursor = f;
+    holds = h;
+    stands = s;
+    made = none_made old;
   }
 
   module _ {old now : Heap} {cursor i : ℕ} {xs : List X} {rest : Entries} (p : Part P addr block next old now cursor i xs rest) where

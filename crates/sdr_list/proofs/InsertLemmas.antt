@@ -1,21 +1,20 @@
 -- An insertion at a place, step by step.
-use Rattle.std.proofs.Common.{◌≡◌, ◌≢◌, ℕ, suc, ◌+◌, ◌-◌, ◌*◌, ◌≤◌, ◌<◌, ◌^◌, List, [], ◌∷◌, ◌++◌, length, take, drop, Option, Some, None}
-use Rattle.std.proofs.Common.{refl, sym, ap, ◌∙◌, arith, subst, append_assoc, length-append}
+use Rattle.std.proofs.Common.{◌≡◌, ℕ, ◌+◌, List, [], ◌∷◌, ◌++◌, length, take, drop}
+use Rattle.std.proofs.Common.{sym, ap, arith, subst, length-append}
 use Rattle.std.proofs.lemmas.List.{take-append-drop}
-use Rattle.sdr_base.specs.Blocks.{Block, Blocks}
+use Rattle.sdr_base.specs.Blocks.{Blocks}
 use Rattle.sdr_base.specs.Entries.{Adds, Entries, Stands}
-use Rattle.sdr_base.specs.Linked.{first_of, last_of, linked}
-use Rattle.sdr_base.specs.Lists.{ListElement, ListRow, KeepsList, addr_of, list_entries}
-use Rattle.sdr_base.specs.Making.{Made, MakesThing}
+use Rattle.sdr_base.specs.Linked.{first_of, linked}
+use Rattle.sdr_base.specs.Lists.{ListElement, ListRow, addr_of, list_entries}
+use Rattle.sdr_base.specs.Making.{MakesThing}
 use Rattle.sdr_base.specs.Objects.{Heap}
 use Rattle.sdr_base.specs.Words.{HasWord, TakesBytes, layout, with_word}
 use Rattle.sdr_base.specs.declared.kind.Kind.{Kind}
 use Rattle.sdr_base.specs.declared.kind.Kind.TheVariants as kinds
-use Rattle.sdr_base.specs.declared.moves.Move.TheVariants.{Took}
 use Rattle.sdr_base.proofs.LayoutLemmas.{length-layout}
 use Rattle.sdr_base.proofs.MakingLemmas.{taken_makes}
 use Rattle.sdr_base.proofs.WritingLemmas.{block}
-use Rattle.sdr_list.specs.Gaps.{Gap, IsPlace, LinksNext, LinksPrevious, Opened, SomePlace}
+use Rattle.sdr_list.specs.Gaps.{Gap, IsPlace, LinksNext, LinksPrevious, Opened}
 use Rattle.sdr_list.specs.Kept.{addr_before, addr_from, with_element}
 use Rattle.sdr_list.proofs.GapLemmas.{filled, filled_is, recounted, row_of, shut, shut_is, taken_between}
 use Rattle.sdr_list.proofs.KeptLemmas.{length_is, words}
@@ -39,7 +38,9 @@ pub record AtPlace (b : Blocks) (list : ℕ) (row : ListRow) (place : ℕ) (rest
 pub record Inserting (b : Blocks) (list prev next e datum : ℕ) (row : ListRow) (place link back count : ℕ) (rest : Entries) : Type 0 where
   pub opened : Opened b list (record (gap_at row place) {
     between = (e, block kinds.Element (layout (words list prev next datum) [])) ∷ [];
-    next = link; previous = back; count = count;
+    next = link;
+    previous = back;
+    count = count;
   }) rest
 
 pub at_place : {b : Blocks} {list : ℕ} (row : ListRow) (place : ℕ) (rest : Entries) → Stands b (list_entries list row ++ rest) →
@@ -97,10 +98,12 @@ closed {b} {list} {prev} {next} {e} {datum} {place} {n} {row} {rest} are p q s =
     let more_is : n + 1 ≡ length (xs ++ (x ∷ ys)) = omega (arith, are, whole, one, more) in
     let placed : Opened b list (record (filled list row.user xs x ys) { count = n + 1 }) rest =
     subst (λ k. Opened b list (record (filled list row.user xs x ys) {
-      between = (e, block kinds.Element (layout (words list k (first_of addr_of 0 ys) datum) [])) ∷ []; count = n + 1;
+      between = (e, block kinds.Element (layout (words list k (first_of addr_of 0 ys) datum) [])) ∷ [];
+      count = n + 1;
     }) rest) p
     (subst (λ k. Opened b list (record (filled list row.user xs x ys) {
-      between = (e, block kinds.Element (layout (words list prev k datum) [])) ∷ []; count = n + 1;
+      between = (e, block kinds.Element (layout (words list prev k datum) [])) ∷ [];
+      count = n + 1;
     }) rest) q s.opened) in
     subst (λ (es : Entries). Stands b es) (sym (filled_is list row.user xs x ys rest))
     (subst (λ k. Opened b list (record (filled list row.user xs x ys) { count = k }) rest) more_is placed).stands

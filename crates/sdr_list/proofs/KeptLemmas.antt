@@ -1,13 +1,13 @@
 -- What the blocks of a kept list and of its elements say.
-use Rattle.std.proofs.Common.{◌≡◌, ℕ, zero, suc, ◌+◌, ◌*◌, ◌≤◌, ◌<◌, ◌^◌, List, [], ◌∷◌, ◌++◌, length, take, drop, Option, Some, None}
-use Rattle.std.proofs.Common.{refl, sym, ap, ◌∙◌, arith, subst, get_or}
+use Rattle.std.proofs.Common.{◌≡◌, ℕ, zero, suc, ◌+◌, ◌<◌, ◌^◌, List, [], ◌∷◌, ◌++◌, length, take, drop, Some, None}
+use Rattle.std.proofs.Common.{sym, ap, ◌∙◌, arith, subst}
 use Rattle.std.specs.Prelude.{All, slice_get}
 use Rattle.std.proofs.lemmas.List.{take-append-drop}
 use Rattle.std.proofs.lemmas.List.Elements.{All-head, All-tail, All-take, All-drop}
-use Rattle.sdr_base.specs.Blocks.{Block, Blocks, Reaches, IsKind}
-use Rattle.sdr_base.specs.Entries.{Entries, Stands, Changes}
+use Rattle.sdr_base.specs.Blocks.{Blocks, Reaches, IsKind}
+use Rattle.sdr_base.specs.Entries.{Stands}
 use Rattle.sdr_base.specs.Linked.{first_of, last_of}
-use Rattle.sdr_base.specs.Lists.{ElementFits, ListElement, ListRow, KeepsList, addr_of, element_block, elements_between, list_block, list_entries}
+use Rattle.sdr_base.specs.Lists.{ElementFits, ListElement, ListRow, KeepsList, addr_of, element_block, elements_between}
 use Rattle.sdr_base.specs.Making.{besides}
 use Rattle.sdr_base.specs.Objects.{Heap}
 use Rattle.sdr_base.specs.Words.{HasWord, layout, with_word}
@@ -16,7 +16,7 @@ use Rattle.sdr_base.proofs.StandingLemmas.{found}
 use Rattle.sdr_base.proofs.HeapLemmas.{heap_blocks}
 use Rattle.sdr_base.proofs.WritingLemmas.{block, reaches, word_is, word_set}
 use Rattle.sdr_list.specs.Calls.{SetsInList}
-use Rattle.sdr_list.specs.Kept.{IsSpot, SomeList, SomeSpot, Spot, addr_before, addr_from}
+use Rattle.sdr_list.specs.Kept.{IsSpot, Spot, addr_before, addr_from}
 use Rattle.sdr_list.proofs.ChainLemmas.{linked_found}
 
 -- the words of a list's block, or of an element's

@@ -1,27 +1,32 @@
 -- What the two links at a place do.
-use Rattle.std.proofs.Common.{◌≡◌, ◌≢◌, ℕ, ◌+◌, ◌*◌, ◌≤◌, ◌<◌, List, [], ◌∷◌, ◌++◌, length, Option, Some}
-use Rattle.std.proofs.Common.{refl, sym, ap, ◌∙◌, arith, subst, append_assoc}
-use Rattle.sdr_base.specs.Blocks.{Block, Blocks, Reaches, overwritten, with_block}
+use Rattle.std.proofs.Common.{◌≡◌, ◌≢◌, ℕ, List, [], ◌∷◌, ◌++◌, Some}
+use Rattle.std.proofs.Common.{sym, ap, ◌∙◌, arith, subst, append_assoc}
+use Rattle.sdr_base.specs.Blocks.{Block}
 use Rattle.sdr_base.specs.Entries.{Entries, Stands}
 use Rattle.sdr_base.specs.Linked.{first_of, last_of, linked}
 use Rattle.sdr_base.specs.Lists.{ListElement, addr_of, element_block, elements_between, list_block}
 use Rattle.sdr_base.specs.Objects.{Heap}
-use Rattle.sdr_base.specs.Words.{layout, with_word}
+use Rattle.sdr_base.specs.Words.{with_word}
 use Rattle.sdr_base.specs.declared.kind.Kind.TheVariants as kinds
 use Rattle.sdr_base.proofs.HeapLemmas.{heap_blocks}
 use Rattle.sdr_base.proofs.LayoutLemmas.{overwrite-layout}
 use Rattle.sdr_base.proofs.LinkedLemmas.{last_nonzero, relinked_next, relinked_previous}
-use Rattle.sdr_base.proofs.StandingLemmas.{found, nonzero}
-use Rattle.sdr_base.proofs.WritingLemmas.{block, reaches, word_set}
-use Rattle.sdr_list.specs.Gaps.{Gap, LinksNext, LinksPrevious, Opened, gap_entries}
-use Rattle.sdr_list.proofs.ChainLemmas.{last_holds}
+use Rattle.sdr_base.proofs.StandingLemmas.{nonzero}
+use Rattle.sdr_base.proofs.WritingLemmas.{block, word_set}
+use Rattle.sdr_list.specs.Gaps.{LinksNext, LinksPrevious, gap_entries}
 use Rattle.sdr_list.proofs.KeptLemmas.{words}
 
 -- the opened list, and others, by the parts of the gap
 abbrev parts : ℕ → ℕ → ℕ → List ListElement → List ListElement → ℕ → ℕ → Entries → Entries → Entries
 parts list user count xs ys next previous between rest =
     gap_entries list (record {
-      user = user; count = count; before = xs; behind = ys; next = next; previous = previous; between = between;
+      user = user;
+      count = count;
+      before = xs;
+      behind = ys;
+      next = next;
+      previous = previous;
+      between = between;
     }) rest
 
 first_linked : (old new : Heap) (list user count next next' previous : ℕ) (xs ys : List ListElement) (between rest : Entries) →

@@ -1,17 +1,14 @@
 -- Whichever list is kept is walked in search of a key's place, or of an equal key.
-use Rattle.std.proofs.Common.{◌≡◌, ◌≢◌, ℕ, suc, ◌+◌, ◌*◌, ◌≤◌, ◌<◌, ◌^◌, List, [], ◌∷◌, ◌++◌, length, take, drop, Option, Some, None}
-use Rattle.std.proofs.Common.{refl, sym, ap, ◌∙◌, arith, subst, append-nil, Bool, true, false, not}
+use Rattle.std.proofs.Common.{◌≡◌, ℕ, ◌+◌, ◌<◌, ◌^◌, List, [], length}
+use Rattle.std.proofs.Common.{refl, sym, ap, ◌∙◌, arith, append-nil, true, false, not}
 use Rattle.std.specs.Ordering.{is_eq, is_gt}
 use Rattle.std.specs.declared.cmp.Ordering.{Ordering}
-use Rattle.std.proofs.lemmas.List.{take-append-drop}
-use Rattle.sdr_base.specs.Blocks.{Block, Blocks, Reaches}
-use Rattle.sdr_base.specs.Entries.{Entries, Stands}
-use Rattle.sdr_base.specs.Linked.{first_of, last_of}
-use Rattle.sdr_base.specs.Lists.{ListElement, ListRow, KeepsList, addr_of}
+use Rattle.sdr_base.specs.Blocks.{Blocks, Reaches}
+use Rattle.sdr_base.specs.Lists.{ListRow, KeepsList}
 use Rattle.sdr_base.specs.Words.{HasWord}
-use Rattle.sdr_list.specs.Kept.{IsSpot, SomeList, addr_before, addr_from}
+use Rattle.sdr_list.specs.Kept.{SomeList}
 use Rattle.sdr_list.specs.Orders.{Compares, FindsEqual, FindsPlace, sort_key}
-use Rattle.sdr_list.specs.Walks.{WalkedBack, WalkedOn, WalksBack, WalksOn}
+use Rattle.sdr_list.specs.Walks.{WalksBack, WalksOn}
 use Rattle.sdr_list.proofs.KeptLemmas.{datum_is, element_reaches, first_is, last_is, length_is, next_is, previous_is}
 use Rattle.sdr_list.proofs.WalkLemmas.{back_end, back_found, back_more, back_on, back_spot, on_end, on_found, on_more, on_on, on_spot}
 

@@ -1,13 +1,12 @@
 -- What the calls on lists come to, and when they are refused.
-use Rattle.std.specs.Prelude.{◌≡◌, ℕ, List, [], ◌∷◌, ◌++◌, map}
+use Rattle.std.specs.Prelude.{◌≡◌, ℕ, [], ◌∷◌}
 use Rattle.sdr_base.specs.Blocks.{Blocks, IsKind}
 use Rattle.sdr_base.specs.Entries.{Adds, Changes}
-use Rattle.sdr_base.specs.Lists.{ListRow, KeepsList, addr_of, list_entries}
+use Rattle.sdr_base.specs.Lists.{ListRow, KeepsList, list_entries}
 use Rattle.sdr_base.specs.Making.{Made, besides}
-use Rattle.sdr_base.specs.Objects.{AreFirstOf, Heap, Misses, OnlyFault, OnlyShort, OnlyUnmoved}
+use Rattle.sdr_base.specs.Objects.{Heap, Misses, OnlyFault, OnlyShort, OnlyUnmoved}
 use Rattle.sdr_base.specs.declared.kind.Kind.{Kind}
 use Rattle.sdr_base.specs.declared.kind.Kind.TheVariants as kinds
-use Rattle.sdr_base.specs.declared.moves.Move.{Move}
 use Rattle.sdr_base.specs.declared.moves.Move.TheVariants.{Took, Gave}
 use Rattle.sdr_base.specs.declared.refusal.Refusal.TheVariants as refusals
 use Rattle.sdr_base.specs.declared.stop.Stop.{Stop}

@@ -1,9 +1,9 @@
 -- A list that is opened at a place, and how the links there are set.
-use Rattle.std.specs.Prelude.{◌≡◌, ◌+◌, ℕ, List, [], ◌∷◌, ◌++◌, length}
+use Rattle.std.specs.Prelude.{◌≡◌, ◌+◌, ℕ, List, ◌∷◌, ◌++◌}
 use Rattle.sdr_base.specs.Blocks.{Blocks}
 use Rattle.sdr_base.specs.Entries.{Adds, Changes, Entries, Stands}
 use Rattle.sdr_base.specs.Linked.{first_of, last_of}
-use Rattle.sdr_base.specs.Lists.{ListElement, ListRow, KeepsList, addr_of, list_block, list_entries, element_block, elements_between}
+use Rattle.sdr_base.specs.Lists.{ListElement, ListRow, KeepsList, addr_of, list_block, list_entries, elements_between}
 use Rattle.sdr_list.specs.Kept.{IsSpot, Spot, addr_before, addr_from, with_element, without_element}
 
 -- an opened list: the user's number, the count, the elements on either side, what those before are followed by, what those

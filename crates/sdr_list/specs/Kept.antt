@@ -1,7 +1,7 @@
 -- Lists that are kept among blocks, and places in them.
-use Rattle.std.specs.Prelude.{◌≡◌, ◌<◌, ◌+◌, ◌*◌, ◌^◌, ℕ, ◌∷◌, [], length, map, slice_get, take, drop, insert, remove, set, Option, Some, None}
+use Rattle.std.specs.Prelude.{◌≡◌, ◌<◌, ◌^◌, ℕ, slice_get, take, drop, insert, remove, set, Option, Some, None}
 use Rattle.sdr_base.specs.Blocks.{Block, Blocks, IsKind}
-use Rattle.sdr_base.specs.Lists.{ListElement, ListRow, KeepsList, addr_of}
+use Rattle.sdr_base.specs.Lists.{ListRow, KeepsList, addr_of}
 use Rattle.sdr_base.specs.Linked.{first_of, last_of}
 use Rattle.sdr_base.specs.Stored.{number_at}
 use Rattle.sdr_base.specs.declared.kind.Kind.{Kind}

@@ -1,5 +1,5 @@
 -- The orders of keys that lists are kept by.
-use Rattle.std.specs.Prelude.{◌≡◌, ◌≤◌, ℕ, List, [], ◌∷◌, length, take, drop, Option, Some, None, Bool, true, false, not, ◌+◌, ◌==◌, ◌&&◌, if◌then◌else◌, find}
+use Rattle.std.specs.Prelude.{◌≡◌, ◌≤◌, ℕ, List, [], ◌∷◌, length, take, drop, Option, Some, None, Bool, not, ◌+◌, ◌==◌, ◌&&◌, if◌then◌else◌, find}
 use Rattle.std.specs.Ordering.{ordering_reverse, is_eq, is_gt}
 use Rattle.std.specs.declared.cmp.Ordering.{Ordering}
 use Rattle.std.specs.declared.cmp.Ordering.TheVariants.{Less, Equal}

@@ -21,13 +21,19 @@ fn key_length<O: Objects>(o: &mut O, datum: u64) -> Result<usize, Stop>
     ensures looks { Looks O.HasHeap o.old o.new result }
 {
     Ok(match o.kind(datum)? {
-        Some((Kind::Raw, bytes)) => bytes.saturating_sub(raw::BYTES).min(LONGEST_KEY as u64) as usize,
+        Some((Kind::Raw, bytes)) => bytes
+            .saturating_sub(raw::BYTES)
+            .min(LONGEST_KEY as u64) as usize,
         _ => 0,
     })
 }
 
 // Puts the key of a datum into the first bytes of a buffer, and answers how many they are.
-pub fn read_key<O: Objects>(o: &mut O, datum: u64, into: &mut [u8; LONGEST_KEY]) -> Result<usize, Stop>
+pub fn read_key<O: Objects>(
+    o: &mut O,
+    datum: u64,
+    into: &mut [u8; LONGEST_KEY],
+) -> Result<usize, Stop>
     requires kept { KeepsSome (O.keeps o.old) }
     ensures given { IfOk result
         (λ count. ReadsKey ((O.heap o.old).blocks datum) count into.new) }

@@ -1,7 +1,6 @@
 -- The elements go, and then the list.
-use Rattle.std.proofs.Common.{arith, rules, ◌+◌, ◌*◌}
+use Rattle.std.proofs.Common.{arith, rules}
 use Rattle.std.proofs.lemmas.Result.{IfErr-weaker, on_ok_weaker}
-use Rattle.sdr_base.proofs.WorksLemmas.{looks_then, looks_works, works_more, works_then}
 use Rattle.sdr_base.proofs.WritingLemmas.{reaches_less}
 use Rattle.sdr_list.specs.Destroying.{DestroyStops}
 use Rattle.sdr_list.proofs.DestroyLemmas.{destroys, elements_is, list_left, some_chain, spare_one, stopped_after, stopped_within}

@@ -1,6 +1,5 @@
 -- The elements go one by one.
-use Rattle.std.proofs.Common.{ℕ, arith, rules}
-use Rattle.std.specs.Prelude.{Ok}
+use Rattle.std.proofs.Common.{arith, rules}
 use Rattle.sdr_base.proofs.WorksLemmas.{looks_works, works_more, works_then}
 use Rattle.sdr_list.specs.Giving.{GiveStops}
 use Rattle.sdr_list.proofs.DestroyLemmas.{cursor_reaches, ended, onward, spare_left, start, stopped, works_ok}

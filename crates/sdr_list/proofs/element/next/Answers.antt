@@ -3,7 +3,7 @@ use Rattle.std.proofs.Common.{◌+◌, arith}
 use Rattle.std.proofs.lemmas.Result.{IfOk-weaker}
 use Rattle.sdr_base.proofs.WritingLemmas.{reaches_less}
 use Rattle.sdr_list.specs.Calls.{TellsOfElement}
-use Rattle.sdr_list.specs.Kept.{addr_before, addr_from}
+use Rattle.sdr_list.specs.Kept.{addr_from}
 use Rattle.sdr_list.proofs.KeptLemmas.{element_reaches, next_is}
 use Rattle.sdr_list.proofs.element.next.Goals as goal
 

@@ -1,9 +1,9 @@
 -- The word of the element's block says it.
-use Rattle.std.proofs.Common.{◌+◌, arith}
+use Rattle.std.proofs.Common.{arith}
 use Rattle.std.proofs.lemmas.Result.{IfOk-weaker}
 use Rattle.sdr_base.proofs.WritingLemmas.{reaches_less}
 use Rattle.sdr_list.specs.Calls.{TellsOfElement}
-use Rattle.sdr_list.specs.Kept.{addr_before, addr_from}
+use Rattle.sdr_list.specs.Kept.{addr_before}
 use Rattle.sdr_list.proofs.KeptLemmas.{element_reaches, previous_is}
 use Rattle.sdr_list.proofs.element.prev.Goals as goal
 

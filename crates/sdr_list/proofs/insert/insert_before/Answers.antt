@@ -1,5 +1,5 @@
 -- The place is that of the element.
-use Rattle.std.proofs.Common.{◌+◌, arith, length}
+use Rattle.std.proofs.Common.{arith}
 use Rattle.sdr_base.proofs.HeapLemmas.{ok_both}
 use Rattle.sdr_base.proofs.WritingLemmas.{reaches_less}
 use Rattle.sdr_list.specs.Calls.{InsertsBeside}

@@ -1,5 +1,5 @@
 -- Each step has its place, and together they are the insertion.
-use Rattle.std.proofs.Common.{[], ◌∷◌, arith, rules, refl, ap, ◌∙◌}
+use Rattle.std.proofs.Common.{arith, rules, refl, ap, ◌∙◌}
 use Rattle.sdr_base.specs.Making.{besides}
 use Rattle.sdr_base.specs.Objects.{OnlyShort}
 use Rattle.sdr_base.proofs.HeapLemmas.{short_after}

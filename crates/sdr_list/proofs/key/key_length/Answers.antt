@@ -1,5 +1,5 @@
 -- A raw object's key is as long as its bytes, up to the most.
-use Rattle.std.proofs.Common.{◌∙◌, ap, arith, subst, sym, Some}
+use Rattle.std.proofs.Common.{◌∙◌, ap, sym, Some}
 use Rattle.std.specs.Prelude.{min}
 use Rattle.sdr_base.specs.declared.kind.Kind.{Kind}
 use Rattle.sdr_list.proofs.KeyLemmas.{length-key}

@@ -1,5 +1,5 @@
 -- The block is a list without elements.
-use Rattle.std.proofs.Common.{[], ◌∷◌}
+use Rattle.std.proofs.Common.{[]}
 use Rattle.std.proofs.lemmas.Result.{IfOk-weaker}
 use Rattle.sdr_base.specs.Lists.{list_entries}
 use Rattle.sdr_base.specs.Making.{MakesThing}

@@ -1,8 +1,6 @@
 -- The word of the list's block says it.
 use Rattle.std.proofs.Common.{arith, length}
 use Rattle.std.proofs.lemmas.Result.{IfOk-weaker}
-use Rattle.sdr_base.specs.Linked.{first_of, last_of}
-use Rattle.sdr_base.specs.Lists.{addr_of}
 use Rattle.sdr_base.proofs.WritingLemmas.{reaches_less}
 use Rattle.sdr_list.specs.Calls.{TellsOfList}
 use Rattle.sdr_list.proofs.KeptLemmas.{list_reaches, length_is}

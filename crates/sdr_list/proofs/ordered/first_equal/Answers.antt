@@ -1,6 +1,5 @@
 -- The list is walked from its front on.
-use Rattle.std.proofs.Common.{ℕ, arith, rules, sym, ◌∙◌}
-use Rattle.std.specs.Prelude.{Ok}
+use Rattle.std.proofs.Common.{arith, sym, ◌∙◌}
 use Rattle.sdr_base.proofs.WritingLemmas.{reaches_less}
 use Rattle.sdr_list.proofs.KeptLemmas.{list_reaches}
 use Rattle.sdr_list.proofs.OrderedLemmas.{on_equal, on_next, on_none, on_reaches, on_start}

@@ -1,7 +1,6 @@
 -- So many elements were seen, and nothing was written.
 use Rattle.std.proofs.Common.{ℕ}
 use Rattle.std.specs.Prelude.{Ok}
-use Rattle.sdr_base.specs.Words.{HasWord}
 use Rattle.sdr_base.specs.Works.{Looks}
 use Rattle.sdr_list.specs.Walks.{WalksOn}
 use Rattle.sdr_list.proofs.ordered.first_equal.Given as goal

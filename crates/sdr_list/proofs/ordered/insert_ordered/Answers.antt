@@ -1,5 +1,4 @@
 -- The place is where the walk ended.
-use Rattle.std.proofs.Common.{ℕ, List, take, arith}
 use Rattle.sdr_base.proofs.HeapLemmas.{ok_both}
 use Rattle.sdr_list.specs.Calls.{InsertsInList}
 use Rattle.sdr_list.specs.Orders.{FindsPlace, ordered_place, sort_key}

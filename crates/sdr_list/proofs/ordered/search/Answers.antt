@@ -1,5 +1,4 @@
 -- The element is where the walk ended.
-use Rattle.std.proofs.Common.{ℕ, List, take, arith}
 use Rattle.std.proofs.lemmas.Result.{IfOk-weaker}
 use Rattle.sdr_list.specs.Calls.{TellsOfList}
 use Rattle.sdr_list.specs.Orders.{FindsEqual, equal_addr, sort_key}
