@@ -24,7 +24,7 @@ use Rattle.sdr_model.specs.Reading.{is_reading, reads_media}
 use Rattle.sdr_model.specs.Rows.{ByRow}
 use Rattle.sdr_model.specs.Step.{Step, Stops, StopsWith}
 use Rattle.sdr_model.specs.Steps.{Outcome, Refuses}
-use Rattle.sdr_model.specs.Wire.{GivesOf, Told as Wire, headers_part, source_part, trailers_part, wire_part}
+use Rattle.sdr_model.specs.Wire.{GivesOf, ToldBytes as Wire, headers_part, source_part, trailers_part, wire_part}
 use Rattle.sdr_model.specs.World.{World}
 use Rattle.sdr_model.specs.Zco.{object_at}
 use Rattle.sdr_model.specs.declared.answer.Answer.{Answer}

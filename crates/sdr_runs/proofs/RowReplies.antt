@@ -22,11 +22,7 @@ use Rattle.sdr_model.specs.Step.{Step, Stops, StopsWith}
 use Rattle.sdr_model.specs.Steps.{DoesWith, Outcome, On, Refuses, Takes, TakesOne, with_thing}
 use Rattle.sdr_model.specs.World.{World, as_raw, as_text, block_at, is_marked, misnamed, refusal_for, spot_of, thing_at}
 use Rattle.sdr_model.specs.Amounts.{amounts_by, first_above, in_space, minus}
-<<<<<<< HEAD
-use Rattle.sdr_model.specs.Charging.{Charges, OnTicket, grant_left, no_space, with_used}
-=======
-use Rattle.sdr_model.specs.Charging.{Charges, RefusesSpace, grant_left, with_used}
->>>>>>> 474accb294742abf5629e30f9c281d2a6b985595
+use Rattle.sdr_model.specs.Charging.{Charges, grant_left, no_space, with_used}
 use Rattle.sdr_model.specs.HashSteps as hash
 use Rattle.sdr_model.specs.ListSteps as list
 use Rattle.sdr_model.specs.NameSteps.{OnName}
