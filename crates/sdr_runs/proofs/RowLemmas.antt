@@ -119,7 +119,7 @@ doomed_row =
       after = record { number = 1; nesting = modified_at 1; state = bare one_name };
       transacts = record {
         done = record { reply = replies.Done; moves = Took 56 8 ∷ []; after = bare one_name };
-        steps = record { step = inl (record { step = (refl, (refl, refl)); in_order = (refl, tt); counted = refl }); base = refl; demand = refl };
+        steps = record { step = inl (record { step = (refl, (refl, refl)); in_order = (refl, tt); counted = refl }); media = tt; base = refl; demand = refl };
         answer = refl;
         moves = refl;
         bytes = refl;
@@ -132,7 +132,7 @@ doomed_row =
       after = record { number = 1; nesting = modified_at 2; state = bare two_names };
       transacts = record {
         done = record { reply = replies.Done; moves = Took 56 16 ∷ []; after = bare two_names };
-        steps = record { step = inl (record { step = (refl, (refl, refl)); in_order = (refl, tt); counted = refl }); base = refl; demand = refl };
+        steps = record { step = inl (record { step = (refl, (refl, refl)); in_order = (refl, tt); counted = refl }); media = tt; base = refl; demand = refl };
         answer = refl;
         moves = refl;
         bytes = refl;
@@ -153,7 +153,7 @@ doomed_row =
       after = record { number = 2; nesting = nested 1; state = bare no_names };
       transacts = record {
         done = record { reply = replies.Refused refusals.NotFound; moves = []; after = bare no_names };
-        steps = record { step = inl (record { step = (refl, refl, refl); in_order = tt; counted = refl }); base = refl; demand = refl };
+        steps = record { step = inl (record { step = (refl, refl, refl); in_order = tt; counted = refl }); media = tt; base = refl; demand = refl };
         answer = refl;
         moves = refl;
         bytes = refl;
@@ -194,7 +194,7 @@ suspended_row =
       after = record { number = 2; nesting = nested 1; state = bare empty_world };
       transacts = record {
         done = record { reply = replies.Refused refusals.NotFound; moves = []; after = bare empty_world };
-        steps = record { step = inl (record { step = (refl, refl, refl); in_order = tt; counted = refl }); base = refl; demand = refl };
+        steps = record { step = inl (record { step = (refl, refl, refl); in_order = tt; counted = refl }); media = tt; base = refl; demand = refl };
         answer = refl;
         moves = refl;
         bytes = refl;
@@ -267,6 +267,7 @@ faulted_row begun done =
           base = refl;
           fit = (string_taken.pools, refl, refl);
           full = tt;
+          media = tt;
           demand = refl;
         };
         answer = refl;
