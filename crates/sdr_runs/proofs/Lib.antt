@@ -1,7 +1,9 @@
 pub mod CaseLemmas
+pub mod ChoiceLemmas
 pub mod ClosingLemmas
 pub mod CoreLemmas
 pub mod CurrentLemmas
+pub mod DecideLemmas
 pub mod DeepLemmas
 pub mod FrameLemmas
 pub mod JournalLemmas
