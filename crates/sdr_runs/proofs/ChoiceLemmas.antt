@@ -1,7 +1,6 @@
 -- A core run is decided, chance aside.
-use Rattle.std.proofs.Common.{◌≡◌, ◌⊎◌, ◌∙◌, ◌||◌, ℕ, List, [], ◌∷◌, Bool, true, Option, None, refl, sym, ap, subst}
+use Rattle.std.proofs.Common.{◌≡◌, ◌∙◌, ℕ, List, [], ◌∷◌, Option, refl, sym, ap, subst}
 use Rattle.sdr_base.specs.Media.{Told}
-use Rattle.sdr_base.specs.declared.moves.Move.{Move}
 use Rattle.sdr_lock.specs.Agreeing.{AgreesWith}
 use Rattle.sdr_lock.specs.Core.{Core, CoreStep, RunsCore, core_after, first_core}
 use Rattle.sdr_lock.specs.Ground.{Ground, HasHeap, NoHeap, OnHeap, Replied, State, StepsOn}
@@ -10,9 +9,8 @@ use Rattle.sdr_lock.specs.Transaction.{left_by}
 use Rattle.sdr_lock.proofs.StepLemmas.{Kind, step_is}
 use Rattle.sdr_model.specs.declared.answer.Close.{Close}
 use Rattle.sdr_model.specs.declared.answer.Close.TheVariants as closes
-use Rattle.sdr_model.specs.declared.answer.Answer.{Answer}
 use Rattle.sdr_model.specs.declared.call.Call.{Call}
-use Rattle.sdr_runs.specs.Choosing.{AreAlike, RunAlike, is_chance}
+use Rattle.sdr_runs.specs.Choosing.{AreAlike, RunAlike}
 use Rattle.sdr_runs.proofs.DecideLemmas.{SameStep, answered_so, step_same}
 
 -- where there is a heap, there was one first
@@ -56,9 +54,11 @@ step_stands base m e m' stands step = by (step_is m e m' step).kind
 -- one step of two runs
 core_steps_same : (told : Option Told) (base : Ground) (c : Core) (e e' : Made) (c1 c2 : Core) → StandsOn base c.machine → AreAlike told base e e' → CoreStep told c e c1 → CoreStep told c e' c2
     → (e' ≡ e) × (c2 ≡ c1) × StandsOn base c1.machine
-core_steps_same told base c e e' c1 c2 stands alike one two =
-    (again, two.history ∙ (λ i. core_after c (again i) (same.machine i)) ∙ sym one.history,
-    subst (λ (x : Core). StandsOn base x.machine) (sym one.history) (step_stands base c.machine e one.next stands one.step))
+core_steps_same told base c e e' c1 c2 stands alike one two = (
+  again,
+  two.history ∙ (λ i. core_after c (again i) (same.machine i)) ∙ sym one.history,
+  subst (λ (x : Core). StandsOn base x.machine) (sym one.history) (step_stands base c.machine e one.next stands one.step),
+)
   where
     -- the other event is this one, answered in another way
     is_so : e' ≡ answered_so e e'.said.answer e'.said.bytes e'.said.moves

@@ -1,12 +1,10 @@
 -- A step of the machine is decided, chance aside.
-use Rattle.std.proofs.Common.{◌≡◌, ◌⊎◌, ◌∙◌, ◌==◌, ◌&&◌, ◌||◌, ◌+◌, ℕ, List, [], Bool, true, false, Option, None, Some, MatchBool, MatchOption, refl, sym, ap, subst, inl, inr}
+use Rattle.std.proofs.Common.{◌≡◌, ◌⊎◌, ◌∙◌, ◌==◌, ◌&&◌, ◌||◌, ℕ, List, Bool, true, false, Option, None, Some, MatchBool, MatchOption, refl, sym, ap, subst, inl, inr}
 use Rattle.sdr_base.specs.Media.{Told}
 use Rattle.sdr_base.specs.declared.moves.Move.{Move}
-use Rattle.sdr_base.specs.declared.refusal.Reason.{Reason}
-use Rattle.sdr_base.specs.declared.refusal.Refusal.TheVariants as refusals
 use Rattle.sdr_lock.specs.Agreeing.{AgreesWith}
 use Rattle.sdr_lock.specs.Core.{closed_by}
-use Rattle.sdr_lock.specs.Ground.{HasHeap, Steps, State}
+use Rattle.sdr_lock.specs.Ground.{HasHeap}
 use Rattle.sdr_lock.specs.Machine.{Machine, Made, MachineStep, Answers, Closes, Comes, Enters, Faults, FaultsWithin, Goes, Holds, Looks, LooksAt, Proceeds, Serves, Works, is_outside, roll_closed, with_transaction}
 use Rattle.sdr_lock.specs.Nesting.{noted}
 use Rattle.sdr_lock.specs.Roll.{Roll, daemon_of, is_stalled, served_number, waits_for, with_drawn}
@@ -21,8 +19,6 @@ use Rattle.sdr_model.specs.declared.answer.Reply.TheVariants as replies
 use Rattle.sdr_model.specs.declared.call.Call.{Call}
 use Rattle.sdr_model.specs.declared.event.Event.{Event}
 use Rattle.sdr_model.specs.declared.event.Event.TheVariants as events
-use Rattle.sdr_model.specs.declared.event.Leave.{Leave}
-use Rattle.sdr_model.specs.declared.journal.Said.{Said}
 use Rattle.sdr_runs.specs.Choosing.{is_chance}
 use Rattle.sdr_runs.proofs.OutcomeLemmas.{either_first, either_second, steps_same}
 use Rattle.sdr_runs.proofs.TransactLemmas.{transacts_within}
@@ -155,10 +151,10 @@ module _ (told : Option Told) (m : Machine) (e : Made) (answer : Answer) (bytes 
       → SameTransaction e answer bytes moves t1 t2
   replies_same h call t1 t2 is one two =
       let same : two.done ≡ one.done =
-          steps_same told m.now.base m.now call one.done two.done e.said.answer answer e.said.bytes bytes one.steps two.steps
-          (record { answer_is = one.answer; bytes_are = one.bytes; media = subst (λ ev. AgreesWith told m.now.world ev e.said.answer e.said.bytes) is media })
-          (record { answer_is = two.answer; bytes_are = two.bytes; media = subst (λ ev. AgreesWith told m.now.world ev answer bytes) is others })
-          blind chance (λ on. sym two.moves ∙ heap on ∙ one.moves) in
+      steps_same told m.now.base m.now call one.done two.done e.said.answer answer e.said.bytes bytes one.steps two.steps
+      (record { answer_is = one.answer; bytes_are = one.bytes; media = subst (λ ev. AgreesWith told m.now.world ev e.said.answer e.said.bytes) is media })
+      (record { answer_is = two.answer; bytes_are = two.bytes; media = subst (λ ev. AgreesWith told m.now.world ev answer bytes) is others })
+      blind chance (λ on. sym two.moves ∙ heap on ∙ one.moves) in
       let answer_same : answer ≡ e.said.answer = two.answer ∙ ap (λ o. answers.Reply o.reply) same ∙ sym one.answer in
       record {
         answer_is = answer_same;

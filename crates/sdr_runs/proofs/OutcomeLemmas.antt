@@ -12,9 +12,9 @@ use Rattle.sdr_laws.proofs.DecidedLemmas.{dry_decides, dry_decides_but_bytes, ro
 use Rattle.sdr_laws.proofs.StepLemmas.{row_is_no_stop}
 use Rattle.sdr_laws.specs.Refused.{is_stop}
 use Rattle.sdr_laws.specs.TakesAt.{TakesAt}
-use Rattle.sdr_lock.specs.Agreeing.{AgreesReading, AgreesWith}
+use Rattle.sdr_lock.specs.Agreeing.{AgreesWith}
 use Rattle.sdr_lock.specs.Demand.{demand_after}
-use Rattle.sdr_lock.specs.Ground.{Ground, HasHeap, NoHeap, OnHeap, Replied, State, StepsBare, StepsHeap, StepsOn}
+use Rattle.sdr_lock.specs.Ground.{Ground, HasHeap, NoHeap, OnHeap, Replied, State, StepsOn}
 use Rattle.sdr_lock.specs.Transaction.{bytes_given}
 use Rattle.sdr_lock.proofs.StepLemmas.{from_option, from_test}
 use Rattle.sdr_model.specs.Dry.{StepsDry, StopsReading}
@@ -241,9 +241,9 @@ module _ (told : Option Told) (w : World) (call : Call) (o o' : Outcome) (answer
       by true e =
           let same = dry_decides_but_bytes w o.after o'.after call o.moves o'.moves o.reply o'.reply dry other in
           let shown : o'.after.shown ≡ o.after.shown =
-              rows_shown e same.2
-              (uncounted w o w.taken (media_row w (record { moves = o.moves; after = record o.after { taken = w.taken }; reply = o.reply }) call e dry.step))
-              (uncounted w o' w.taken (media_row w (record { moves = o'.moves; after = record o'.after { taken = w.taken }; reply = o'.reply }) call e other.step)) in
+          rows_shown e same.2
+          (uncounted w o w.taken (media_row w (record { moves = o.moves; after = record o.after { taken = w.taken }; reply = o.reply }) call e dry.step))
+          (uncounted w o' w.taken (media_row w (record { moves = o'.moves; after = record o'.after { taken = w.taken }; reply = o'.reply }) call e other.step)) in
           λ i. record { moves = sym same.0 i; after = (sym (same.1 ∙ (λ j. record o'.after { shown = sym shown j }))) i; reply = sym same.2 i }
 
 -- two ways in which a call was answered on a ground
@@ -252,8 +252,8 @@ pub steps_same : (told : Option Told) (g : Ground) (s : State) (call : Call) (o 
     → (told ≡ None → bytes' ≡ bytes) → ((is_chance answer || is_chance answer') ≡ true → answer' ≡ answer) → (HasHeap g → o'.moves ≡ o.moves) → o' ≡ o
 steps_same told NoHeap s call o o' answer answer' bytes bytes' steps others one two blind chance moves =
     let same =
-        bare_same told s.world call (record { moves = o.moves; after = o.after.world; reply = o.reply }) (record { moves = o'.moves; after = o'.after.world; reply = o'.reply })
-        answer answer' bytes bytes' one two blind chance steps.step others.step in
+    bare_same told s.world call (record { moves = o.moves; after = o.after.world; reply = o.reply }) (record { moves = o'.moves; after = o'.after.world; reply = o'.reply })
+    answer answer' bytes bytes' one two blind chance steps.step others.step in
     λ i. record {
       reply = (same i).reply;
       moves = (same i).moves;
@@ -261,8 +261,8 @@ steps_same told NoHeap s call o o' answer answer' bytes bytes' steps others one 
     }
 steps_same told (OnHeap room P) s call o o' answer answer' bytes bytes' steps others one two blind chance moves =
     let same =
-        moved_same told s.world call (record { moves = o.moves; after = o.after.world; reply = o.reply }) (record { moves = o'.moves; after = o'.after.world; reply = o'.reply })
-        answer answer' bytes bytes' one two blind chance steps.step others.step (moves tt) in
+    moved_same told s.world call (record { moves = o.moves; after = o.after.world; reply = o.reply }) (record { moves = o'.moves; after = o'.after.world; reply = o'.reply })
+    answer answer' bytes bytes' one two blind chance steps.step others.step (moves tt) in
     let pools : others.pools ≡ steps.pools = pools_same P o.moves steps.pools others.pools steps.fit (subst (λ ms. MovesPools P ms others.pools) (moves tt) others.fit) in
     λ i. record {
       reply = (same i).reply;

@@ -1,8 +1,8 @@
 -- Small runs, step by step.
-use Rattle.std.proofs.Common.{◌≡◌, ◌∙◌, ℕ, List, [], ◌∷◌, ◌++◌, Option, None, Some, refl, inl, inr, false, true}
+use Rattle.std.proofs.Common.{◌≡◌, ℕ, List, [], ◌∷◌, Option, None, Some, refl, inl, inr, false, true}
 use Rattle.sdr_base.specs.declared.moves.Move.TheVariants.{Took}
 use Rattle.sdr_base.specs.declared.refusal.Reason.TheVariants as reasons
-use Rattle.sdr_lock.specs.Core.{Core, CoreStep, RunsCore, core_after, first_core}
+use Rattle.sdr_lock.specs.Core.{Core, RunsCore, core_after, first_core}
 use Rattle.sdr_lock.specs.Ground.{OnHeap, State}
 use Rattle.sdr_lock.specs.Machine.{Machine, Made, MachineStep}
 use Rattle.sdr_lock.specs.Nesting.{nested}
@@ -113,61 +113,80 @@ plain = record { answer = refl; moves = refl; bytes = refl }
 
 pub doomed_row : LeavesJournal (1 ∷ []) (bare empty_world) doomed_made doomed_journal
 doomed_row =
-    steps_leave (1 ∷ []) (bare empty_world) doomed_made doomed_machines doomed_journal
-    (record { told = plain; after = refl },
-    (inl (record {
-      after = record { number = 1; nesting = modified_at 1; state = bare one_name };
-      transacts = record {
-        done = record { reply = replies.Done; moves = Took 56 8 ∷ []; after = bare one_name };
-        steps = record { step = inl (record { step = (refl, (refl, refl)); in_order = (refl, tt); counted = refl }); base = refl; demand = refl };
-        answer = refl;
-        moves = refl;
-        bytes = refl;
-        after = refl;
-      };
-      others = refl;
-    }),
-    (inl (record { after = record { number = 1; nesting = modified_at 2; state = bare one_name }; transacts = record { told = plain; after = refl }; others = refl }),
-    (inl (record {
-      after = record { number = 1; nesting = modified_at 2; state = bare two_names };
-      transacts = record {
-        done = record { reply = replies.Done; moves = Took 56 16 ∷ []; after = bare two_names };
-        steps = record { step = inl (record { step = (refl, (refl, refl)); in_order = (refl, tt); counted = refl }); base = refl; demand = refl };
-        answer = refl;
-        moves = refl;
-        bytes = refl;
-        after = refl;
-      };
-      others = refl;
-    }),
-    (inl (record { after = record { number = 1; nesting = doomed_at 1; state = bare two_names }; transacts = record { told = plain; after = refl }; others = refl }),
-    (inl (record { after = record { number = 1; nesting = doomed_at 1; state = bare two_names }; transacts = record { told = plain; after = refl }; others = refl }),
-    (inl (record {
-      close = closes.Cancelled reasons.Inner;
-      left = bare no_names;
-      closes = record { how = refl; told = plain; left = refl };
-      after = refl;
-    }),
-    (record { told = plain; after = refl },
-    (inl (record {
-      after = record { number = 2; nesting = nested 1; state = bare no_names };
-      transacts = record {
-        done = record { reply = replies.Refused refusals.NotFound; moves = []; after = bare no_names };
-        steps = record { step = inl (record { step = (refl, refl, refl); in_order = tt; counted = refl }); base = refl; demand = refl };
-        answer = refl;
-        moves = refl;
-        bytes = refl;
-        after = refl;
-      };
-      others = refl;
-    }),
-    (inl (record {
-      close = closes.Exited;
-      left = bare no_names;
-      closes = record { how = refl; told = plain; left = refl };
-      after = refl;
-    }),
-    tt)))))))))) refl
+    steps_leave (1 ∷ []) (bare empty_world) doomed_made doomed_machines doomed_journal (
+      record { told = plain; after = refl },
+      (
+        inl (record {
+          after = record { number = 1; nesting = modified_at 1; state = bare one_name };
+          transacts = record {
+            done = record { reply = replies.Done; moves = Took 56 8 ∷ []; after = bare one_name };
+            steps = record { step = inl (record { step = (refl, (refl, refl)); in_order = (refl, tt); counted = refl }); base = refl; demand = refl };
+            answer = refl;
+            moves = refl;
+            bytes = refl;
+            after = refl;
+          };
+          others = refl;
+        }),
+        (
+          inl (record { after = record { number = 1; nesting = modified_at 2; state = bare one_name }; transacts = record { told = plain; after = refl }; others = refl }),
+          (
+            inl (record {
+              after = record { number = 1; nesting = modified_at 2; state = bare two_names };
+              transacts = record {
+                done = record { reply = replies.Done; moves = Took 56 16 ∷ []; after = bare two_names };
+                steps = record { step = inl (record { step = (refl, (refl, refl)); in_order = (refl, tt); counted = refl }); base = refl; demand = refl };
+                answer = refl;
+                moves = refl;
+                bytes = refl;
+                after = refl;
+              };
+              others = refl;
+            }),
+            (
+              inl (record { after = record { number = 1; nesting = doomed_at 1; state = bare two_names }; transacts = record { told = plain; after = refl }; others = refl }),
+              (
+                inl (record { after = record { number = 1; nesting = doomed_at 1; state = bare two_names }; transacts = record { told = plain; after = refl }; others = refl }),
+                (
+                  inl (record {
+                    close = closes.Cancelled reasons.Inner;
+                    left = bare no_names;
+                    closes = record { how = refl; told = plain; left = refl };
+                    after = refl;
+                  }),
+                  (
+                    record { told = plain; after = refl },
+                    (
+                      inl (record {
+                        after = record { number = 2; nesting = nested 1; state = bare no_names };
+                        transacts = record {
+                          done = record { reply = replies.Refused refusals.NotFound; moves = []; after = bare no_names };
+                          steps = record { step = inl (record { step = (refl, refl, refl); in_order = tt; counted = refl }); base = refl; demand = refl };
+                          answer = refl;
+                          moves = refl;
+                          bytes = refl;
+                          after = refl;
+                        };
+                        others = refl;
+                      }),
+                      (
+                        inl (record {
+                          close = closes.Exited;
+                          left = bare no_names;
+                          closes = record { how = refl; told = plain; left = refl };
+                          after = refl;
+                        }),
+                        tt,
+                      ),
+                    ),
+                  ),
+                ),
+              ),
+            ),
+          ),
+        ),
+      ),
+    ) refl
 
 -- the machines of the row of a second daemon
 abbrev both : Option Holding → Option Holding → ℕ → Machine
@@ -185,25 +204,36 @@ suspended_machines =
 
 pub suspended_row : LeavesJournal (1 ∷ 2 ∷ []) (bare empty_world) suspended_made suspended_journal
 suspended_row =
-    steps_leave (1 ∷ 2 ∷ []) (bare empty_world) suspended_made suspended_machines suspended_journal
-    (record { told = plain; after = refl },
-    (record { told = plain; after = refl },
-    (record { told = plain; after = refl },
-    (inl (record { close = closes.Ended; left = bare empty_world; closes = record { how = refl; told = plain; left = refl }; after = refl }),
-    (inl (record {
-      after = record { number = 2; nesting = nested 1; state = bare empty_world };
-      transacts = record {
-        done = record { reply = replies.Refused refusals.NotFound; moves = []; after = bare empty_world };
-        steps = record { step = inl (record { step = (refl, refl, refl); in_order = tt; counted = refl }); base = refl; demand = refl };
-        answer = refl;
-        moves = refl;
-        bytes = refl;
-        after = refl;
-      };
-      others = refl;
-    }),
-    (inl (record { close = closes.Exited; left = bare empty_world; closes = record { how = refl; told = plain; left = refl }; after = refl }),
-    tt)))))) refl
+    steps_leave (1 ∷ 2 ∷ []) (bare empty_world) suspended_made suspended_machines suspended_journal (
+      record { told = plain; after = refl },
+      (
+        record { told = plain; after = refl },
+        (
+          record { told = plain; after = refl },
+          (
+            inl (record { close = closes.Ended; left = bare empty_world; closes = record { how = refl; told = plain; left = refl }; after = refl }),
+            (
+              inl (record {
+                after = record { number = 2; nesting = nested 1; state = bare empty_world };
+                transacts = record {
+                  done = record { reply = replies.Refused refusals.NotFound; moves = []; after = bare empty_world };
+                  steps = record { step = inl (record { step = (refl, refl, refl); in_order = tt; counted = refl }); base = refl; demand = refl };
+                  answer = refl;
+                  moves = refl;
+                  bytes = refl;
+                  after = refl;
+                };
+                others = refl;
+              }),
+              (
+                inl (record { close = closes.Exited; left = bare empty_world; closes = record { how = refl; told = plain; left = refl }; after = refl }),
+                tt,
+              ),
+            ),
+          ),
+        ),
+      ),
+    ) refl
 
 -- the machines of the row in which all have stalled
 abbrev waiting_both : Option ℕ → Option ℕ → ℕ → Machine
@@ -223,14 +253,25 @@ stalled_machines =
 
 pub stalled_row : LeavesJournal (1 ∷ 2 ∷ []) (bare crowded_world) stalled_made stalled_journal
 stalled_row =
-    steps_leave (1 ∷ 2 ∷ []) (bare crowded_world) stalled_made stalled_machines stalled_journal
-    (inl (record { told = plain; after = refl }),
-    (inl (record { told = plain; after = refl }),
-    (inl (record { told = plain; after = refl }),
-    (inl (record { told = plain; after = refl }),
-    (inl (record { told = plain; after = refl }),
-    (inl (record { told = plain; after = refl }),
-    tt)))))) refl
+    steps_leave (1 ∷ 2 ∷ []) (bare crowded_world) stalled_made stalled_machines stalled_journal (
+      inl (record { told = plain; after = refl }),
+      (
+        inl (record { told = plain; after = refl }),
+        (
+          inl (record { told = plain; after = refl }),
+          (
+            inl (record { told = plain; after = refl }),
+            (
+              inl (record { told = plain; after = refl }),
+              (
+                inl (record { told = plain; after = refl }),
+                tt,
+              ),
+            ),
+          ),
+        ),
+      ),
+    ) refl
 
 -- the row of a disk fault
 abbrev string_taken : Taken
@@ -255,27 +296,34 @@ failed_machine moment = record { roll = record { daemons = holder 1 None ∷ [];
 pub faulted_row : (begun done : ℕ) → LeavesJournal (1 ∷ []) fresh_state (faulted_made begun done) (faulted_journal begun done)
 faulted_row begun done =
     steps_leave (1 ∷ []) fresh_state (faulted_made begun done)
-    (on_heap (nested 1) fresh_state ∷ on_heap (modified_at 1) string_state ∷ failed_machine done ∷ failed_machine done ∷ []) (faulted_journal begun done)
-    (record { told = plain; after = refl },
-    (inl (record {
-      after = record { number = 1; nesting = modified_at 1; state = string_state };
-      transacts = record {
-        done = record { reply = replies.At 2056; moves = Took 2 2056 ∷ []; after = string_state };
-        steps = record {
-          step = inl (refl, (refl, refl));
-          pools = string_taken.pools;
-          base = refl;
-          fit = (string_taken.pools, refl, refl);
-          full = tt;
-          demand = refl;
-        };
-        answer = refl;
-        moves = refl;
-        bytes = refl;
-        after = refl;
-      };
-      others = refl;
-    }),
-    (inr (record { asks = refl; faults = record { heap = tt; told = plain; after = refl } }),
-    (record { told = plain; after = refl },
-    tt)))) refl
+    (on_heap (nested 1) fresh_state ∷ on_heap (modified_at 1) string_state ∷ failed_machine done ∷ failed_machine done ∷ []) (faulted_journal begun done) (
+      record { told = plain; after = refl },
+      (
+        inl (record {
+          after = record { number = 1; nesting = modified_at 1; state = string_state };
+          transacts = record {
+            done = record { reply = replies.At 2056; moves = Took 2 2056 ∷ []; after = string_state };
+            steps = record {
+              step = inl (refl, (refl, refl));
+              pools = string_taken.pools;
+              base = refl;
+              fit = (string_taken.pools, refl, refl);
+              full = tt;
+              demand = refl;
+            };
+            answer = refl;
+            moves = refl;
+            bytes = refl;
+            after = refl;
+          };
+          others = refl;
+        }),
+        (
+          inr (record { asks = refl; faults = record { heap = tt; told = plain; after = refl } }),
+          (
+            record { told = plain; after = refl },
+            tt,
+          ),
+        ),
+      ),
+    ) refl
