@@ -7,4 +7,5 @@ pub mod LastEntries
 pub mod LookRows
 pub mod NestedRow
 pub mod Replying
+pub mod Rising
 pub mod Rows
