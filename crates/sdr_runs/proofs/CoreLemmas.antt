@@ -1,5 +1,6 @@
 -- What a core keeps in its run, and what an event adds to its journal.
-use Rattle.std.proofs.Common.{◌≡◌, ◌≤◌, ◌<◌, ◌⊎◌, ◌∙◌, ◌&&◌, ◌||◌, ℕ, List, [], ◌∷◌, ◌++◌, Bool, true, false, not, Option, None, Some, MatchOption, arith, refl, sym, ap, subst, append-nil}
+use Rattle.std.proofs.Common.{◌==◌, ◌≡◌, ◌≤◌, ◌<◌, ◌⊎◌, ◌∙◌, ◌&&◌, ◌||◌, ℕ, List, [], ◌∷◌, ◌++◌, Bool, true, false, not, Option, None, Some, MatchOption, arith, refl, sym, ap, subst, append-nil}
+use Rattle.std.specs.List.{list_any}
 use Rattle.std.specs.Option.{option_map, option_map_or, option_to_list}
 use Rattle.std.specs.Prelude.{if◌then◌else◌}
 use Rattle.sdr_base.specs.Media.{Told}
@@ -19,7 +20,7 @@ use Rattle.sdr_runs.specs.Adding.{AddsRightly, entry_added, entry_under}
 use Rattle.sdr_runs.proofs.CurrentLemmas.{Current}
 use Rattle.sdr_runs.proofs.JournalLemmas.{last_number}
 use Rattle.sdr_runs.proofs.KeepLemmas.{KeepsJournal, KeepsRoll, journal_more}
-use Rattle.sdr_runs.proofs.RollLemmas.{found_number, same_number}
+use Rattle.sdr_runs.proofs.RollLemmas.{found_member, found_number, same_number}
 use Rattle.sdr_runs.proofs.TransactLemmas.{passes}
 use Rattle.sdr_runs.proofs.WorkLemmas.{AreApart}
 
@@ -61,6 +62,7 @@ module _ {told : Option Told} {daemons : List ℕ} {first : State} {c : Core} {e
       record {
         leads = subst (Lead told daemons [] first c.log.journal) (sym is) p.keeps.journal.leads;
         rise = p.keeps.journal.rise;
+        members = p.keeps.journal.members;
         ends = p.keeps.journal.ends;
         sound = λ none. p.keeps.journal.sound (sound none);
       }
@@ -115,6 +117,9 @@ module _ {told : Option Told} {daemons : List ℕ} {first : State} {c : Core} {e
           (sym (added_is m' ∙ ap (option_map (entry_of (made_under m').number e)) none)) before;
     }
 
+    member : list_any (λ n. n == e.daemon) daemons ≡ true
+    member = subst (λ ids. list_any (λ n. n == e.daemon) ids ≡ true) p.keeps.roll.numbers (found_member c.machine.roll.daemons e.daemon d found)
+
     -- an event that adds an entry
     pub adds_some : (m' : Machine) (works' : List Work) (what : What) → next_works ≡ works' → what_of (made_under m') c.log.works e ≡ Some what
         → KeepsRoll daemons (c.log.journal ++ entry_of (number_of c.machine.roll d) e what ∷ []) m'.roll
@@ -132,7 +137,7 @@ module _ {told : Option Told} {daemons : List ℕ} {first : State} {c : Core} {e
             roll = roll;
             journal =
                 journal_more told daemons first c.log.journal c.machine.roll.failed m'.roll.failed c.machine.before m'.before
-                (entry_of (number_of c.machine.roll d) e what) p.keeps.journal stands higher leaves sound;
+                (entry_of (number_of c.machine.roll d) e what) p.keeps.journal stands higher member leaves sound;
             works = open_ones;
           });
       adds =

@@ -1,6 +1,9 @@
 -- What a core keeps in its run: its roll and its journal.
 use Rattle.std.proofs.Common.{◌≡◌, ◌≤◌, ◌<◌, ◌⊎◌, ◌∙◌, ◌==◌, ℕ, List, [], ◌∷◌, ◌++◌, Bool, true, false, Option, None, Some, arith, refl, sym, ap, subst, map, inl, inr}
 use Rattle.std.proofs.lemmas.Bool.Decides.{nat_tests}
+use Rattle.std.proofs.lemmas.List.Elements.{All-push}
+use Rattle.std.specs.Prelude.{All}
+use Rattle.std.specs.List.{list_any}
 use Rattle.sdr_base.specs.Media.{Told}
 use Rattle.std.specs.List.{AllByRecursion}
 use Rattle.sdr_model.specs.declared.journal.Entry.{Entry}
@@ -29,10 +32,12 @@ pub record KeepsRoll (daemons : List ℕ) (journal : List Entry) (r : Roll) : Ty
   pub apart : (id other : ℕ) (d d' : Daemon) (h h' : Holding) → Held r id d h → Held r other d' h' → h.number ≡ h'.number → id ≡ other
   pub agree : AgreesWithJournal journal r
 
--- The journal leads to the state before the open transaction, its numbers rise, and it ends with leaves where the disk failed.
+-- The journal leads to the state before the open transaction, its numbers rise, its entries are these daemons', and it ends with leaves
+-- where the disk failed.
 pub record KeepsJournal (told : Option Told) (daemons : List ℕ) (first : State) (journal : List Entry) (failed : Option ℕ) (before : State) : Type 0 where
   pub leads : Lead told daemons [] first journal before
   pub rise : NumbersRise 0 journal
+  pub members : All (λ (e : Entry). list_any (λ n. n == e.daemon) daemons ≡ true) journal
   pub ends : EndsWithLeaves journal
   pub sound : failed ≡ None → AreSound journal
 
@@ -108,12 +113,13 @@ none_held daemons journal r id d h keeps none held =
 pub journal_more : (told : Option Told) (daemons : List ℕ) (first : State) (journal : List Entry) (failed failed' : Option ℕ) (before after : State) (e : Entry)
     → KeepsJournal told daemons first journal failed before
     → MayStand told daemons journal before e.number e.daemon e.what after
-    → last_number 0 journal < e.number
+    → last_number 0 journal < e.number → list_any (λ n. n == e.daemon) daemons ≡ true
     → (failed ≡ None) ⊎ (is_leave e.what ≡ true) → (failed' ≡ None → (failed ≡ None) × (is_fault e.what ≡ false))
     → KeepsJournal told daemons first (journal ++ e ∷ []) failed' after
-journal_more told daemons first journal failed failed' before after e keeps stands higher leaves whole = record {
+journal_more told daemons first journal failed failed' before after e keeps stands higher member leaves whole = record {
   leads = lead_more told daemons [] first journal before e after keeps.leads stands;
   rise = numbers_more 0 journal e keeps.rise higher;
+  members = All-push (λ (x : Entry). list_any (λ n. n == x.daemon) daemons ≡ true) journal e keeps.members member;
   ends = by leaves;
   sound = λ none. let w : (failed ≡ None) × (is_fault e.what ≡ false) = whole none in sound_more journal e (keeps.sound w.0) w.1;
 }

@@ -1,6 +1,8 @@
 -- What a core keeps in its run.
-use Rattle.std.proofs.Common.{◌≡◌, ◌≤◌, ◌<◌, ◌∙◌, ◌++◌, ℕ, List, [], ◌∷◌, false, Option, None, Some, arith, refl, sym, ap, subst, length, map, nat_eq, append-nil}
+use Rattle.std.proofs.Common.{true, ◌==◌, ◌≡◌, ◌≤◌, ◌<◌, ◌∙◌, ◌++◌, ℕ, List, [], ◌∷◌, false, Option, None, Some, arith, refl, sym, ap, subst, length, map, nat_eq, append-nil}
 use Rattle.std.specs.List.{IsDistinct}
+use Rattle.std.proofs.lemmas.List.Elements.{All-nil}
+use Rattle.std.specs.List.{list_any}
 use Rattle.std.specs.Option.{option_map, option_map_or, option_to_list}
 use Rattle.std.specs.Prelude.{All}
 use Rattle.sdr_base.specs.Media.{Told}
@@ -43,7 +45,7 @@ first_keeps told daemons first = record {
     apart = λ id other d d' h h' held also same. absurd (holds_nothing id d h held.found held.holds);
     agree = λ id d found. let f = first_daemon daemons id d found in record { left = f.1; waits = f.2 };
   };
-  journal = record { leads = refl; rise = tt; ends = tt; sound = λ none. tt };
+  journal = record { leads = refl; rise = tt; members = All-nil (λ (e : Entry). list_any (λ n. n == e.daemon) daemons ≡ true); ends = tt; sound = λ none. tt };
   works = λ none. record {
     apart = tt;
     current = Current.rests refl (λ id d found. subst (Untouched told []) (sym (first_daemon daemons id d found).0) refl);
@@ -117,6 +119,11 @@ run_held told daemons first made core runs id d h found holds =
       (held_within keeps.roll held).1,
       all_above 0 h.number core.log.journal keeps.journal.rise (keeps.roll.above id d h held),
     )
+
+-- its entries are the daemons'
+pub run_members : (told : Option Told) (daemons : List ℕ) (first : State) (made : List Made) (core : Core) → RunsCore told (first_core daemons first) made core
+    → All (λ (x : Entry). list_any (λ n. n == x.daemon) daemons ≡ true) core.log.journal
+run_members told daemons first made core runs = (run_keeps told daemons first made core runs).journal.members
 
 -- the roll and the journal of a run
 pub run_agrees : (told : Option Told) (daemons : List ℕ) (first : State) (made : List Made) (core : Core) → RunsCore told (first_core daemons first) made core

@@ -1,6 +1,7 @@
 // The journals of core runs.
+ghost use Rattle.std.specs.List.{list_any};
 ghost use Rattle.std.specs.Option.{option_to_list};
-ghost use Rattle.std.specs.Prelude.{◌≡◌, ◌<◌, ◌≤◌, ◌++◌, ℕ, All, List, Option, Some, length};
+ghost use Rattle.std.specs.Prelude.{◌≡◌, ◌==◌, ◌<◌, ◌≤◌, ◌++◌, ℕ, All, List, Option, Some, length, true};
 ghost use Rattle.sdr_base.specs.Media.{Told};
 ghost use Rattle.sdr_lock.specs.Core.{AreInTime, Core, CoreStep, RunsCore, first_core};
 ghost use Rattle.sdr_lock.specs.Ground.{State, resting};
@@ -16,7 +17,7 @@ ghost use Rattle.sdr_runs.specs.Rising.{NumbersRise};
 
 /// A law: the journal of a core run is legal, for all daemons and from every state in which no transaction is open,
 /// where its events were made one after another. The state before the open transaction is the one after all entries,
-/// from whatever state the run began. It does nothing.
+/// from whatever state the run began, and each entry is of one of the daemons. It does nothing.
 pub fn journals_are_legal()
     ensures legal { (told : Option Told) (daemons : List ℕ) (first : State) (moment : ℕ) (made : List Made) (core : Core) →
         first ≡ resting first.world first.base → AreInTime moment made → RunsCore told (first_core daemons first) made core →
@@ -24,6 +25,9 @@ pub fn journals_are_legal()
     ensures after { (told : Option Told) (daemons : List ℕ) (first : State) (made : List Made) (core : Core) →
         RunsCore told (first_core daemons first) made core →
         IsAfter told daemons first core.log.journal (length core.log.journal) core.machine.before }
+    ensures daemons { (told : Option Told) (daemons : List ℕ) (first : State) (made : List Made) (core : Core) →
+        RunsCore told (first_core daemons first) made core →
+        All (λ (x : Entry). list_any (λ n. n == x.daemon) daemons ≡ true) core.log.journal }
 {}
 
 /// A law: an event of a core run adds at most one entry, the last. That entry may stand behind those before it, from
