@@ -1,5 +1,5 @@
 -- What a core keeps in its run, and what an event adds to its journal.
-use Rattle.std.proofs.Common.{◌==◌, ◌≡◌, ◌≤◌, ◌<◌, ◌⊎◌, ◌∙◌, ◌&&◌, ◌||◌, ℕ, List, [], ◌∷◌, ◌++◌, Bool, true, false, not, Option, None, Some, MatchOption, arith, refl, sym, ap, subst, append-nil}
+use Rattle.std.proofs.Common.{◌==◌, ◌≡◌, ◌<◌, ◌⊎◌, ◌∙◌, ◌&&◌, ◌||◌, ℕ, List, [], ◌∷◌, ◌++◌, Bool, true, false, not, Option, None, Some, MatchOption, refl, sym, ap, subst, append-nil}
 use Rattle.std.specs.List.{list_any}
 use Rattle.std.specs.Option.{option_map, option_map_or, option_to_list}
 use Rattle.std.specs.Prelude.{if◌then◌else◌}

@@ -8,13 +8,13 @@ use Rattle.sdr_base.specs.Media.{Told}
 use Rattle.std.specs.List.{AllByRecursion}
 use Rattle.sdr_model.specs.declared.journal.Entry.{Entry}
 use Rattle.sdr_lock.specs.Ground.{State}
-use Rattle.sdr_lock.specs.Legal.{EndsWithLeaves, Lead, MayStand, Rise, is_fault, is_leave, last_entry}
+use Rattle.sdr_lock.specs.Legal.{EndsWithLeaves, Lead, MayStand, is_fault, is_leave, last_entry}
 use Rattle.sdr_lock.specs.Roll.{Roll, daemon_of, least_held, put_daemon, served_number}
 use Rattle.sdr_lock.specs.declared.daemon.Daemon.{Daemon}
 use Rattle.sdr_lock.specs.declared.daemon.Holding.{Holding}
 use Rattle.sdr_runs.specs.Rising.{NumbersRise}
 use Rattle.sdr_runs.specs.LastEntries.{AgreesWithJournal, AgreesWithLast}
-use Rattle.sdr_runs.proofs.JournalLemmas.{AreSound, ends_after_sound, ends_with_leave, last_entry-other, last_entry-own, last_number, last_number-more, lead_more, numbers_more, sound_more}
+use Rattle.sdr_runs.proofs.JournalLemmas.{AreSound, ends_after_sound, ends_with_leave, last_number, lead_more, numbers_more, sound_more}
 use Rattle.sdr_runs.proofs.RollLemmas.{HoldsWithin, IsWithin, among, contrary, each_also, each_put, found_put, least_found, number_same, numbers_put, other_put, same_number}
 
 -- the daemon of a number holds this

@@ -4,7 +4,9 @@ pub mod ClosingLemmas
 pub mod CoreLemmas
 pub mod CurrentLemmas
 pub mod DecideLemmas
-pub mod DeepLemmas
+pub mod DeepRow
+pub mod DoomedRow
+pub mod FaultedRow
 pub mod FrameLemmas
 pub mod JournalLemmas
 pub mod KeepLemmas
@@ -14,7 +16,9 @@ pub mod RowLemmas
 pub mod RowReplies
 pub mod RunLemmas
 pub mod StalledLemmas
+pub mod StalledRow
 pub mod StepLemmas
+pub mod SuspendedRow
 pub mod TransactLemmas
 pub mod TurnLemmas
 pub mod WorkLemmas
