@@ -17,7 +17,7 @@ use Rattle.sdr_model.specs.declared.call.Call.TheVariants as calls
 use Rattle.sdr_model.specs.declared.things.Thing.TheVariants as things
 use Rattle.sdr_runs.specs.FaultRow.{faulted_journal, faulted_made, fresh_state}
 use Rattle.sdr_runs.specs.Rows.{LeavesJournal}
-use Rattle.sdr_runs.proofs.RowLemmas.{holder, machine, modified_at, plain, steps_leave, under}
+use Rattle.sdr_runs.proofs.RowLemmas.{◌and◌, holder, machine, modified_at, plain, steps_leave, under}
 
 -- the row of a disk fault
 abbrev string_taken : Taken
@@ -42,34 +42,20 @@ failed_machine moment = record { roll = record { daemons = holder 1 None ∷ [];
 pub faulted_row : (begun done : ℕ) → LeavesJournal (1 ∷ []) fresh_state (faulted_made begun done) (faulted_journal begun done)
 faulted_row begun done =
     steps_leave (1 ∷ []) fresh_state (faulted_made begun done)
-    (on_heap (nested 1) fresh_state ∷ on_heap (modified_at 1) string_state ∷ failed_machine done ∷ failed_machine done ∷ []) (faulted_journal begun done) (
-      record { told = plain; after = refl },
-      (
-        inl (record {
-          after = record { number = 1; nesting = modified_at 1; state = string_state };
-          transacts = record {
-            done = record { reply = replies.At 2056; moves = Took 2 2056 ∷ []; after = string_state };
-            steps = record {
-              step = inl (refl, (refl, refl));
-              pools = string_taken.pools;
-              base = refl;
-              fit = (string_taken.pools, refl, refl);
-              full = tt;
-              demand = refl;
-            };
-            answer = refl;
-            moves = refl;
-            bytes = refl;
-            after = refl;
-          };
-          others = refl;
-        }),
-        (
-          inr (record { asks = refl; faults = record { heap = tt; told = plain; after = refl } }),
-          (
-            record { told = plain; after = refl },
-            tt,
-          ),
-        ),
-      ),
-    ) refl
+    (on_heap (nested 1) fresh_state ∷ on_heap (modified_at 1) string_state ∷ failed_machine done ∷ failed_machine done ∷ []) (faulted_journal begun done)
+    (record { told = plain; after = refl }
+    and inl (record {
+      after = record { number = 1; nesting = modified_at 1; state = string_state };
+      transacts = record {
+        done = record { reply = replies.At 2056; moves = Took 2 2056 ∷ []; after = string_state };
+        steps = record { step = inl (refl, (refl, refl)); pools = string_taken.pools; base = refl; fit = (string_taken.pools, refl, refl); full = tt; demand = refl };
+        answer = refl;
+        moves = refl;
+        bytes = refl;
+        after = refl;
+      };
+      others = refl;
+    })
+    and inr (record { asks = refl; faults = record { heap = tt; told = plain; after = refl } })
+    and record { told = plain; after = refl }
+    and tt) refl

@@ -22,6 +22,11 @@ use Rattle.sdr_model.specs.declared.answer.Answer.{Answer}
 use Rattle.sdr_model.specs.declared.event.Event.{Event}
 use Rattle.sdr_model.specs.declared.journal.Entry.{Entry}
 
+infixr 20 ◌and◌
+-- one fact, and others
+pub ◌and◌ : {A B : Type 0} → A → B → A × B
+◌and◌ a b = (a, b)
+
 -- the core after these events, by which its machine went through these
 abbrev pub core_through : Core → List Made → List Machine → Core
 core_through c (e ∷ made) (m ∷ machines) = core_through (core_after c e m) made machines

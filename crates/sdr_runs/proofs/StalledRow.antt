@@ -32,7 +32,7 @@ use Rattle.sdr_model.specs.declared.accounts.Ticket.{Ticket}
 use Rattle.sdr_model.specs.declared.call.Call.{Call}
 use Rattle.sdr_model.specs.declared.things.Thing.{Thing}
 use Rattle.sdr_runs.specs.StalledRow.{stalled_journal, stalled_made}
-use Rattle.sdr_runs.proofs.RowLemmas.{answers_so, machine, modified_at, plain, steps_leave, under}
+use Rattle.sdr_runs.proofs.RowLemmas.{◌and◌, answers_so, machine, modified_at, plain, steps_leave, under}
 
 -- so many bytes of heap space
 abbrev of_heap : ℕ → Amounts
@@ -174,65 +174,36 @@ ends before now number line = record { how = refl; told = plain; left = refl }
 
 pub stalled_row : LeavesJournal (1 ∷ 2 ∷ []) (bare empty_world) stalled_made stalled_journal
 stalled_row =
-    steps_leave (1 ∷ 2 ∷ []) (bare empty_world) stalled_made stalled_machines stalled_journal (
-      record { told = plain; after = refl },
-      (
-        inl (record {
-          after = changed_in 1 allowed;
-          transacts = answers_so 1 (nested 1) empty_world allowed 2 _ replies.Done [] (record { step = (refl, refl, refl); in_order = tt; counted = refl }) refl;
-          others = refl;
-        }),
-        (
-          inl (record { after = changed_in 1 one_asked; transacts = answers_so 1 (modified_at 1) allowed one_asked 3 _ _ _ asks_first refl; others = refl }),
-          (
-            inl (record { after = changed_in 1 (two_asked (8 ∷ 16 ∷ [])); transacts = answers_so 1 (modified_at 1) one_asked (two_asked (8 ∷ 16 ∷ [])) 4 _ _ _ asks_second refl; others = refl }),
-            (
-              inl (record { close = closes.Ended; left = bare (two_asked []); closes = ends empty_world (two_asked (8 ∷ 16 ∷ [])) 1 5; after = refl }),
-              (
-                record { told = plain; after = refl },
-                (
-                  inl (record { after = changed_in 2 (three_asked (24 ∷ [])); transacts = answers_so 2 (nested 1) (two_asked []) (three_asked (24 ∷ [])) 7 _ _ _ asks_third refl; others = refl }),
-                  (
-                    inl (record { close = closes.Ended; left = bare (three_asked []); closes = ends (two_asked []) (three_asked (24 ∷ [])) 2 8; after = refl }),
-                    (
-                      inl (record { told = plain; after = refl }),
-                      (
-                        inl (record { told = plain; after = refl }),
-                        (
-                          inl (record { told = plain; after = refl }),
-                          (
-                            record { told = plain; after = refl },
-                            (
-                              inl (record { after = changed_in 6 one_given; transacts = answers_so 6 (nested 1) (three_asked []) one_given 13 _ _ _ gives_first refl; others = refl }),
-                              (
-                                inl (record { close = closes.Ended; left = bare one_given; closes = ends (three_asked []) one_given 6 14; after = refl }),
-                                (
-                                  inl (record { told = plain; after = refl }),
-                                  (
-                                    record { told = plain; after = refl },
-                                    (
-                                      inl (record { after = changed_in 8 two_given; transacts = answers_so 8 (nested 1) one_given two_given 17 _ _ _ gives_second refl; others = refl }),
-                                      (
-                                        inl (record { close = closes.Ended; left = bare two_given; closes = ends one_given two_given 8 18; after = refl }),
-                                        (
-                                          inl (record { told = plain; after = refl }),
-                                          tt,
-                                        ),
-                                      ),
-                                    ),
-                                  ),
-                                ),
-                              ),
-                            ),
-                          ),
-                        ),
-                      ),
-                    ),
-                  ),
-                ),
-              ),
-            ),
-          ),
-        ),
-      ),
-    ) refl
+    steps_leave (1 ∷ 2 ∷ []) (bare empty_world) stalled_made stalled_machines stalled_journal
+    (record { told = plain; after = refl }
+    and inl (record {
+      after = changed_in 1 allowed;
+      transacts = answers_so 1 (nested 1) empty_world allowed 2 _ replies.Done [] (record { step = (refl, refl, refl); in_order = tt; counted = refl }) refl;
+      others = refl;
+    })
+    and inl (record { after = changed_in 1 one_asked; transacts = answers_so 1 (modified_at 1) allowed one_asked 3 _ _ _ asks_first refl; others = refl })
+    and inl (record {
+      after = changed_in 1 (two_asked (8 ∷ 16 ∷ []));
+      transacts = answers_so 1 (modified_at 1) one_asked (two_asked (8 ∷ 16 ∷ [])) 4 _ _ _ asks_second refl;
+      others = refl;
+    })
+    and inl (record { close = closes.Ended; left = bare (two_asked []); closes = ends empty_world (two_asked (8 ∷ 16 ∷ [])) 1 5; after = refl })
+    and record { told = plain; after = refl }
+    and inl (record {
+      after = changed_in 2 (three_asked (24 ∷ []));
+      transacts = answers_so 2 (nested 1) (two_asked []) (three_asked (24 ∷ [])) 7 _ _ _ asks_third refl;
+      others = refl;
+    })
+    and inl (record { close = closes.Ended; left = bare (three_asked []); closes = ends (two_asked []) (three_asked (24 ∷ [])) 2 8; after = refl })
+    and inl (record { told = plain; after = refl })
+    and inl (record { told = plain; after = refl })
+    and inl (record { told = plain; after = refl })
+    and record { told = plain; after = refl }
+    and inl (record { after = changed_in 6 one_given; transacts = answers_so 6 (nested 1) (three_asked []) one_given 13 _ _ _ gives_first refl; others = refl })
+    and inl (record { close = closes.Ended; left = bare one_given; closes = ends (three_asked []) one_given 6 14; after = refl })
+    and inl (record { told = plain; after = refl })
+    and record { told = plain; after = refl }
+    and inl (record { after = changed_in 8 two_given; transacts = answers_so 8 (nested 1) one_given two_given 17 _ _ _ gives_second refl; others = refl })
+    and inl (record { close = closes.Ended; left = bare two_given; closes = ends one_given two_given 8 18; after = refl })
+    and inl (record { told = plain; after = refl })
+    and tt) refl

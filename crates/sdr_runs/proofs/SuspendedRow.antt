@@ -4,11 +4,9 @@ use Rattle.sdr_lock.specs.Machine.{Machine}
 use Rattle.sdr_lock.specs.Nesting.{nested}
 use Rattle.sdr_lock.specs.declared.daemon.Holding.{Holding}
 use Rattle.sdr_model.specs.World.{empty_world}
-use Rattle.sdr_model.specs.declared.answer.Reply.TheVariants as replies
 use Rattle.sdr_runs.specs.Rows.{LeavesJournal, bare}
-use Rattle.sdr_base.specs.declared.refusal.Refusal.TheVariants as refusals
 use Rattle.sdr_model.specs.declared.answer.Close.TheVariants as closes
-use Rattle.sdr_runs.proofs.RowLemmas.{holder, machine, plain, steps_leave, under}
+use Rattle.sdr_runs.proofs.RowLemmas.{◌and◌, answers_so, holder, machine, plain, steps_leave, under}
 use Rattle.sdr_runs.specs.SuspendedRow.{suspended_journal, suspended_made}
 
 -- the machines of the row of a second daemon
@@ -27,33 +25,15 @@ suspended_machines =
 
 pub suspended_row : LeavesJournal (1 ∷ 2 ∷ []) (bare empty_world) suspended_made suspended_journal
 suspended_row =
-    steps_leave (1 ∷ 2 ∷ []) (bare empty_world) suspended_made suspended_machines suspended_journal (
-      record { told = plain; after = refl },
-      (
-        record { told = plain; after = refl },
-        (
-          record { told = plain; after = refl },
-          (
-            inl (record { close = closes.Ended; left = bare empty_world; closes = record { how = refl; told = plain; left = refl }; after = refl }),
-            (
-              inl (record {
-                after = record { number = 2; nesting = nested 1; state = bare empty_world };
-                transacts = record {
-                  done = record { reply = replies.Refused refusals.NotFound; moves = []; after = bare empty_world };
-                  steps = record { step = inl (record { step = (refl, refl, refl); in_order = tt; counted = refl }); base = refl; demand = refl };
-                  answer = refl;
-                  moves = refl;
-                  bytes = refl;
-                  after = refl;
-                };
-                others = refl;
-              }),
-              (
-                inl (record { close = closes.Exited; left = bare empty_world; closes = record { how = refl; told = plain; left = refl }; after = refl }),
-                tt,
-              ),
-            ),
-          ),
-        ),
-      ),
-    ) refl
+    steps_leave (1 ∷ 2 ∷ []) (bare empty_world) suspended_made suspended_machines suspended_journal
+    (record { told = plain; after = refl }
+    and record { told = plain; after = refl }
+    and record { told = plain; after = refl }
+    and inl (record { close = closes.Ended; left = bare empty_world; closes = record { how = refl; told = plain; left = refl }; after = refl })
+    and inl (record {
+      after = record { number = 2; nesting = nested 1; state = bare empty_world };
+      transacts = answers_so 2 (nested 1) empty_world empty_world 5 _ _ _ (record { step = (refl, refl, refl); in_order = tt; counted = refl }) refl;
+      others = refl;
+    })
+    and inl (record { close = closes.Exited; left = bare empty_world; closes = record { how = refl; told = plain; left = refl }; after = refl })
+    and tt) refl
