@@ -11,6 +11,7 @@ pub mod FrameLemmas
 pub mod JournalLemmas
 pub mod KeepLemmas
 pub mod OutcomeLemmas
+pub mod PlanLemmas
 pub mod RollLemmas
 pub mod RowLemmas
 pub mod RowReplies
