@@ -1,5 +1,6 @@
 -- What a core keeps in its run, and what an event adds to its journal.
-use Rattle.std.proofs.Common.{◌≡◌, ◌≤◌, ◌<◌, ◌⊎◌, ◌∙◌, ◌&&◌, ◌||◌, ℕ, List, [], ◌∷◌, ◌++◌, Bool, true, false, not, Option, None, Some, MatchOption, arith, refl, sym, ap, subst, append-nil}
+use Rattle.std.proofs.Common.{◌==◌, ◌≡◌, ◌<◌, ◌⊎◌, ◌∙◌, ◌&&◌, ◌||◌, ℕ, List, [], ◌∷◌, ◌++◌, Bool, true, false, not, Option, None, Some, MatchOption, refl, sym, ap, subst, append-nil}
+use Rattle.std.specs.List.{list_any}
 use Rattle.std.specs.Option.{option_map, option_map_or, option_to_list}
 use Rattle.std.specs.Prelude.{if◌then◌else◌}
 use Rattle.sdr_base.specs.Media.{Told}
@@ -19,7 +20,7 @@ use Rattle.sdr_runs.specs.Adding.{AddsRightly, entry_added, entry_under}
 use Rattle.sdr_runs.proofs.CurrentLemmas.{Current}
 use Rattle.sdr_runs.proofs.JournalLemmas.{last_number}
 use Rattle.sdr_runs.proofs.KeepLemmas.{KeepsJournal, KeepsRoll, journal_more}
-use Rattle.sdr_runs.proofs.RollLemmas.{found_number, same_number}
+use Rattle.sdr_runs.proofs.RollLemmas.{found_member, found_number, same_number}
 use Rattle.sdr_runs.proofs.TransactLemmas.{passes}
 use Rattle.sdr_runs.proofs.WorkLemmas.{AreApart}
 
@@ -28,23 +29,20 @@ pub record KeepsWorks (told : Option Told) (m : Machine) (works : List Work) : T
   pub apart : AreApart works
   pub current : Current told m works
 
--- what a core keeps whose last event was done by the moment
-pub record KeepsCore (told : Option Told) (daemons : List ℕ) (first : State) (moment : ℕ) (c : Core) : Type 0 where
+-- what a core keeps in its run
+pub record KeepsCore (told : Option Told) (daemons : List ℕ) (first : State) (c : Core) : Type 0 where
   pub roll : KeepsRoll daemons c.log.journal c.machine.roll
-  pub journal : KeepsJournal told daemons first moment c.log.journal c.machine.roll.failed c.machine.before
+  pub journal : KeepsJournal told daemons first c.log.journal c.machine.roll.failed c.machine.before
   pub works : c.machine.roll.failed ≡ None → KeepsWorks told c.machine c.log.works
 
 -- the core after an event keeps it, and what the event adds may stand in the journal
 pub record StepKeeps (told : Option Told) (daemons : List ℕ) (first : State) (c : Core) (e : Made) (m' : Machine) : Type 0 where
-  pub keeps : KeepsCore told daemons first e.done (core_after c e m')
+  pub keeps : KeepsCore told daemons first (core_after c e m')
   pub adds : AddsRightly told daemons c e m'
 
--- an event that is made next: it begins no earlier than the last one was done
+-- an event that is made of a core that keeps it
 pub record IsNext (told : Option Told) (daemons : List ℕ) (first : State) (c : Core) (e : Made) : Type 0 where
-  pub moment : ℕ
-  pub keeps : KeepsCore told daemons first moment c
-  pub later : moment ≤ e.begun
-  pub lasts : e.begun ≤ e.done
+  pub keeps : KeepsCore told daemons first c
 
 -- of two tests one is true where the second is
 pub or_true : (b : Bool) → (b || true) ≡ true
@@ -59,13 +57,12 @@ and_not false = refl
 module _ {told : Option Told} {daemons : List ℕ} {first : State} {c : Core} {e : Made} (p : IsNext told daemons first c e) where
   -- the journal stays
   still : (failed : Option ℕ) (before : State) → before ≡ c.machine.before → (failed ≡ None → c.machine.roll.failed ≡ None)
-      → KeepsJournal told daemons first e.done c.log.journal failed before
+      → KeepsJournal told daemons first c.log.journal failed before
   still failed before is sound =
-      let done = p.keeps.journal.done in let later = p.later in let lasts = p.lasts in
       record {
         leads = subst (Lead told daemons [] first c.log.journal) (sym is) p.keeps.journal.leads;
         rise = p.keeps.journal.rise;
-        done = omega arith;
+        members = p.keeps.journal.members;
         ends = p.keeps.journal.ends;
         sound = λ none. p.keeps.journal.sound (sound none);
       }
@@ -74,7 +71,7 @@ module _ {told : Option Told} {daemons : List ℕ} {first : State} {c : Core} {e
   pub unknown : daemon_of c.machine.roll e.daemon ≡ None → StepKeeps told daemons first c e c.machine
   unknown none = record {
     keeps =
-        subst (KeepsCore told daemons first e.done)
+        subst (KeepsCore told daemons first)
         (sym (ap (λ o. record { machine = c.machine; log = option_map_or (λ (d : Daemon). log_after (under c.machine.roll d c.machine.roll e.said.event) c.log e) o c.log }) none))
         (record { roll = p.keeps.roll; journal = still c.machine.roll.failed c.machine.before refl (λ none. none); works = p.keeps.works });
     adds =
@@ -111,7 +108,7 @@ module _ {told : Option Told} {daemons : List ℕ} {first : State} {c : Core} {e
         → (m'.roll.failed ≡ None → KeepsWorks told m' works') → StepKeeps told daemons first c e m'
     adds_none m' works' works none roll before sound open_ones = record {
       keeps =
-          subst (KeepsCore told daemons first e.done)
+          subst (KeepsCore told daemons first)
           (sym (after_is m' works' c.log.journal works
           (ap (λ o. c.log.journal ++ option_to_list (option_map (entry_of (made_under m').number e) o)) none ∙ append-nil c.log.journal)))
           (record { roll = roll; journal = still m'.roll.failed m'.before before sound; works = open_ones });
@@ -119,6 +116,9 @@ module _ {told : Option Told} {daemons : List ℕ} {first : State} {c : Core} {e
           subst (λ o. MatchOption o (m'.before ≡ c.machine.before) (λ (x : Entry). MayStand told daemons c.log.journal c.machine.before x.number x.daemon x.what m'.before))
           (sym (added_is m' ∙ ap (option_map (entry_of (made_under m').number e)) none)) before;
     }
+
+    member : list_any (λ n. n == e.daemon) daemons ≡ true
+    member = subst (λ ids. list_any (λ n. n == e.daemon) ids ≡ true) p.keeps.roll.numbers (found_member c.machine.roll.daemons e.daemon d found)
 
     -- an event that adds an entry
     pub adds_some : (m' : Machine) (works' : List Work) (what : What) → next_works ≡ works' → what_of (made_under m') c.log.works e ≡ Some what
@@ -130,14 +130,14 @@ module _ {told : Option Told} {daemons : List ℕ} {first : State} {c : Core} {e
         → (m'.roll.failed ≡ None → KeepsWorks told m' works') → StepKeeps told daemons first c e m'
     adds_some m' works' what works some roll stands higher leaves sound open_ones = record {
       keeps =
-          subst (KeepsCore told daemons first e.done)
+          subst (KeepsCore told daemons first)
           (sym (after_is m' works' (c.log.journal ++ entry_of (number_of c.machine.roll d) e what ∷ []) works
           (ap (λ o. c.log.journal ++ option_to_list (option_map (entry_of (made_under m').number e) o)) some)))
           (record {
             roll = roll;
             journal =
-                journal_more told daemons first p.moment c.log.journal c.machine.roll.failed m'.roll.failed c.machine.before m'.before
-                (entry_of (number_of c.machine.roll d) e what) p.keeps.journal stands higher p.later p.lasts leaves sound;
+                journal_more told daemons first c.log.journal c.machine.roll.failed m'.roll.failed c.machine.before m'.before
+                (entry_of (number_of c.machine.roll d) e what) p.keeps.journal stands higher member leaves sound;
             works = open_ones;
           });
       adds =

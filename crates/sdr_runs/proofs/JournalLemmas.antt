@@ -7,7 +7,8 @@ use Rattle.std.proofs.lemmas.List.{reverse-append}
 use Rattle.sdr_base.specs.Media.{Told}
 use Rattle.sdr_model.specs.declared.journal.Entry.{Entry}
 use Rattle.sdr_lock.specs.Ground.{State}
-use Rattle.sdr_lock.specs.Legal.{ComesAfter, EndsWithLeaves, Lead, MayStand, Rise, is_fault, is_leave, last_entry}
+use Rattle.sdr_lock.specs.Legal.{EndsWithLeaves, Lead, MayStand, Rise, is_fault, is_leave, last_entry}
+use Rattle.sdr_runs.specs.Rising.{MomentsRise, NumbersRise}
 
 -- the entries lead on by one more that may stand behind them
 pub lead_more : (told : Option Told) (daemons : List ℕ) (before : List Entry) (s : State) (entries : List Entry) (s' : State) (e : Entry) (s'' : State)
@@ -43,11 +44,21 @@ pub last_done-more : (done : ℕ) (entries : List Entry) (e : Entry) → last_do
 last_done-more done [] e = refl
 last_done-more done (first ∷ entries) e = last_done-more first.done entries e
 
--- one that comes behind the last keeps the numbers and moments rising
-pub rise_more : (number done : ℕ) (entries : List Entry) (e : Entry) → Rise number done entries
-    → ComesAfter (last_number number entries) (last_done done entries) e → Rise number done (entries ++ e ∷ [])
-rise_more number done [] e rise behind = (behind, tt)
-rise_more number done (first ∷ entries) e rise behind = (rise.0, rise_more first.number first.done entries e rise.1 behind)
+-- one that comes behind the last keeps the numbers rising, and the moments
+pub numbers_more : (number : ℕ) (entries : List Entry) (e : Entry) → NumbersRise number entries → last_number number entries < e.number → NumbersRise number (entries ++ e ∷ [])
+numbers_more number [] e rise higher = (higher, tt)
+numbers_more number (first ∷ entries) e rise higher = (rise.0, numbers_more first.number entries e rise.1 higher)
+
+pub moments_more : (done : ℕ) (entries : List Entry) (e : Entry) → MomentsRise done entries → last_done done entries ≤ e.begun → e.begun ≤ e.done
+    → MomentsRise done (entries ++ e ∷ [])
+moments_more done [] e rise later lasts = (later, lasts, tt)
+moments_more done (first ∷ entries) e rise later lasts = (rise.0, rise.1, moments_more first.done entries e rise.2 later lasts)
+
+-- so both rise
+pub both_rise : (number done : ℕ) (entries : List Entry) → NumbersRise number entries → MomentsRise done entries → Rise number done entries
+both_rise number done [] numbers moments = tt
+both_rise number done (e ∷ entries) numbers moments =
+    (record { higher = numbers.0; later = moments.0; in_time = moments.1 }, both_rise e.number e.done entries numbers.1 moments.2)
 
 -- the last entry of the daemon whose entry is added, and of any other
 pub last_entry-own : (journal : List Entry) (e : Entry) (id : ℕ) → (e.daemon == id) ≡ true → last_entry (journal ++ e ∷ []) id ≡ Some e
@@ -110,21 +121,21 @@ take_all [] = refl
 take_all (e ∷ entries) = ap (λ rest. e ∷ rest) (take_all entries)
 
 -- where numbers rise, none is above the last
-pub rise_below : (number done : ℕ) (entries : List Entry) → Rise number done entries → number ≤ last_number number entries
-rise_below number done [] rise = omega arith
-rise_below number done (e ∷ entries) rise =
-    let rest : e.number ≤ last_number e.number entries = rise_below e.number e.done entries rise.1 in
-    let higher : number < e.number = rise.0.higher in
+pub rise_below : (number : ℕ) (entries : List Entry) → NumbersRise number entries → number ≤ last_number number entries
+rise_below number [] rise = omega arith
+rise_below number (e ∷ entries) rise =
+    let rest : e.number ≤ last_number e.number entries = rise_below e.number entries rise.1 in
+    let higher : number < e.number = rise.0 in
     omega arith
 
-pub all_below : (number done most : ℕ) (entries : List Entry) → Rise number done entries → last_number number entries ≤ most → All (λ (e : Entry). e.number ≤ most) entries
-all_below number done most [] rise last = All-nil (λ (e : Entry). e.number ≤ most)
-all_below number done most (e ∷ entries) rise last =
-    All-cons (λ (e : Entry). e.number ≤ most) e entries (let below = rise_below e.number e.done entries rise.1 in omega arith)
-    (all_below e.number e.done most entries rise.1 last)
+pub all_below : (number most : ℕ) (entries : List Entry) → NumbersRise number entries → last_number number entries ≤ most → All (λ (e : Entry). e.number ≤ most) entries
+all_below number most [] rise last = All-nil (λ (e : Entry). e.number ≤ most)
+all_below number most (e ∷ entries) rise last =
+    All-cons (λ (e : Entry). e.number ≤ most) e entries (let below = rise_below e.number entries rise.1 in omega arith)
+    (all_below e.number most entries rise.1 last)
 
-pub all_above : (number done above : ℕ) (entries : List Entry) → Rise number done entries → last_number number entries < above → All (λ (e : Entry). e.number < above) entries
-all_above number done above [] rise last = All-nil (λ (e : Entry). e.number < above)
-all_above number done above (e ∷ entries) rise last =
-    All-cons (λ (e : Entry). e.number < above) e entries (let below = rise_below e.number e.done entries rise.1 in omega arith)
-    (all_above e.number e.done above entries rise.1 last)
+pub all_above : (number above : ℕ) (entries : List Entry) → NumbersRise number entries → last_number number entries < above → All (λ (e : Entry). e.number < above) entries
+all_above number above [] rise last = All-nil (λ (e : Entry). e.number < above)
+all_above number above (e ∷ entries) rise last =
+    All-cons (λ (e : Entry). e.number < above) e entries (let below = rise_below e.number entries rise.1 in omega arith)
+    (all_above e.number above entries rise.1 last)

@@ -1,16 +1,20 @@
 -- What a core keeps in its run: its roll and its journal.
 use Rattle.std.proofs.Common.{◌≡◌, ◌≤◌, ◌<◌, ◌⊎◌, ◌∙◌, ◌==◌, ℕ, List, [], ◌∷◌, ◌++◌, Bool, true, false, Option, None, Some, arith, refl, sym, ap, subst, map, inl, inr}
 use Rattle.std.proofs.lemmas.Bool.Decides.{nat_tests}
+use Rattle.std.proofs.lemmas.List.Elements.{All-push}
+use Rattle.std.specs.Prelude.{All}
+use Rattle.std.specs.List.{list_any}
 use Rattle.sdr_base.specs.Media.{Told}
 use Rattle.std.specs.List.{AllByRecursion}
 use Rattle.sdr_model.specs.declared.journal.Entry.{Entry}
 use Rattle.sdr_lock.specs.Ground.{State}
-use Rattle.sdr_lock.specs.Legal.{EndsWithLeaves, Lead, MayStand, Rise, is_fault, is_leave, last_entry}
+use Rattle.sdr_lock.specs.Legal.{EndsWithLeaves, Lead, MayStand, is_fault, is_leave, last_entry}
 use Rattle.sdr_lock.specs.Roll.{Roll, daemon_of, least_held, put_daemon, served_number}
 use Rattle.sdr_lock.specs.declared.daemon.Daemon.{Daemon}
 use Rattle.sdr_lock.specs.declared.daemon.Holding.{Holding}
+use Rattle.sdr_runs.specs.Rising.{NumbersRise}
 use Rattle.sdr_runs.specs.LastEntries.{AgreesWithJournal, AgreesWithLast}
-use Rattle.sdr_runs.proofs.JournalLemmas.{AreSound, ends_after_sound, ends_with_leave, last_done, last_done-more, last_number, lead_more, rise_more, sound_more}
+use Rattle.sdr_runs.proofs.JournalLemmas.{AreSound, ends_after_sound, ends_with_leave, last_number, lead_more, numbers_more, sound_more}
 use Rattle.sdr_runs.proofs.RollLemmas.{HoldsWithin, IsWithin, among, contrary, each_also, each_put, found_put, least_found, number_same, numbers_put, other_put, same_number}
 
 -- the daemon of a number holds this
@@ -28,12 +32,12 @@ pub record KeepsRoll (daemons : List ℕ) (journal : List Entry) (r : Roll) : Ty
   pub apart : (id other : ℕ) (d d' : Daemon) (h h' : Holding) → Held r id d h → Held r other d' h' → h.number ≡ h'.number → id ≡ other
   pub agree : AgreesWithJournal journal r
 
--- The journal leads to the state before the open transaction, its numbers and moments rise, and it ends with leaves where the disk
--- failed.
-pub record KeepsJournal (told : Option Told) (daemons : List ℕ) (first : State) (moment : ℕ) (journal : List Entry) (failed : Option ℕ) (before : State) : Type 0 where
+-- The journal leads to the state before the open transaction, its numbers rise, its entries are these daemons', and it ends with leaves
+-- where the disk failed.
+pub record KeepsJournal (told : Option Told) (daemons : List ℕ) (first : State) (journal : List Entry) (failed : Option ℕ) (before : State) : Type 0 where
   pub leads : Lead told daemons [] first journal before
-  pub rise : Rise 0 0 journal
-  pub done : last_done 0 journal ≤ moment
+  pub rise : NumbersRise 0 journal
+  pub members : All (λ (e : Entry). list_any (λ n. n == e.daemon) daemons ≡ true) journal
   pub ends : EndsWithLeaves journal
   pub sound : failed ≡ None → AreSound journal
 
@@ -106,16 +110,16 @@ none_held daemons journal r id d h keeps none held =
     absurd (omega arith)
 
 -- an entry that may stand there is added
-pub journal_more : (told : Option Told) (daemons : List ℕ) (first : State) (moment : ℕ) (journal : List Entry) (failed failed' : Option ℕ) (before after : State) (e : Entry)
-    → KeepsJournal told daemons first moment journal failed before
+pub journal_more : (told : Option Told) (daemons : List ℕ) (first : State) (journal : List Entry) (failed failed' : Option ℕ) (before after : State) (e : Entry)
+    → KeepsJournal told daemons first journal failed before
     → MayStand told daemons journal before e.number e.daemon e.what after
-    → last_number 0 journal < e.number → moment ≤ e.begun → e.begun ≤ e.done
+    → last_number 0 journal < e.number → list_any (λ n. n == e.daemon) daemons ≡ true
     → (failed ≡ None) ⊎ (is_leave e.what ≡ true) → (failed' ≡ None → (failed ≡ None) × (is_fault e.what ≡ false))
-    → KeepsJournal told daemons first e.done (journal ++ e ∷ []) failed' after
-journal_more told daemons first moment journal failed failed' before after e keeps stands higher later lasts leaves whole = record {
+    → KeepsJournal told daemons first (journal ++ e ∷ []) failed' after
+journal_more told daemons first journal failed failed' before after e keeps stands higher member leaves whole = record {
   leads = lead_more told daemons [] first journal before e after keeps.leads stands;
-  rise = let done = keeps.done in rise_more 0 0 journal e keeps.rise (record { higher = higher; later = omega arith; in_time = lasts });
-  done = subst (λ n. n ≤ e.done) (sym (last_done-more 0 journal e)) (omega arith);
+  rise = numbers_more 0 journal e keeps.rise higher;
+  members = All-push (λ (x : Entry). list_any (λ n. n == x.daemon) daemons ≡ true) journal e keeps.members member;
   ends = by leaves;
   sound = λ none. let w : (failed ≡ None) × (is_fault e.what ≡ false) = whole none in sound_more journal e (keeps.sound w.0) w.1;
 }

@@ -12,9 +12,9 @@ use Rattle.sdr_laws.proofs.DecidedLemmas.{dry_decides, dry_decides_but_bytes, ro
 use Rattle.sdr_laws.proofs.StepLemmas.{row_is_no_stop}
 use Rattle.sdr_laws.specs.Refused.{is_stop}
 use Rattle.sdr_laws.specs.TakesAt.{TakesAt}
-use Rattle.sdr_lock.specs.Agreeing.{AgreesReading, AgreesWith}
+use Rattle.sdr_lock.specs.Agreeing.{AgreesWith}
 use Rattle.sdr_lock.specs.Demand.{demand_after}
-use Rattle.sdr_lock.specs.Ground.{Ground, HasHeap, NoHeap, OnHeap, Replied, State, StepsBare, StepsHeap, StepsOn}
+use Rattle.sdr_lock.specs.Ground.{Ground, HasHeap, NoHeap, OnHeap, Replied, State, StepsOn}
 use Rattle.sdr_lock.specs.Transaction.{bytes_given}
 use Rattle.sdr_lock.proofs.StepLemmas.{from_option, from_test}
 use Rattle.sdr_model.specs.Dry.{StepsDry, StopsReading}
@@ -128,7 +128,7 @@ pools_same P (Gave addr ∷ moves) Q R one two = pools_same _ moves Q R one.1 tw
 pools_same P (Short need ∷ moves) Q R one two = pools_same P moves Q R one.1 two.1
 
 -- how a call was answered in a world
-record Answered (told : Option Told) (w : World) (call : Call) (reply : Reply) (shown : List ℕ) (answer : Answer) (bytes : List ℕ) : Type 0 where
+pub record Answered (told : Option Told) (w : World) (call : Call) (reply : Reply) (shown : List ℕ) (answer : Answer) (bytes : List ℕ) : Type 0 where
   pub answer_is : answer ≡ answers.Reply reply
   pub bytes_are : bytes ≡ bytes_given answer shown
   pub media : AgreesWith told w (events.Say call) answer bytes
@@ -156,11 +156,11 @@ uncounted w o taken (MediaRow.refuses refusal moves after reply) = MediaRow.refu
 uncounted w o taken (MediaRow.gives count moves reply) = MediaRow.gives count moves reply
 
 -- of two tests one is true where the other is
-either_first : (a b : Bool) → a ≡ true → (a || b) ≡ true
+pub either_first : (a b : Bool) → a ≡ true → (a || b) ≡ true
 either_first true b e = refl
 either_first false b e = absurd (true≢false (sym e))
 
-either_second : (a b : Bool) → b ≡ true → (a || b) ≡ true
+pub either_second : (a b : Bool) → b ≡ true → (a || b) ≡ true
 either_second true b e = refl
 either_second false b e = e
 
@@ -241,7 +241,35 @@ module _ (told : Option Told) (w : World) (call : Call) (o o' : Outcome) (answer
       by true e =
           let same = dry_decides_but_bytes w o.after o'.after call o.moves o'.moves o.reply o'.reply dry other in
           let shown : o'.after.shown ≡ o.after.shown =
-              rows_shown e same.2
-              (uncounted w o w.taken (media_row w (record { moves = o.moves; after = record o.after { taken = w.taken }; reply = o.reply }) call e dry.step))
-              (uncounted w o' w.taken (media_row w (record { moves = o'.moves; after = record o'.after { taken = w.taken }; reply = o'.reply }) call e other.step)) in
+          rows_shown e same.2
+          (uncounted w o w.taken (media_row w (record { moves = o.moves; after = record o.after { taken = w.taken }; reply = o.reply }) call e dry.step))
+          (uncounted w o' w.taken (media_row w (record { moves = o'.moves; after = record o'.after { taken = w.taken }; reply = o'.reply }) call e other.step)) in
           λ i. record { moves = sym same.0 i; after = (sym (same.1 ∙ (λ j. record o'.after { shown = sym shown j }))) i; reply = sym same.2 i }
+
+-- two ways in which a call was answered on a ground
+pub steps_same : (told : Option Told) (g : Ground) (s : State) (call : Call) (o o' : Replied) (answer answer' : Answer) (bytes bytes' : List ℕ) → StepsOn g s call o → StepsOn g s call o'
+    → Answered told s.world call o.reply o.after.world.shown answer bytes → Answered told s.world call o'.reply o'.after.world.shown answer' bytes'
+    → (told ≡ None → bytes' ≡ bytes) → ((is_chance answer || is_chance answer') ≡ true → answer' ≡ answer) → (HasHeap g → o'.moves ≡ o.moves) → o' ≡ o
+steps_same told NoHeap s call o o' answer answer' bytes bytes' steps others one two blind chance moves =
+    let same =
+    bare_same told s.world call (record { moves = o.moves; after = o.after.world; reply = o.reply }) (record { moves = o'.moves; after = o'.after.world; reply = o'.reply })
+    answer answer' bytes bytes' one two blind chance steps.step others.step in
+    λ i. record {
+      reply = (same i).reply;
+      moves = (same i).moves;
+      after = record { world = (same i).after; base = (others.base ∙ sym steps.base) i; demand = (others.demand ∙ sym steps.demand) i };
+    }
+steps_same told (OnHeap room P) s call o o' answer answer' bytes bytes' steps others one two blind chance moves =
+    let same =
+    moved_same told s.world call (record { moves = o.moves; after = o.after.world; reply = o.reply }) (record { moves = o'.moves; after = o'.after.world; reply = o'.reply })
+    answer answer' bytes bytes' one two blind chance steps.step others.step (moves tt) in
+    let pools : others.pools ≡ steps.pools = pools_same P o.moves steps.pools others.pools steps.fit (subst (λ ms. MovesPools P ms others.pools) (moves tt) others.fit) in
+    λ i. record {
+      reply = (same i).reply;
+      moves = (same i).moves;
+      after = record {
+        world = (same i).after;
+        base = (others.base ∙ ap (OnHeap room) pools ∙ sym steps.base) i;
+        demand = (others.demand ∙ ap (demand_after s.demand s.world call) same ∙ sym steps.demand) i;
+      };
+    }

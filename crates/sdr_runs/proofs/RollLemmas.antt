@@ -1,6 +1,6 @@
 -- The daemons of a roll, where one is put in its place.
-use Rattle.std.proofs.Common.{◌≡◌, ◌≤◌, ◌<◌, ◌∙◌, ◌==◌, ◌+◌, ℕ, suc, List, [], ◌∷◌, Bool, true, false, not, Option, None, Some, arith, refl, sym, ap, subst, cond, map, min, nat_lt, length, find, true≢false}
-use Rattle.std.specs.List.{AllByRecursion, prefix_len}
+use Rattle.std.proofs.Common.{◌||◌, ◌≡◌, ◌≤◌, ◌<◌, ◌∙◌, ◌==◌, ◌+◌, ℕ, suc, List, [], ◌∷◌, Bool, true, false, not, Option, None, Some, arith, refl, sym, ap, subst, cond, map, min, nat_lt, length, find, true≢false}
+use Rattle.std.specs.List.{AllByRecursion, list_any, prefix_len}
 use Rattle.std.specs.Prelude.{if◌then◌else◌, slice_set, ⊤}
 use Rattle.std.specs.Option.{option_map_or}
 use Rattle.std.proofs.lemmas.Bool.Decides.{nat_tests}
@@ -76,6 +76,16 @@ found_number (x ∷ ds) id d found = by (x.id == id) refl found (found_number ds
     by : (b : Bool) → (x.id == id) ≡ b → cond b (Some x) (among id ds) ≡ Some d → (among id ds ≡ Some d → (d.id == id) ≡ true) → (d.id == id) ≡ true
     by true here e rest = let s : x ≡ d = cc in subst (λ (y : Daemon). (y.id == id) ≡ true) s here
     by false here e rest = rest e
+
+-- and it is one of theirs
+pub found_member : (ds : List Daemon) (id : ℕ) (d : Daemon) → among id ds ≡ Some d → list_any (λ n. n == id) (map (λ (x : Daemon). x.id) ds) ≡ true
+found_member [] id d found = absurd cc
+found_member (x ∷ ds) id d found = by (x.id == id) found (found_member ds id d)
+  where
+    by : (b : Bool) → cond b (Some x) (among id ds) ≡ Some d → (among id ds ≡ Some d → list_any (λ n. n == id) (map (λ (x : Daemon). x.id) ds) ≡ true)
+        → (b || list_any (λ n. n == id) (map (λ (x : Daemon). x.id) ds)) ≡ true
+    by true e rest = refl
+    by false e rest = rest e
 
 -- one that was put in place of another of its number is found
 pub found_put : (ds : List Daemon) (d x : Daemon) → among d.id ds ≡ Some x → among d.id (put_daemon ds d) ≡ Some d

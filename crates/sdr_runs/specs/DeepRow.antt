@@ -22,13 +22,15 @@ unfoldable pub shallower : ℕ → ℕ → ℕ → List Said
 shallower line depth zero = []
 shallower line depth (suc more) = said line events.End (answers.Depth (depth - 1)) ∷ shallower (line + 1) (depth - 1) more
 
--- the first begin, the one that is too deep, and the last end
+-- the first begin
 abbrev pub deep_begin : Said
 deep_begin = said 1 events.Begin (answers.Lock 1)
 
+-- the begin that is too deep
 abbrev pub too_deep : Said
 too_deep = said 65 events.Begin (answers.Reply (replies.Refused refusals.TooDeep))
 
+-- the last end
 abbrev pub deep_end : Said
 deep_end = said 129 events.End (answers.Closed (closes.Cancelled (reasons.Refused 23)))
 

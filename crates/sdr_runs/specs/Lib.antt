@@ -4,7 +4,9 @@ pub mod DeepRow
 pub mod FaultRow
 pub mod Framed
 pub mod LastEntries
-pub mod LookRows
 pub mod NestedRow
 pub mod Replying
+pub mod Rising
 pub mod Rows
+pub mod StalledRow
+pub mod SuspendedRow

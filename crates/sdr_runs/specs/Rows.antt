@@ -1,11 +1,9 @@
 -- Small runs, event by event, and the journals that they leave.
-use Rattle.std.specs.Prelude.{◌≡◌, ◌+◌, ℕ, zero, suc, List, [], ◌∷◌, ◌++◌, None}
+use Rattle.std.specs.Prelude.{◌≡◌, ℕ, List, [], None}
 use Rattle.sdr_base.specs.declared.moves.Move.{Move}
 use Rattle.sdr_lock.specs.Core.{Core, RunsCore, first_core}
-use Rattle.sdr_lock.specs.Demand.{no_demand}
-use Rattle.sdr_lock.specs.Ground.{NoHeap, State}
+use Rattle.sdr_lock.specs.Ground.{State}
 use Rattle.sdr_lock.specs.Machine.{Made}
-use Rattle.sdr_model.specs.World.{World, empty_world}
 use Rattle.sdr_model.specs.declared.answer.Answer.{Answer}
 use Rattle.sdr_model.specs.declared.answer.Answer.TheVariants as answers
 use Rattle.sdr_model.specs.declared.answer.Reply.{Reply}
@@ -37,7 +35,3 @@ says daemon s = record { daemon = daemon; said = s; begun = 0; done = 0 }
 -- an entry, where there is no disk
 abbrev pub entry : ℕ → ℕ → What → Entry
 entry number daemon what = record { number = number; daemon = daemon; begun = 0; done = 0; what = what }
-
--- a world with no heap, in which no transaction is open
-abbrev pub bare : World → State
-bare w = record { world = w; base = NoHeap; demand = no_demand }

@@ -1,12 +1,13 @@
 // Small runs.
 ghost use Rattle.std.specs.Prelude.{ℕ, [], ◌∷◌};
-ghost use Rattle.sdr_lock.specs.Ground.{State};
+ghost use Rattle.sdr_lock.specs.Ground.{State, bare};
 ghost use Rattle.sdr_model.specs.World.{empty_world};
 ghost use Rattle.sdr_runs.specs.DeepRow.{deep_journal, deep_made};
 ghost use Rattle.sdr_runs.specs.FaultRow.{faulted_journal, faulted_made, fresh_state};
-ghost use Rattle.sdr_runs.specs.LookRows.{crowded_world, stalled_journal, stalled_made, suspended_journal, suspended_made};
 ghost use Rattle.sdr_runs.specs.NestedRow.{doomed_journal, doomed_made};
-ghost use Rattle.sdr_runs.specs.Rows.{LeavesJournal, bare};
+ghost use Rattle.sdr_runs.specs.Rows.{LeavesJournal};
+ghost use Rattle.sdr_runs.specs.StalledRow.{stalled_journal, stalled_made};
+ghost use Rattle.sdr_runs.specs.SuspendedRow.{suspended_journal, suspended_made};
 
 /// A law: an inner cancel dooms. The call that follows is refused, the outermost end cancels for that reason, and what
 /// was catalogued isn't found any more. It does nothing.
@@ -19,10 +20,11 @@ pub fn a_second_daemon_is_suspended()
     ensures { LeavesJournal (1 ∷ 2 ∷ []) (bare empty_world) suspended_made suspended_journal }
 {}
 
-/// A law: a daemon that looks again is told that all have stalled, where both wait for tickets that aren't granted;
-/// once it has an entry that is no wait, the other isn't told so. It does nothing.
+/// A law: a daemon that looks again is told that all have stalled, where the last entry of each is a wait for a ticket
+/// that isn't granted. Once one has another entry, the other isn't told so; it is awarded its ticket when the first has
+/// given up its own. It does nothing.
 pub fn all_have_stalled()
-    ensures { LeavesJournal (1 ∷ 2 ∷ []) (bare crowded_world) stalled_made stalled_journal }
+    ensures { LeavesJournal (1 ∷ 2 ∷ []) (bare empty_world) stalled_made stalled_journal }
 {}
 
 /// A law: transactions are nested to depth 64, on any ground. One more begin is refused and dooms. It does nothing.

@@ -2,7 +2,7 @@
 ghost use Rattle.std.specs.List.{IsDistinct};
 ghost use Rattle.std.specs.Prelude.{◌≡◌, ℕ, List, Option, nat_eq};
 ghost use Rattle.sdr_base.specs.Media.{Told};
-ghost use Rattle.sdr_lock.specs.Core.{AreInTime, Core, RunsCore, first_core};
+ghost use Rattle.sdr_lock.specs.Core.{Core, RunsCore, first_core};
 ghost use Rattle.sdr_lock.specs.Ground.{State};
 ghost use Rattle.sdr_lock.specs.Legal.{have_stalled};
 ghost use Rattle.sdr_lock.specs.Machine.{Made};
@@ -15,10 +15,10 @@ ghost use Rattle.sdr_runs.specs.LastEntries.{AgreesWithJournal};
 /// have stalled by the roll just where the last entry of each is a leave, or a wait for a ticket that isn't granted. It
 /// does nothing.
 pub fn rolls_agree_with_journals()
-    ensures agree { (told : Option Told) (daemons : List ℕ) (first : State) (moment : ℕ) (made : List Made) (core : Core) →
-        AreInTime moment made → RunsCore told (first_core daemons first) made core →
+    ensures agree { (told : Option Told) (daemons : List ℕ) (first : State) (made : List Made) (core : Core) →
+        RunsCore told (first_core daemons first) made core →
         AgreesWithJournal core.log.journal core.machine.roll }
-    ensures stalled { (told : Option Told) (daemons : List ℕ) (first : State) (moment : ℕ) (made : List Made) (core : Core) →
-        IsDistinct nat_eq daemons → AreInTime moment made → RunsCore told (first_core daemons first) made core →
+    ensures stalled { (told : Option Told) (daemons : List ℕ) (first : State) (made : List Made) (core : Core) →
+        IsDistinct nat_eq daemons → RunsCore told (first_core daemons first) made core →
         (w : World) → is_stalled core.machine.roll w ≡ have_stalled daemons core.log.journal w }
 {}

@@ -1,4 +1,4 @@
-use Rattle.sdr_runs.proofs.RowLemmas.{stalled_row}
+use Rattle.sdr_runs.proofs.StalledRow.{stalled_row}
 use Rattle.sdr_runs.proofs.rows.all_have_stalled.Goals as goal
 
 pub returns : goal.returns

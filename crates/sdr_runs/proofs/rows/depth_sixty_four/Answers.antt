@@ -1,4 +1,4 @@
-use Rattle.sdr_runs.proofs.DeepLemmas.{deep_row}
+use Rattle.sdr_runs.proofs.DeepRow.{deep_row}
 use Rattle.sdr_runs.proofs.rows.depth_sixty_four.Goals as goal
 
 pub returns : goal.returns

@@ -1,4 +1,4 @@
-use Rattle.sdr_runs.proofs.RowLemmas.{faulted_row}
+use Rattle.sdr_runs.proofs.FaultedRow.{faulted_row}
 use Rattle.sdr_runs.proofs.rows.the_first_sync_fails.Goals as goal
 
 pub returns : goal.returns

@@ -1,23 +1,22 @@
 -- The row of transactions that are nested to depth 64.
-use Rattle.std.proofs.Common.{◌≡◌, ◌≤◌, ◌<◌, ◌∙◌, ◌==◌, ◌+◌, ◌-◌, ℕ, zero, suc, List, [], ◌∷◌, ◌++◌, Bool, true, false, Option, None, Some, arith, refl, sym, ap, subst, inl, map, nat_le, append_assoc, append-nil}
+use Rattle.std.proofs.Common.{◌≡◌, ◌≤◌, ◌<◌, ◌==◌, ◌+◌, ◌-◌, ℕ, zero, suc, List, [], ◌∷◌, ◌++◌, false, Option, None, Some, arith, refl, sym, ap, subst, inl, map, nat_le, append_assoc, append-nil}
 use Rattle.std.specs.Prelude.{if◌then◌else◌}
 use Rattle.std.proofs.lemmas.Bool.Decides.{nat_tests}
 use Rattle.sdr_base.specs.Media.{Told}
 use Rattle.sdr_base.specs.declared.refusal.Reason.{Reason}
 use Rattle.sdr_base.specs.declared.refusal.Reason.TheVariants as reasons
 use Rattle.sdr_base.specs.declared.refusal.Refusal.TheVariants as refusals
-use Rattle.sdr_lock.specs.Core.{Core, CoreStep, RunsCore, first_core}
+use Rattle.sdr_lock.specs.Core.{Core, RunsCore, first_core}
 use Rattle.sdr_lock.specs.Ground.{State}
 use Rattle.sdr_lock.specs.Machine.{Machine, Made, MachineStep}
-use Rattle.sdr_lock.specs.Nesting.{comes_to, deepened, deepest, doomed_for}
-use Rattle.sdr_lock.specs.Transaction.{Nests, Transaction}
+use Rattle.sdr_lock.specs.Nesting.{comes_to, doomed_for}
+use Rattle.sdr_lock.specs.Transaction.{Nests}
 use Rattle.sdr_lock.specs.declared.nesting.Nesting.{Nesting}
 use Rattle.sdr_lock.proofs.WorkLemmas.{on_false}
 use Rattle.sdr_model.specs.declared.answer.Answer.TheVariants as answers
 use Rattle.sdr_model.specs.declared.answer.Close.TheVariants as closes
 use Rattle.sdr_model.specs.declared.answer.Reply.TheVariants as replies
 use Rattle.sdr_model.specs.declared.event.Event.TheVariants as events
-use Rattle.sdr_model.specs.declared.journal.Entry.{Entry}
 use Rattle.sdr_model.specs.declared.journal.Said.{Said}
 use Rattle.sdr_model.specs.declared.journal.What.TheVariants as whats
 use Rattle.sdr_runs.specs.DeepRow.{deep_begin, deep_end, deep_journal, deep_made, deep_said, deeper, shallower, too_deep}
@@ -73,12 +72,13 @@ begins_run s zero line depth all some most =
     λ i. core_at s (z i) None (append-nil all i)
 begins_run s (suc more) line depth all some most =
     let next : Said = said line events.Begin (answers.Depth (depth + 1)) in
-    let z : depth + 1 + more ≡ depth + suc more = omega arith in
-    (core_at s (depth + 1) None (all ++ next ∷ []),
-    record { next = at s (depth + 1) None; step = begin_step s depth line some (omega arith); media = tt; history = refl },
-    subst (RunsCore None (core_at s (depth + 1) None (all ++ next ∷ [])) (map (says 1) (deeper (line + 1) (depth + 1) more)))
-    (λ i. core_at s (z i) None (append_assoc all (next ∷ []) (deeper (line + 1) (depth + 1) more) i))
-    (begins_run s more (line + 1) (depth + 1) (all ++ next ∷ []) (omega arith) (omega arith)))
+    let z : depth + 1 + more ≡ depth + suc more = omega arith in (
+      core_at s (depth + 1) None (all ++ next ∷ []),
+      record { next = at s (depth + 1) None; step = begin_step s depth line some (omega arith); media = tt; history = refl },
+      subst (RunsCore None (core_at s (depth + 1) None (all ++ next ∷ [])) (map (says 1) (deeper (line + 1) (depth + 1) more)))
+          (λ i. core_at s (z i) None (append_assoc all (next ∷ []) (deeper (line + 1) (depth + 1) more) i))
+          (begins_run s more (line + 1) (depth + 1) (all ++ next ∷ []) (omega arith) (omega arith)),
+    )
 
 -- so many ends
 ends_run : (s : State) (doom : Option Reason) (more line depth : ℕ) (all : List Said) → more < depth
@@ -89,12 +89,13 @@ ends_run s doom zero line depth all above =
     λ i. core_at s (z i) doom (append-nil all i)
 ends_run s doom (suc more) line depth all above =
     let next : Said = said line events.End (answers.Depth (depth - 1)) in
-    let z : depth - 1 - more ≡ depth - suc more = omega arith in
-    (core_at s (depth - 1) doom (all ++ next ∷ []),
-    record { next = at s (depth - 1) doom; step = end_step s depth line doom (omega arith); media = tt; history = refl },
-    subst (RunsCore None (core_at s (depth - 1) doom (all ++ next ∷ [])) (map (says 1) (shallower (line + 1) (depth - 1) more)))
-    (λ i. core_at s (z i) doom (append_assoc all (next ∷ []) (shallower (line + 1) (depth - 1) more) i))
-    (ends_run s doom more (line + 1) (depth - 1) (all ++ next ∷ []) (omega arith)))
+    let z : depth - 1 - more ≡ depth - suc more = omega arith in (
+      core_at s (depth - 1) doom (all ++ next ∷ []),
+      record { next = at s (depth - 1) doom; step = end_step s depth line doom (omega arith); media = tt; history = refl },
+      subst (RunsCore None (core_at s (depth - 1) doom (all ++ next ∷ [])) (map (says 1) (shallower (line + 1) (depth - 1) more)))
+          (λ i. core_at s (z i) doom (append_assoc all (next ∷ []) (shallower (line + 1) (depth - 1) more) i))
+          (ends_run s doom more (line + 1) (depth - 1) (all ++ next ∷ []) (omega arith)),
+    )
 
 -- what was said up to the begin that is too deep, and up to the last end
 abbrev before_end : List Said
@@ -114,36 +115,40 @@ said_in_order = ap (λ all. all ++ deep_end ∷ []) (append_assoc (deep_begin �
 
 -- down to depth 64, back to depth 1, and out
 run_down : (s : State) → RunsCore None (first_core (1 ∷ []) s) (says 1 deep_begin ∷ map (says 1) (deeper 2 1 63)) (core_at s 64 None (deep_begin ∷ deeper 2 1 63))
-run_down s =
-    (core_at s 1 None (deep_begin ∷ []), record { next = at s 1 None; step = record { told = plain; after = refl }; media = tt; history = refl },
-    begins_run s 63 2 1 (deep_begin ∷ []) (omega arith) (omega arith))
+run_down s = (
+  core_at s 1 None (deep_begin ∷ []),
+  record { next = at s 1 None; step = record { told = plain; after = refl }; media = tt; history = refl },
+  begins_run s 63 2 1 (deep_begin ∷ []) (omega arith) (omega arith),
+)
 
 run_back : (s : State) → RunsCore None (core_at s 64 None (deep_begin ∷ deeper 2 1 63)) (says 1 too_deep ∷ map (says 1) (shallower 66 64 63)) (core_at s 1 (Some (reasons.Refused 23)) before_end)
-run_back s =
-    (core_at s 64 (Some (reasons.Refused 23)) ((deep_begin ∷ deeper 2 1 63) ++ too_deep ∷ []),
-    record {
-      next = at s 64 (Some (reasons.Refused 23));
-      step = inl (record {
-        after = record { number = 1; nesting = at_depth 64 (Some (reasons.Refused 23)); state = s };
-        transacts = record { told = plain; after = refl };
-        others = refl;
-      });
-      media = tt;
-      history = refl;
-    },
-    ends_run s (Some (reasons.Refused 23)) 63 66 64 ((deep_begin ∷ deeper 2 1 63) ++ too_deep ∷ []) (omega arith))
+run_back s = (
+  core_at s 64 (Some (reasons.Refused 23)) ((deep_begin ∷ deeper 2 1 63) ++ too_deep ∷ []),
+  record {
+    next = at s 64 (Some (reasons.Refused 23));
+    step = inl (record {
+      after = record { number = 1; nesting = at_depth 64 (Some (reasons.Refused 23)); state = s };
+      transacts = record { told = plain; after = refl };
+      others = refl;
+    });
+    media = tt;
+    history = refl;
+  },
+  ends_run s (Some (reasons.Refused 23)) 63 66 64 ((deep_begin ∷ deeper 2 1 63) ++ too_deep ∷ []) (omega arith),
+)
 
 run_out : (s : State)
     → RunsCore None (core_at s 1 (Some (reasons.Refused 23)) before_end) (says 1 deep_end ∷ says 1 (said 130 events.End (answers.Reply (replies.Refused refusals.NotBegun))) ∷ []) (deep_core s)
-run_out s =
-    (deep_core s,
-    record {
-      next = machine (holder 1 None ∷ []) 1 s s;
-      step = inl (record { close = closes.Cancelled (reasons.Refused 23); left = s; closes = record { how = refl; told = plain; left = refl }; after = refl });
-      media = tt;
-      history = ap (core_out s) (sym (append-nil (before_end ++ deep_end ∷ [])));
-    },
-    (deep_core s, record { next = machine (holder 1 None ∷ []) 1 s s; step = record { told = plain; after = refl }; media = tt; history = refl }, refl))
+run_out s = (
+  deep_core s,
+  record {
+    next = machine (holder 1 None ∷ []) 1 s s;
+    step = inl (record { close = closes.Cancelled (reasons.Refused 23); left = s; closes = record { how = refl; told = plain; left = refl }; after = refl });
+    media = tt;
+    history = ap (core_out s) (sym (append-nil (before_end ++ deep_end ∷ [])));
+  },
+  (deep_core s, record { next = machine (holder 1 None ∷ []) 1 s s; step = record { told = plain; after = refl }; media = tt; history = refl }, refl),
+)
 
 pub deep_row : (s : State) → LeavesJournal (1 ∷ []) s deep_made deep_journal
 deep_row s = record {
