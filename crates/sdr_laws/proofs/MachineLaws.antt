@@ -8,9 +8,9 @@ use Rattle.sdr_laws.proofs.FreshWorlds.{fresh_barred, fresh_fits, fresh_queues}
 use Rattle.sdr_laws.proofs.Examples.{empty_is_valid, empty_addresses}
 use Rattle.sdr_laws.specs.ValidDry.{IsValidDry}
 use Rattle.sdr_lock.proofs.StepLemmas.{IsCalled, Kind, step_is}
-use Rattle.sdr_lock.specs.Core.{Core, CoreStep, RunsCore, first_core}
+use Rattle.sdr_lock.specs.Core.{Core, RunsCore, first_core}
 use Rattle.sdr_lock.specs.Ground.{Ground, HasHeap, State, StepsBare, StepsOn, bare}
-use Rattle.sdr_lock.specs.Machine.{Machine, Made, MachineStep}
+use Rattle.sdr_lock.specs.Machine.{Machine, Made}
 use Rattle.sdr_lock.specs.Transaction.{Transaction, left_by}
 use Rattle.sdr_model.specs.Accounts.{ticket_blocks}
 use Rattle.sdr_model.specs.Blocks.{addresses_of, blocks_of, things_blocks}

@@ -1,12 +1,12 @@
 -- Who holds a number, and what a step leaves of that.
-use Rattle.std.proofs.Common.{◌≡◌, ◌≤◌, ◌⊎◌, ◌∙◌, ◌==◌, ◌+◌, ◌||◌, ◌&&◌, ℕ, List, [], ◌∷◌, suc, Bool, true, false, true≢false, Option, None, Some, IsSome, is_none, is_some, cond, find, length, min, not, if◌then◌else◌, nat_le, arith, MatchBool, refl, sym, ap, subst, inl, inr}
+use Rattle.std.proofs.Common.{◌≡◌, ◌≤◌, ◌⊎◌, ◌∙◌, ◌==◌, ◌+◌, ◌||◌, ◌&&◌, ℕ, List, [], ◌∷◌, suc, Bool, true, false, true≢false, Option, None, Some, IsSome, is_none, is_some, cond, find, length, min, not, if◌then◌else◌, nat_le, arith, refl, sym, ap, subst, inl, inr}
 use Rattle.std.proofs.lemmas.Bool.Decides.{nat_tests}
-use Rattle.std.specs.List.{list_all, list_any, position_or_len}
+use Rattle.std.specs.List.{list_any, position_or_len}
 use Rattle.std.specs.Option.{option_map_or}
 use Rattle.std.specs.Prelude.{nat_lt, slice_set}
-use Rattle.sdr_lock.specs.Holders.{HoldFirst, MayHold, hold_none, holders}
+use Rattle.sdr_lock.specs.Holders.{HoldFirst, hold_none, holders}
 use Rattle.sdr_lock.specs.Leaving.{holds_number, served_daemon}
-use Rattle.sdr_lock.specs.Roll.{Roll, daemon_of, least_held, lesser_of, put_daemon}
+use Rattle.sdr_lock.specs.Roll.{Roll, least_held, lesser_of, put_daemon}
 use Rattle.sdr_lock.specs.declared.daemon.Daemon.{Daemon}
 use Rattle.sdr_lock.specs.declared.daemon.Holding.{Holding}
 
@@ -148,6 +148,7 @@ put_fewer d d' (x ∷ xs) found id holds free = by (λ there. put_fewer d d' xs 
         let rest = among there in
         ap (λ n. if is_some x.holds then n + 1 else n) rest
         ∙ sym (ap (λ (ds : List Daemon). holders ds + 1) (put_there x d' xs (same_test ∙ is)) ∙ one_more (is_some x.holds) (holders (put_daemon xs d')))
+
 -- no more hold a number than there are
 pub holders_few : (ds : List Daemon) → holders ds ≤ length ds
 holders_few [] = omega arith

@@ -1,5 +1,5 @@
 -- What a step leaves of who holds a number.
-use Rattle.std.proofs.Common.{◌≡◌, ◌⊎◌, ◌∙◌, ◌==◌, ◌&&◌, ◌+◌, ℕ, List, [], Bool, true, false, true≢false, Option, None, Some, IsSome, is_none, is_some, find, cond, length, arith, MatchBool, refl, sym, ap, subst, inl, inr}
+use Rattle.std.proofs.Common.{◌≡◌, ◌⊎◌, ◌∙◌, ◌==◌, ◌&&◌, ◌+◌, ℕ, [], true, false, true≢false, Option, None, Some, IsSome, is_none, is_some, length, arith, MatchBool, refl, sym, ap, subst, inl, inr}
 use Rattle.std.proofs.lemmas.Bool.Decides.{nat_tests}
 use Rattle.std.specs.Option.{option_map_or}
 use Rattle.sdr_model.specs.AccountSteps.{pending_of}

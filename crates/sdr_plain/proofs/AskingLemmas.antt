@@ -1,18 +1,17 @@
 -- Calls that read media, as steps of the machine.
-use Rattle.std.proofs.Common.{◌≡◌, ◌⊎◌, ◌≤◌, ◌==◌, ◌&&◌, ℕ, List, [], Bool, true, false, not, if◌then◌else◌, ◌+◌, unwrap_or, Result, Ok, Err, IfOk, IfSome, Option, None, Some, inl, inr, length, refl, sym, ap, ◌∙◌, subst, arith, MatchBool, MatchOption, true≢false}
+use Rattle.std.proofs.Common.{◌≡◌, ◌⊎◌, ◌≤◌, ◌==◌, ◌&&◌, ℕ, List, [], Bool, true, false, not, if◌then◌else◌, unwrap_or, Result, Ok, Err, IfOk, IfSome, Option, None, Some, inl, inr, length, refl, sym, ap, ◌∙◌, subst, arith, MatchBool, MatchOption, true≢false}
 use Rattle.std.proofs.lemmas.Bool.{ltb-false}
 use Rattle.std.specs.List.{list_any}
 use Rattle.std.specs.Option.{option_map_or}
 use Rattle.std.specs.Prelude.{is_none, nat_lt}
 use Rattle.sdr_base.specs.Media.{Told}
-use Rattle.sdr_base.specs.declared.refusal.Reason.{Reason}
 use Rattle.sdr_base.specs.declared.refusal.Refusal.{Refusal}
 use Rattle.sdr_base.specs.declared.refusal.Refusal.TheVariants as refusals
-use Rattle.sdr_lock.proofs.LockLemmas.{agrees_untold, tells_media}
-use Rattle.sdr_lock.proofs.StepLemmas.{IsCalled, IsQuiet, IsServed, Kind, step_is}
+use Rattle.sdr_lock.proofs.LockLemmas.{agrees_untold}
+use Rattle.sdr_lock.proofs.StepLemmas.{IsCalled, IsServed, Kind, step_is}
 use Rattle.sdr_lock.proofs.WorkLemmas.{on_false, on_none, on_some, on_true}
 use Rattle.sdr_lock.specs.Agreeing.{AgreesReading, AgreesWith}
-use Rattle.sdr_lock.specs.Ground.{MayMissMedia, State, Steps, StepsBare, asks_media, lies_with_media}
+use Rattle.sdr_lock.specs.Ground.{MayMissMedia, asks_media, lies_with_media}
 use Rattle.sdr_lock.specs.Machine.{Holds, Machine, Made, MachineStep}
 use Rattle.sdr_base.specs.Refusal.{refusal_number}
 use Rattle.sdr_base.specs.declared.refusal.Reason.TheVariants as reasons

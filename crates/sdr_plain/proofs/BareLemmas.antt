@@ -1,5 +1,5 @@
 -- A world in memory as a ground.
-use Rattle.std.proofs.Common.{◌≡◌, ◌∙◌, ◌≤◌, ◌<◌, ◌+◌, ◌*◌, ◌^◌, true≢false, ℕ, List, [], suc, true, false, Option, None, Some, Bool, unwrap_or, refl, sym, ap, subst, inl, inr, arith}
+use Rattle.std.proofs.Common.{◌≡◌, ◌∙◌, ◌≤◌, ◌<◌, ◌+◌, ◌^◌, true≢false, ℕ, List, suc, true, false, Option, None, Some, Bool, unwrap_or, refl, sym, ap, subst, inl, arith}
 use Rattle.std.specs.FinMap.{empty, get-empty}
 use Rattle.std.specs.Ordering.{nat_cmp}
 use Rattle.sdr_base.specs.declared.moves.Move.{Move}
@@ -22,7 +22,7 @@ use Rattle.sdr_lock.specs.Ground.{bare, MayMissMedia, State, Steps, kept, put_ba
 use Rattle.sdr_lock.specs.Serving.{Brings, Calls, Keeps, KeepsGround, PutsBack, Shows, ShowsBytes, shown_in, with_given}
 use Rattle.sdr_lock.specs.declared.has_ground.HasGround.{Ghosts}
 use Rattle.sdr_lock.proofs.GroundLemmas.{gaps_same, leaves_either, one_less}
-use Rattle.sdr_plain.specs.Bare.{IsAfter, LastsBare, StandsBare, Worlds, no_gaps}
+use Rattle.sdr_plain.specs.Bare.{LastsBare, StandsBare, Worlds, no_gaps}
 
 -- the worlds as a ground
 abbrev pub bare_ground : Ghosts Worlds

@@ -4,7 +4,6 @@ use Rattle.std.proofs.lemmas.List.{length-map, take_all}
 use Rattle.std.proofs.lemmas.List.Filters.{length-filter_both}
 use Rattle.std.specs.Option.{option_map_or}
 use Rattle.sdr_base.specs.Media.{Told}
-use Rattle.sdr_model.specs.Few.{most_pieces}
 use Rattle.sdr_model.specs.World.{World, empty_world}
 use Rattle.sdr_model.specs.declared.event.Event.TheVariants as events
 use Rattle.sdr_base.specs.declared.refusal.Refusal.TheVariants as refusals
@@ -22,17 +21,15 @@ use Rattle.sdr_lock.specs.Core.{Core, core_after}
 use Rattle.sdr_lock.specs.Holders.{HoldFirst, hold_none, holders}
 use Rattle.sdr_lock.specs.Leaving.{LeaveInTurn, MakesLeave, holds_number, served_daemon, staying}
 use Rattle.sdr_lock.specs.Gaps.{HasGapCause}
-use Rattle.sdr_lock.specs.Ground.{bare, State}
 use Rattle.sdr_lock.specs.Machine.{Machine, Made, MachineStep}
 use Rattle.sdr_lock.specs.Roll.{Roll, at_nesting, daemon_of, first_roll, newcomer, served_number, with_daemon}
-use Rattle.sdr_lock.specs.Serving.{Acts, Brings, KeepsGround, Locked, Makes, StoodFor, ShowsBytes, machine_at, made_by, roll_settled, with_given}
-use Rattle.sdr_lock.specs.Standing.{Standing}
+use Rattle.sdr_lock.specs.Serving.{Acts, Brings, KeepsGround, Locked, Makes, StoodFor, ShowsBytes, machine_at, made_by, roll_settled}
 use Rattle.sdr_lock.specs.declared.came.Came.{Came}
 use Rattle.sdr_lock.specs.declared.daemon.Daemon.{Daemon}
 use Rattle.sdr_lock.specs.declared.daemon.Holding.{Holding}
 use Rattle.sdr_plain.proofs.BareLemmas.{bare_ground, lasts_empty}
 use Rattle.sdr_plain.specs.Asking.{StepsAt, is_gap, made_dry, settled}
-use Rattle.sdr_plain.specs.Bare.{LastsBare, StandsBare, Worlds, machine_on, no_gaps, standing_bare}
+use Rattle.sdr_plain.specs.Bare.{StandsBare, Worlds, machine_on, no_gaps, standing_bare}
 use Rattle.sdr_plain.specs.Leaves.{AllLeaveFrom, HoldersLeaveFrom, LeaveInTurnFrom}
 use Rattle.sdr_plain.specs.Plain.{IsKept, Plain, machine_of}
 
@@ -168,8 +165,11 @@ all_leave leave m mid m' first last = record {
 -- no more stay than there are
 pub staying_few : (r : Roll) → length (staying r) ≤ length r.daemons
 staying_few r =
-    omega (arith, length-map (filter (λ (d : Daemon). not d.left) r.daemons) (λ (d : Daemon). d.id),
-    length-filter_both (λ (d : Daemon). not d.left) (λ (d : Daemon). not (not d.left)) (λ d. refl) r.daemons)
+    omega (
+      arith,
+      length-map (filter (λ (d : Daemon). not d.left) r.daemons) (λ (d : Daemon). d.id),
+      length-filter_both (λ (d : Daemon). not d.left) (λ (d : Daemon). not (not d.left)) (λ d. refl) r.daemons,
+    )
 
 -- where one is served, one is held
 pub served_some : (r : Roll) (d : Daemon) → served_daemon r ≡ Some d → 1 ≤ holders r.daemons

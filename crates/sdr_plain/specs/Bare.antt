@@ -1,5 +1,5 @@
 -- A world in memory as the ground of a lock.
-use Rattle.std.specs.Prelude.{◌≡◌, ◌≤◌, ℕ, ◌+◌, ◌*◌, ◌^◌, [], None}
+use Rattle.std.specs.Prelude.{◌≡◌, ◌≤◌, ℕ, ◌+◌, ◌*◌, ◌^◌, []}
 use Rattle.sdr_model.specs.Few.{HasFewPieces, most_pieces}
 use Rattle.sdr_model.specs.World.{World}
 use Rattle.sdr_lock.specs.Gaps.{Gaps}

@@ -1,9 +1,10 @@
 -- A plain machine, as contracts see it.
-use Rattle.std.specs.Prelude.{◌≡◌, ◌≤◌, ℕ, ◌+◌, [], None}
+use Rattle.std.specs.Prelude.{◌≡◌, ◌≤◌, ℕ, ◌+◌, List, [], None}
 use Rattle.sdr_model.specs.Few.{most_pieces}
+use Rattle.sdr_model.specs.World.{empty_world}
 use Rattle.sdr_lock.specs.Holders.{HoldFirst}
 use Rattle.sdr_lock.specs.Machine.{Machine}
-use Rattle.sdr_lock.specs.Roll.{Roll}
+use Rattle.sdr_lock.specs.Roll.{Roll, first_roll}
 use Rattle.sdr_plain.specs.Bare.{LastsBare, Worlds, machine_on}
 
 -- the roll of its lock, its worlds, and how many events were made
@@ -11,6 +12,10 @@ pub record Plain : Type 0 where
   pub roll : Roll
   pub worlds : Worlds
   pub events : ℕ
+
+-- a plain machine of these daemons before any event
+abbrev pub first_plain : List ℕ → Plain
+first_plain daemons = record { roll = first_roll daemons; worlds = record { begun = empty_world; now = empty_world }; events = 0 }
 
 -- the machine that it is
 abbrev pub machine_of : Plain → Machine

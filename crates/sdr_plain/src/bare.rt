@@ -6,12 +6,12 @@ ghost use Rattle.sdr_model.specs.Reading.{reads_media};
 ghost use Rattle.sdr_lock.specs.Serving.{shown_among};
 ghost use Rattle.sdr_plain.specs.Asking.{HasPieces};
 
+use crate::apply;
 use crate::asking::pieces_of;
 use sdr_base::{Bytes, Items, NoMemory};
 use sdr_draft::Undoable;
 use sdr_lock::{Fault, Halt, HasGround, Serves, Shows};
 use sdr_model::{Accounts, Call, Piece, Reply};
-use crate::apply;
 use std::alloc::Global;
 use std::marker::Model;
 

@@ -1,12 +1,10 @@
 // The machine on a plain world.
 ghost use Rattle.std.specs.Prelude.{ℕ, filter, map, not, true, false, ◌≡◌, ◌<◌, ◌≤◌, ◌+◌, ◌*◌, IfOk, IfSome, None, Ok, OnOk, OnErr, length};
 ghost use Rattle.sdr_lock.specs.Holders.{hold_none, holders};
-ghost use Rattle.sdr_lock.specs.Roll.{first_roll};
 ghost use Rattle.sdr_lock.specs.Serving.{roll_settled};
-ghost use Rattle.sdr_model.specs.World.{empty_world};
 ghost use Rattle.sdr_plain.specs.Asking.{Asks, AsksNothing, StepsAt, bytes_of, is_gap, settled};
 ghost use Rattle.sdr_plain.specs.Leaves.{AllLeaveFrom, HoldersLeaveFrom, LeaveInTurnFrom};
-ghost use Rattle.sdr_plain.specs.Plain.{machine_of};
+ghost use Rattle.sdr_plain.specs.Plain.{first_plain, machine_of};
 
 use crate::Bare;
 use sdr_base::{Bytes, Items, NoMemory};
@@ -53,11 +51,7 @@ fn staying(alloc: Global, daemons: &[Daemon]) -> Result<Vec<u8>, NoMemory>
 impl Plain {
     /// A machine of these daemons, before any event.
     pub fn new(alloc: Global, daemons: &[u8]) -> Result<Plain, NoMemory>
-        ensures { IfOk result (λ plain. plain ≡ record {
-          roll = first_roll daemons.now;
-          worlds = record { begun = empty_world; now = empty_world };
-          events = 0;
-        }) }
+        ensures { IfOk result (λ plain. plain ≡ first_plain daemons.now) }
     {
         match Lock::new(alloc, daemons, Bare::new(alloc)) {
             Ok(lock) => Ok(Plain {

@@ -19,11 +19,11 @@ fn answers(plain: &mut Plain) -> Result<[Answer; 5], NoMemory>
     requires { plain.old.events ≡ 0 }
 {
     Ok([
-        plain.event(3, 1, &Event::Request)?,
-        plain.event(3, 2, &Event::End)?,
-        plain.event(4, 3, &Event::Begin)?,
-        plain.event(3, 4, &Event::Begin)?,
-        plain.event(3, 5, &Event::End)?,
+        plain.event(3, &Event::Request)?.answer,
+        plain.event(3, &Event::End)?.answer,
+        plain.event(4, &Event::Begin)?.answer,
+        plain.event(3, &Event::Begin)?.answer,
+        plain.event(3, &Event::End)?.answer,
     ])
 }
 

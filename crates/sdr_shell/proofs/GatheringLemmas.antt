@@ -1,18 +1,20 @@
 -- What reads of media give of pieces.
-use Rattle.std.proofs.Common.{◌≡◌, ◌≤◌, ◌<◌, ℕ, suc, List, [], ◌∷◌, ◌++◌, false, Option, None, Some, length, take, drop, min, refl, sym, ap, ◌∙◌, subst, arith, IfSome, append_assoc, append-nil, length-append, ◌⊎◌, inl, inr, Result, Ok, Err, IfOk}
+use Rattle.std.proofs.Common.{◌≡◌, ◌≤◌, ◌<◌, ◌||◌, ℕ, suc, List, [], ◌∷◌, ◌++◌, Bool, true, false, Option, None, Some, length, take, drop, min, refl, sym, ap, ◌∙◌, subst, arith, IfSome, append_assoc, append-nil, length-append, ◌⊎◌, inl, inr, Result, Ok, Err, IfOk, OnErr}
+use Rattle.std.specs.List.{list_any}
 use Rattle.std.specs.Prelude.{MatchBool, nat_lt}
 use Rattle.std.proofs.lemmas.Bool.{le-ltb, lt-ltb}
 use Rattle.std.proofs.Math.Seq.{take-length}
 use Rattle.std.proofs.lemmas.List.{length-map, length-replicate, length-take}
 use Rattle.sdr_base.specs.Media.{GivesFrom, Told, file_bytes, item_bytes}
-use Rattle.sdr_machine.specs.Asking.{IsFirstShort}
+use Rattle.sdr_lock.specs.Agreeing.{IsFirstShort}
+use Rattle.sdr_lock.specs.Ground.{lies_with_media}
 use Rattle.sdr_model.specs.Pieces.{bytes_by, media_bytes, piece_length, piece_told, pieces_told}
 use Rattle.sdr_model.specs.Wire.{Spells, ToldBytes, known, unknown}
 use Rattle.sdr_model.specs.declared.piece.Piece.{Piece}
 use Rattle.sdr_model.specs.declared.piece.Piece.TheVariants as pieces
 use Rattle.sdr_shell.specs.declared.media.Gap.{Gap}
 use Rattle.sdr_shell.specs.declared.media.Gap.TheVariants as gaps
-use Rattle.sdr_shell.specs.Gathering.{AddsPiece, AreGathered, Gathering, HasGiven, IsGapIn, IsGapOf}
+use Rattle.sdr_shell.specs.Gathering.{AddsPiece, AreGathered, Gathering, HasGiven, IsGapIn, IsGapOf, OfMedia}
 
 -- known bytes are spelled by themselves
 pub spells_known : (bytes : List ℕ) → Spells (known bytes) bytes
@@ -34,8 +36,8 @@ spells-append (t ∷ told) more [] rest s r = absurd s
 
 -- nothing was gathered yet
 pub gathering-start : (told : Option Told) (pieces : List Piece) → Gathering told pieces pieces []
-gathering-start None pieces = record { known = λ more s. s; held = tt; first = tt }
-gathering-start (Some media) pieces = record { known = λ more s. s; held = refl; first = λ have want s. s }
+gathering-start None pieces = record { known = λ more s. s; held = tt; outside = λ lies. lies; first = tt }
+gathering-start (Some media) pieces = record { known = λ more s. s; held = refl; outside = λ lies. lies; first = λ have want s. s }
 
 -- the bytes of a piece are as many as it has
 pub length-told : (told : ToldBytes) (bytes : List ℕ) → Spells told bytes → length bytes ≡ length told
@@ -136,6 +138,16 @@ module _ {E : Type 0} (told : Option Told) (offset want : ℕ) (into : List ℕ)
   item_read_given item (Ok n) gives few short = item_given told item offset want n into Short gives asked few short
   item_read_given item (Err e) gives few short = tt
 
+-- what comes of a read of media, comes of them
+pub of_media : {E : Type 0} (P : ℕ → Type 0) (Cause : Type 0) (outside : Bool) (r : Result ℕ E) → outside ≡ true → IfOk r (λ n. P n → Cause)
+    → IfOk r (λ n. P n → OfMedia outside Cause)
+of_media P Cause outside (Ok n) is h = λ less. (is, h less)
+of_media P Cause outside (Err e) is h = tt
+
+pub fault_of_media : {X E : Type 0} (Cause : Type 0) (outside : Bool) (r : Result X E) → outside ≡ true → OnErr r Cause → OnErr r (OfMedia outside Cause)
+fault_of_media Cause outside (Ok x) is h = tt
+fault_of_media Cause outside (Err e) is h = (is, h)
+
 -- bytes that the world has are given whole
 pub known_given : (told : Option Told) (bytes : List ℕ) (Short : Type 0) → HasGiven told (pieces.Known bytes) bytes (length bytes) Short
 known_given told bytes Short = record {
@@ -162,12 +174,20 @@ known_next told all piece rest bytes more g adds later s =
     (subst (Spells (pieces_told all)) (sym (append_assoc bytes adds.bytes later))
     (g.known (adds.bytes ++ later) (spells-append (piece_told piece) (pieces_told rest) adds.bytes later adds.gives.known s)))
 
+behind : (a b : Bool) → b ≡ true → a || b ≡ true
+behind true b is = refl
+behind false b is = is
+
+before : (a b : Bool) → a ≡ true → a || b ≡ true
+before a b is = ap (λ x. x || b) is
+
 -- one more piece was gathered
 pub gathering-next : (told : Option Told) (all : List Piece) (piece : Piece) (rest : List Piece) (bytes more : List ℕ)
     → Gathering told all (piece ∷ rest) bytes → AddsPiece told piece bytes more → Gathering told all rest more
 gathering-next None all piece rest bytes more g adds = record {
   known = known_next None all piece rest bytes more g adds;
   held = tt;
+  outside = λ lies. g.outside (behind (lies_with_media piece) (list_any lies_with_media rest) lies);
   first = tt;
 }
 gathering-next (Some media) all piece rest bytes more g adds = record {
@@ -175,6 +195,7 @@ gathering-next (Some media) all piece rest bytes more g adds = record {
   held =
       ap (λ l. l ++ bytes_by media rest) (adds.added ∙ ap (λ l. bytes ++ l) adds.gives.held)
       ∙ append_assoc bytes (media_bytes media piece) (bytes_by media rest) ∙ g.held;
+  outside = λ lies. g.outside (behind (lies_with_media piece) (list_any lies_with_media rest) lies);
   first = λ have want s. g.first have want (passed have want s);
 }
   where
@@ -199,16 +220,20 @@ gathering-end (Some media) all bytes g = record {
 }
 
 -- why a piece wasn't gathered is why not all were
-pub gathering-gap : (told : Option Told) (all : List Piece) (piece : Piece) (rest : List Piece) (bytes : List ℕ) (Failed Short : Type 0) (gap : Gap)
-    → Gathering told all (piece ∷ rest) bytes → (gap ≡ gaps.NoMemory) ⊎ IsGapOf told piece Failed Short gap → IsGapIn told all Failed Short gap
-gathering-gap told all piece rest bytes Failed Short gaps.NoMemory g h = tt
-gathering-gap told all piece rest bytes Failed Short gaps.Fault g (inr h) = h
-gathering-gap None all piece rest bytes Failed Short (gaps.Short have want) g (inr h) = (h.0, h.1, tt)
-gathering-gap (Some media) all piece rest bytes Failed Short (gaps.Short have want) g (inr h) = (h.0, h.1, g.first have want short_here)
-  where
-    short_here : IsFirstShort media (piece ∷ rest) have want
-    short_here =
-        subst (λ b. MatchBool b ((have ≡ length (media_bytes media piece)) × (want ≡ piece_length piece))
-        (IsFirstShort media rest have want)) (sym (lt-ltb _ _ (omega (arith, h.0, h.2.0, h.2.1)))) h.2
-gathering-gap told all piece rest bytes Failed Short gaps.Fault g (inl h) = cc (h)
-gathering-gap told all piece rest bytes Failed Short (gaps.Short have want) g (inl h) = cc (h)
+module _ (all : List Piece) (piece : Piece) (rest : List Piece) (bytes : List ℕ) (Failed Short : Type 0) where
+  pub gathering-gap : (told : Option Told) (gap : Gap) → Gathering told all (piece ∷ rest) bytes
+      → (gap ≡ gaps.NoMemory) ⊎ IsGapOf told piece (OfMedia (lies_with_media piece) Failed) (OfMedia (lies_with_media piece) Short) gap
+      → IsGapIn told all (OfMedia (list_any lies_with_media all) Failed) (OfMedia (list_any lies_with_media all) Short) gap
+  gathering-gap told gaps.NoMemory g h = tt
+  gathering-gap told gaps.Fault g (inr h) = (g.outside (before (lies_with_media piece) (list_any lies_with_media rest) h.0), h.1)
+  gathering-gap None (gaps.Short have want) g (inr h) =
+      (h.0, (g.outside (before (lies_with_media piece) (list_any lies_with_media rest) h.1.0), h.1.1), tt)
+  gathering-gap (Some media) (gaps.Short have want) g (inr h) =
+      (h.0, (g.outside (before (lies_with_media piece) (list_any lies_with_media rest) h.1.0), h.1.1), g.first have want short_here)
+    where
+      short_here : IsFirstShort media (piece ∷ rest) have want
+      short_here =
+          subst (λ b. MatchBool b ((have ≡ length (media_bytes media piece)) × (want ≡ piece_length piece))
+          (IsFirstShort media rest have want)) (sym (lt-ltb _ _ (omega (arith, h.0, h.2.0, h.2.1)))) h.2
+  gathering-gap told gaps.Fault g (inl h) = cc (h)
+  gathering-gap told (gaps.Short have want) g (inl h) = cc (h)

@@ -2,7 +2,7 @@
 use Rattle.std.proofs.Common.{◌≡◌, ◌+◌, ℕ, List, [], ◌∷◌, ◌++◌, refl, sym, ◌∙◌, subst, arith}
 use Rattle.std.specs.List.{sum_by}
 use Rattle.std.proofs.lemmas.List.Sums.{sum_by-append, sum_by-cons}
-use Rattle.sdr_model.specs.Made.{Made}
+use Rattle.sdr_lock.specs.Machine.{Made}
 use Rattle.sdr_shell.specs.Schedule.{AreCaused, HaveFailed, IsCaused, MediaChange, RoseBy, SeenMedia, from_to, is_media_fault, is_short, media_faults, once, short_answers}
 
 -- a count that rose so often, and so often more
@@ -30,14 +30,14 @@ failed_ever a b media h = record {
 
 -- the answers before are caused, and one more
 pub caused_more : (made : List Made) (e : Made) (media between media' : SeenMedia) → AreCaused made (from_to media between)
-    → IsCaused e.answer (from_to between media') → AreCaused (made ++ e ∷ []) (from_to media media')
+    → IsCaused e.said.answer (from_to between media') → AreCaused (made ++ e ∷ []) (from_to media media')
 caused_more made e media between media' before last =
-    let all = failed_trans (media_faults made) (short_answers made) (once (is_media_fault e.answer)) (once (is_short e.answer))
+    let all = failed_trans (media_faults made) (short_answers made) (once (is_media_fault e.said.answer)) (once (is_short e.said.answer))
     media between media' before last in
     record {
       told = all.told;
-      faults = subst (λ n. RoseBy n media.faults media'.faults) (sym (one_more (λ (x : Made). once (is_media_fault x.answer)))) all.faults;
-      short = subst (λ n. RoseBy n media.short media'.short) (sym (one_more (λ (x : Made). once (is_short x.answer)))) all.short;
+      faults = subst (λ n. RoseBy n media.faults media'.faults) (sym (one_more (λ (x : Made). once (is_media_fault x.said.answer)))) all.faults;
+      short = subst (λ n. RoseBy n media.short media'.short) (sym (one_more (λ (x : Made). once (is_short x.said.answer)))) all.short;
     }
   where
     one_more : (of : Made → ℕ) → sum_by of (made ++ e ∷ []) ≡ sum_by of made + of e

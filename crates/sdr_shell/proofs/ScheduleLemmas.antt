@@ -4,35 +4,30 @@ use Rattle.std.specs.declared.option.Option.{Option}
 use Rattle.std.specs.Io.KnownBytes.{Appends, Keeps}
 use Rattle.std.proofs.KnownBytes.{Appends-nil, Appends-trans, Appends-kept}
 use Rattle.sdr_base.specs.Written.{AppendsPart}
-use Rattle.sdr_machine.specs.Core.{Core, CoreStep, RunsCore, first_core, core_after, given_bytes}
-use Rattle.sdr_model.specs.Made.{Made}
+use Rattle.sdr_lock.specs.Agreeing.{AgreesWith}
+use Rattle.sdr_lock.specs.Core.{Core, CoreStep, RunsCore, first_core, core_after}
+use Rattle.sdr_lock.specs.Ground.{bare}
+use Rattle.sdr_lock.specs.Machine.{Machine, Made, MachineStep, first_machine}
+use Rattle.sdr_lock.specs.declared.came.Came.{Came}
+use Rattle.sdr_base.specs.declared.moves.Move.{Move}
+use Rattle.sdr_model.specs.World.{empty_world}
+use Rattle.sdr_plain.specs.Asking.{StepsAt, bytes_of, made_dry}
 use Rattle.sdr_base.specs.Media.{Told}
-use Rattle.sdr_machine.specs.Asking.{AgreesWith}
-use Rattle.sdr_machine.specs.Machine.{Machine, MachineStep, event_moves, first_machine}
-use Rattle.sdr_model.specs.declared.answer.Answer.{Answer}
-use Rattle.sdr_model.specs.declared.answer.Answer.TheVariants as answers
-use Rattle.sdr_model.specs.declared.answer.Reply.TheVariants as replies
 use Rattle.sdr_words.specs.Bindings.{Binding, bound, event_of}
 use Rattle.sdr_shell.proofs.MediaLemmas.{caused_later, caused_more, failed_refl}
-use Rattle.sdr_shell.specs.Schedule.{Answers, AreCaused, Follows, HaveFailed, IsCaused, MakesEvent, MediaChange, RunsDry, SeenMedia, SomeAnswer, SomeRun, answer_line, daemons_of, from_to}
+use Rattle.sdr_shell.specs.Schedule.{Answers, AreCaused, Follows, HaveFailed, IsCaused, MakesEvent, MediaChange, RunsDry, SeenMedia, SomeAnswer, SomeRun, answer_line, run_text, daemons_of, from_to}
 use Rattle.sdr_text.proofs.TextLemmas.{part_later}
-use Rattle.sdr_text.specs.Text.{given_text, line_text, made_text}
+use Rattle.sdr_text.specs.Text.{line_text}
 use Rattle.sdr_model.specs.declared.script.Step.{Step}
 
 -- what the names hold after the steps were answered so
 abbrev pub bindings_after : List Binding → List Step → List Made → List Binding
-bindings_after bindings (step ∷ steps) (e ∷ made) = bindings_after (bound bindings step e.answer) steps made
+bindings_after bindings (step ∷ steps) (e ∷ made) = bindings_after (bound bindings step e.said.answer) steps made
 bindings_after bindings steps made = bindings
 
--- the event of the step
-abbrev pub made_of : List Binding → Step → Answer → Machine → Made
-made_of bindings step answer m' = record {
-  line = step.line;
-  daemon = step.daemon;
-  event = event_of bindings step;
-  answer = answer;
-  bytes = given_bytes answer m'.current;
-}
+-- the event of the step, with these moves
+abbrev pub made_of : List Binding → Step → Came → List Move → Machine → Made
+made_of bindings step a moves m' = made_dry step.daemon step.line (event_of bindings step) a moves m'
 
 -- A run so far: what is left, the names, and the machine.
 pub record At (told : Option Told) (script rest : List Step) (made : List Made) (bindings : List Binding) (m : Machine) : Type 0 where
@@ -49,39 +44,39 @@ runs-push told c mid c' (x ∷ made) e runs step = (runs.0, runs.1, runs-push to
 follows-push : (bindings : List Binding) (steps : List Step) (made : List Made) (step : Step) (e : Made)
     → Follows bindings steps made → MakesEvent (bindings_after bindings steps made) step e → Follows bindings (steps ++ step ∷ []) (made ++ e ∷ [])
 follows-push bindings [] [] step e f m = (m, tt)
-follows-push bindings (s ∷ steps) (x ∷ made) step e f m = (f.0, follows-push (bound bindings s x.answer) steps made step e f.1 m)
+follows-push bindings (s ∷ steps) (x ∷ made) step e f m = (f.0, follows-push (bound bindings s x.said.answer) steps made step e f.1 m)
 follows-push bindings [] (x ∷ made) step e f m = absurd f
 follows-push bindings (s ∷ steps) [] step e f m = absurd f
 
 bindings_after-push : (bindings : List Binding) (steps : List Step) (made : List Made) (step : Step) (e : Made) → Follows bindings steps made
-    → bindings_after bindings (steps ++ step ∷ []) (made ++ e ∷ []) ≡ bound (bindings_after bindings steps made) step e.answer
+    → bindings_after bindings (steps ++ step ∷ []) (made ++ e ∷ []) ≡ bound (bindings_after bindings steps made) step e.said.answer
 bindings_after-push bindings [] [] step e f = refl
-bindings_after-push bindings (s ∷ steps) (x ∷ made) step e f = bindings_after-push (bound bindings s x.answer) steps made step e f.1
+bindings_after-push bindings (s ∷ steps) (x ∷ made) step e f = bindings_after-push (bound bindings s x.said.answer) steps made step e f.1
 bindings_after-push bindings [] (x ∷ made) step e f = absurd f
 bindings_after-push bindings (s ∷ steps) [] step e f = absurd f
 
 -- nothing was made yet
-pub at_start : (told : Option Told) (script : List Step) (m : Machine) → (first_core (daemons_of script)).machine ≡ m → At told script script [] [] m
+pub at_start : (told : Option Told) (script : List Step) (m : Machine) → first_machine (daemons_of script) (bare empty_world) ≡ m → At told script script [] [] m
 at_start told script m is = record {
-  core = first_core (daemons_of script);
+  core = first_core (daemons_of script) (bare empty_world);
   run = record { front = []; steps = refl; follows = tt; runs = refl };
   names = refl;
   machine = is;
 }
 
 -- one more step was made
-pub at_next : (told : Option Told) (script : List Step) (step : Step) (rest : List Step) (made : List Made) (bindings : List Binding) (m m' : Machine) (answer : Answer)
-    → At told script (step ∷ rest) made bindings m → Answers told m step (event_of bindings step) answer m'
-    → At told script rest (made ++ made_of bindings step answer m' ∷ []) (bound bindings step answer) m'
-at_next told script step rest made bindings m m' answer at answers_so =
-    let e = made_of bindings step answer m' in
+pub at_next : (told : Option Told) (script : List Step) (step : Step) (rest : List Step) (made : List Made) (bindings : List Binding) (m m' : Machine) (a : Came)
+    → At told script (step ∷ rest) made bindings m → (answers_so : Answers told m step (event_of bindings step) a m')
+    → At told script rest (made ++ made_of bindings step a answers_so.steps.moves m' ∷ []) (bound bindings step a.answer) m'
+at_next told script step rest made bindings m m' a at answers_so =
+    let e : Made = made_of bindings step a answers_so.steps.moves m' in
     let makes_event : MakesEvent (bindings_after [] at.run.front made) step e =
     subst (λ b. MakesEvent b step e) at.names (record { line = refl; daemon = refl; event = refl }) in
     let next : Core = core_after at.core e m' in
     let core_step : CoreStep told at.core e next = record {
-      machine = subst (λ n. MachineStep n step.daemon e.event answer (event_moves n e.event answer) m') (sym at.machine) answers_so.step;
-      media = subst (λ n. AgreesWith told n.current e.event answer e.bytes) (sym at.machine) answers_so.media;
-      bytes = refl;
+      next = m';
+      step = subst (λ (n : Machine). MachineStep n e m') (sym at.machine) answers_so.steps.step;
+      media = subst (λ (n : Machine). AgreesWith told n.now.world e.said.event a.answer e.said.bytes) (sym at.machine) answers_so.media;
       history = refl;
     } in
     record {
@@ -92,29 +87,23 @@ at_next told script step rest made bindings m m' answer at answers_so =
         follows = follows-push [] at.run.front made step e at.run.follows makes_event;
         runs = runs-push told _ _ _ made e at.run.runs core_step;
       };
-      names = ap (λ b. bound b step answer) at.names ∙ sym (bindings_after-push [] at.run.front made step e at.run.follows);
+      names = ap (λ b. bound b step a.answer) at.names ∙ sym (bindings_after-push [] at.run.front made step e at.run.follows);
       machine = refl;
     }
 
 -- the text of what was made, with one more line
-pub made_text-push : (made : List Made) (e : Made) → made_text (made ++ e ∷ []) ≡ made_text made ++ line_text e.line e.daemon e.answer e.bytes
-made_text-push [] e = append-nil _
-made_text-push (x ∷ made) e = ap (λ l. line_text x.line x.daemon x.answer x.bytes ++ l) (made_text-push made e) ∙ sym (append_assoc _ (made_text made) _)
-
--- only answers that give bytes print them
-pub given_text-shown : (answer : Answer) (m : Machine) → given_text answer m.current.shown ≡ given_text answer (given_bytes answer m.current)
-given_text-shown (answers.Reply (replies.Bytes count)) m = refl
-given_text-shown (answers.Reply reply) m = refl
-given_text-shown answer m = refl
+pub run_text-push : (made : List Made) (e : Made) → run_text (made ++ e ∷ []) ≡ run_text made ++ line_text e.said.line e.daemon e.said.answer e.said.bytes
+run_text-push [] e = append-nil _
+run_text-push (x ∷ made) e = ap (λ l. line_text x.said.line x.daemon x.said.answer x.said.bytes ++ l) (run_text-push made e) ∙ sym (append_assoc _ (run_text made) _)
 
 -- A run so far, with the lines of all that was made printed.
 pub record Running (media : MediaChange) (script rest : List Step) (bindings : List Binding) (m : Machine) (old now : Option (List ℕ)) : Type 0 where
   pub made : List Made
   pub at : At media.before.told script rest made bindings m
   pub caused : AreCaused made media
-  pub printed : Appends old now (made_text made)
+  pub printed : Appends old now (run_text made)
 
-pub running_start : (media : SeenMedia) (script : List Step) (m : Machine) (old : Option (List ℕ)) → first_machine (daemons_of script) ≡ m
+pub running_start : (media : SeenMedia) (script : List Step) (m : Machine) (old : Option (List ℕ)) → first_machine (daemons_of script) (bare empty_world) ≡ m
     → Running (from_to media media) script script [] m old old
 running_start media script m old is = record {
   made = [];
@@ -137,38 +126,37 @@ running_some media script rest bindings m old now r = record {
 
 module _ (media between media' : SeenMedia) (script : List Step) (step : Step) (rest : List Step) (bindings : List Binding) (m m' : Machine)
     (old now later : Option (List ℕ)) (r : Running (from_to media between) script (step ∷ rest) bindings m old now) where
-  -- the run with one more answer
-  next_at : (answer : Answer) → Answers between.told m step (event_of bindings step) answer m'
-      → At media.told script rest (r.made ++ made_of bindings step answer m' ∷ []) (bound bindings step answer) m'
-  next_at answer answers_so =
-      at_next media.told script step rest r.made bindings m m' answer r.at
-      (subst (λ told. Answers told m step (event_of bindings step) answer m') r.caused.told answers_so)
+  -- the answer, where media told the same before
+  told_before : (a : Came) → Answers between.told m step (event_of bindings step) a m' → Answers media.told m step (event_of bindings step) a m'
+  told_before a answers_so = subst (λ told. Answers told m step (event_of bindings step) a m') r.caused.told answers_so
 
   -- one more line was printed
-  pub running_next : (answer : Answer) → Answers between.told m step (event_of bindings step) answer m' → IsCaused answer (from_to between media')
-      → Appends now later (answer_line step answer m') → Running (from_to media media') script rest (bound bindings step answer) m' old later
-  running_next answer answers_so caused line =
-      let e = made_of bindings step answer m' in
+  pub running_next : (a : Came) → Answers between.told m step (event_of bindings step) a m' → IsCaused a.answer (from_to between media')
+      → Appends now later (answer_line step a m') → Running (from_to media media') script rest (bound bindings step a.answer) m' old later
+  running_next a answers_so caused line =
+      let told : Answers media.told m step (event_of bindings step) a m' = told_before a answers_so in
+      let e : Made = made_of bindings step a told.steps.moves m' in
       record {
         made = r.made ++ e ∷ [];
-        at = next_at answer answers_so;
+        at = at_next media.told script step rest r.made bindings m m' a r.at told;
         caused = caused_more r.made e media between media' r.caused caused;
-        printed = subst (Appends old later) (sym (made_text-push r.made e)) (Appends-trans old now later (made_text r.made) (answer_line step answer m') r.printed line);
+        printed = subst (Appends old later) (sym (run_text-push r.made e)) (Appends-trans old now later (run_text r.made) (answer_line step a m') r.printed line);
       }
 
   -- the last line is printed in part
   pub running_cut : SomeAnswer (from_to between media') m bindings step m' (AppendsPart now later)
       → SomeRun (from_to media media') script (λ rest text. AppendsPart old later text)
   running_cut cut =
-      let e = made_of bindings step cut.answer m' in
-      let next = next_at cut.answer cut.answers in
+      let told : Answers media.told m step (event_of bindings step) cut.came m' = told_before cut.came cut.answers in
+      let e : Made = made_of bindings step cut.came told.steps.moves m' in
+      let next = at_next media.told script step rest r.made bindings m m' cut.came r.at told in
       record {
         rest = rest;
         made = r.made ++ e ∷ [];
         core = next.core;
         run = next.run;
         caused = caused_more r.made e media between media' r.caused cut.caused;
-        printed = subst (AppendsPart old later) (sym (made_text-push r.made e)) (part_later old now later (made_text r.made) (answer_line step cut.answer m') r.printed cut.printed);
+        printed = subst (AppendsPart old later) (sym (run_text-push r.made e)) (part_later old now later (run_text r.made) (answer_line step cut.came m') r.printed cut.printed);
       }
 
   -- the run stopped for want of memory: before its next line was printed, or behind it
@@ -180,10 +168,10 @@ module _ (media between media' : SeenMedia) (script : List Step) (step : Step) (
     core = r.at.core;
     run = r.at.run;
     caused = caused_later r.made media between media' r.caused kept.1;
-    printed = Appends-kept old now later (made_text r.made) r.printed kept.0;
+    printed = Appends-kept old now later (run_text r.made) r.printed kept.0;
   }
   running_kept (inr line) =
-      running_some (from_to media media') script rest _ m' old later (running_next line.answer line.answers line.caused line.printed)
+      running_some (from_to media media') script rest _ m' old later (running_next line.came line.answers line.caused line.printed)
 
 pub running_done : (media : MediaChange) (script rest : List Step) (bindings : List Binding) (m : Machine) (old now : Option (List ℕ))
     → Running media script rest bindings m old now → rest ≡ []
@@ -206,10 +194,10 @@ some_weaker media script P Q more r = record {
   core = r.core;
   run = r.run;
   caused = r.caused;
-  printed = more r.rest (made_text r.made) r.printed;
+  printed = more r.rest (run_text r.made) r.printed;
 }
 
 -- no step was made, and nothing was printed
 pub some_none : (media : SeenMedia) (script : List Step) (old : Option (List ℕ)) → SomeRun (from_to media media) script (λ rest text. Appends old old text)
 some_none media script old =
-    running_some (from_to media media) script script [] (first_machine (daemons_of script)) old old (running_start media script _ old refl)
+    running_some (from_to media media) script script [] (first_machine (daemons_of script) (bare empty_world)) old old (running_start media script _ old refl)

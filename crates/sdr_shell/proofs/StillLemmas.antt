@@ -4,6 +4,10 @@ use Rattle.std.specs.Io.KnownBytes.{Appends}
 use Rattle.std.proofs.KnownBytes.{Appends-trans}
 use Rattle.sdr_base.specs.Causes.{Rose}
 use Rattle.sdr_base.proofs.WrittenLemmas.{rose_later}
+use Rattle.sdr_log.specs.declared.frame.Frame.{Frame}
+use Rattle.sdr_shell.specs.Form.{OnFormat}
+use Rattle.sdr_shell.specs.declared.form.Form.{Form}
+use Rattle.sdr_shell.specs.declared.form.Form.TheVariants as forms
 use Rattle.sdr_shell.specs.Schedule.{MediaChange, SomeRun}
 use Rattle.sdr_shell.specs.Formatting.{IsFormatStatus}
 use Rattle.sdr_shell.specs.Still.{Writes, HadScript, HadBadLine, HadRun, IsDryStatus, IsRefused, NamesBadLine, Tells}
@@ -84,3 +88,10 @@ had_run left media script ran P had same run = record {
   input = had;
   run = subst (λ s. SomeRun media s P) same run;
 }
+
+-- what holds of a format holds where there is another form, or where the form is that one
+pub no_format : (o : Option Form) (P : Frame → Type 0) → o ≡ Some forms.Dry → OnFormat o P
+no_format o P is = subst (λ o. OnFormat o P) (sym is) tt
+
+pub on_format : (o : Option Form) (frame : Frame) (P : Frame → Type 0) → o ≡ Some (forms.Format frame) → P frame → OnFormat o P
+on_format o frame P is holds = subst (λ o. OnFormat o P) (sym is) holds

@@ -1,7 +1,9 @@
 -- What is gathered of the pieces that a call asks for.
-use Rattle.std.specs.Prelude.{◌≡◌, ◌<◌, ◌≤◌, ℕ, List, ◌++◌, length, Option, IfSome, ⊤}
+use Rattle.std.specs.Prelude.{◌≡◌, ◌<◌, ◌≤◌, ℕ, Bool, true, List, ◌++◌, length, Option, IfSome, ⊤}
+use Rattle.std.specs.List.{list_any}
 use Rattle.sdr_base.specs.Media.{Told}
-use Rattle.sdr_machine.specs.Asking.{IsFirstShort}
+use Rattle.sdr_lock.specs.Agreeing.{IsFirstShort}
+use Rattle.sdr_lock.specs.Ground.{lies_with_media}
 use Rattle.sdr_model.specs.Pieces.{bytes_by, media_bytes, piece_length, piece_told, pieces_told}
 use Rattle.sdr_model.specs.Wire.{Spells}
 use Rattle.sdr_model.specs.declared.piece.Piece.{Piece}
@@ -19,6 +21,10 @@ pub record HasGiven (told : Option Told) (piece : Piece) (into : List ℕ) (have
   pub whole : have ≡ piece_length piece → GivesPiece told piece into
   pub short : have < piece_length piece → Short
   pub held : IfSome told (λ media. have ≡ length (media_bytes media piece))
+
+-- this came of media, where some bytes lie with them
+abbrev pub OfMedia : Bool → Type 0 → Type 0
+OfMedia outside Cause = (outside ≡ true) × Cause
 
 -- the bytes of a piece were added to others
 pub record AddsPiece (told : Option Told) (piece : Piece) (old new : List ℕ) : Type 0 where
@@ -51,4 +57,5 @@ IsGapIn told pieces Failed Short (gaps.Short have want) =
 pub record Gathering (told : Option Told) (pieces rest : List Piece) (bytes : List ℕ) : Type 0 where
   pub known : (more : List ℕ) → Spells (pieces_told rest) more → Spells (pieces_told pieces) (bytes ++ more)
   pub held : IfSome told (λ media. bytes ++ bytes_by media rest ≡ bytes_by media pieces)
+  pub outside : list_any lies_with_media rest ≡ true → list_any lies_with_media pieces ≡ true
   pub first : IfSome told (λ media. (have want : ℕ) → IsFirstShort media rest have want → IsFirstShort media pieces have want)

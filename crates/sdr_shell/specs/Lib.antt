@@ -4,3 +4,4 @@ pub mod Formatting
 pub mod Gathering
 pub mod Schedule
 pub mod Still
+pub mod Words

@@ -3,16 +3,19 @@ use Rattle.std.specs.Prelude.{◌≡◌, ◌≤◌, ℕ, ◌+◌, ◌-◌, ◌^�
 use Rattle.std.specs.List.{list_any, range_with_len}
 use Rattle.sdr_base.specs.Media.{Told}
 use Rattle.sdr_base.specs.declared.refusal.Refusal.TheVariants as refusals
-use Rattle.sdr_machine.specs.Asking.{AgreesWith}
-use Rattle.sdr_machine.specs.Core.{Core, RunsCore, first_core, given_bytes}
-use Rattle.sdr_model.specs.Made.{Made}
-use Rattle.sdr_machine.specs.Machine.{Machine, MachineStep, event_moves}
+use Rattle.sdr_lock.specs.Agreeing.{AgreesWith}
+use Rattle.sdr_lock.specs.Core.{Core, RunsCore, first_core}
+use Rattle.sdr_lock.specs.Ground.{bare}
+use Rattle.sdr_lock.specs.Machine.{Machine, Made}
+use Rattle.sdr_lock.specs.declared.came.Came.{Came}
+use Rattle.sdr_model.specs.World.{empty_world}
+use Rattle.sdr_plain.specs.Asking.{StepsAt, bytes_of}
 use Rattle.sdr_model.specs.declared.answer.Answer.{Answer}
 use Rattle.sdr_model.specs.declared.answer.Answer.TheVariants as answers
 use Rattle.sdr_model.specs.declared.answer.Reply.TheVariants as replies
 use Rattle.sdr_model.specs.declared.event.Event.{Event}
 use Rattle.sdr_words.specs.Bindings.{Binding, event_of, bound}
-use Rattle.sdr_text.specs.Text.{line_text, made_text}
+use Rattle.sdr_text.specs.Text.{line_text}
 use Rattle.sdr_model.specs.declared.script.Step.{Step}
 
 -- the numbers that daemons may have, from 1 to 16
@@ -72,11 +75,11 @@ pub record HaveFailed (failures lacks : ℕ) (media : MediaChange) : Type 0 wher
 
 -- how many answers of these are faults of media
 abbrev pub media_faults : List Made → ℕ
-media_faults = sum_by (λ e. once (is_media_fault e.answer))
+media_faults = sum_by (λ e. once (is_media_fault e.said.answer))
 
 -- how many are that media gave too few bytes
 abbrev pub short_answers : List Made → ℕ
-short_answers = sum_by (λ e. once (is_short e.answer))
+short_answers = sum_by (λ e. once (is_short e.said.answer))
 
 -- The answers that tell of faults of media, and of too few bytes, are at most as many as these since.
 abbrev pub AreCaused : List Made → MediaChange → Type 0
@@ -84,29 +87,34 @@ AreCaused made = HaveFailed (media_faults made) (short_answers made)
 
 -- the step makes this event, under what the names hold
 pub record MakesEvent (bindings : List Binding) (step : Step) (e : Made) : Type 0 where
-  pub line : e.line ≡ step.line
+  pub line : e.said.line ≡ step.line
   pub daemon : e.daemon ≡ step.daemon
-  pub event : e.event ≡ event_of bindings step
+  pub event : e.said.event ≡ event_of bindings step
 
 -- The steps make these events in order. Each answer gives its step's name what it holds from then on.
 abbrev pub Follows : List Binding → List Step → List Made → Type 0
 Follows bindings [] [] = Unit {0}
-Follows bindings (step ∷ steps) (e ∷ made) = MakesEvent bindings step e × Follows (bound bindings step e.answer) steps made
+Follows bindings (step ∷ steps) (e ∷ made) = MakesEvent bindings step e × Follows (bound bindings step e.said.answer) steps made
 Follows bindings [] (e ∷ made) = ⊥
 Follows bindings (step ∷ steps) [] = ⊥
 
--- the machine may answer a daemon's event so, where media tell this, and goes on to m'
-pub record Responds (told : Option Told) (m : Machine) (daemon : ℕ) (event : Event) (answer : Answer) (m' : Machine) : Type 0 where
-  pub step : MachineStep m daemon event answer (event_moves m event answer) m'
-  pub media : AgreesWith told m.current event answer (given_bytes answer m'.current)
+-- the machine may answer a daemon's event of a statement on a line so, where media tell this, and goes on to m'
+pub record Responds (told : Option Told) (m : Machine) (daemon line : ℕ) (event : Event) (a : Came) (m' : Machine) : Type 0 where
+  pub steps : StepsAt m daemon line event a m'
+  pub media : AgreesWith told m.now.world event a.answer (bytes_of a m')
 
 -- the machine may answer the step's event so, where media tell this, and goes on to m'
-abbrev pub Answers : Option Told → Machine → Step → Event → Answer → Machine → Type 0
-Answers told m step event answer m' = Responds told m step.daemon event answer m'
+abbrev pub Answers : Option Told → Machine → Step → Event → Came → Machine → Type 0
+Answers told m step event a m' = Responds told m step.daemon step.line event a m'
 
 -- the printed line of a step that was answered so, by which the machine went on to m'
-abbrev pub answer_line : Step → Answer → Machine → List ℕ
-answer_line step answer m' = line_text step.line step.daemon answer (given_bytes answer m'.current)
+abbrev pub answer_line : Step → Came → Machine → List ℕ
+answer_line step a m' = line_text step.line step.daemon a.answer (bytes_of a m')
+
+-- the printed lines of what was made
+abbrev pub run_text : List Made → List ℕ
+run_text [] = []
+run_text (e ∷ made) = line_text e.said.line e.daemon e.said.answer e.said.bytes ++ run_text made
 
 -- media failed, or gave too few bytes, where the answer tells so
 abbrev pub IsCaused : Answer → MediaChange → Type 0
@@ -114,10 +122,10 @@ IsCaused answer = HaveFailed (once (is_media_fault answer)) (once (is_short answ
 
 -- Some answer to the event of a step, of whose printed line P tells.
 pub record SomeLine (media : MediaChange) (m : Machine) (step : Step) (event : Event) (m' : Machine) (P : List ℕ → Type 0) : Type 0 where
-  pub answer : Answer
-  pub answers : Answers media.before.told m step event answer m'
-  pub caused : IsCaused answer media
-  pub printed : P (answer_line step answer m')
+  pub came : Came
+  pub answers : Answers media.before.told m step event came m'
+  pub caused : IsCaused came.answer media
+  pub printed : P (answer_line step came m')
 
 -- Some answer to a step under what the names hold, of whose printed line P tells.
 abbrev pub SomeAnswer : MediaChange → Machine → List Binding → Step → Machine → (List ℕ → Type 0) → Type 0
@@ -126,7 +134,7 @@ SomeAnswer media m bindings step m' P = SomeLine media m step (event_of bindings
 -- The same, where the step's name holds from then on what the answer gave it.
 pub record SomeStep (media : MediaChange) (m : Machine) (bindings : List Binding) (step : Step) (m' : Machine) (bindings' : List Binding) (P : List ℕ → Type 0) : Type 0 where
   pub line : SomeAnswer media m bindings step m' P
-  pub names : bindings' ≡ bound bindings step line.answer
+  pub names : bindings' ≡ bound bindings step line.came.answer
 
 -- The script's steps but these last ones were made in order, on a core of the script's daemons, with these events and answers,
 -- where media tell this.
@@ -134,7 +142,7 @@ pub record RunsDry (told : Option Told) (script rest : List Step) (made : List M
   pub front : List Step
   pub steps : script ≡ front ++ rest
   pub follows : Follows [] front made
-  pub runs : RunsCore told (first_core (daemons_of script)) made core
+  pub runs : RunsCore told (first_core (daemons_of script) (bare empty_world)) made core
 
 -- Some run of the script's first steps, of which P tells by the steps that are left and the text of the answers.
 pub record SomeRun (media : MediaChange) (script : List Step) (P : List Step → List ℕ → Type 0) : Type 0 where
@@ -143,4 +151,4 @@ pub record SomeRun (media : MediaChange) (script : List Step) (P : List Step →
   pub core : Core
   pub run : RunsDry media.before.told script rest made core
   pub caused : AreCaused made media
-  pub printed : P rest (made_text made)
+  pub printed : P rest (run_text made)

@@ -5,7 +5,6 @@ ghost use Rattle.std.specs.Io.KnownBytes.{Appends};
 ghost use Rattle.sdr_base.specs.Causes.{Rose};
 ghost use Rattle.sdr_disk.specs.Pending.{IsSynced};
 ghost use Rattle.sdr_log.specs.Frame.{disk_bytes};
-ghost use Rattle.sdr_shell.specs.Answers.{AnswersDry, AnswersFormat, Wrote, seen};
 ghost use Rattle.sdr_shell.specs.Form.{form_of, OnFormat};
 ghost use Rattle.sdr_shell.specs.Formatting.{line_formatted, line_too_small, IsFormatted};
 ghost use Rattle.sdr_shell.specs.Formatting.{HasFormatted, IsFormatStatus, LeavesDisk};
@@ -13,6 +12,7 @@ ghost use Rattle.sdr_shell.specs.Schedule.{HaveFailed, SomeRun, media_change};
 ghost use Rattle.sdr_shell.specs.Still.{Writes, HadRun, IsDone, IsRefused, IsDryStatus, IsStarved};
 ghost use Rattle.sdr_shell.specs.Still.{Tells, line_refused};
 ghost use Rattle.sdr_base.specs.Written.{AppendsPart};
+ghost use Rattle.sdr_shell.specs.Words.{AnswersWords};
 
 use crate::Outcome;
 use crate::form::{Form, form_of};
@@ -161,36 +161,8 @@ pub fn still<D: Disk, M: Media, S: Source, K: Sink>(
     input: &mut S,
     output: &mut K,
 ) -> Outcome<D, M>
-    // The words are no form.
-    ensures usage { (result.status ≡ USAGE) ↔ (form_of words.now ≡ None) }
-    ensures usage_text { result.status ≡ USAGE →
-        Wrote (seen K.taken K.faults output.old) (seen K.taken K.faults output.new)
-        (codes "usage\n") }
-
-    // What the forms answer.
-    ensures dry { form_of words.now ≡ Some Form.Dry → (result.disk ≡ disk)
-        × AnswersDry result.status
-        (seen S.left S.faults input.old) (seen S.left S.faults input.new)
-        (media_change M.told M.faults M.short media result.media)
-        (seen K.taken K.faults output.old) (seen K.taken K.faults output.new) }
-    ensures format { OnFormat (form_of words.now) (λ frame. (input.new ≡ input.old)
-        × AnswersFormat result.status frame (D.size disk)
-        (seen D.bytes D.faults disk) (seen D.bytes D.faults result.disk)
-        (seen K.taken K.faults output.old) (seen K.taken K.faults output.new)) }
-    ensures synced { OnFormat (form_of words.now) (λ _. HasFormatted result.status →
-        IsSynced D.bytes D.moment D.may_leave result.disk) }
-
-    // Every form.
-    ensures counts { (S.faults input.old ≤ S.faults input.new)
-        × (K.faults output.old ≤ K.faults output.new)
-        × (D.faults disk ≤ D.faults result.disk)
-        × (S.reads input.new ≤ S.reads input.old + 1048577) }
-    ensures given { result.journal ≡ [] }
-    ensures media { HaveFailed 0 0 (media_change M.told M.faults M.short media result.media) }
-    ensures unread { (form_of words.now ≢ Some Form.Dry) → result.media ≡ media }
-    ensures same { LeavesDisk result.status → result.disk ≡ disk }
-    ensures told { (is_some (D.bytes result.disk) ≡ is_some (D.bytes disk))
-        × (D.size result.disk ≡ D.size disk) }
+    ensures { AnswersWords D.Disk M.Media S.Source K.Sink words.now disk media
+        input.old input.new output.old output.new result }
 {
     match form_of(words) {
         Some(Form::Dry) => {

@@ -1,8 +1,10 @@
 // What a call reads of media.
 ghost use Rattle.std.specs.Prelude.{◌≡◌, ◌≤◌, ◌⊎◌, IfErr, IfOk, OnErr, OnOk, length};
+ghost use Rattle.std.specs.List.{list_any};
 ghost use Rattle.sdr_base.specs.Causes.{Rose};
+ghost use Rattle.sdr_lock.specs.Ground.{lies_with_media};
 ghost use Rattle.sdr_model.specs.Pieces.{piece_length, pieces_told};
-ghost use Rattle.sdr_shell.specs.Gathering.{AddsPiece, AreGathered, GivesPiece, HasGiven, IsGapIn, IsGapOf};
+ghost use Rattle.sdr_shell.specs.Gathering.{AddsPiece, AreGathered, GivesPiece, HasGiven, IsGapIn, IsGapOf, OfMedia};
 
 use sdr_base::{Bytes, Media, MediaFault, NoMemory};
 use sdr_model::Piece;
@@ -45,8 +47,8 @@ impl From<MediaFault> for Gap {
 fn ask<M: Media>(media: &mut M, piece: &Piece, into: &mut [u8]) -> Result<u64, MediaFault>
     requires whole { length into.old ≡ piece_length piece.now }
     ensures had { IfOk result (λ have. HasGiven (M.told media.old) piece.now into.new have
-        (Rose (M.short media.old) (M.short media.new))) }
-    ensures failed { OnErr result (Rose (M.faults media.old) (M.faults media.new)) }
+        (OfMedia (lies_with_media piece.now) (Rose (M.short media.old) (M.short media.new)))) }
+    ensures failed { OnErr result (OfMedia (lies_with_media piece.now) (Rose (M.faults media.old) (M.faults media.new))) }
     ensures same { length into.new ≡ length into.old }
     ensures told { M.told media.new ≡ M.told media.old }
     ensures faults { M.faults media.old ≤ M.faults media.new }
@@ -67,8 +69,8 @@ fn read_piece<M: Media>(media: &mut M, piece: &Piece, into: &mut [u8]) -> Result
     requires whole { length into.old ≡ piece_length piece.now }
     ensures gives { OnOk result (GivesPiece (M.told media.old) piece.now into.new) }
     ensures gap { IfErr result (IsGapOf (M.told media.old) piece.now
-        (Rose (M.faults media.old) (M.faults media.new))
-        (Rose (M.short media.old) (M.short media.new))) }
+        (OfMedia (lies_with_media piece.now) (Rose (M.faults media.old) (M.faults media.new)))
+        (OfMedia (lies_with_media piece.now) (Rose (M.short media.old) (M.short media.new)))) }
     ensures told { M.told media.new ≡ M.told media.old }
     ensures faults { M.faults media.old ≤ M.faults media.new }
     ensures short { M.short media.old ≤ M.short media.new }
@@ -93,8 +95,8 @@ fn add_piece<M: Media>(
     ensures adds { OnOk result (
         AddsPiece (M.told media.old) piece.now bytes.old.items bytes.new.items) }
     ensures gap { IfErr result (λ gap. gap ≡ Gap.NoMemory ⊎ IsGapOf (M.told media.old) piece.now
-        (Rose (M.faults media.old) (M.faults media.new))
-        (Rose (M.short media.old) (M.short media.new)) gap) }
+        (OfMedia (lies_with_media piece.now) (Rose (M.faults media.old) (M.faults media.new)))
+        (OfMedia (lies_with_media piece.now) (Rose (M.short media.old) (M.short media.new))) gap) }
     ensures page { length page.new ≡ length page.old }
     ensures told { M.told media.new ≡ M.told media.old }
     ensures faults { M.faults media.old ≤ M.faults media.new }
@@ -113,8 +115,8 @@ pub fn gather<M: Media>(alloc: Global, media: &mut M, pieces: &[Piece]) -> Resul
     requires page { length (pieces_told pieces.now) ≤ 4096 }
     ensures gathered { IfOk result (AreGathered (M.told media.old) pieces.now) }
     ensures gap { IfErr result (IsGapIn (M.told media.old) pieces.now
-        (Rose (M.faults media.old) (M.faults media.new))
-        (Rose (M.short media.old) (M.short media.new))) }
+        (OfMedia (list_any lies_with_media pieces.now) (Rose (M.faults media.old) (M.faults media.new)))
+        (OfMedia (list_any lies_with_media pieces.now) (Rose (M.short media.old) (M.short media.new)))) }
     ensures told { M.told media.new ≡ M.told media.old }
     ensures faults { M.faults media.old ≤ M.faults media.new }
     ensures short { M.short media.old ≤ M.short media.new }

@@ -1,17 +1,18 @@
 // A dry run.
-ghost use Rattle.std.specs.Prelude.{◌≡◌, ◌≤◌, ◌<◌, ◌+◌, IfOk, OnOk, ◌==◌, ◌⊎◌, length, [], filter};
+ghost use Rattle.std.specs.Prelude.{ℕ, ◌≡◌, ◌≤◌, ◌<◌, ◌+◌, IfOk, OnOk, ◌==◌, ◌⊎◌, length, [], filter};
 ghost use Rattle.std.specs.List.{list_any, range_with_len};
 ghost use Rattle.std.specs.Io.KnownBytes.{Appends, Keeps};
 ghost use Rattle.sdr_base.specs.Causes.{Rose};
 ghost use Rattle.sdr_base.specs.Written.{AppendsPart};
-ghost use Rattle.sdr_machine.specs.Machine.{first_machine};
-ghost use Rattle.sdr_machine.specs.Asking.{Asks};
+ghost use Rattle.sdr_plain.specs.Asking.{Asks};
+ghost use Rattle.sdr_plain.specs.Plain.{first_plain, machine_of};
 ghost use Rattle.sdr_model.specs.Pieces.{pieces_told};
 ghost use Rattle.sdr_model.specs.declared.event.Event.{Event};
-ghost use Rattle.sdr_shell.specs.Schedule.{HaveFailed, IsCaused, Responds, SomeAnswer, SomeLine, SomeRun, SomeStep, all_daemons, answer_line, daemons_of, media_change};
+ghost use Rattle.sdr_shell.specs.Schedule.{Answers, HaveFailed, IsCaused, Responds, SomeAnswer, SomeLine, SomeRun, SomeStep, all_daemons, answer_line, daemons_of, media_change};
 
 use crate::media::{Gap, gather};
 use sdr_base::{Media, NoMemory, Refusal, Sink, SinkFault};
+use sdr_lock::Came;
 use sdr_model::{Answer, Event, Leave, Piece, Reply, Step};
 use sdr_plain::Plain;
 use sdr_text::write_answer;
@@ -56,15 +57,16 @@ fn answer_reading<M: Media>(
     media: &mut M,
     daemon: u8,
     pieces: &[Piece],
-) -> Result<Answer, NoMemory>
+) -> Result<Came, NoMemory>
     requires few { plain.old.events < 2_097_152 }
     requires page { length (pieces_told pieces.now) ≤ 4096 }
     ensures answers { IfOk result (λ given.
-        (event : Event) → Asks plain.old.machine daemon event pieces.now →
-        Responds (M.told media.old) plain.old.machine daemon event given plain.new.machine) }
+        (event : Event) (line : ℕ) → Asks (machine_of plain.old) daemon event pieces.now →
+        Responds (M.told media.old) (machine_of plain.old) daemon line event given (machine_of plain.new)) }
     ensures caused { IfOk result (λ given.
-        IsCaused given (media_change M.told M.faults M.short media.old media.new)) }
+        IsCaused given.answer (media_change M.told M.faults M.short media.old media.new)) }
     ensures events { OnOk result (plain.new.events ≡ plain.old.events + 1) }
+    ensures daemons { OnOk result (length plain.new.roll.daemons ≡ length plain.old.roll.daemons) }
     ensures later { HaveFailed 0 0 (media_change M.told M.faults M.short media.old media.new) }
 {
     let (reply, given) = match gather(alloc, media, pieces) {
@@ -79,7 +81,10 @@ fn answer_reading<M: Media>(
         Err(Gap::NoMemory) => return Err(AllocError),
     };
     plain.settle(daemon, given);
-    Ok(Answer::Reply(reply))
+    Ok(Came {
+        answer: Answer::Reply(reply),
+        called: true,
+    })
 }
 
 // The answer to a daemon's event. Media are asked where it is a call that reads them.
@@ -89,19 +94,20 @@ fn respond<M: Media>(
     media: &mut M,
     step: &Step,
     event: &Event,
-) -> Result<Answer, NoMemory>
+) -> Result<Came, NoMemory>
     requires few { plain.old.events < 2_097_152 }
     ensures answers { IfOk result (λ given.
-        Responds (M.told media.old) plain.old.machine step.now.daemon event.now given
-        plain.new.machine) }
+        Answers (M.told media.old) (machine_of plain.old) step.now event.now given
+        (machine_of plain.new)) }
     ensures caused { IfOk result (λ given.
-        IsCaused given (media_change M.told M.faults M.short media.old media.new)) }
+        IsCaused given.answer (media_change M.told M.faults M.short media.old media.new)) }
     ensures events { OnOk result (plain.new.events ≡ plain.old.events + 1) }
+    ensures daemons { OnOk result (length plain.new.roll.daemons ≡ length plain.old.roll.daemons) }
     ensures later { HaveFailed 0 0 (media_change M.told M.faults M.short media.old media.new) }
 {
     match plain.pieces(step.daemon, event)? {
         Some(pieces) => answer_reading(alloc, plain, media, step.daemon, pieces.as_slice()),
-        None => plain.event(step.daemon, step.line, event),
+        None => plain.event(step.daemon, event),
     }
 }
 
@@ -113,29 +119,30 @@ fn answer<M: Media, K: Sink>(
     step: &Step,
     event: &Event,
     out: &mut K,
-) -> Result<Answer, RunError>
+) -> Result<Came, RunError>
     requires few { plain.old.events < 2_097_152 }
     ensures answers { IfOk result (λ given.
-        Responds (M.told media.old) plain.old.machine step.now.daemon event.now given
-        plain.new.machine) }
+        Answers (M.told media.old) (machine_of plain.old) step.now event.now given
+        (machine_of plain.new)) }
     ensures caused { IfOk result (λ given.
-        IsCaused given (media_change M.told M.faults M.short media.old media.new)) }
+        IsCaused given.answer (media_change M.told M.faults M.short media.old media.new)) }
     ensures printed { IfOk result (λ given.
         Appends (K.taken out.old) (K.taken out.new)
-        (answer_line step.now given plain.new.machine)) }
+        (answer_line step.now given (machine_of plain.new))) }
     ensures events { OnOk result (plain.new.events ≡ plain.old.events + 1) }
+    ensures daemons { OnOk result (length plain.new.roll.daemons ≡ length plain.old.roll.daemons) }
     ensures same { result ≡ Err RunError.NoMemory → Keeps (K.taken out.old) (K.taken out.new) }
     ensures cut { result ≡ Err RunError.Output →
         SomeLine (media_change M.told M.faults M.short media.old media.new)
-        plain.old.machine step.now event.now plain.new.machine
+        (machine_of plain.old) step.now event.now (machine_of plain.new)
         (AppendsPart (K.taken out.old) (K.taken out.new)) }
     ensures media { HaveFailed 0 0 (media_change M.told M.faults M.short media.old media.new) }
     ensures later { K.faults out.old ≤ K.faults out.new }
     ensures cause { result ≡ Err RunError.Output → Rose (K.faults out.old) (K.faults out.new) }
 {
     let given = respond(alloc, plain, media, step, event)?;
-    let shown = plain.shown();
-    write_answer(out, step.line, step.daemon, &given, shown)?;
+    let bytes = plain.given(&given);
+    write_answer(out, step.line, step.daemon, &given.answer, bytes)?;
     Ok(given)
 }
 
@@ -150,25 +157,26 @@ fn make<M: Media, K: Sink>(
 ) -> Result<(), RunError>
     requires few { plain.old.events < 2_097_152 }
     ensures ok { OnOk result (SomeStep (media_change M.told M.faults M.short media.old media.new)
-        plain.old.machine bindings.old step.now plain.new.machine bindings.new
+        (machine_of plain.old) bindings.old step.now (machine_of plain.new) bindings.new
         (Appends (K.taken out.old) (K.taken out.new))) }
     ensures events { OnOk result (plain.new.events ≡ plain.old.events + 1) }
+    ensures daemons { OnOk result (length plain.new.roll.daemons ≡ length plain.old.roll.daemons) }
     ensures memory { result ≡ Err RunError.NoMemory →
         (Keeps (K.taken out.old) (K.taken out.new)
         × HaveFailed 0 0 (media_change M.told M.faults M.short media.old media.new))
         ⊎ SomeAnswer (media_change M.told M.faults M.short media.old media.new)
-        plain.old.machine bindings.old step.now plain.new.machine
+        (machine_of plain.old) bindings.old step.now (machine_of plain.new)
         (Appends (K.taken out.old) (K.taken out.new)) }
     ensures output { result ≡ Err RunError.Output →
         SomeAnswer (media_change M.told M.faults M.short media.old media.new)
-        plain.old.machine bindings.old step.now plain.new.machine
+        (machine_of plain.old) bindings.old step.now (machine_of plain.new)
         (AppendsPart (K.taken out.old) (K.taken out.new)) }
     ensures later { K.faults out.old ≤ K.faults out.new }
     ensures cause { result ≡ Err RunError.Output → Rose (K.faults out.old) (K.faults out.new) }
 {
     let event = bindings.event(alloc, step)?;
     let given = answer(alloc, plain, media, step, &event, out)?;
-    bindings.bind(alloc, step, &given)?;
+    bindings.bind(alloc, step, &given.answer)?;
     Ok(())
 }
 
@@ -199,10 +207,7 @@ fn run_on<M: Media, K: Sink>(
     out: &mut K,
 ) -> Result<(), RunError>
     requires few { length script.now ≤ 1_048_577 }
-    requires plain { plain.old ≡ record {
-      machine = first_machine (daemons_of script.now);
-      events = 0;
-    } }
+    requires plain { plain.old ≡ first_plain (daemons_of script.now) }
     requires bindings { bindings.old ≡ [] }
     ensures ok { OnOk result (
         SomeRun (media_change M.told M.faults M.short media.old media.new) script.now (λ rest text.
@@ -214,6 +219,7 @@ fn run_on<M: Media, K: Sink>(
         SomeRun (media_change M.told M.faults M.short media.old media.new) script.now (λ rest text.
         AppendsPart (K.taken out.old) (K.taken out.new) text) }
     ensures few { OnOk result (plain.new.events ≤ 1_048_577) }
+    ensures daemons { OnOk result (length plain.new.roll.daemons ≡ length plain.old.roll.daemons) }
     ensures later { K.faults out.old ≤ K.faults out.new }
     ensures cause { result ≡ Err RunError.Output → Rose (K.faults out.old) (K.faults out.new) }
 {
@@ -257,6 +263,6 @@ pub fn run<M: Media, K: Sink>(
         out,
     )?;
     // The leaves at the end of the input print nothing.
-    plain.leave_all(daemons.as_slice(), Leave::Done)?;
+    plain.leave_all(Leave::Done)?;
     Ok(())
 }

@@ -1,13 +1,15 @@
-use Rattle.std.proofs.Common.{◌≡◌, Some, refl, sym, subst}
+use Rattle.std.proofs.Common.{rules, ◌≡◌, Some, refl, sym, subst}
+use Rattle.sdr_disk.specs.Pending.{IsSynced}
+use Rattle.sdr_shell.specs.Formatting.{HasFormatted}
 use Rattle.sdr_shell.specs.Answers.{AnswersDry, AnswersFormat, seen}
 use Rattle.sdr_shell.specs.Schedule.{media_change}
 use Rattle.sdr_shell.specs.Form.{form_of, OnFormat}
-use Rattle.sdr_shell.specs.declared.form.Form.TheVariants.{Format}
-use Rattle.sdr_shell.proofs.StillLemmas.{dry_completes, format_completes, not_run}
+use Rattle.sdr_shell.specs.declared.form.Form.TheVariants.{Dry, Format}
+use Rattle.sdr_shell.proofs.StillLemmas.{dry_completes, format_completes, no_format, not_run, on_format}
 use Rattle.sdr_shell.proofs.commands.still.Goals as goal
 
-pub returns-in-Some-Dry-clause-dry : goal.returns-in-Some-Dry-clause-dry
-returns-in-Some-Dry-clause-dry g c form =
+pub returns-in-Some-Dry : goal.returns-in-Some-Dry
+returns-in-Some-Dry g c =
     let source = seen g.S.Source.left g.S.Source.faults c.args.input.now in
     let source' = seen g.S.Source.left g.S.Source.faults c.dry-status.new.input in
     let sink = seen g.K.Sink.taken g.K.Sink.faults c.args.output.now in
@@ -25,16 +27,30 @@ returns-in-Some-Dry-clause-dry g c form =
       starved = e.starved;
       exact = λ bytes told refused. (λ is. not_run _ bytes _ _ told refused (e.done is).run, λ is. not_run _ bytes _ _ told refused (e.part is));
       complete = λ bytes told ok no_input no_output. dry_completes _ _ _ _ _ _ _ _ bytes e.known e.input e.output e.refused told ok no_input no_output;
-    } in (
+    } in
+    let form : form_of c.args.words.now ≡ Some Dry = search rules in
+    record {
+      usage = search rules;
+      usage_text = search rules;
+      dry = λ _. (
       c.outcome.ensures.disk,
       subst (λ s. AnswersDry s source source'
           (media_change g.M.Media.told g.M.Media.faults g.M.Media.short c.args.media c.outcome.result.media) sink sink') (sym c.outcome.ensures.status)
           (subst (λ m. AnswersDry c.dry-status.result source source'
           (media_change g.M.Media.told g.M.Media.faults g.M.Media.short c.args.media m) sink sink') (sym c.outcome.ensures.media) answers),
-    )
+    );
+      format = no_format _ _ form;
+      synced = no_format _ _ form;
+      counts = search rules;
+      given = search rules;
+      media = search rules;
+      unread = search rules;
+      same = search rules;
+      told = search rules;
+    }
 
-pub returns-in-Some-Format-clause-format : goal.returns-in-Some-Format-clause-format
-returns-in-Some-Format-clause-format g c =
+pub returns-in-Some-Format : goal.returns-in-Some-Format
+returns-in-Some-Format g c =
     let disk = seen g.D.Disk.bytes g.D.Disk.faults c.args.disk in
     let disk' = seen g.D.Disk.bytes g.D.Disk.faults c.format_disk-status.new.disk in
     let sink = seen g.K.Sink.taken g.K.Sink.faults c.args.output.now in
@@ -55,9 +71,24 @@ returns-in-Some-Format-clause-format g c =
     let form : form_of c.args.words.now ≡ Some (Format c.in-Some-Format.frame) = cc (c.in-Some-Format.ensures.form) in
     let status = c.outcome-in-Some-Format.ensures.status in
     let kept = c.outcome-in-Some-Format.ensures.disk in
-    subst (λ o. OnFormat o (λ frame. (c.args.input.now ≡ c.args.input.now) × AnswersFormat c.outcome-in-Some-Format.result.status frame (g.D.Disk.size c.args.disk)
+    record {
+      usage = search rules;
+      usage_text = search rules;
+      dry = search rules;
+      format = subst (λ o. OnFormat o (λ frame. (c.args.input.now ≡ c.args.input.now) × AnswersFormat c.outcome-in-Some-Format.result.status frame (g.D.Disk.size c.args.disk)
     disk (seen g.D.Disk.bytes g.D.Disk.faults c.outcome-in-Some-Format.result.disk) sink sink')) (sym form) (
       refl,
       subst (λ s. AnswersFormat s c.in-Some-Format.frame (g.D.Disk.size c.args.disk) disk (seen g.D.Disk.bytes g.D.Disk.faults c.outcome-in-Some-Format.result.disk) sink sink') (sym status)
           (subst (λ d. AnswersFormat c.format_disk-status.result c.in-Some-Format.frame (g.D.Disk.size c.args.disk) disk (seen g.D.Disk.bytes g.D.Disk.faults d) sink sink') (sym kept) answers),
-    )
+    );
+      synced = on_format _ c.in-Some-Format.frame
+          (λ _. HasFormatted c.outcome-in-Some-Format.result.status → IsSynced g.D.Disk.bytes g.D.Disk.moment g.D.Disk.may_leave c.outcome-in-Some-Format.result.disk) form
+          (subst (λ s. HasFormatted s → IsSynced g.D.Disk.bytes g.D.Disk.moment g.D.Disk.may_leave c.outcome-in-Some-Format.result.disk) (sym status)
+          (subst (λ d. HasFormatted c.format_disk-status.result → IsSynced g.D.Disk.bytes g.D.Disk.moment g.D.Disk.may_leave d) (sym kept) e.synced));
+      counts = search rules;
+      given = search rules;
+      media = search rules;
+      unread = search rules;
+      same = search rules;
+      told = search rules;
+    }

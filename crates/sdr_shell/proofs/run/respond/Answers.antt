@@ -1,8 +1,12 @@
 use Rattle.std.proofs.Common.{Ok, ap}
-use Rattle.sdr_shell.proofs.GapLemmas.{unasked_causes}
+use Rattle.sdr_shell.proofs.GapLemmas.{unasked_causes, unasked_responds}
+use Rattle.sdr_plain.specs.Plain.{machine_of}
 use Rattle.sdr_shell.proofs.run.respond.Goals as goal
 
-pub returns-in-None-clause-caused : goal.returns-in-None-clause-caused
-returns-in-None-clause-caused g c =
-    unasked_causes c.args.plain.now.machine c.event.new.self.machine c.args.step.now.daemon c.args.event.now _ _
+pub returns-in-None-clause-answers : goal.returns-in-None-clause-answers
+returns-in-None-clause-answers g c =
+    unasked_responds _ (machine_of c.args.plain.now) (machine_of c.event.new.self) c.args.step.now.daemon c.args.step.now.line c.args.event.now
     (c.in_ok-pieces.ensures.none (ap Ok c.in-None.is)) c.event.result c.event.ensures.step
+
+pub returns-in-None-clause-caused : goal.returns-in-None-clause-caused
+returns-in-None-clause-caused g c = unasked_causes _ c.event.result c.event.ensures.whole

@@ -1,6 +1,7 @@
-use Rattle.std.proofs.Common.{◌≡◌, Err, ◌∷◌, ap, sym, subst, arith, length}
+use Rattle.std.proofs.Common.{◌≡◌, ◌∙◌, Err, ◌∷◌, refl, ap, sym, subst, arith, length}
 use Rattle.std.proofs.lemmas.List.{nil_from_length}
 use Rattle.std.proofs.lemmas.Result.{err_from_is_err_and}
+use Rattle.sdr_plain.specs.Plain.{Plain, machine_of}
 use Rattle.sdr_shell.specs.declared.run.RunError.TheVariants.{NoMemory, Output}
 use Rattle.sdr_shell.proofs.ScheduleLemmas.{Running, running_start, running_next, running_kept, running_cut, running_done}
 use Rattle.sdr_shell.specs.Schedule.{from_to, seen_media}
@@ -11,11 +12,12 @@ loop-step-init g c =
     let media = seen_media g.M.Media.told g.M.Media.faults g.M.Media.short c.args.media.now in
     let text = g.K.Sink.taken c.args.out.now in
     record {
-      running = subst (λ b. Running (from_to media media) c.args.script.now c.args.script.now b c.args.plain.now.machine text text)
+      running = subst (λ b. Running (from_to media media) c.args.script.now c.args.script.now b (machine_of c.args.plain.now) text text)
           (sym c.requires.bindings)
-          (running_start media c.args.script.now c.args.plain.now.machine text (sym (ap (λ p. p.machine) c.requires.plain)));
+          (running_start media c.args.script.now (machine_of c.args.plain.now) text (sym (ap machine_of c.requires.plain)));
       later = omega arith;
-      few = omega (arith, ap (λ p. p.events) c.requires.plain, c.requires.few);
+      daemons = refl;
+      few = omega (arith, ap (λ (p : Plain). p.events) c.requires.plain, c.requires.few);
     }
 
 pub returns-in_err-make-clause-memory : goal.returns-in_err-make-clause-memory
@@ -27,8 +29,8 @@ returns-in_err-make-clause-memory g c is =
     let between = seen_media g.M.Media.told g.M.Media.faults g.M.Media.short c.loop-step.media in
     let media' = seen_media g.M.Media.told g.M.Media.faults g.M.Media.short c.make.new.media in
     running_kept media between media' c.args.script.now c.in-Some.step.now c.in-Some.after.now c.loop-step.bindings
-    c.loop-step.plain.machine c.make.new.plain.machine _ _ _
-    (subst (λ r. Running (from_to media between) c.args.script.now r c.loop-step.bindings c.loop-step.plain.machine
+    (machine_of c.loop-step.plain) (machine_of c.make.new.plain) _ _ _
+    (subst (λ r. Running (from_to media between) c.args.script.now r c.loop-step.bindings (machine_of c.loop-step.plain)
     (g.K.Sink.taken c.args.out.now) (g.K.Sink.taken c.loop-step.out)) e c.loop-step.invariant.running)
     (c.make.ensures.memory h)
 
@@ -41,8 +43,8 @@ returns-in_err-make-clause-output g c is =
     let between = seen_media g.M.Media.told g.M.Media.faults g.M.Media.short c.loop-step.media in
     let media' = seen_media g.M.Media.told g.M.Media.faults g.M.Media.short c.make.new.media in
     running_cut media between media' c.args.script.now c.in-Some.step.now c.in-Some.after.now c.loop-step.bindings
-    c.loop-step.plain.machine c.make.new.plain.machine _ _ _
-    (subst (λ r. Running (from_to media between) c.args.script.now r c.loop-step.bindings c.loop-step.plain.machine
+    (machine_of c.loop-step.plain) (machine_of c.make.new.plain) _ _ _
+    (subst (λ r. Running (from_to media between) c.args.script.now r c.loop-step.bindings (machine_of c.loop-step.plain)
     (g.K.Sink.taken c.args.out.now) (g.K.Sink.taken c.loop-step.out)) e c.loop-step.invariant.running)
     (c.make.ensures.output h)
 
@@ -54,14 +56,15 @@ loop-step-preserved g c =
     let between = seen_media g.M.Media.told g.M.Media.faults g.M.Media.short c.loop-step.media in
     let media' = seen_media g.M.Media.told g.M.Media.faults g.M.Media.short c.make.new.media in
     record {
-      running = subst (λ b. Running (from_to media media') c.args.script.now c.in-Some.after.now b c.make.new.plain.machine
+      running = subst (λ b. Running (from_to media media') c.args.script.now c.in-Some.after.now b (machine_of c.make.new.plain)
           (g.K.Sink.taken c.args.out.now) (g.K.Sink.taken c.make.new.out)) (sym made.names)
           (running_next media between media' c.args.script.now c.in-Some.step.now c.in-Some.after.now c.loop-step.bindings
-          c.loop-step.plain.machine c.make.new.plain.machine _ _ _
-          (subst (λ r. Running (from_to media between) c.args.script.now r c.loop-step.bindings c.loop-step.plain.machine
+          (machine_of c.loop-step.plain) (machine_of c.make.new.plain) _ _ _
+          (subst (λ r. Running (from_to media between) c.args.script.now r c.loop-step.bindings (machine_of c.loop-step.plain)
           (g.K.Sink.taken c.args.out.now) (g.K.Sink.taken c.loop-step.out)) e c.loop-step.invariant.running)
-          made.line.answer made.line.answers made.line.caused made.line.printed);
+          made.line.came made.line.answers made.line.caused made.line.printed);
       later = omega (arith, c.loop-step.invariant.later, c.make.ensures.later);
+      daemons = c.in_ok-make.ensures.daemons ∙ c.loop-step.invariant.daemons;
       few = omega (arith, c.loop-step.invariant.few, c.in_ok-make.ensures.events, ap length e);
     }
 

@@ -1,6 +1,5 @@
-use Rattle.std.proofs.Common.{◌≡◌, ◌∙◌, List, Option, ℕ, ap, refl, subst, sym, unwrap_or}
+use Rattle.std.proofs.Common.{◌∙◌, List, Option, ℕ, ap, refl, subst, sym, unwrap_or}
 use Rattle.sdr_lock.specs.Serving.{Brings, ShowsBytes}
-use Rattle.sdr_model.specs.World.{World}
 use Rattle.sdr_plain.proofs.BareLemmas.{brings_shown}
 use Rattle.sdr_plain.specs.Bare.{StandsBare, Worlds}
 use Rattle.sdr_plain.proofs.bare.BareShows.show.Goals as goal

@@ -1,7 +1,6 @@
-use Rattle.std.proofs.Common.{◌≡◌, ◌≤◌, ◌∙◌, Some, None, ap, arith, subst, sym}
+use Rattle.std.proofs.Common.{◌≡◌, Some, None, arith, subst, sym}
 use Rattle.std.proofs.lemmas.Result.{on_ok_weaker}
 use Rattle.sdr_lock.proofs.HolderLemmas.{unserved_none}
-use Rattle.sdr_lock.specs.Holders.{holders}
 use Rattle.sdr_lock.specs.Leaving.{served_daemon}
 use Rattle.sdr_lock.specs.Roll.{Roll}
 use Rattle.sdr_plain.proofs.PlainLemmas.{holders_more, holders_none, leave_gives_up, served_some}

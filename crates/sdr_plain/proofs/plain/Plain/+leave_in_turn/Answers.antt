@@ -1,4 +1,4 @@
-use Rattle.std.proofs.Common.{ℕ, List, [], subst, sym}
+use Rattle.std.proofs.Common.{ℕ, List, subst, sym}
 use Rattle.std.proofs.lemmas.Result.{on_ok_weaker}
 use Rattle.sdr_plain.proofs.PlainLemmas.{first_of, leaves_none, none_of, turn_more, turn_none}
 use Rattle.sdr_plain.specs.Leaves.{LeaveInTurnFrom}
