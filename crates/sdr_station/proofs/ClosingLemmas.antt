@@ -23,8 +23,9 @@ use Rattle.sdr_log.specs.Frame.{room_of}
 use Rattle.sdr_log.specs.Logged.{Gives}
 use Rattle.sdr_model.specs.World.{World, at_rest}
 use Rattle.sdr_model.specs.declared.accounts.Ticket.{Ticket}
+use Rattle.sdr_station.specs.Answering.{IsPlain}
 use Rattle.sdr_station.specs.Closing as closing
-use Rattle.sdr_station.specs.Grounded.{Grounded, HasNoTickets, Lasts, Leaves, Opens, Stands, StandsAtRest, StandsSome, StandsWithin, heap_in}
+use Rattle.sdr_station.specs.Grounded.{Grounded, Lasts, Leaves, Opens, Stands, StandsAtRest, StandsSome, StandsWithin, heap_in}
 use Rattle.sdr_station.proofs.GroundLemmas.{heap_ground, unmarked}
 use Rattle.sdr_station.proofs.RestLemmas.{fits_rest, put_back_is, whole_rest}
 
@@ -40,7 +41,7 @@ at_rest_of h shown s taken w = record {
     fits = fits_rest s.world w.fits;
     next = w.next;
   };
-  tickets = record { inbound = w.tickets.inbound; outbound = w.tickets.outbound };
+  plain = record { inbound = w.plain.inbound; outbound = w.plain.outbound; unnamed = w.plain.unnamed };
   demand = refl;
 }
 
@@ -60,13 +61,13 @@ within_of h n s none untouched size at = record {
   whole = at.stands.whole;
   fits = at.stands.fits;
   next = at.stands.next;
-  tickets = at.tickets;
+  plain = at.plain;
   gave = at.stands.stands.shown;
   lines = subst (λ (touched : List ℕ). length touched ≤ most_lines s.demand) (sym untouched) (omega arith);
 }
 
 -- no ticket is there in a world without tickets
-pub no_ticket : (w : World) (ticket : ℕ) → HasNoTickets w → shown_in w ticket ≡ None
+pub no_ticket : (w : World) (ticket : ℕ) → IsPlain w → shown_in w ticket ≡ None
 no_ticket w ticket none =
     let at : List Ticket → List Ticket → Option Bool =
         λ a b. shown_in (record w { accounts = record w.accounts {

@@ -8,3 +8,4 @@ pub mod KindLemmas
 pub mod MallocLemmas
 pub mod ReadingLemmas
 pub mod WriteLemmas
+pub mod FreeLemmas

@@ -5,7 +5,8 @@ use Rattle.std.proofs.lemmas.Bool.Decides.{nat_tests}
 use Rattle.std.proofs.lemmas.List.Elements.{All-cons, All-nil}
 use Rattle.sdr_audit.proofs.ChangeLemmas.{comes, nothing_at}
 use Rattle.sdr_audit.specs.Standing.{HeapStandsFor}
-use Rattle.sdr_audit.specs.Ties.{or_null, ties_of}
+use Rattle.sdr_audit.proofs.TiesLemmas.{same_ties, untied_alike}
+use Rattle.sdr_audit.specs.Ties.{NoneIsTied, or_null, ties_of}
 use Rattle.sdr_base.specs.Making.{MakesThing}
 use Rattle.sdr_base.specs.Objects.{Heap}
 use Rattle.sdr_base.specs.Raws.{raw_entries}
@@ -24,7 +25,7 @@ use Rattle.sdr_model.specs.Rows.{ByRow}
 use Rattle.sdr_model.specs.Steps.{taken_addresses, with_thing}
 use Rattle.sdr_model.specs.Things.{raw_need}
 use Rattle.sdr_model.specs.Whole.{IsWhole}
-use Rattle.sdr_model.specs.World.{World}
+use Rattle.sdr_model.specs.World.{World, thing_at}
 use Rattle.sdr_model.specs.declared.answer.Reply.TheVariants as replies
 use Rattle.sdr_model.specs.declared.call.Call.TheVariants as calls
 use Rattle.sdr_model.specs.declared.things.Thing.TheVariants as things
@@ -65,6 +66,8 @@ malloc_answered bytes addr old new w unmoved makes stands whole =
       gave = refl;
       words = subst (λ (ms : List Move). All IsWord (taken_addresses ms)) (sym moves)
           (All-cons IsWord addr [] (omega (arith, t.small)) (All-nil IsWord));
+      ties = same_ties w addr (Some (things.Raw (replicate bytes 0)))
+          (untied_alike (thing_at w addr) _ (subst NoneIsTied (sym (nothing_at addr stands t.fresh)) tt) tt);
       accounts = refl;
       taken = refl;
     }

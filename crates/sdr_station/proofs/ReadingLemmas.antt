@@ -52,8 +52,8 @@ shows old new w bytes same s =
 -- a call without moves that was answered
 pub unmoved_answered : (w after : World) (call : Call) (new : Heap) (shown : List ℕ) (reply : Reply) → new.moves ≡ []
     → ByRow w (record { moves = []; after = after; reply = reply }) call → is_answer reply ≡ true → HeapStandsFor new after
-    → after.shown ≡ shown → after.accounts ≡ w.accounts → after.taken ≡ w.taken → Answered w call new shown reply
-unmoved_answered w after call new shown reply none row answered stands gave accounts taken = record {
+    → after.shown ≡ shown → ties_of after ≡ ties_of w → after.accounts ≡ w.accounts → after.taken ≡ w.taken → Answered w call new shown reply
+unmoved_answered w after call new shown reply none row answered stands gave ties accounts taken = record {
   after = after;
   row = subst (λ (ms : List Move). ByRow w (record { moves = ms; after = after; reply = reply }) call) (sym none) row;
   answered = answered;
@@ -61,6 +61,7 @@ unmoved_answered w after call new shown reply none row answered stands gave acco
   stands = stands;
   gave = gave;
   words = subst (λ (ms : List Move). All IsWord (taken_addresses ms)) (sym none) (All-nil IsWord);
+  ties = ties;
   accounts = accounts;
   taken = taken;
 }
@@ -130,7 +131,7 @@ pub length_answered : (addr value : ℕ) (old new : Heap) (w : World) → old.mo
     → HeapStandsFor old w → IsWhole w → Answered w (calls.Length addr) new [] (replies.Value value)
 length_answered addr value old new w unmoved same told s whole =
     unmoved_answered w (record w { shown = [] }) (calls.Length addr) new [] (replies.Value value) (ap (λ (h : Heap). h.moves) same ∙ unmoved)
-    (by (old.blocks addr) (block_at w addr) (block_told old w addr s whole.valid) told) refl (shows old new w [] same s) refl refl refl
+    (by (old.blocks addr) (block_at w addr) (block_told old w addr s whole.valid) told) refl (shows old new w [] same s) refl refl refl refl
   where
     kind_in : Option (Kind × ℕ) → Kind
     kind_in None = kinds.Raw
@@ -227,7 +228,7 @@ read_answered addr place count into old new w unmoved same reads s whole =
     unmoved_answered w (record w { shown = into }) (calls.Read addr place count) new into (replies.Bytes count) (ap (λ (h : Heap). h.moves) same ∙ unmoved)
     (on_raw w (read_outcome w into count) addr r.bytes _ r.there
     (on_false _ _ _ few (on_false _ _ _ inside (refl, ap (λ (b : List ℕ). record w { shown = b }) bytes, refl))))
-    refl (shows old new w into same s) refl refl refl
+    refl (shows old new w into same s) refl refl refl refl
 
 -- the first bytes were given, and the object is marked
 pub stage_answered : (addr count : ℕ) (into : List ℕ) (old new : Heap) (w : World) → old.moves ≡ [] → new ≡ with_mark old addr
@@ -246,7 +247,7 @@ stage_answered addr count into old new w unmoved marked reads s whole =
     (refl, ap (λ (b : List ℕ). record w { marks = w.marks ++ addr ∷ []; shown = b }) bytes, refl))))
     refl
     (subst (λ (h : Heap). HeapStandsFor h after) (sym marked) (record { blocks = s.blocks; roots = s.roots; marks = marked_one old.marks w.marks addr s.marks }))
-    refl refl refl
+    refl refl refl refl
 
 -- why bytes weren't read
 pub read_refused : (addr place count : ℕ) (old new : Heap) (w : World) (was : List ℕ) (refusal : Refusal) → old.moves ≡ [] → new ≡ old

@@ -4,7 +4,8 @@ use Rattle.std.proofs.lemmas.Bool.Decides.{nat_tests}
 use Rattle.std.specs.List.{list_any}
 use Rattle.sdr_audit.proofs.ChangeLemmas.{changes}
 use Rattle.sdr_audit.specs.Standing.{HeapStandsFor, with_taken_marked}
-use Rattle.sdr_audit.specs.Ties.{ties_of}
+use Rattle.sdr_audit.proofs.TiesLemmas.{same_ties, untied_alike}
+use Rattle.sdr_audit.specs.Ties.{NoneIsTied, ties_of}
 use Rattle.sdr_base.proofs.StandingLemmas.{written_at}
 use Rattle.sdr_base.specs.Blocks as base
 use Rattle.sdr_base.specs.Blocks.{IsKind, overwritten, with_block}
@@ -23,7 +24,7 @@ use Rattle.sdr_lock.proofs.WorkLemmas.{on_false, on_true}
 use Rattle.sdr_model.specs.Rows.{ByRow}
 use Rattle.sdr_model.specs.Steps.{Outcome, with_thing}
 use Rattle.sdr_model.specs.Whole.{IsWhole}
-use Rattle.sdr_model.specs.World.{World, is_marked}
+use Rattle.sdr_model.specs.World.{World, is_marked, thing_at}
 use Rattle.sdr_model.specs.declared.answer.Reply.TheVariants as replies
 use Rattle.sdr_model.specs.declared.call.Call.TheVariants as calls
 use Rattle.sdr_model.specs.declared.things.Thing.TheVariants as things
@@ -94,7 +95,10 @@ write_answered addr place from old new w unmoved writes s whole =
     (changes addr old new w (things.Raw r.bytes) (things.Raw (overwrite place from r.bytes)) [] r.there tt tt s
     (raw_changes old new w addr place from r writes.written)
     (record { all = ap besides writes.written ∙ unmade old })))
-    refl refl refl
+    refl
+    (same_ties w addr (Some (things.Raw (overwrite place from r.bytes)))
+    (untied_alike (thing_at w addr) _ (subst NoneIsTied (sym r.there) tt) tt))
+    refl refl
 
 -- why bytes weren't written
 pub write_refused : (addr place : ℕ) (from : List ℕ) (old new : Heap) (w : World) (was : List ℕ) (refusal : Refusal) → old.moves ≡ []

@@ -16,14 +16,14 @@ returns-in_err-read-clause-comes g c =
     let e = c.in_err-read.ensures in
     let fact : Comes (calls.Read c.args.addr c.args.place c.args.count) old new page page (Err c.in_err-read.field-0.0) =
         comes_stopped (calls.Read c.args.addr c.args.place c.args.count) old new page c.in_err-read.field-0.0
-        (λ w refusal stands whole is. read_refused c.args.addr c.args.place c.args.count old new w page refusal c.requires.unmoved e.looks.same stands whole
+        (λ w refusal stands whole plain is. read_refused c.args.addr c.args.place c.args.count old new w page refusal c.requires.unmoved e.looks.same stands whole
         (subst (λ (s : Stop). ReadStops (old.blocks c.args.addr) c.args.addr c.args.place c.args.count s) is
         (subst (λ (n : ℕ). ReadStops (old.blocks c.args.addr) c.args.addr c.args.place n c.in_err-read.field-0.0) c.requires.count e.refused))) in
     search rules
 
 pub returns-clause-comes : goal.returns-clause-comes
 returns-clause-comes g c = record {
-  each = λ w stands whole.
+  each = λ w stands whole plain.
       let old = g.O.HasHeap.heap c.args.o.now in
       let new = g.O.HasHeap.heap c.read.new.o in
       let e = c.in_ok-read.ensures in
