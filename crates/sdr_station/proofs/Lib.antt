@@ -9,3 +9,5 @@ pub mod MallocLemmas
 pub mod ReadingLemmas
 pub mod WriteLemmas
 pub mod FreeLemmas
+pub mod DemandLemmas
+pub mod ServingLemmas

@@ -75,7 +75,7 @@ impl<D: Disk> Serves for HeapGround<D> {
                 self.stopped = !call.is_reading();
                 Ok(Reply::Refused(refusal))
             }
-            Err(_) => unreachable!(),
+            Err(Stop::DiskFault | Stop::MediaFault | Stop::Failed) => unreachable!(),
         }
     }
 
