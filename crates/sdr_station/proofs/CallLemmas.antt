@@ -23,7 +23,7 @@ comes_stopped call old new page stops.Failed each = record { each = λ w stands 
 -- a call that is never answered is refused, or has met a fault
 pub comes_never : (call : Call) (old new : Heap) (page : List ℕ) (result : Result Reply Stop) → OnOk result ⊥
     → ((stop : Stop) → result ≡ Err stop → (w : World) (refusal : Refusal) → HeapStandsFor old w → IsWhole w → IsPlain w → stop ≡ stops.Refused refusal
-      → IsRefused w call old new page page refusal)
+    → IsRefused w call old new page page refusal)
     → Comes call old new page page result
 comes_never call old new page (Ok reply) never each = absurd never
 comes_never call old new page (Err stop) never each = comes_stopped call old new page stop (each stop refl)

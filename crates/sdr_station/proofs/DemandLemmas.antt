@@ -1,9 +1,9 @@
 -- How many lines a call may touch by what it asks.
-use Rattle.std.proofs.Common.{◌≡◌, ◌∙◌, ◌≤◌, ◌<◌, ◌+◌, ◌*◌, ◌/◌, ℕ, List, [], ◌∷◌, ◌++◌, true, false, true≢false, inl, refl, sym, ap, subst, length, arith}
+use Rattle.std.proofs.Common.{◌≡◌, ◌≤◌, ◌+◌, ℕ, List, true, true≢false, inl, refl, sym, ap, length, arith}
 use Rattle.std.specs.Prelude.{slice_index}
 use Rattle.sdr_base.specs.declared.moves.Move.{Move}
 use Rattle.sdr_laws.proofs.StepLemmas.{moves_are_the_rows}
-use Rattle.sdr_lock.specs.Demand.{Demand, bytes_taken, demand_after, grants_between, most_lines}
+use Rattle.sdr_lock.specs.Demand.{Demand, bytes_taken, demand_after, most_lines}
 use Rattle.sdr_model.specs.Reading.{is_reading}
 use Rattle.sdr_model.specs.RowMoves.{row_moves}
 use Rattle.sdr_model.specs.Rows.{ByRow}

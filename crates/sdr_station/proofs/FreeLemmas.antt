@@ -1,19 +1,19 @@
 -- A raw object or a string that is given back, as a step.
-use Rattle.std.proofs.Common.{◌≡◌, ◌≢◌, ◌∙◌, ◌≤◌, ◌<◌, ◌+◌, ◌-◌, ◌==◌, ℕ, List, [], ◌∷◌, ◌++◌, Bool, true, false, true≢false, inl, inr, Option, Some, None, refl, sym, ap, subst, arith, length, append-nil}
+use Rattle.std.proofs.Common.{◌≡◌, ◌∙◌, ◌==◌, ℕ, List, [], ◌∷◌, ◌++◌, true≢false, inl, inr, Option, Some, None, refl, sym, ap, subst, append-nil}
 use Rattle.std.specs.Prelude.{All}
 use Rattle.std.proofs.lemmas.List.Elements.{All-nil}
 use Rattle.std.specs.List.{list_any}
 use Rattle.sdr_audit.proofs.ChangeLemmas.{apart, goes}
 use Rattle.sdr_audit.proofs.TiesLemmas.{same_ties, untied_alike}
 use Rattle.sdr_audit.specs.Shape.{told_of}
-use Rattle.sdr_audit.specs.Standing.{HeapStandsFor, thing_entries, with_taken_marked}
+use Rattle.sdr_audit.specs.Standing.{HeapStandsFor, thing_entries}
 use Rattle.sdr_audit.specs.Ties.{IsUntied, NoneIsTied, ties_of}
 use Rattle.sdr_base.proofs.StandingLemmas.{found, went}
 use Rattle.sdr_base.specs.Blocks as base
 use Rattle.sdr_base.specs.Blocks.{IsKind, kind_length, with_block}
 use Rattle.sdr_base.specs.Entries.{Changes, Stands}
 use Rattle.sdr_base.specs.Kinds.{kind_number}
-use Rattle.sdr_base.specs.Making.{Made, besides, with_moves}
+use Rattle.sdr_base.specs.Making.{besides}
 use Rattle.sdr_base.specs.Objects.{Heap, with_given}
 use Rattle.sdr_base.specs.declared.kind.Kind.{Kind}
 use Rattle.sdr_base.specs.declared.kind.Kind.TheVariants as kinds
@@ -40,7 +40,7 @@ use Rattle.sdr_model.specs.declared.things.Thing.{Thing}
 use Rattle.sdr_model.specs.declared.things.Thing.TheVariants as things
 use Rattle.sdr_station.proofs.KindLemmas.{block_told, raw_is_at, text_is_at}
 use Rattle.sdr_station.proofs.ReadingLemmas.{no_block, row_refused}
-use Rattle.sdr_station.specs.Answering.{Aim, Answered, IsPlain, IsRefused}
+use Rattle.sdr_station.specs.Answering.{Answered, IsPlain, IsRefused}
 
 -- the world after the thing at an address was given back
 abbrev pub after_free : World → ℕ → World
@@ -96,7 +96,7 @@ pub free_answered : (addr : ℕ) (old new : Heap) (w : World) → old.moves ≡ 
 free_answered addr old new w unmoved frees s whole plain =
     let f = freeable old w addr s whole plain frees.found in
     let moves : new.moves ≡ Gave addr ∷ [] =
-        ap (λ (h : Heap). h.moves) frees.given ∙ ap (λ (ms : List Move). ms ++ Gave addr ∷ []) unmoved in
+    ap (λ (h : Heap). h.moves) frees.given ∙ ap (λ (ms : List Move). ms ++ Gave addr ∷ []) unmoved in
     let stands = goes addr old new w f.thing (Gave addr ∷ []) f.there f.untied s (f.goes new frees.given) (record { all = ap besides frees.given }) in
     record {
       after = after_free w addr;

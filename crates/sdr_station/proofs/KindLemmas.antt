@@ -17,7 +17,7 @@ use Rattle.sdr_base.specs.declared.kind.Kind.TheVariants as kinds
 use Rattle.sdr_base.proofs.StandingLemmas.{found}
 use Rattle.sdr_laws.proofs.FoundLemmas.{blocks_are_found}
 use Rattle.sdr_model.specs.Accounts.{ticket_block, ticket_blocks}
-use Rattle.sdr_model.specs.Things.{block_among, capsule_block, element_block, entry_block, extent_block, inner_among, inner_blocks, name_block, object_blocks, own_block}
+use Rattle.sdr_model.specs.Things.{block_among, capsule_block, element_block, entry_block, extent_block, inner_among, inner_blocks, name_block, own_block}
 use Rattle.sdr_model.specs.Valid.{IsValid}
 use Rattle.sdr_model.specs.World.{World, block_at, thing_at}
 use Rattle.sdr_model.specs.declared.things.Block.{Block}
@@ -85,7 +85,7 @@ own_block_at w addr b is some = by (thing_at w addr) refl is
 
     by : (o : Option Thing) → thing_at w addr ≡ o
         → option_or (option_map (own_block addr) o) (option_or (inner_among addr (finite.entries w.things))
-          (option_or (block_among addr (map name_block w.names)) (block_among addr (ticket_blocks w.accounts)))) ≡ Some b
+        (option_or (block_among addr (map name_block w.names)) (block_among addr (ticket_blocks w.accounts)))) ≡ Some b
         → (thing : Thing) × (thing_at w addr ≡ Some thing) × (own_block addr thing ≡ b)
     by None at here = absurd (some (others b here))
     by (Some thing) at here = (thing, at, cc)

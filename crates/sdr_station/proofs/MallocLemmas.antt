@@ -1,6 +1,6 @@
 -- A raw object that is made, as a step.
-use Rattle.std.proofs.Common.{◌≡◌, ◌≢◌, ◌∙◌, ◌≤◌, ◌<◌, ◌+◌, ℕ, List, [], ◌∷◌, ◌++◌, true, false, true≢false, inl, inr, Some, None, refl, sym, ap, subst, arith, MatchBool, nat_lt}
-use Rattle.std.specs.Prelude.{All, Contains, Err, replicate}
+use Rattle.std.proofs.Common.{◌≡◌, ◌∙◌, ◌≤◌, ◌+◌, ℕ, List, [], ◌∷◌, ◌++◌, true, false, true≢false, inl, inr, Some, refl, sym, ap, subst, arith, nat_lt}
+use Rattle.std.specs.Prelude.{All, replicate}
 use Rattle.std.proofs.lemmas.Bool.Decides.{nat_tests}
 use Rattle.std.proofs.lemmas.List.Elements.{All-cons, All-nil}
 use Rattle.sdr_audit.proofs.ChangeLemmas.{comes, nothing_at}
@@ -50,9 +50,9 @@ pub malloc_answered : (bytes addr : ℕ) (old new : Heap) (w : World) → old.mo
 malloc_answered bytes addr old new w unmoved makes stands whole =
     let t = makes.taken in
     let moves : new.moves ≡ Took (raw_need bytes) addr ∷ [] =
-        ap (λ (h : Heap). h.moves) t.taken ∙ ap (λ (ms : List Move). ms ++ Took (8 + bytes) addr ∷ []) unmoved in
+    ap (λ (h : Heap). h.moves) t.taken ∙ ap (λ (ms : List Move). ms ++ Took (8 + bytes) addr ∷ []) unmoved in
     let unnamed : 0 ≡ (ties_of w).named_by addr =
-        sym (ap or_null (none_named w addr whole.fits (nothing_at addr stands t.fresh))) in
+    sym (ap or_null (none_named w addr whole.fits (nothing_at addr stands t.fresh))) in
     record {
       after = after_malloc w bytes addr;
       row = subst (λ (ms : List Move). ByRow w (record { moves = ms; after = after_malloc w bytes addr; reply = replies.At addr }) (calls.Malloc bytes))

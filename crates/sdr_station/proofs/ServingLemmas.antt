@@ -1,25 +1,32 @@
 -- A call that a heap on an image has answered, as a step of the machine.
-use Rattle.std.proofs.Common.{◌≡◌, ◌∙◌, ◌≤◌, ◌<◌, ◌+◌, ℕ, suc, List, [], ◌∷◌, ◌++◌, Bool, true, false, true≢false, not, Option, None, Some, Result, Ok, Err, inl, inr, refl, sym, ap, subst, length, arith}
+use Rattle.std.proofs.Common.{◌≡◌, ◌∙◌, ◌≤◌, ◌+◌, ◌⊎◌, ℕ, List, [], ◌∷◌, Bool, true, false, true≢false, not, Option, None, Some, Result, Ok, Err, inl, inr, refl, sym, ap, subst, length, arith}
 use Rattle.sdr_audit.specs.Standing.{HeapStandsFor}
 use Rattle.sdr_base.proofs.MovesLemmas.{Moves-none}
 use Rattle.sdr_base.specs.KeptHeap.{KeepsRegion}
-use Rattle.sdr_base.specs.Moves.{KeepsSome, Leads, Moves, MovesPools}
+use Rattle.sdr_base.proofs.LayoutLemmas.{number_at-layout}
+use Rattle.sdr_base.specs.Blocks as base
+use Rattle.sdr_base.specs.Blocks.{IsKind}
+use Rattle.sdr_base.specs.Raws.{raw_block}
+use Rattle.sdr_base.specs.Stored.{number_at}
+use Rattle.sdr_base.specs.Transaction.{Explains}
+use Rattle.sdr_base.specs.declared.kind.Kind.TheVariants as kinds
+use Rattle.sdr_base.specs.Moves.{Leads, Moves, MovesPools}
 use Rattle.sdr_base.specs.Objects.{Heap}
-use Rattle.sdr_base.specs.Pools.{Pools}
 use Rattle.sdr_base.specs.Works.{Works}
 use Rattle.sdr_base.specs.declared.has_heap.HasHeap.{Ghosts as HeapGhosts}
 use Rattle.sdr_base.specs.declared.moves.Move.{Move}
 use Rattle.sdr_base.specs.declared.stop.Stop.{Stop}
 use Rattle.sdr_heap.specs.Noted.{Held}
 use Rattle.sdr_image.proofs.OpenedLemmas.{rests_same}
-use Rattle.sdr_image.specs.Opened.{IsQuiet, Opened, Rests, transaction_of}
+use Rattle.sdr_image.specs.Opened.{IsQuiet, Opened, transaction_of}
 use Rattle.sdr_model.specs.declared.answer.Reply.{Reply}
 use Rattle.sdr_model.specs.declared.call.Call.{Call}
 use Rattle.sdr_laws.proofs.FieldLaws.{fields_fit}
 use Rattle.sdr_laws.proofs.FreshLemmas.{none_there}
 use Rattle.sdr_laws.proofs.WholeLaws.{whole_kept}
-use Rattle.sdr_lock.specs.Demand.{Demand, FillsLog, MayFillLog, demand_after, most_lines}
-use Rattle.sdr_lock.specs.Ground.{Ground, State, Steps, StepsHeap, StepsOn}
+use Rattle.sdr_lock.specs.Crash.{LeavesBefore}
+use Rattle.sdr_lock.specs.Demand.{Demand, MayFillLog, demand_after}
+use Rattle.sdr_lock.specs.Ground.{Ground, State, Steps, StepsOn}
 use Rattle.sdr_lock.specs.Serving.{Brings, Calls}
 use Rattle.sdr_lock.specs.Standing.{Standing}
 use Rattle.sdr_log.specs.Frame.{room_of}
@@ -28,7 +35,6 @@ use Rattle.sdr_audit.specs.Ties.{Ties, or_null, ties_of}
 use Rattle.sdr_base.specs.declared.refusal.Refusal.{Refusal}
 use Rattle.sdr_base.specs.declared.refusal.Refusal.TheVariants as refusals
 use Rattle.sdr_base.specs.declared.stop.Stop.TheVariants as stops
-use Rattle.sdr_disk.specs.Told.{Told}
 use Rattle.sdr_model.specs.declared.accounts.Accounts.{Accounts}
 use Rattle.sdr_model.specs.Fields.{FitsCall}
 use Rattle.sdr_model.specs.Reading.{is_reading}
@@ -41,9 +47,13 @@ use Rattle.sdr_model.specs.Zco.{source_on}
 use Rattle.sdr_model.specs.declared.answer.Reply.TheVariants as replies
 use Rattle.sdr_station.proofs.DemandLemmas.{asks_more, enough, reading_lines}
 use Rattle.sdr_station.proofs.EntryLemmas.{source_there}
-use Rattle.sdr_station.specs.Answering.{Aim, Answered, Comes, IsPlain, IsRefused, built, lines_of}
+use Rattle.sdr_station.proofs.GroundLemmas.{heap_ground}
+use Rattle.sdr_station.proofs.KindLemmas.{IsRawAt, raw_is_at}
+use Rattle.sdr_station.proofs.RawLemmas.{length_of_raw}
+use Rattle.sdr_station.specs.CrashNow.{crash_now}
+use Rattle.sdr_station.specs.Answering.{Aim, Answered, Comes, IsGood, IsPlain, built, lines_of}
 use Rattle.sdr_station.specs.Closing.{moves_left}
-use Rattle.sdr_station.specs.Grounded.{Grounded, Stands, StandsAtRest, StandsWithin, heap_in}
+use Rattle.sdr_station.specs.Grounded.{Grounded, Leaves, Stands, StandsAtRest, StandsWithin, heap_in}
 
 -- a heap on an image, as contracts of calls on blocks see it
 abbrev pub image_heap : {D : Type 0} → (D → ℕ) → HeapGhosts (Held (Opened D))
@@ -176,18 +186,18 @@ module _ {D : Type 0} (told : D → Option (List ℕ)) (moment faults : D → �
         let s = subst (λ (h : Heap). HeapStandsFor h v.now.world) (sym left) (fresh_stands v at) in
         let more = asks_more v.now.demand v.now.world call (record { moves = heap.moves; after = v.now.world; reply = replies.Refused refusal }) in
         let here : StandsWithin (record heap' { cells = heap.cells; size = heap.size; marks = heap.marks }) page (next v.now.world (replies.Refused refusal)) =
-            record {
-              pools = lead.after;
-              base = refl;
-              keeps = lead.keeps;
-              heap = record { blocks = s.blocks; roots = s.roots; marks = s.marks };
-              whole = w.whole;
-              fits = w.fits;
-              next = w.next;
-              plain = w.plain;
-              gave = w.gave ∙ sym gave;
-              lines = omega (arith, lines, w.lines, more);
-            } in
+        record {
+          pools = lead.after;
+          base = refl;
+          keeps = lead.keeps;
+          heap = record { blocks = s.blocks; roots = s.roots; marks = s.marks };
+          whole = w.whole;
+          fits = w.fits;
+          next = w.next;
+          plain = w.plain;
+          gave = w.gave ∙ sym gave;
+          lines = omega (arith, lines, w.lines, more);
+        } in
         subst (λ (h : Held (Opened D)). StandsWithin h page (next v.now.world (replies.Refused refusal)))
         (λ i. record heap' { cells = sym cells i; size = sym size i; marks = sym marks i }) here
 
@@ -232,7 +242,7 @@ module _ {D : Type 0} (told : D → Option (List ℕ)) (moment faults : D → �
   brings_stopped : (refusal : Refusal) (n : ℕ) → moves_left refusal heap.moves ≡ heap.moves
       → ((room : ℕ) (d : Demand) (w : World) → MayFillLog room d w call (replies.Refused refusal))
       → ((w : World) → HeapStandsFor (heap_in fresh_heap) w → IsWhole w → IsPlain w
-        → StepTo w (record { moves = heap.moves; after = w; reply = replies.Refused refusal }) call × (is_reading call ≡ true → heap_in heap ≡ heap_in fresh_heap) × (page ≡ old.shown))
+      → StepTo w (record { moves = heap.moves; after = w; reply = replies.Refused refusal }) call × (is_reading call ≡ true → heap_in heap ≡ heap_in fresh_heap) × (page ≡ old.shown))
       → Moves (KeepsRegion fresh_heap.size fresh_heap.cells.bytes) (KeepsRegion heap.size heap.cells.bytes) [] heap.moves
       → Works {T = Reply} (image_heap faults) (lines_of call) fresh_heap heap (Err (stops.Refused refusal))
       → Brings (λ g v. Stands told moment may_leave g v) old (refused_ground refusal n) (Calls None call (replies.Refused refusal))
@@ -271,7 +281,7 @@ module _ {D : Type 0} (told : D → Option (List ℕ)) (moment faults : D → �
       → ((w : World) → HeapStandsFor (heap_in fresh_heap) w → IsWhole w → IsPlain w → Aim w call × (is_reading call ≡ false))
       → Works {T = Reply} (image_heap faults) (lines_of call) fresh_heap heap (Err (stops.Refused (refusals.LogFull lines room)))
       → Brings (λ g v. Stands told moment may_leave g v) old (refused_ground (refusals.LogFull lines room) n)
-        (Calls None call (replies.Refused (refusals.LogFull lines room)))
+      (Calls None call (replies.Refused (refusals.LogFull lines room)))
   brings_full lines room n aims works = record {
     each = λ v at.
         let w = at.now going in
@@ -324,3 +334,54 @@ module _ {D : Type 0} (told : D → Option (List ℕ)) (moment faults : D → �
       (λ w stands whole plain. let r = comes.each w stands whole plain in (r.step, r.left, r.gave))
       (works.moved fresh_heap (Moves-none (KeepsRegion fresh_heap.size fresh_heap.cells.bytes) (KeepsRegion fresh_heap.size fresh_heap.cells.bytes) [] (λ P k. k)))
       works
+
+-- where the disk is the same and its moment too, a crash leaves the state before
+pub leaves_quiet : {D : Type 0} (told : D → Option (List ℕ)) (moment faults : D → ℕ) (may_leave : D → ℕ → List ℕ → Type 0) (old new : Grounded D)
+    → new.heap.cells.disk ≡ old.heap.cells.disk → new.moment ≡ old.moment → LeavesBefore (heap_ground told moment faults may_leave) old new
+leaves_quiet {D} told moment faults may_leave old new disk same = record {
+  each = λ v at. record {
+    later = omega (arith, same);
+    each = λ m image ge le l.
+        let here : m ≡ old.moment = omega (arith, ge, le, same) in
+        crash_now told moment may_leave old v image at
+        (subst (λ (n : ℕ). Leaves told may_leave old.heap.cells.disk n image) here
+        (subst (λ (d : D). Leaves told may_leave d m image) disk l));
+    past = λ m image le l. subst (λ (d : D). Leaves told may_leave d m image) disk l;
+  };
+}
+
+-- no call on blocks meets a disk fault
+pub no_fault : {D : Type 0} (faults : D → ℕ) (old new : Held (Opened D)) (lines : ℕ) → old.cells.failed ≡ false
+    → (stop : Stop) → Works {T = Reply} (image_heap faults) lines old new (Err stop) → (stop ≡ stops.DiskFault) ⊎ (stop ≡ stops.MediaFault) ⊎ (stop ≡ stops.Failed) → ⊥
+no_fault faults old new lines sound stop works (inl is) =
+    let e = subst (λ (s : Stop). Explains {T = Reply} (transaction_of faults old.cells) (transaction_of faults new.cells) (Err s)) is works.cause.explained in
+    let q = works.quiet old (record { disk = refl; frame = refl; begun = refl; failed = refl }, refl) in
+    true≢false (sym e.1 ∙ q.0.failed ∙ sound)
+no_fault faults old new lines sound stop works (inr (inl is)) =
+    subst (λ (s : Stop). Explains {T = Reply} (transaction_of faults old.cells) (transaction_of faults new.cells) (Err s)) is works.cause.explained
+no_fault faults old new lines sound stop works (inr (inr is)) =
+    let e = subst (λ (s : Stop). Explains {T = Reply} (transaction_of faults old.cells) (transaction_of faults new.cells) (Err s)) is works.cause.explained in
+    true≢false (sym e.0 ∙ sound)
+
+-- where a heap stands for a world of served calls, a raw object's block has its source word, which is 0
+pub good_of : (heap : Heap) (w : World) → HeapStandsFor heap w → IsWhole w → IsPlain w → (addr : ℕ) → IsGood (heap.blocks addr)
+good_of heap w s whole plain addr = by (heap.blocks addr) (λ kind. of (raw_is_at heap w addr s whole.valid kind))
+  where
+    of : IsRawAt heap w addr → (bytes : List ℕ) × (heap.blocks addr ≡ Some (raw_block 0 bytes))
+    of r = (r.bytes, r.block ∙ ap (λ (n : ℕ). Some (raw_block n r.bytes)) (ap or_null (plain.unnamed addr)))
+
+    first : (bytes : List ℕ) → number_at 0 (raw_block 0 bytes).bytes ≡ 0
+    first bytes = number_at-layout (0 ∷ []) bytes 0 (omega arith) (omega arith)
+
+    by : (found : Option base.Block) → (IsKind found kinds.Raw → (bytes : List ℕ) × (found ≡ Some (raw_block 0 bytes))) → IsGood found
+    by None raws = record { whole = tt; unnamed = tt }
+    by (Some block) raws = record {
+      whole = λ kind.
+          let r = raws kind in
+          let same : raw_block 0 r.0 ≡ block = cc in
+          subst (λ (b : base.Block). 8 ≤ length b.bytes) same (omega (arith, length_of_raw 0 r.0));
+      unnamed = λ kind.
+          let r = raws kind in
+          let same : raw_block 0 r.0 ≡ block = cc in
+          subst (λ (b : base.Block). number_at 0 b.bytes ≡ 0) same (first r.0);
+    }

@@ -1,5 +1,5 @@
 -- How the transaction of a heap on an image closes.
-use Rattle.std.specs.Prelude.{ℕ, List, [], false, length, replicate}
+use Rattle.std.specs.Prelude.{List, [], false, length, replicate}
 use Rattle.sdr_base.specs.declared.moves.Move.{Move}
 use Rattle.sdr_base.specs.declared.refusal.Refusal.{Refusal}
 use Rattle.sdr_base.specs.declared.refusal.Refusal.TheVariants as refusals

@@ -3,6 +3,7 @@ ghost use Rattle.std.specs.Prelude.{◌≡◌, ◌≤◌, ◌<◌, ◌+◌, ◌/
 ghost use Rattle.sdr_base.specs.Moves.{KeepsSome};
 ghost use Rattle.sdr_base.specs.Works.{Looks, Works};
 ghost use Rattle.sdr_heap.specs.Raw.{IsUnnamed, IsWhole, ReadStops};
+ghost use Rattle.sdr_model.specs.Fields.{AreBytes, FitsCall};
 ghost use Rattle.sdr_station.specs.Answering.{Comes, IsGood, built, lines_of};
 
 use crate::page::{PAGE, Page};
@@ -80,7 +81,14 @@ fn refuse_count<O: Objects>(o: &mut O, addr: Addr, count: u64) -> Result<Reply, 
 }
 
 // Reads bytes of a raw object from a place on into a buffer of their number.
-fn read_into<O: Objects>(o: &mut O, addr: Addr, place: u64, count: u64, into: &mut [u8], page: &mut Page) -> Result<Reply, Stop>
+fn read_into<O: Objects>(
+    o: &mut O,
+    addr: Addr,
+    place: u64,
+    count: u64,
+    into: &mut [u8],
+    page: &mut Page,
+) -> Result<Reply, Stop>
     requires kept { KeepsSome (O.keeps o.old) }
     requires whole { IsWhole ((O.heap o.old).blocks addr) }
     requires unmoved { (O.heap o.old).moves ≡ [] }
@@ -95,7 +103,13 @@ fn read_into<O: Objects>(o: &mut O, addr: Addr, place: u64, count: u64, into: &m
 }
 
 // Reads bytes of a raw object from a place on.
-fn read<O: Objects>(o: &mut O, addr: Addr, place: u64, count: u64, page: &mut Page) -> Result<Reply, Stop>
+fn read<O: Objects>(
+    o: &mut O,
+    addr: Addr,
+    place: u64,
+    count: u64,
+    page: &mut Page,
+) -> Result<Reply, Stop>
     requires kept { KeepsSome (O.keeps o.old) }
     requires whole { IsWhole ((O.heap o.old).blocks addr) }
     requires unmoved { (O.heap o.old).moves ≡ [] }
@@ -110,7 +124,13 @@ fn read<O: Objects>(o: &mut O, addr: Addr, place: u64, count: u64, page: &mut Pa
 }
 
 // Reads the first bytes of a raw object into a buffer of their number, and marks it.
-fn stage_into<O: Objects>(o: &mut O, addr: Addr, count: u64, into: &mut [u8], page: &mut Page) -> Result<Reply, Stop>
+fn stage_into<O: Objects>(
+    o: &mut O,
+    addr: Addr,
+    count: u64,
+    into: &mut [u8],
+    page: &mut Page,
+) -> Result<Reply, Stop>
     requires kept { KeepsSome (O.keeps o.old) }
     requires whole { IsWhole ((O.heap o.old).blocks addr) }
     requires unmoved { (O.heap o.old).moves ≡ [] }
@@ -140,12 +160,19 @@ fn stage<O: Objects>(o: &mut O, addr: Addr, count: u64, page: &mut Page) -> Resu
 }
 
 // Writes bytes into a raw object from a place on.
-fn write<O: Objects>(o: &mut O, addr: Addr, place: u64, from: &[u8], page: &mut Page) -> Result<Reply, Stop>
+fn write<O: Objects>(
+    o: &mut O,
+    addr: Addr,
+    place: u64,
+    from: &[u8],
+    page: &mut Page,
+) -> Result<Reply, Stop>
     requires kept { KeepsSome (O.keeps o.old) }
     requires whole { IsWhole ((O.heap o.old).blocks addr) }
     requires unmoved { (O.heap o.old).moves ≡ [] }
     ensures comes { Comes (Call.Write addr place from.now) (O.heap o.old) (O.heap o.new) page.old page.new result }
     ensures works { Works O.HasHeap (2 + length from.now / 64) o.old o.new result }
+    ensures bytes { AreBytes from.now }
 {
     sdr_heap::write(o, addr, place, from)?;
     page.clear();
@@ -161,6 +188,7 @@ pub fn answer<O: Objects>(o: &mut O, call: &Call, page: &mut Page) -> Result<Rep
     requires built { built call.now ≡ true }
     ensures comes { Comes call.now (O.heap o.old) (O.heap o.new) page.old page.new result }
     ensures works { Works O.HasHeap (lines_of call.now) o.old o.new result }
+    ensures fits { FitsCall call.now }
 {
     match call {
         Call::Malloc(bytes) => malloc(o, *bytes, page),

@@ -75,7 +75,9 @@ impl<D: Disk> Serves for HeapGround<D> {
                 self.stopped = !call.is_reading();
                 Ok(Reply::Refused(refusal))
             }
-            Err(Stop::DiskFault | Stop::MediaFault | Stop::Failed) => unreachable!(),
+            Err(Stop::DiskFault) => unreachable!(),
+            Err(Stop::MediaFault) => unreachable!(),
+            Err(Stop::Failed) => unreachable!(),
         }
     }
 

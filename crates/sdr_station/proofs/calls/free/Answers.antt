@@ -1,4 +1,4 @@
-use Rattle.std.proofs.Common.{[], rules, refl, subst, sym, Err, List, ℕ}
+use Rattle.std.proofs.Common.{rules, subst, sym, Err, List, ℕ}
 use Rattle.sdr_base.specs.declared.stop.Stop.{Stop}
 use Rattle.sdr_heap.specs.Raw.{FreeStops}
 use Rattle.sdr_model.specs.declared.answer.Reply.TheVariants as replies
@@ -14,9 +14,9 @@ returns-in_err-free-clause-comes g c =
     let new = g.O.HasHeap.heap c.free.new.o in
     let page = c.args.page.now in
     let fact : Comes (calls.Free c.args.addr) old new page page (Err c.in_err-free.field-0.0) =
-        comes_stopped (calls.Free c.args.addr) old new page c.in_err-free.field-0.0
-        (λ w refusal stands whole plain is. free_refused c.args.addr old new w page refusal c.requires.unmoved stands whole plain
-        (subst (λ (s : Stop). FreeStops (old.blocks c.args.addr) c.args.addr old new s) is c.in_err-free.ensures.refused)) in
+    comes_stopped (calls.Free c.args.addr) old new page c.in_err-free.field-0.0
+    (λ w refusal stands whole plain is. free_refused c.args.addr old new w page refusal c.requires.unmoved stands whole plain
+    (subst (λ (s : Stop). FreeStops (old.blocks c.args.addr) c.args.addr old new s) is c.in_err-free.ensures.refused)) in
     search rules
 
 pub returns-clause-comes : goal.returns-clause-comes

@@ -1,11 +1,9 @@
-use Rattle.std.proofs.Common.{◌≡◌, [], rules, ap, refl, subst, sym, arith, Err, IfErr, List, ℕ, length}
+use Rattle.std.proofs.Common.{subst, IfErr, ℕ}
 use Rattle.sdr_base.specs.declared.stop.Stop.{Stop}
-use Rattle.sdr_heap.specs.Raw.{ReadStops, ReadsRaw}
-use Rattle.sdr_model.specs.declared.answer.Reply.TheVariants as replies
+use Rattle.sdr_heap.specs.Raw.{ReadStops}
 use Rattle.sdr_model.specs.declared.call.Call.TheVariants as calls
-use Rattle.sdr_station.proofs.CallLemmas.{comes_never, comes_stopped}
-use Rattle.sdr_station.proofs.ReadingLemmas.{stage_answered, stage_refused}
-use Rattle.sdr_station.specs.Answering.{Answered, Comes}
+use Rattle.sdr_station.proofs.CallLemmas.{comes_never}
+use Rattle.sdr_station.proofs.ReadingLemmas.{stage_refused}
 use Rattle.sdr_station.proofs.calls.stage.Goals as goal
 
 pub returns-then-count-gt-LONGEST_READ-clause-comes : goal.returns-then-count-gt-LONGEST_READ-clause-comes
