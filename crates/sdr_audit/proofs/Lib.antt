@@ -8,3 +8,4 @@ pub mod RootsLemmas
 pub mod ShapeLemmas
 pub mod ThingShapes
 pub mod TiesLemmas
+pub mod CheckLemmas

@@ -1,3 +1,4 @@
+pub mod Checking
 pub mod Example
 pub mod Rows
 pub mod Shape

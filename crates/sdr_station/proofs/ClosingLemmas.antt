@@ -2,8 +2,7 @@
 use Rattle.std.proofs.Common.{◌≡◌, ◌∙◌, ◌≤◌, ◌⊎◌, ℕ, List, [], false, true, true≢false, Bool, Option, None, Some, Err, refl, sym, ap, subst, inl, inr, arith, length}
 use Rattle.std.specs.Prelude.{replicate, is_some, max}
 use Rattle.sdr_audit.proofs.RestLemmas.{begins, ends}
-use Rattle.sdr_audit.specs.Standing.{HeapStandsFor, StandsFor, StandsForWhole}
-use Rattle.sdr_base.specs.KeptHeap.{KeepsRegion, block_in}
+use Rattle.sdr_base.specs.KeptHeap.{block_in}
 use Rattle.sdr_base.specs.Entries.{Few}
 use Rattle.sdr_base.specs.Transaction.{Explains, IfRefused, Transaction}
 use Rattle.sdr_base.specs.declared.stop.Stop.{Stop}
@@ -15,16 +14,17 @@ use Rattle.sdr_heap.specs.Noted.{Held, marked_in}
 use Rattle.sdr_image.specs.Changed.{GivesEither}
 use Rattle.sdr_image.specs.Opened.{Opened, Rests}
 use Rattle.sdr_lock.specs.Crash.{LeavesBefore, LeavesEither}
-use Rattle.sdr_lock.specs.Demand.{most_lines, no_demand}
-use Rattle.sdr_lock.specs.Ground.{State, kept, put_back, resting}
+use Rattle.sdr_lock.specs.Demand.{most_lines}
+use Rattle.sdr_lock.specs.Ground.{State, kept, put_back}
 use Rattle.sdr_lock.specs.Serving.{Brings, Keeps, KeepsGround, PutsBack, shown_in}
 use Rattle.sdr_lock.specs.Standing.{Standing}
 use Rattle.sdr_log.specs.Frame.{room_of}
 use Rattle.sdr_log.specs.Logged.{Gives}
-use Rattle.sdr_model.specs.World.{World, at_rest}
+use Rattle.sdr_model.specs.World.{World}
 use Rattle.sdr_model.specs.declared.accounts.Ticket.{Ticket}
+use Rattle.sdr_station.specs.Answering.{IsPlain}
 use Rattle.sdr_station.specs.Closing as closing
-use Rattle.sdr_station.specs.Grounded.{Grounded, HasNoTickets, Lasts, Leaves, Opens, Stands, StandsAtRest, StandsSome, StandsWithin, heap_in}
+use Rattle.sdr_station.specs.Grounded.{Grounded, Opens, Stands, StandsAtRest, StandsWithin, heap_in}
 use Rattle.sdr_station.proofs.GroundLemmas.{heap_ground, unmarked}
 use Rattle.sdr_station.proofs.RestLemmas.{fits_rest, put_back_is, whole_rest}
 
@@ -40,7 +40,7 @@ at_rest_of h shown s taken w = record {
     fits = fits_rest s.world w.fits;
     next = w.next;
   };
-  tickets = record { inbound = w.tickets.inbound; outbound = w.tickets.outbound };
+  plain = record { inbound = w.plain.inbound; outbound = w.plain.outbound; unnamed = w.plain.unnamed };
   demand = refl;
 }
 
@@ -60,19 +60,21 @@ within_of h n s none untouched size at = record {
   whole = at.stands.whole;
   fits = at.stands.fits;
   next = at.stands.next;
-  tickets = at.tickets;
+  plain = at.plain;
   gave = at.stands.stands.shown;
   lines = subst (λ (touched : List ℕ). length touched ≤ most_lines s.demand) (sym untouched) (omega arith);
 }
 
 -- no ticket is there in a world without tickets
-pub no_ticket : (w : World) (ticket : ℕ) → HasNoTickets w → shown_in w ticket ≡ None
+pub no_ticket : (w : World) (ticket : ℕ) → IsPlain w → shown_in w ticket ≡ None
 no_ticket w ticket none =
     let at : List Ticket → List Ticket → Option Bool =
-        λ a b. shown_in (record w { accounts = record w.accounts {
-          inbound = record w.accounts.inbound { tickets = a };
-          outbound = record w.accounts.outbound { tickets = b };
-        } }) ticket in
+    λ a b. shown_in (record w {
+      accounts = record w.accounts {
+        inbound = record w.accounts.inbound { tickets = a };
+        outbound = record w.accounts.outbound { tickets = b };
+      };
+    }) ticket in
     λ i. at (none.inbound i) (none.outbound i)
 
 -- the ground whose transaction was kept on a disk
@@ -92,7 +94,7 @@ module _ {D : Type 0} (told : D → Option (List ℕ)) (moment : D → ℕ) (fau
     (old : Grounded D) (disk : D) (now : ℕ) (is : now ≡ max old.moment (moment disk)) (sound : old.heap.cells.failed ≡ false)
     (tells : is_some (told disk) ≡ is_some (told old.heap.cells.disk)) (P : List ℕ → Type 0)
     (each : Rests told moment may_leave old.heap.cells
-      → Told (told old.heap.cells.disk) (λ _. AtEach moment may_leave old.heap.cells.disk disk P)) where
+    → Told (told old.heap.cells.disk) (λ _. AtEach moment may_leave old.heap.cells.disk disk P)) where
   told_old : (y : List ℕ) → told disk ≡ Some y → (x : List ℕ) × (told old.heap.cells.disk ≡ Some x)
   told_old y t = some_of (told old.heap.cells.disk) (sym tells ∙ ap is_some t)
 
@@ -135,8 +137,8 @@ module _ {D : Type 0} (told : D → Option (List ℕ)) (moment : D → ℕ) (fau
     each = λ v at.
         let next = put_back v.before v.now in
         let after : StandsAtRest (room_of old.heap.cells.frame) old.heap.cells.begun next =
-            subst (λ (s : State). StandsAtRest (room_of old.heap.cells.frame) old.heap.cells.begun s)
-            (put_back_is v.before v.now at.before.stands.stands.taken at.taken) at.before in
+        subst (λ (s : State). StandsAtRest (room_of old.heap.cells.frame) old.heap.cells.begun s)
+        (put_back_is v.before v.now at.before.stands.stands.taken at.taken) at.before in
         record {
           for = record { before = next; now = next; moves = v.moves };
           holds = record {

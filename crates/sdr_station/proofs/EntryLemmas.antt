@@ -1,5 +1,5 @@
 -- What is found among the entries of a finite map stands there, and so the source of a raw object.
-use Rattle.std.proofs.Common.{◌≡◌, ◌≢◌, ◌∙◌, ℕ, ◌==◌, ◌&&◌, List, [], ◌∷◌, Bool, true, false, true≢false, cond, T, Option, None, Some, refl, sym, ap, subst, arith}
+use Rattle.std.proofs.Common.{◌≡◌, ◌∙◌, ℕ, ◌==◌, ◌&&◌, List, [], ◌∷◌, Bool, true, false, true≢false, cond, T, Option, None, Some, refl, sym, ap, subst, arith}
 use Rattle.std.specs.Prelude.{IfSome, find}
 use Rattle.std.specs.Cmp.{nat_cmp_total, tied_itself}
 use Rattle.std.specs.FinMap.Entries.{below_all}
@@ -11,7 +11,7 @@ use Rattle.std.specs.declared.cmp.Ordering.TheVariants.{Less, Equal, Greater}
 use Rattle.std.proofs.lemmas.Bool.Decides.{nat_tests}
 use Rattle.sdr_model.specs.Valid.{FitTogether, HasBytes, HasSubject}
 use Rattle.sdr_model.specs.World.{World, as_raw, thing_at}
-use Rattle.sdr_model.specs.Zco.{as_source, is_of_raw, names_raw, source_at, source_on}
+use Rattle.sdr_model.specs.Zco.{as_source, is_of_raw, names_raw, source_on}
 use Rattle.sdr_model.specs.declared.things.Thing.{Thing}
 use Rattle.sdr_model.specs.declared.things.Thing.TheVariants as things
 use Rattle.sdr_model.specs.declared.zco.Subject.{Subject}

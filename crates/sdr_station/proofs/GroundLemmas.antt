@@ -1,9 +1,8 @@
 -- A heap on an image as a ground.
-use Rattle.std.proofs.Common.{◌≡◌, ◌∙◌, ◌≤◌, ◌/◌, ◌%◌, ◌+◌, ◌==◌, ◌&&◌, ℕ, List, [], ◌∷◌, suc, zero, true, false, Bool, Option, None, Some, refl, sym, ap, subst, inl, inr, arith, length}
+use Rattle.std.proofs.Common.{◌≡◌, ◌∙◌, ◌/◌, ◌%◌, ◌==◌, ◌&&◌, ℕ, List, suc, zero, true, false, Bool, Option, None, refl, ap}
 use Rattle.std.specs.Prelude.{replicate, get_or}
 use Rattle.sdr_base.specs.declared.line.TheConstants.{WORD}
-use Rattle.sdr_heap.specs.Noted.{Held, marked_in}
-use Rattle.sdr_image.specs.Opened.{Opened, Rests}
+use Rattle.sdr_heap.specs.Noted.{marked_in}
 use Rattle.sdr_lock.specs.declared.has_ground.HasGround.{Ghosts}
 use Rattle.sdr_station.specs.CrashNow.{crash_now}
 use Rattle.sdr_station.specs.Grounded.{Grounded, Lasts, Leaves, Opens, Stands}

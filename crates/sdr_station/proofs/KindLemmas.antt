@@ -17,15 +17,17 @@ use Rattle.sdr_base.specs.declared.kind.Kind.TheVariants as kinds
 use Rattle.sdr_base.proofs.StandingLemmas.{found}
 use Rattle.sdr_laws.proofs.FoundLemmas.{blocks_are_found}
 use Rattle.sdr_model.specs.Accounts.{ticket_block, ticket_blocks}
-use Rattle.sdr_model.specs.Things.{block_among, capsule_block, element_block, entry_block, extent_block, inner_among, inner_blocks, name_block, object_blocks, own_block}
+use Rattle.sdr_model.specs.Things.{block_among, capsule_block, element_block, entry_block, extent_block, inner_among, inner_blocks, name_block, own_block}
 use Rattle.sdr_model.specs.Valid.{IsValid}
 use Rattle.sdr_model.specs.World.{World, block_at, thing_at}
 use Rattle.sdr_model.specs.declared.things.Block.{Block}
 use Rattle.sdr_model.specs.declared.things.Thing.{Thing}
 use Rattle.sdr_model.specs.declared.things.Thing.TheVariants as things
 
-abbrev pub IsNoRaw : Block → Type 0
-IsNoRaw b = b.kind ≢ kinds.Raw
+-- a block is neither a raw object's nor a string's
+pub record IsNoRaw (b : Block) : Type 0 where
+  pub raw : b.kind ≢ kinds.Raw
+  pub text : b.kind ≢ kinds.Text
 
 abbrev pub FindsNoRaw : Option Block → Type 0
 FindsNoRaw o = (b : Block) → o ≡ Some b → IsNoRaw b
@@ -51,13 +53,13 @@ all_both [] ys first second = second
 all_both (x ∷ xs) ys first second = (first.0, all_both xs ys first.1 second)
 
 inner_none : (thing : Thing) → AllByRecursion IsNoRaw (inner_blocks thing)
-inner_none (things.List row) = all_of element_block (λ e is. absurd cc) row.elements
-inner_none (things.Hash hash) = all_of entry_block (λ e is. absurd cc) hash.entries
+inner_none (things.List row) = all_of element_block (λ e. record { raw = λ is. absurd cc; text = λ is. absurd cc }) row.elements
+inner_none (things.Hash hash) = all_of entry_block (λ e. record { raw = λ is. absurd cc; text = λ is. absurd cc }) hash.entries
 inner_none (things.Object z) =
     all_both (map capsule_block z.headers ++ map extent_block z.extents) (map capsule_block z.trailers)
     (all_both (map capsule_block z.headers) (map extent_block z.extents)
-    (all_of capsule_block (λ e is. absurd cc) z.headers) (all_of extent_block (λ e is. absurd cc) z.extents))
-    (all_of capsule_block (λ e is. absurd cc) z.trailers)
+    (all_of capsule_block (λ e. record { raw = λ is. absurd cc; text = λ is. absurd cc }) z.headers) (all_of extent_block (λ e. record { raw = λ is. absurd cc; text = λ is. absurd cc }) z.extents))
+    (all_of capsule_block (λ e. record { raw = λ is. absurd cc; text = λ is. absurd cc }) z.trailers)
 inner_none thing = tt
 
 inside_none : (addr : ℕ) (es : List (ℕ × Thing)) → FindsNoRaw (inner_among addr es)
@@ -66,34 +68,49 @@ inside_none addr (e ∷ es) b is =
     or_none (block_among addr (inner_blocks e.1)) (inner_among addr es)
     (none_found addr (inner_blocks e.1) (inner_none e.1)) (inside_none addr es) b is
 
-own_raw : (addr : ℕ) (thing : Thing) → (own_block addr thing).kind ≡ kinds.Raw → (bytes : List ℕ) × (thing ≡ things.Raw bytes)
-own_raw addr (things.Raw bytes) is = (bytes, refl)
-own_raw addr thing is = absurd cc
-
--- a block that is of the kind of raw objects is one's own
-pub raw_block_at : (w : World) (addr : ℕ) (b : Block) → block_at w addr ≡ Some b → b.kind ≡ kinds.Raw
-    → (bytes : List ℕ) × (thing_at w addr ≡ Some (things.Raw bytes))
-raw_block_at w addr b is kind = by (thing_at w addr) refl is
+-- a block of the kind of raw objects or of strings is a thing's own
+own_block_at : (w : World) (addr : ℕ) (b : Block) → block_at w addr ≡ Some b → ¬ IsNoRaw b
+    → (thing : Thing) × (thing_at w addr ≡ Some thing) × (own_block addr thing ≡ b)
+own_block_at w addr b is some = by (thing_at w addr) refl is
   where
     others : FindsNoRaw (option_or (inner_among addr (finite.entries w.things))
         (option_or (block_among addr (map name_block w.names)) (block_among addr (ticket_blocks w.accounts))))
     others =
         or_none (inner_among addr (finite.entries w.things)) _ (inside_none addr (finite.entries w.things))
         (or_none (block_among addr (map name_block w.names)) _
-        (none_found addr (map name_block w.names) (all_of name_block (λ n same. absurd cc) w.names))
+        (none_found addr (map name_block w.names) (all_of name_block (λ n. record { raw = λ is. absurd cc; text = λ is. absurd cc }) w.names))
         (none_found addr (ticket_blocks w.accounts) (all_both _ _
-        (all_of ticket_block (λ t same. absurd cc) w.accounts.inbound.tickets)
-        (all_of ticket_block (λ t same. absurd cc) w.accounts.outbound.tickets))))
+        (all_of ticket_block (λ t. record { raw = λ is. absurd cc; text = λ is. absurd cc }) w.accounts.inbound.tickets)
+        (all_of ticket_block (λ t. record { raw = λ is. absurd cc; text = λ is. absurd cc }) w.accounts.outbound.tickets))))
 
     by : (o : Option Thing) → thing_at w addr ≡ o
         → option_or (option_map (own_block addr) o) (option_or (inner_among addr (finite.entries w.things))
-          (option_or (block_among addr (map name_block w.names)) (block_among addr (ticket_blocks w.accounts)))) ≡ Some b
-        → (bytes : List ℕ) × (thing_at w addr ≡ Some (things.Raw bytes))
-    by None at here = absurd (others b here kind)
-    by (Some thing) at here =
-        let same : own_block addr thing ≡ b = cc in
-        let raw = own_raw addr thing (ap (λ (x : Block). x.kind) same ∙ kind) in
-        (raw.0, at ∙ ap Some raw.1)
+        (option_or (block_among addr (map name_block w.names)) (block_among addr (ticket_blocks w.accounts)))) ≡ Some b
+        → (thing : Thing) × (thing_at w addr ≡ Some thing) × (own_block addr thing ≡ b)
+    by None at here = absurd (some (others b here))
+    by (Some thing) at here = (thing, at, cc)
+
+own_raw : (addr : ℕ) (thing : Thing) → (own_block addr thing).kind ≡ kinds.Raw → (bytes : List ℕ) × (thing ≡ things.Raw bytes)
+own_raw addr (things.Raw bytes) is = (bytes, refl)
+own_raw addr thing is = absurd cc
+
+own_text : (addr : ℕ) (thing : Thing) → (own_block addr thing).kind ≡ kinds.Text → (text : List ℕ) × (thing ≡ things.Text text)
+own_text addr (things.Text text) is = (text, refl)
+own_text addr thing is = absurd cc
+
+raw_block_at : (w : World) (addr : ℕ) (b : Block) → block_at w addr ≡ Some b → b.kind ≡ kinds.Raw
+    → (bytes : List ℕ) × (thing_at w addr ≡ Some (things.Raw bytes))
+raw_block_at w addr b is kind =
+    let own = own_block_at w addr b is (λ none. none.raw kind) in
+    let raw = own_raw addr own.0 (ap (λ (x : Block). x.kind) own.2 ∙ kind) in
+    (raw.0, own.1 ∙ ap Some raw.1)
+
+text_block_at : (w : World) (addr : ℕ) (b : Block) → block_at w addr ≡ Some b → b.kind ≡ kinds.Text
+    → (text : List ℕ) × (thing_at w addr ≡ Some (things.Text text))
+text_block_at w addr b is kind =
+    let own = own_block_at w addr b is (λ none. none.text kind) in
+    let text = own_text addr own.0 (ap (λ (x : Block). x.kind) own.2 ∙ kind) in
+    (text.0, own.1 ∙ ap Some text.1)
 
 -- the block in use at an address is the world's
 pub block_told : (heap : Heap) (w : World) (addr : ℕ) → HeapStandsFor heap w → IsValid w
@@ -128,3 +145,18 @@ raw_is_at heap w addr s valid kind = by (heap.blocks addr) (block_at w addr) ref
         kind_in : Option (Kind × ℕ) → Kind
         kind_in None = kinds.Raw
         kind_in (Some told) = told.0
+
+abbrev kind_in : Option (Kind × ℕ) → Kind
+kind_in None = kinds.Raw
+kind_in (Some told) = told.0
+
+-- and one of the kind of strings is a string
+pub text_is_at : (heap : Heap) (w : World) (addr : ℕ) → HeapStandsFor heap w → IsValid w → IsKind (heap.blocks addr) kinds.Text
+    → (text : List ℕ) × (thing_at w addr ≡ Some (things.Text text))
+text_is_at heap w addr s valid kind = by (heap.blocks addr) (block_at w addr) refl (block_told heap w addr s valid) kind
+  where
+    by : (found : Option base.Block) (b : Option Block) → block_at w addr ≡ b
+        → kind_length found ≡ told_of b → IsKind found kinds.Text → (text : List ℕ) × (thing_at w addr ≡ Some (things.Text text))
+    by None b at same is = absurd is
+    by (Some block) None at same is = absurd cc
+    by (Some block) (Some b) at same is = text_block_at w addr b at (sym (ap kind_in same) ∙ is)

@@ -8,3 +8,6 @@ pub mod KindLemmas
 pub mod MallocLemmas
 pub mod ReadingLemmas
 pub mod WriteLemmas
+pub mod FreeLemmas
+pub mod DemandLemmas
+pub mod ServingLemmas

@@ -1,11 +1,12 @@
 -- A raw object that is made, as a step.
-use Rattle.std.proofs.Common.{◌≡◌, ◌≢◌, ◌∙◌, ◌≤◌, ◌<◌, ◌+◌, ℕ, List, [], ◌∷◌, ◌++◌, true, false, true≢false, inl, inr, Some, None, refl, sym, ap, subst, arith, MatchBool, nat_lt}
-use Rattle.std.specs.Prelude.{All, Contains, Err, replicate}
+use Rattle.std.proofs.Common.{◌≡◌, ◌∙◌, ◌≤◌, ◌+◌, ℕ, List, [], ◌∷◌, ◌++◌, true, false, true≢false, inl, inr, Some, refl, sym, ap, subst, arith, nat_lt}
+use Rattle.std.specs.Prelude.{All, replicate}
 use Rattle.std.proofs.lemmas.Bool.Decides.{nat_tests}
 use Rattle.std.proofs.lemmas.List.Elements.{All-cons, All-nil}
 use Rattle.sdr_audit.proofs.ChangeLemmas.{comes, nothing_at}
 use Rattle.sdr_audit.specs.Standing.{HeapStandsFor}
-use Rattle.sdr_audit.specs.Ties.{or_null, ties_of}
+use Rattle.sdr_audit.proofs.TiesLemmas.{same_ties, untied_alike}
+use Rattle.sdr_audit.specs.Ties.{NoneIsTied, or_null, ties_of}
 use Rattle.sdr_base.specs.Making.{MakesThing}
 use Rattle.sdr_base.specs.Objects.{Heap}
 use Rattle.sdr_base.specs.Raws.{raw_entries}
@@ -24,7 +25,7 @@ use Rattle.sdr_model.specs.Rows.{ByRow}
 use Rattle.sdr_model.specs.Steps.{taken_addresses, with_thing}
 use Rattle.sdr_model.specs.Things.{raw_need}
 use Rattle.sdr_model.specs.Whole.{IsWhole}
-use Rattle.sdr_model.specs.World.{World}
+use Rattle.sdr_model.specs.World.{World, thing_at}
 use Rattle.sdr_model.specs.declared.answer.Reply.TheVariants as replies
 use Rattle.sdr_model.specs.declared.call.Call.TheVariants as calls
 use Rattle.sdr_model.specs.declared.things.Thing.TheVariants as things
@@ -49,9 +50,9 @@ pub malloc_answered : (bytes addr : ℕ) (old new : Heap) (w : World) → old.mo
 malloc_answered bytes addr old new w unmoved makes stands whole =
     let t = makes.taken in
     let moves : new.moves ≡ Took (raw_need bytes) addr ∷ [] =
-        ap (λ (h : Heap). h.moves) t.taken ∙ ap (λ (ms : List Move). ms ++ Took (8 + bytes) addr ∷ []) unmoved in
+    ap (λ (h : Heap). h.moves) t.taken ∙ ap (λ (ms : List Move). ms ++ Took (8 + bytes) addr ∷ []) unmoved in
     let unnamed : 0 ≡ (ties_of w).named_by addr =
-        sym (ap or_null (none_named w addr whole.fits (nothing_at addr stands t.fresh))) in
+    sym (ap or_null (none_named w addr whole.fits (nothing_at addr stands t.fresh))) in
     record {
       after = after_malloc w bytes addr;
       row = subst (λ (ms : List Move). ByRow w (record { moves = ms; after = after_malloc w bytes addr; reply = replies.At addr }) (calls.Malloc bytes))
@@ -65,6 +66,8 @@ malloc_answered bytes addr old new w unmoved makes stands whole =
       gave = refl;
       words = subst (λ (ms : List Move). All IsWord (taken_addresses ms)) (sym moves)
           (All-cons IsWord addr [] (omega (arith, t.small)) (All-nil IsWord));
+      ties = same_ties w addr (Some (things.Raw (replicate bytes 0)))
+          (untied_alike (thing_at w addr) _ (subst NoneIsTied (sym (nothing_at addr stands t.fresh)) tt) tt);
       accounts = refl;
       taken = refl;
     }

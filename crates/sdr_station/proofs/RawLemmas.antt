@@ -1,15 +1,13 @@
 -- Raw objects in blocks.
-use Rattle.std.proofs.Common.{◌≡◌, ◌≢◌, ◌∙◌, ◌≤◌, ◌<◌, ◌+◌, ◌-◌, ◌==◌, ◌||◌, ◌++◌, ℕ, List, [], ◌∷◌, Bool, true, false, true≢false, Option, None, Some, suc, length, take, drop, map, refl, sym, ap, subst, arith}
-use Rattle.std.specs.Prelude.{Contains, find, replicate, nat_eq, cond}
+use Rattle.std.proofs.Common.{◌≡◌, ◌∙◌, ◌+◌, ◌==◌, ◌||◌, ◌++◌, ℕ, List, [], ◌∷◌, Bool, true, false, true≢false, Option, None, Some, suc, length, take, drop, refl, sym, ap, subst, arith}
+use Rattle.std.specs.Prelude.{Contains, replicate, nat_eq, cond}
 use Rattle.std.proofs.lemmas.Bool.Decides.{nat_tests}
 use Rattle.std.specs.Cmp.{nat_eq_equiv}
 use Rattle.std.specs.List.{list_any}
 use Rattle.std.proofs.lemmas.Map.Views.{list_any-from_Contains}
-use Rattle.sdr_audit.proofs.ChangeLemmas.{apart, in_use, nothing_at}
 use Rattle.sdr_audit.proofs.ShapeLemmas.{told}
 use Rattle.sdr_audit.specs.Shape.{told_of}
-use Rattle.sdr_audit.specs.Standing.{HeapStandsFor, entries_of}
-use Rattle.sdr_audit.specs.Ties.{ties_of}
+use Rattle.sdr_audit.specs.Standing.{HeapStandsFor}
 use Rattle.sdr_base.specs.Blocks as base
 use Rattle.sdr_base.specs.Blocks.{kind_length}
 use Rattle.sdr_base.specs.Entries.{Stands}
@@ -18,16 +16,13 @@ use Rattle.sdr_base.specs.Objects.{Heap, TakesZeros}
 use Rattle.sdr_base.specs.Parts.{overwrite, part}
 use Rattle.sdr_base.specs.Raws.{raw_block}
 use Rattle.sdr_base.specs.Words.{layout}
-use Rattle.sdr_base.specs.declared.kind.Kind.{Kind}
 use Rattle.sdr_base.specs.declared.kind.Kind.TheVariants as kinds
-use Rattle.sdr_base.proofs.StandingLemmas.{came, found}
-use Rattle.sdr_laws.proofs.FoundLemmas.{blocks_are_found}
+use Rattle.sdr_base.proofs.StandingLemmas.{came}
 use Rattle.sdr_model.specs.Blocks.{addresses_of, blocks_of}
 use Rattle.sdr_model.specs.Things.{block_among}
 use Rattle.sdr_model.specs.Valid.{IsValid}
-use Rattle.sdr_model.specs.World.{World, block_at, thing_at}
+use Rattle.sdr_model.specs.World.{World}
 use Rattle.sdr_model.specs.declared.things.Block.{Block}
-use Rattle.sdr_model.specs.declared.things.Thing.TheVariants as things
 
 -- zero bytes are those of a raw object of zeros that no source names
 pub raw_zeros : (bytes : ℕ) → replicate (8 + bytes) 0 ≡ (raw_block 0 (replicate bytes 0)).bytes

@@ -1,6 +1,6 @@
 -- Calls that read raw objects, as steps.
-use Rattle.std.proofs.Common.{◌≡◌, ◌≢◌, ◌∙◌, ◌≤◌, ◌<◌, ◌+◌, ◌-◌, ◌==◌, ◌||◌, cond, ℕ, List, [], ◌∷◌, ◌++◌, Bool, true, false, true≢false, inl, inr, Option, Some, None, refl, sym, ap, subst, arith, length, take, MatchBool, MatchOption, nat_lt}
-use Rattle.std.specs.Prelude.{All, Err}
+use Rattle.std.proofs.Common.{◌≡◌, ◌∙◌, ◌≤◌, ◌<◌, ◌+◌, ◌==◌, ◌||◌, cond, ℕ, List, [], ◌∷◌, ◌++◌, Bool, true, false, inl, Option, Some, None, refl, sym, ap, subst, arith, length, MatchOption, nat_lt}
+use Rattle.std.specs.Prelude.{All}
 use Rattle.std.proofs.lemmas.Bool.Decides.{nat_tests}
 use Rattle.std.proofs.lemmas.List.Elements.{All-nil}
 use Rattle.std.proofs.lemmas.List.Folds.{list_any-append}
@@ -27,7 +27,6 @@ use Rattle.sdr_model.specs.Blocks.{addresses_of, blocks_of}
 use Rattle.sdr_model.specs.Fields.{IsWord}
 use Rattle.sdr_model.specs.Limits.{longest_read}
 use Rattle.sdr_model.specs.RawSteps.{length_as}
-use Rattle.sdr_model.specs.Reading.{is_reading}
 use Rattle.sdr_model.specs.Rows.{ByRow}
 use Rattle.sdr_model.specs.Step.{is_answer}
 use Rattle.sdr_model.specs.Steps.{On, Outcome, Reads, Refuses, taken_addresses}
@@ -52,8 +51,8 @@ shows old new w bytes same s =
 -- a call without moves that was answered
 pub unmoved_answered : (w after : World) (call : Call) (new : Heap) (shown : List ℕ) (reply : Reply) → new.moves ≡ []
     → ByRow w (record { moves = []; after = after; reply = reply }) call → is_answer reply ≡ true → HeapStandsFor new after
-    → after.shown ≡ shown → after.accounts ≡ w.accounts → after.taken ≡ w.taken → Answered w call new shown reply
-unmoved_answered w after call new shown reply none row answered stands gave accounts taken = record {
+    → after.shown ≡ shown → ties_of after ≡ ties_of w → after.accounts ≡ w.accounts → after.taken ≡ w.taken → Answered w call new shown reply
+unmoved_answered w after call new shown reply none row answered stands gave ties accounts taken = record {
   after = after;
   row = subst (λ (ms : List Move). ByRow w (record { moves = ms; after = after; reply = reply }) call) (sym none) row;
   answered = answered;
@@ -61,6 +60,7 @@ unmoved_answered w after call new shown reply none row answered stands gave acco
   stands = stands;
   gave = gave;
   words = subst (λ (ms : List Move). All IsWord (taken_addresses ms)) (sym none) (All-nil IsWord);
+  ties = ties;
   accounts = accounts;
   taken = taken;
 }
@@ -109,9 +109,10 @@ misses heap w addr refusal s whole = by (heap.blocks addr) (block_at w addr) ref
     by None None (refusals.WrongKind bad number) here at same m = absurd m
     by (Some block) (Some b) (refusals.BadAddress bad) here at same m = absurd (let no : Some block ≡ None = m.1 in cc)
     by (Some block) (Some b) (refusals.WrongKind bad number) here at same m =
-        let kinds_same : block.kind ≡ b.kind = ap kind_in same in
-        (no_raw heap w addr s (λ raw. m.2 (subst (λ found. IsKind found kinds.Raw) here raw)),
-        λ i. refusals.WrongKind (m.0 i) ((m.1 ∙ ap kind_number kinds_same) i))
+        let kinds_same : block.kind ≡ b.kind = ap kind_in same in (
+          no_raw heap w addr s (λ raw. m.2 (subst (λ found. IsKind found kinds.Raw) here raw)),
+          λ i. refusals.WrongKind (m.0 i) ((m.1 ∙ ap kind_number kinds_same) i),
+        )
     by (Some block) None (refusals.WrongKind bad number) here at same m = absurd cc
     by None None r here at same m = absurd m
     by (Some block) None r here at same m = absurd cc
@@ -130,7 +131,7 @@ pub length_answered : (addr value : ℕ) (old new : Heap) (w : World) → old.mo
     → HeapStandsFor old w → IsWhole w → Answered w (calls.Length addr) new [] (replies.Value value)
 length_answered addr value old new w unmoved same told s whole =
     unmoved_answered w (record w { shown = [] }) (calls.Length addr) new [] (replies.Value value) (ap (λ (h : Heap). h.moves) same ∙ unmoved)
-    (by (old.blocks addr) (block_at w addr) (block_told old w addr s whole.valid) told) refl (shows old new w [] same s) refl refl refl
+    (by (old.blocks addr) (block_at w addr) (block_told old w addr s whole.valid) told) refl (shows old new w [] same s) refl refl refl refl
   where
     kind_in : Option (Kind × ℕ) → Kind
     kind_in None = kinds.Raw
@@ -144,9 +145,12 @@ length_answered addr value old new w unmoved same told s whole =
         → MatchOption b (Refuses w (told_of_length w value) (misnamed w addr)) (λ b. Reads w (told_of_length w value) [] (replies.Value (length_as b.kind b.bytes)))
     by None b same is = absurd is
     by (Some block) None same is = absurd cc
-    by (Some block) (Some b) same is =
-        (refl, refl, ap (λ n. replies.Value n)
-        (is ∙ same_length block.kind (length block.bytes) ∙ (λ i. length_as (ap kind_in same i) (ap count_in same i))))
+    by (Some block) (Some b) same is = (
+      refl,
+      refl,
+      ap (λ n. replies.Value n)
+          (is ∙ same_length block.kind (length block.bytes) ∙ (λ i. length_as (ap kind_in same i) (ap count_in same i))),
+    )
 
 -- a length wasn't told
 pub length_refused : (addr : ℕ) (old new : Heap) (w : World) (was : List ℕ) (refusal : Refusal) → old.moves ≡ [] → new ≡ old
@@ -172,7 +176,7 @@ read_bytes : (heap : Heap) (w : World) (addr place count : ℕ) (into : List ℕ
     → HasBytes (heap.blocks addr) (8 + place) count into → into ≡ part place count r.bytes
 read_bytes heap w addr place count into r has =
     let here : HasBytes (Some (raw_block ((ties_of w).named_by addr) r.bytes)) (8 + place) count into =
-        subst (λ found. HasBytes found (8 + place) count into) r.block has in
+    subst (λ found. HasBytes found (8 + place) count into) r.block has in
     here ∙ part_of_raw ((ties_of w).named_by addr) place count r.bytes
 
 -- so many bytes of a raw object are the world's
@@ -227,7 +231,7 @@ read_answered addr place count into old new w unmoved same reads s whole =
     unmoved_answered w (record w { shown = into }) (calls.Read addr place count) new into (replies.Bytes count) (ap (λ (h : Heap). h.moves) same ∙ unmoved)
     (on_raw w (read_outcome w into count) addr r.bytes _ r.there
     (on_false _ _ _ few (on_false _ _ _ inside (refl, ap (λ (b : List ℕ). record w { shown = b }) bytes, refl))))
-    refl (shows old new w into same s) refl refl refl
+    refl (shows old new w into same s) refl refl refl refl
 
 -- the first bytes were given, and the object is marked
 pub stage_answered : (addr count : ℕ) (into : List ℕ) (old new : Heap) (w : World) → old.moves ≡ [] → new ≡ with_mark old addr
@@ -246,7 +250,7 @@ stage_answered addr count into old new w unmoved marked reads s whole =
     (refl, ap (λ (b : List ℕ). record w { marks = w.marks ++ addr ∷ []; shown = b }) bytes, refl))))
     refl
     (subst (λ (h : Heap). HeapStandsFor h after) (sym marked) (record { blocks = s.blocks; roots = s.roots; marks = marked_one old.marks w.marks addr s.marks }))
-    refl refl refl
+    refl refl refl refl
 
 -- why bytes weren't read
 pub read_refused : (addr place count : ℕ) (old new : Heap) (w : World) (was : List ℕ) (refusal : Refusal) → old.moves ≡ [] → new ≡ old
@@ -257,7 +261,7 @@ read_refused addr place count old new w was (refusals.BadLength length most) unm
       let r = raw_is_at old w addr s whole.valid m.3 in
       let many : nat_lt longest_read count ≡ true = grind (arith, nat_tests, m.2) in
       let row = on_raw w (record { moves = []; after = w; reply = replies.Refused (refusals.BadLength length most) }) addr r.bytes _ r.there
-          (on_true _ _ _ many (refl, refl, λ i. replies.Refused (refusals.BadLength (m.0 i) (m.1 i)))) in
+      (on_true _ _ _ many (refl, refl, λ i. replies.Refused (refusals.BadLength (m.0 i) (m.1 i)))) in
       inl (row_refused w (calls.Read addr place count) new (refusals.BadLength length most) (ap (λ (h : Heap). h.moves) same ∙ unmoved) row);
   left = λ reads. same;
   gave = refl;
@@ -269,7 +273,7 @@ read_refused addr place count old new w was (refusals.OutOfBounds bad at asked) 
       let above = no_room_in old w addr (place + count) r m.4 in
       let outside : nat_lt (length r.bytes) (place + count) ≡ true = grind (arith, nat_tests, above) in
       let row = on_raw w (record { moves = []; after = w; reply = replies.Refused (refusals.OutOfBounds bad at asked) }) addr r.bytes _ r.there
-          (on_false _ _ _ few (on_true _ _ _ outside (refl, refl, λ i. replies.Refused (refusals.OutOfBounds (m.0 i) (m.1 i) (m.2 i))))) in
+      (on_false _ _ _ few (on_true _ _ _ outside (refl, refl, λ i. replies.Refused (refusals.OutOfBounds (m.0 i) (m.1 i) (m.2 i))))) in
       inl (row_refused w (calls.Read addr place count) new (refusals.OutOfBounds bad at asked) (ap (λ (h : Heap). h.moves) same ∙ unmoved) row);
   left = λ reads. same;
   gave = refl;
@@ -302,7 +306,7 @@ stage_refused addr count old new w was (refusals.BadLength length most) unmoved 
       let r = raw_is_at old w addr s whole.valid m.3 in
       let many : nat_lt longest_read count ≡ true = grind (arith, nat_tests, m.2) in
       let row = on_raw w (record { moves = []; after = w; reply = replies.Refused (refusals.BadLength length most) }) addr r.bytes _ r.there
-          (on_true _ _ _ many (refl, refl, λ i. replies.Refused (refusals.BadLength (m.0 i) (m.1 i)))) in
+      (on_true _ _ _ many (refl, refl, λ i. replies.Refused (refusals.BadLength (m.0 i) (m.1 i)))) in
       inl (row_refused w (calls.Stage addr count) new (refusals.BadLength length most) (ap (λ (h : Heap). h.moves) same ∙ unmoved) row);
   left = λ reads. same;
   gave = refl;
@@ -314,7 +318,7 @@ stage_refused addr count old new w was (refusals.OutOfBounds bad at asked) unmov
       let above = no_room_in old w addr (0 + count) r m.4 in
       let outside : nat_lt (length r.bytes) count ≡ true = grind (arith, nat_tests, above) in
       let row = on_raw w (record { moves = []; after = w; reply = replies.Refused (refusals.OutOfBounds bad at asked) }) addr r.bytes _ r.there
-          (on_false _ _ _ few (on_true _ _ _ outside (refl, refl, λ i. replies.Refused (refusals.OutOfBounds (m.0 i) (m.1 i) (m.2 i))))) in
+      (on_false _ _ _ few (on_true _ _ _ outside (refl, refl, λ i. replies.Refused (refusals.OutOfBounds (m.0 i) (m.1 i) (m.2 i))))) in
       inl (row_refused w (calls.Stage addr count) new (refusals.OutOfBounds bad at asked) (ap (λ (h : Heap). h.moves) same ∙ unmoved) row);
   left = λ reads. same;
   gave = refl;

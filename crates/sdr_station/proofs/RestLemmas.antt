@@ -1,9 +1,8 @@
 -- A world as a transaction leaves it.
-use Rattle.std.proofs.Common.{◌≡◌, ◌∙◌, ℕ, List, [], false, Bool, refl, sym, ap, subst}
+use Rattle.std.proofs.Common.{◌≡◌, ◌∙◌, ℕ, refl, sym, ap}
 use Rattle.sdr_laws.proofs.WholeLaws.{whole_same}
-use Rattle.sdr_lock.specs.Ground.{State, kept, put_back}
+use Rattle.sdr_lock.specs.Ground.{State, put_back}
 use Rattle.sdr_model.specs.Fields.{FitsFields}
-use Rattle.sdr_model.specs.Valid.{IsValid}
 use Rattle.sdr_model.specs.Whole.{IsWhole}
 use Rattle.sdr_model.specs.World.{World, at_rest}
 

@@ -1,36 +1,36 @@
 -- A write into a raw object, as a step.
-use Rattle.std.proofs.Common.{◌≡◌, ◌≢◌, ◌∙◌, ◌≤◌, ◌<◌, ◌+◌, ◌-◌, ◌==◌, ℕ, List, [], ◌∷◌, ◌++◌, Bool, true, false, true≢false, inl, inr, Option, Some, None, refl, sym, ap, subst, arith, length, append-nil, nat_lt}
+use Rattle.std.proofs.Common.{◌≡◌, ◌∙◌, ◌+◌, ◌-◌, ◌==◌, ℕ, List, [], ◌++◌, true, false, true≢false, inl, Some, None, refl, sym, ap, subst, arith, length, append-nil, nat_lt}
 use Rattle.std.proofs.lemmas.Bool.Decides.{nat_tests}
 use Rattle.std.specs.List.{list_any}
 use Rattle.sdr_audit.proofs.ChangeLemmas.{changes}
 use Rattle.sdr_audit.specs.Standing.{HeapStandsFor, with_taken_marked}
-use Rattle.sdr_audit.specs.Ties.{ties_of}
+use Rattle.sdr_audit.proofs.TiesLemmas.{same_ties, untied_alike}
+use Rattle.sdr_audit.specs.Ties.{NoneIsTied, ties_of}
 use Rattle.sdr_base.proofs.StandingLemmas.{written_at}
 use Rattle.sdr_base.specs.Blocks as base
 use Rattle.sdr_base.specs.Blocks.{IsKind, overwritten, with_block}
 use Rattle.sdr_base.specs.Entries.{Changes, Stands}
-use Rattle.sdr_base.specs.Making.{Made, besides, with_moves}
+use Rattle.sdr_base.specs.Making.{besides, with_moves}
 use Rattle.sdr_base.specs.Objects.{Heap, with_bytes}
 use Rattle.sdr_base.specs.Parts.{overwrite}
 use Rattle.sdr_base.specs.Raws.{raw_block, raw_entries}
 use Rattle.sdr_base.specs.declared.kind.Kind.TheVariants as kinds
-use Rattle.sdr_base.specs.declared.moves.Move.{Move}
 use Rattle.sdr_base.specs.declared.refusal.Refusal.{Refusal}
 use Rattle.sdr_base.specs.declared.refusal.Refusal.TheVariants as refusals
 use Rattle.sdr_base.specs.declared.stop.Stop.TheVariants as stops
-use Rattle.sdr_heap.specs.Raw.{HasRoom, MissesRaw, WriteStops, WritesRaw}
+use Rattle.sdr_heap.specs.Raw.{HasRoom, WriteStops, WritesRaw}
 use Rattle.sdr_lock.proofs.WorkLemmas.{on_false, on_true}
 use Rattle.sdr_model.specs.Rows.{ByRow}
-use Rattle.sdr_model.specs.Steps.{Outcome, with_thing}
+use Rattle.sdr_model.specs.Steps.{with_thing}
 use Rattle.sdr_model.specs.Whole.{IsWhole}
-use Rattle.sdr_model.specs.World.{World, is_marked}
+use Rattle.sdr_model.specs.World.{World, thing_at}
 use Rattle.sdr_model.specs.declared.answer.Reply.TheVariants as replies
 use Rattle.sdr_model.specs.declared.call.Call.TheVariants as calls
 use Rattle.sdr_model.specs.declared.things.Thing.TheVariants as things
 use Rattle.sdr_station.proofs.KindLemmas.{IsRawAt, raw_is_at}
 use Rattle.sdr_station.proofs.RawLemmas.{overwrite_raw}
 use Rattle.sdr_station.proofs.ReadingLemmas.{misses, no_room_in, on_raw, raw_missed, room_in, row_refused, unmoved_answered}
-use Rattle.sdr_station.specs.Answering.{Aim, Answered, IsRefused}
+use Rattle.sdr_station.specs.Answering.{Answered, IsRefused}
 
 -- the world after bytes were written into a raw object
 abbrev pub after_write : World → ℕ → ℕ → List ℕ → List ℕ → World
@@ -49,12 +49,12 @@ write_row heap w addr place from r s room marked =
 -- the block of a raw object becomes that of one with other bytes
 raw_changes : (heap new : Heap) (w : World) (addr place : ℕ) (from : List ℕ) (r : IsRawAt heap w addr) → new ≡ with_bytes heap addr (8 + place) from
     → Changes heap.blocks new.blocks (raw_entries addr ((ties_of w).named_by addr) r.bytes)
-      (raw_entries addr ((ties_of w).named_by addr) (overwrite place from r.bytes))
+    (raw_entries addr ((ties_of w).named_by addr) (overwrite place from r.bytes))
 raw_changes heap new w addr place from r is =
     let named = (ties_of w).named_by addr in
     let becomes : overwritten (heap.blocks addr) (8 + place) from ≡ Some (raw_block named (overwrite place from r.bytes)) =
-        ap (λ found. overwritten found (8 + place) from) r.block
-        ∙ ap (λ (bytes : List ℕ). Some (record { kind = kinds.Raw; bytes = bytes })) (overwrite_raw named place from r.bytes) in
+    ap (λ found. overwritten found (8 + place) from) r.block
+    ∙ ap (λ (bytes : List ℕ). Some (record { kind = kinds.Raw; bytes = bytes })) (overwrite_raw named place from r.bytes) in
     record {
       kept = λ rest s.
           subst (λ (b : base.Blocks). Stands b (raw_entries addr named (overwrite place from r.bytes) ++ rest))
@@ -94,7 +94,10 @@ write_answered addr place from old new w unmoved writes s whole =
     (changes addr old new w (things.Raw r.bytes) (things.Raw (overwrite place from r.bytes)) [] r.there tt tt s
     (raw_changes old new w addr place from r writes.written)
     (record { all = ap besides writes.written ∙ unmade old })))
-    refl refl refl
+    refl
+    (same_ties w addr (Some (things.Raw (overwrite place from r.bytes)))
+    (untied_alike (thing_at w addr) _ (subst NoneIsTied (sym r.there) tt) tt))
+    refl refl
 
 -- why bytes weren't written
 pub write_refused : (addr place : ℕ) (from : List ℕ) (old new : Heap) (w : World) (was : List ℕ) (refusal : Refusal) → old.moves ≡ []
@@ -106,7 +109,7 @@ write_refused addr place from old new w was (refusals.OutOfBounds bad at asked) 
       let above = no_room_in old w addr (place + length from) r m.3 in
       let outside : nat_lt (length r.bytes) (place + length from) ≡ true = grind (arith, nat_tests, above) in
       let row = on_raw w (record { moves = []; after = w; reply = replies.Refused (refusals.OutOfBounds bad at asked) }) addr r.bytes _ r.there
-          (on_true _ _ _ outside (refl, refl, λ i. replies.Refused (refusals.OutOfBounds (m.0 i) (m.1 i) (m.2 i)))) in
+      (on_true _ _ _ outside (refl, refl, λ i. replies.Refused (refusals.OutOfBounds (m.0 i) (m.1 i) (m.2 i)))) in
       inl (row_refused w (calls.Write addr place from) new (refusals.OutOfBounds bad at asked) (ap (λ (h : Heap). h.moves) m.5 ∙ unmoved) row);
   left = λ reads. m.5;
   gave = refl;
@@ -117,7 +120,7 @@ write_refused addr place from old new w was (refusals.NotStaged bad) unmoved s w
       let fits = room_in old w addr (place + length from) r m.2 in
       let inside : nat_lt (length r.bytes) (place + length from) ≡ false = grind (arith, nat_tests, fits) in
       let row = on_raw w (record { moves = []; after = w; reply = replies.Refused (refusals.NotStaged bad) }) addr r.bytes _ r.there
-          (on_false _ _ _ inside (on_false _ _ _ (sym (s.marks addr) ∙ m.1) (refl, refl, ap (λ a. replies.Refused (refusals.NotStaged a)) m.0))) in
+      (on_false _ _ _ inside (on_false _ _ _ (sym (s.marks addr) ∙ m.1) (refl, refl, ap (λ a. replies.Refused (refusals.NotStaged a)) m.0))) in
       inl (row_refused w (calls.Write addr place from) new (refusals.NotStaged bad) (ap (λ (h : Heap). h.moves) m.4 ∙ unmoved) row);
   left = λ reads. m.4;
   gave = refl;

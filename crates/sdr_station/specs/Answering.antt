@@ -1,12 +1,15 @@
 -- What a call comes to on a heap that stands for a world.
-use Rattle.std.specs.Prelude.{◌≡◌, ◌+◌, ◌/◌, ℕ, Bool, true, false, List, [], length, ⊤, All, Result, Ok, Err}
+use Rattle.std.specs.Prelude.{◌≡◌, ◌+◌, ◌/◌, ℕ, Bool, true, false, List, [], length, ⊤, All, Option, None, Result, Ok, Err}
 use Rattle.sdr_audit.specs.Standing.{HeapStandsFor}
+use Rattle.sdr_audit.specs.Ties.{ties_of}
+use Rattle.sdr_base.specs.Blocks.{Block}
 use Rattle.sdr_base.specs.Objects.{Heap}
 use Rattle.sdr_base.specs.declared.moves.Move.{Move}
 use Rattle.sdr_base.specs.declared.refusal.Refusal.{Refusal}
 use Rattle.sdr_base.specs.declared.refusal.Refusal.TheVariants as refusals
 use Rattle.sdr_base.specs.declared.stop.Stop.{Stop}
 use Rattle.sdr_base.specs.declared.stop.Stop.TheVariants as stops
+use Rattle.sdr_heap.specs.Raw.{IsUnnamed, IsWhole}
 use Rattle.sdr_laws.specs.Fresh.{AreFresh}
 use Rattle.sdr_model.specs.Blocks.{addresses_of, blocks_of}
 use Rattle.sdr_model.specs.Fields.{IsWord}
@@ -14,16 +17,29 @@ use Rattle.sdr_model.specs.Reading.{is_reading}
 use Rattle.sdr_model.specs.Rows.{ByRow}
 use Rattle.sdr_model.specs.Step.{StepTo, is_answer}
 use Rattle.sdr_model.specs.Steps.{Outcome, taken_addresses}
-use Rattle.sdr_model.specs.Whole.{IsWhole}
+use Rattle.sdr_model.specs.Whole as model
 use Rattle.sdr_model.specs.World.{World}
+use Rattle.sdr_model.specs.Zco.{source_on}
 use Rattle.sdr_model.specs.declared.answer.Reply.{Reply}
 use Rattle.sdr_model.specs.declared.answer.Reply.TheVariants as replies
 use Rattle.sdr_model.specs.declared.call.Call.{Call}
 use Rattle.sdr_model.specs.declared.call.Call.TheVariants as calls
 
+-- a world that calls which are served leave: there is no ticket, and no source of a raw object
+pub record IsPlain (w : World) : Type 0 where
+  pub inbound : w.accounts.inbound.tickets ≡ []
+  pub outbound : w.accounts.outbound.tickets ≡ []
+  pub unnamed : (raw : ℕ) → source_on w raw ≡ None
+
+-- a block that may be read as a raw object has its source word, which is 0
+pub record IsGood (found : Option Block) : Type 0 where
+  pub whole : IsWhole found
+  pub unnamed : IsUnnamed found
+
 -- whether the call is served
 abbrev pub built : Call → Bool
 built (calls.Malloc bytes) = true
+built (calls.Free addr) = true
 built (calls.Length addr) = true
 built (calls.Read addr place count) = true
 built (calls.Write addr place bytes) = true
@@ -33,6 +49,7 @@ built call = false
 -- so many lines a call that is served touches at most
 abbrev pub lines_of : Call → ℕ
 lines_of (calls.Malloc bytes) = 24 + (8 + bytes) / 64
+lines_of (calls.Free addr) = 24
 lines_of (calls.Write addr place bytes) = 2 + length bytes / 64
 lines_of call = 0
 
@@ -52,6 +69,7 @@ pub record Answered (w : World) (call : Call) (new : Heap) (shown : List ℕ) (r
   pub stands : HeapStandsFor new after
   pub gave : after.shown ≡ shown
   pub words : All IsWord (taken_addresses new.moves)
+  pub ties : ties_of after ≡ ties_of w
   pub accounts : after.accounts ≡ w.accounts
   pub taken : after.taken ≡ w.taken
 
@@ -72,6 +90,6 @@ ComesIn w call old new was shown (Ok reply) = Answered w call new shown reply
 ComesIn w call old new was shown (Err (stops.Refused refusal)) = IsRefused w call old new was shown refusal
 ComesIn w call old new was shown (Err stop) = ⊤
 
--- what a call comes to in each whole world for which the heap stood
+-- what a call comes to in each whole and plain world for which the heap stood
 pub record Comes (call : Call) (old new : Heap) (was shown : List ℕ) (result : Result Reply Stop) : Type 0 where
-  pub each : (w : World) → HeapStandsFor old w → IsWhole w → ComesIn w call old new was shown result
+  pub each : (w : World) → HeapStandsFor old w → model.IsWhole w → IsPlain w → ComesIn w call old new was shown result

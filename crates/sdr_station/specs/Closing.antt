@@ -1,7 +1,15 @@
 -- How the transaction of a heap on an image closes.
-use Rattle.std.specs.Prelude.{ℕ, List, [], false, length, replicate}
+use Rattle.std.specs.Prelude.{List, [], false, length, replicate}
+use Rattle.sdr_base.specs.declared.moves.Move.{Move}
+use Rattle.sdr_base.specs.declared.refusal.Refusal.{Refusal}
+use Rattle.sdr_base.specs.declared.refusal.Refusal.TheVariants as refusals
 use Rattle.sdr_heap.specs.Noted.{Held}
 use Rattle.sdr_image.specs.Opened.{Opened}
+
+-- the moves that are told of a refused call: none where log room was wanting
+abbrev pub moves_left : Refusal → List Move → List Move
+moves_left (refusals.LogFull lines room) moves = []
+moves_left refusal moves = moves
 
 -- the heap whose bytes were kept on this disk: there is no mark, and no line is touched
 abbrev pub committed : {D : Type 0} → Held (Opened D) → D → Held (Opened D)

@@ -1,7 +1,5 @@
 -- What a crash now leaves of a heap on an image.
-use Rattle.std.proofs.Common.{◌≡◌, ◌∙◌, ◌≤◌, ◌+◌, ℕ, List, [], suc, true, false, Bool, Option, None, Some, refl, sym, ap, subst, inl, inr, arith}
-use Rattle.sdr_disk.specs.Moments.{AtEach}
-use Rattle.sdr_image.specs.Opened.{Opened, Rests}
+use Rattle.std.proofs.Common.{ℕ, List, Option, subst}
 use Rattle.sdr_image.proofs.OpenedLemmas.{rests_leaves}
 use Rattle.sdr_lock.specs.Standing.{Standing}
 use Rattle.sdr_log.specs.Frame.{room_of}

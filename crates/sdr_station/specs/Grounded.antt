@@ -1,5 +1,5 @@
 -- A heap on an image as the ground of a lock: what it stands for.
-use Rattle.std.specs.Prelude.{◌≡◌, ◌≤◌, ℕ, Bool, false, List, [], length, Option, Some}
+use Rattle.std.specs.Prelude.{◌≡◌, ◌≤◌, ℕ, Bool, false, List, length, Option, Some}
 use Rattle.sdr_audit.specs.Standing.{HeapStandsFor, StandsForWhole}
 use Rattle.sdr_base.specs.KeptHeap.{KeepsRegion, block_in, root_in}
 use Rattle.sdr_base.specs.Objects.{Heap}
@@ -14,7 +14,7 @@ use Rattle.sdr_log.specs.Frame.{room_of}
 use Rattle.sdr_log.specs.Log.{put_back_of}
 use Rattle.sdr_model.specs.Fields.{FitsFields}
 use Rattle.sdr_model.specs.Whole.{IsWhole}
-use Rattle.sdr_model.specs.World.{World}
+use Rattle.sdr_station.specs.Answering.{IsPlain}
 
 -- the heap; the bytes that the last answered call gave; whether the transaction can only be put back; and the disk's moment
 pub record Grounded (D : Type 0) : Type 0 where
@@ -34,17 +34,12 @@ heap_in h = record {
   spare = h.spare;
 }
 
--- a world without tickets
-pub record HasNoTickets (w : World) : Type 0 where
-  pub inbound : w.accounts.inbound.tickets ≡ []
-  pub outbound : w.accounts.outbound.tickets ≡ []
-
 -- the bytes of a heap with this log room stand for the state, in which no transaction is open
 pub record StandsAtRest (room : ℕ) (bytes : List ℕ) (s : State) : Type 0 where
   pub pools : Pools
   pub base : s.base ≡ Ground.OnHeap room pools
   pub stands : StandsForWhole bytes s.world pools
-  pub tickets : HasNoTickets s.world
+  pub plain : IsPlain s.world
   pub demand : s.demand ≡ no_demand
 
 -- The heap stands for the state that the open transaction has made, whose world is whole and fits its fields. These bytes are
@@ -57,7 +52,7 @@ pub record StandsWithin {D : Type 0} (h : Held (Opened D)) (shown : List ℕ) (s
   pub whole : IsWhole s.world
   pub fits : FitsFields s.world
   pub next : 1 ≤ s.world.accounts.next
-  pub tickets : HasNoTickets s.world
+  pub plain : IsPlain s.world
   pub gave : s.world.shown ≡ shown
   pub lines : length h.cells.touched ≤ most_lines s.demand
 

@@ -1,9 +1,10 @@
 // The calls on raw objects, as steps of the machine.
-ghost use Rattle.std.specs.Prelude.{◌≡◌, ◌≤◌, ◌<◌, ◌+◌, ◌/◌, [], ℕ, length, IfErr, OnOk};
+ghost use Rattle.std.specs.Prelude.{◌≡◌, ◌≤◌, ◌<◌, ◌+◌, ◌/◌, [], ℕ, true, length, IfErr, OnOk};
 ghost use Rattle.sdr_base.specs.Moves.{KeepsSome};
 ghost use Rattle.sdr_base.specs.Works.{Looks, Works};
-ghost use Rattle.sdr_heap.specs.Raw.{IsWhole, ReadStops, Stages};
-ghost use Rattle.sdr_station.specs.Answering.{Comes, built};
+ghost use Rattle.sdr_heap.specs.Raw.{IsUnnamed, IsWhole, ReadStops};
+ghost use Rattle.sdr_model.specs.Fields.{AreBytes, FitsCall};
+ghost use Rattle.sdr_station.specs.Answering.{Comes, IsGood, built, lines_of};
 
 use crate::page::{PAGE, Page};
 use sdr_base::{Addr, Kind, Objects, Refusal, Stop, expect_kind};
@@ -17,6 +18,7 @@ pub fn built(call: &Call) -> bool
     matches!(
         call,
         Call::Malloc(_)
+            | Call::Free(_)
             | Call::Length(_)
             | Call::Read(_, _, _)
             | Call::Write(_, _, _)
@@ -37,12 +39,26 @@ fn malloc<O: Objects>(o: &mut O, bytes: u64, page: &mut Page) -> Result<Reply, S
     Ok(Reply::At { addr })
 }
 
+// Gives a raw object that no source names, or a string, back.
+fn free<O: Objects>(o: &mut O, addr: Addr, page: &mut Page) -> Result<Reply, Stop>
+    requires kept { KeepsSome (O.keeps o.old) }
+    requires spare { 1 ≤ (O.heap o.old).spare }
+    requires unnamed { IsUnnamed ((O.heap o.old).blocks addr) }
+    requires unmoved { (O.heap o.old).moves ≡ [] }
+    ensures comes { Comes (Call.Free addr) (O.heap o.old) (O.heap o.new) page.old page.new result }
+    ensures works { Works O.HasHeap 24 o.old o.new result }
+{
+    sdr_heap::free(o, addr)?;
+    page.clear();
+    Ok(Reply::Done)
+}
+
 // The length of a thing.
 fn length<O: Objects>(o: &mut O, addr: Addr, page: &mut Page) -> Result<Reply, Stop>
     requires kept { KeepsSome (O.keeps o.old) }
     requires unmoved { (O.heap o.old).moves ≡ [] }
     ensures comes { Comes (Call.Length addr) (O.heap o.old) (O.heap o.new) page.old page.new result }
-    ensures looks { Looks O.HasHeap o.old o.new result }
+    ensures works { Works O.HasHeap 0 o.old o.new result }
 {
     let value = sdr_heap::length(o, addr)?;
     page.clear();
@@ -65,14 +81,21 @@ fn refuse_count<O: Objects>(o: &mut O, addr: Addr, count: u64) -> Result<Reply, 
 }
 
 // Reads bytes of a raw object from a place on into a buffer of their number.
-fn read_into<O: Objects>(o: &mut O, addr: Addr, place: u64, count: u64, into: &mut [u8], page: &mut Page) -> Result<Reply, Stop>
+fn read_into<O: Objects>(
+    o: &mut O,
+    addr: Addr,
+    place: u64,
+    count: u64,
+    into: &mut [u8],
+    page: &mut Page,
+) -> Result<Reply, Stop>
     requires kept { KeepsSome (O.keeps o.old) }
     requires whole { IsWhole ((O.heap o.old).blocks addr) }
     requires unmoved { (O.heap o.old).moves ≡ [] }
     requires count { length into.old ≡ count }
     requires few { count ≤ LONGEST_READ }
     ensures comes { Comes (Call.Read addr place count) (O.heap o.old) (O.heap o.new) page.old page.new result }
-    ensures looks { Looks O.HasHeap o.old o.new result }
+    ensures works { Works O.HasHeap 0 o.old o.new result }
 {
     sdr_heap::read(o, addr, place, into)?;
     page.show(into);
@@ -80,12 +103,18 @@ fn read_into<O: Objects>(o: &mut O, addr: Addr, place: u64, count: u64, into: &m
 }
 
 // Reads bytes of a raw object from a place on.
-fn read<O: Objects>(o: &mut O, addr: Addr, place: u64, count: u64, page: &mut Page) -> Result<Reply, Stop>
+fn read<O: Objects>(
+    o: &mut O,
+    addr: Addr,
+    place: u64,
+    count: u64,
+    page: &mut Page,
+) -> Result<Reply, Stop>
     requires kept { KeepsSome (O.keeps o.old) }
     requires whole { IsWhole ((O.heap o.old).blocks addr) }
     requires unmoved { (O.heap o.old).moves ≡ [] }
     ensures comes { Comes (Call.Read addr place count) (O.heap o.old) (O.heap o.new) page.old page.new result }
-    ensures looks { Looks O.HasHeap o.old o.new result }
+    ensures works { Works O.HasHeap 0 o.old o.new result }
 {
     if count > LONGEST_READ {
         return refuse_count(o, addr, count);
@@ -95,14 +124,20 @@ fn read<O: Objects>(o: &mut O, addr: Addr, place: u64, count: u64, page: &mut Pa
 }
 
 // Reads the first bytes of a raw object into a buffer of their number, and marks it.
-fn stage_into<O: Objects>(o: &mut O, addr: Addr, count: u64, into: &mut [u8], page: &mut Page) -> Result<Reply, Stop>
+fn stage_into<O: Objects>(
+    o: &mut O,
+    addr: Addr,
+    count: u64,
+    into: &mut [u8],
+    page: &mut Page,
+) -> Result<Reply, Stop>
     requires kept { KeepsSome (O.keeps o.old) }
     requires whole { IsWhole ((O.heap o.old).blocks addr) }
     requires unmoved { (O.heap o.old).moves ≡ [] }
     requires count { length into.old ≡ count }
     requires few { count ≤ LONGEST_READ }
     ensures comes { Comes (Call.Stage addr count) (O.heap o.old) (O.heap o.new) page.old page.new result }
-    ensures stages { Stages O.HasHeap o.old o.new result }
+    ensures works { Works O.HasHeap 0 o.old o.new result }
 {
     sdr_heap::stage(o, addr, into)?;
     page.show(into);
@@ -115,7 +150,7 @@ fn stage<O: Objects>(o: &mut O, addr: Addr, count: u64, page: &mut Page) -> Resu
     requires whole { IsWhole ((O.heap o.old).blocks addr) }
     requires unmoved { (O.heap o.old).moves ≡ [] }
     ensures comes { Comes (Call.Stage addr count) (O.heap o.old) (O.heap o.new) page.old page.new result }
-    ensures stages { Stages O.HasHeap o.old o.new result }
+    ensures works { Works O.HasHeap 0 o.old o.new result }
 {
     if count > LONGEST_READ {
         return refuse_count(o, addr, count);
@@ -125,14 +160,43 @@ fn stage<O: Objects>(o: &mut O, addr: Addr, count: u64, page: &mut Page) -> Resu
 }
 
 // Writes bytes into a raw object from a place on.
-fn write<O: Objects>(o: &mut O, addr: Addr, place: u64, from: &[u8], page: &mut Page) -> Result<Reply, Stop>
+fn write<O: Objects>(
+    o: &mut O,
+    addr: Addr,
+    place: u64,
+    from: &[u8],
+    page: &mut Page,
+) -> Result<Reply, Stop>
     requires kept { KeepsSome (O.keeps o.old) }
     requires whole { IsWhole ((O.heap o.old).blocks addr) }
     requires unmoved { (O.heap o.old).moves ≡ [] }
     ensures comes { Comes (Call.Write addr place from.now) (O.heap o.old) (O.heap o.new) page.old page.new result }
     ensures works { Works O.HasHeap (2 + length from.now / 64) o.old o.new result }
+    ensures bytes { AreBytes from.now }
 {
     sdr_heap::write(o, addr, place, from)?;
     page.clear();
     Ok(Reply::Done)
+}
+
+/// Answers a call that is served.
+pub fn answer<O: Objects>(o: &mut O, call: &Call, page: &mut Page) -> Result<Reply, Stop>
+    requires kept { KeepsSome (O.keeps o.old) }
+    requires spare { 1 ≤ (O.heap o.old).spare }
+    requires good { (addr : ℕ) → IsGood ((O.heap o.old).blocks addr) }
+    requires unmoved { (O.heap o.old).moves ≡ [] }
+    requires built { built call.now ≡ true }
+    ensures comes { Comes call.now (O.heap o.old) (O.heap o.new) page.old page.new result }
+    ensures works { Works O.HasHeap (lines_of call.now) o.old o.new result }
+    ensures fits { FitsCall call.now }
+{
+    match call {
+        Call::Malloc(bytes) => malloc(o, *bytes, page),
+        Call::Free(addr) => free(o, *addr, page),
+        Call::Length(addr) => length(o, *addr, page),
+        Call::Read(addr, place, count) => read(o, *addr, *place, *count, page),
+        Call::Write(addr, place, bytes) => write(o, *addr, *place, bytes.as_slice(), page),
+        Call::Stage(addr, count) => stage(o, *addr, *count, page),
+        _ => unreachable!(),
+    }
 }

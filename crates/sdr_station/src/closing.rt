@@ -7,9 +7,9 @@ ghost use Rattle.sdr_image.specs.Changed.{GivesEither};
 ghost use Rattle.sdr_image.specs.Opened.{Rests, StaysAt, transaction_of};
 ghost use Rattle.sdr_log.specs.Calls.{KeepsDisk};
 ghost use Rattle.sdr_log.specs.Logged.{Gives};
-ghost use Rattle.sdr_station.specs.Closing.{committed, put_back};
+ghost use Rattle.sdr_station.specs.Closing.{committed, moves_left, put_back};
 
-use sdr_base::Stop;
+use sdr_base::{Refusal, Stop};
 use sdr_disk::Disk;
 use sdr_heap::Heap;
 use sdr_image::Image;
@@ -58,4 +58,13 @@ pub fn moment_since<D: Disk>(before: u64, heap: &mut Heap<Image<D>>) -> u64
     ensures same { heap.new ≡ heap.old }
 {
     heap.cells().now().max(before)
+}
+
+/// Forgets the moves of a call that was stopped for want of log room.
+pub fn forget_moves<D: Disk>(heap: &mut Heap<Image<D>>, refusal: &Refusal)
+    ensures { heap.new ≡ record heap.old { moves = moves_left refusal.now heap.old.moves; spare = heap.new.spare } }
+{
+    if let Refusal::LogFull { .. } = refusal {
+        heap.fresh();
+    }
 }

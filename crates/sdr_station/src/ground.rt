@@ -1,5 +1,6 @@
 // A heap on an image as the ground of a lock.
-use crate::closing::{cancel, commit, moment_since};
+use crate::calls::{answer, built};
+use crate::closing::{cancel, commit, forget_moves, moment_since};
 use crate::page::Page;
 use sdr_base::Stop;
 use sdr_disk::Disk;
@@ -62,8 +63,22 @@ impl<D: Disk> Serves for HeapGround<D> {
         self.moment
     }
 
-    fn call(&mut self, _call: &Call) -> Result<Reply, Halt> {
-        Err(Halt::Memory)
+    fn call(&mut self, call: &Call) -> Result<Reply, Halt> {
+        if self.stopped || !built(call) {
+            return Err(Halt::Memory);
+        }
+        self.heap.fresh();
+        match answer(&mut self.heap, call, &mut self.shown) {
+            Ok(reply) => Ok(reply),
+            Err(Stop::Refused(refusal)) => {
+                forget_moves(&mut self.heap, &refusal);
+                self.stopped = !call.is_reading();
+                Ok(Reply::Refused(refusal))
+            }
+            Err(Stop::DiskFault) => unreachable!(),
+            Err(Stop::MediaFault) => unreachable!(),
+            Err(Stop::Failed) => unreachable!(),
+        }
     }
 
     fn keep(&mut self) -> Result<(), Halt> {

@@ -1,4 +1,4 @@
-use Rattle.std.proofs.Common.{[], rules, refl, subst, sym, Err, List, ℕ}
+use Rattle.std.proofs.Common.{rules, subst, sym, Err, List, ℕ}
 use Rattle.sdr_base.specs.declared.stop.Stop.{Stop}
 use Rattle.sdr_heap.specs.Raw.{IsMissing}
 use Rattle.sdr_model.specs.declared.answer.Reply.TheVariants as replies
@@ -14,14 +14,14 @@ returns-in_err-value-clause-comes g c =
     let new = g.O.HasHeap.heap c.length.new.o in
     let page = c.args.page.now in
     let fact : Comes (calls.Length c.args.addr) old new page page (Err c.in_err-value.field-0.0) =
-        comes_stopped (calls.Length c.args.addr) old new page c.in_err-value.field-0.0
-        (λ w refusal stands whole is. length_refused c.args.addr old new w page refusal c.requires.unmoved c.in_err-value.ensures.looks.same stands whole
-        (subst (λ (s : Stop). IsMissing (old.blocks c.args.addr) c.args.addr s) is c.in_err-value.ensures.refused)) in
+    comes_stopped (calls.Length c.args.addr) old new page c.in_err-value.field-0.0
+    (λ w refusal stands whole plain is. length_refused c.args.addr old new w page refusal c.requires.unmoved c.in_err-value.ensures.looks.same stands whole
+    (subst (λ (s : Stop). IsMissing (old.blocks c.args.addr) c.args.addr s) is c.in_err-value.ensures.refused)) in
     search rules
 
 pub returns-clause-comes : goal.returns-clause-comes
 returns-clause-comes g c = record {
-  each = λ w stands whole.
+  each = λ w stands whole plain.
       let old = g.O.HasHeap.heap c.args.o.now in
       let new = g.O.HasHeap.heap c.length.new.o in
       subst (λ (shown : List ℕ). Answered w (calls.Length c.args.addr) new shown (replies.Value c.in_ok-value.value)) (sym c.clear.ensures)

@@ -1,4 +1,4 @@
-use Rattle.std.proofs.Common.{[], rules, refl, subst, sym, Err, Ok, List, ℕ}
+use Rattle.std.proofs.Common.{rules, subst, sym, Err, List, ℕ}
 use Rattle.sdr_base.specs.declared.stop.Stop.{Stop}
 use Rattle.sdr_heap.specs.Raw.{MallocStops}
 use Rattle.sdr_model.specs.declared.answer.Reply.TheVariants as replies
@@ -14,14 +14,14 @@ returns-in_err-addr-clause-comes g c =
     let new = g.O.HasHeap.heap c.malloc.new.o in
     let page = c.args.page.now in
     let fact : Comes (calls.Malloc c.args.bytes) old new page page (Err c.in_err-addr.field-0.0) =
-        comes_stopped (calls.Malloc c.args.bytes) old new page c.in_err-addr.field-0.0
-        (λ w refusal stands whole is. malloc_refused c.args.bytes old new w page refusal c.requires.unmoved
-        (subst (λ (s : Stop). MallocStops c.args.bytes old new s) is c.in_err-addr.ensures.refused)) in
+    comes_stopped (calls.Malloc c.args.bytes) old new page c.in_err-addr.field-0.0
+    (λ w refusal stands whole plain is. malloc_refused c.args.bytes old new w page refusal c.requires.unmoved
+    (subst (λ (s : Stop). MallocStops c.args.bytes old new s) is c.in_err-addr.ensures.refused)) in
     search rules
 
 pub returns-clause-comes : goal.returns-clause-comes
 returns-clause-comes g c = record {
-  each = λ w stands whole.
+  each = λ w stands whole plain.
       let old = g.O.HasHeap.heap c.args.o.now in
       let new = g.O.HasHeap.heap c.malloc.new.o in
       subst (λ (shown : List ℕ). Answered w (calls.Malloc c.args.bytes) new shown (replies.At c.in_ok-addr.addr)) (sym c.clear.ensures)

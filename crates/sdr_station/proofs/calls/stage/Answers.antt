@@ -1,11 +1,9 @@
-use Rattle.std.proofs.Common.{◌≡◌, [], rules, ap, refl, subst, sym, arith, Err, IfErr, List, ℕ, length}
+use Rattle.std.proofs.Common.{subst, IfErr, ℕ}
 use Rattle.sdr_base.specs.declared.stop.Stop.{Stop}
-use Rattle.sdr_heap.specs.Raw.{ReadStops, ReadsRaw}
-use Rattle.sdr_model.specs.declared.answer.Reply.TheVariants as replies
+use Rattle.sdr_heap.specs.Raw.{ReadStops}
 use Rattle.sdr_model.specs.declared.call.Call.TheVariants as calls
-use Rattle.sdr_station.proofs.CallLemmas.{comes_never, comes_stopped}
-use Rattle.sdr_station.proofs.ReadingLemmas.{stage_answered, stage_refused}
-use Rattle.sdr_station.specs.Answering.{Answered, Comes}
+use Rattle.sdr_station.proofs.CallLemmas.{comes_never}
+use Rattle.sdr_station.proofs.ReadingLemmas.{stage_refused}
 use Rattle.sdr_station.proofs.calls.stage.Goals as goal
 
 pub returns-then-count-gt-LONGEST_READ-clause-comes : goal.returns-then-count-gt-LONGEST_READ-clause-comes
@@ -14,7 +12,7 @@ returns-then-count-gt-LONGEST_READ-clause-comes g c =
     let new = g.O.HasHeap.heap c.refuse_count.new.o in
     let e = c.refuse_count.ensures in
     comes_never (calls.Stage c.args.addr c.args.count) old new c.args.page.now c.refuse_count.result e.only
-    (λ stop is w refusal stands whole stopped.
+    (λ stop is w refusal stands whole plain stopped.
     stage_refused c.args.addr c.args.count old new w c.args.page.now refusal c.requires.unmoved e.looks.same stands whole
     (subst (λ (s : Stop). ReadStops (old.blocks c.args.addr) c.args.addr 0 c.args.count s) stopped
     (subst (λ r. IfErr r (λ (s : Stop). (p : ℕ) → ReadStops (old.blocks c.args.addr) c.args.addr p c.args.count s)) is e.refused 0)))

@@ -1,9 +1,9 @@
-use Rattle.std.proofs.Common.{◌≡◌, [], rules, ap, refl, subst, sym, arith, Err, IfErr, List, ℕ, length}
+use Rattle.std.proofs.Common.{rules, subst, sym, Err, List, ℕ}
 use Rattle.sdr_base.specs.declared.stop.Stop.{Stop}
 use Rattle.sdr_heap.specs.Raw.{ReadStops, ReadsRaw}
 use Rattle.sdr_model.specs.declared.answer.Reply.TheVariants as replies
 use Rattle.sdr_model.specs.declared.call.Call.TheVariants as calls
-use Rattle.sdr_station.proofs.CallLemmas.{comes_never, comes_stopped}
+use Rattle.sdr_station.proofs.CallLemmas.{comes_stopped}
 use Rattle.sdr_station.proofs.ReadingLemmas.{stage_answered, stage_refused}
 use Rattle.sdr_station.specs.Answering.{Answered, Comes}
 use Rattle.sdr_station.proofs.calls.stage_into.Goals as goal
@@ -15,15 +15,15 @@ returns-in_err-stage-clause-comes g c =
     let page = c.args.page.now in
     let e = c.in_err-stage.ensures in
     let fact : Comes (calls.Stage c.args.addr c.args.count) old new page page (Err c.in_err-stage.field-0.0) =
-        comes_stopped (calls.Stage c.args.addr c.args.count) old new page c.in_err-stage.field-0.0
-        (λ w refusal stands whole is. stage_refused c.args.addr c.args.count old new w page refusal c.requires.unmoved e.same stands whole
-        (subst (λ (s : Stop). ReadStops (old.blocks c.args.addr) c.args.addr 0 c.args.count s) is
-        (subst (λ (n : ℕ). ReadStops (old.blocks c.args.addr) c.args.addr 0 n c.in_err-stage.field-0.0) c.requires.count e.refused))) in
+    comes_stopped (calls.Stage c.args.addr c.args.count) old new page c.in_err-stage.field-0.0
+    (λ w refusal stands whole plain is. stage_refused c.args.addr c.args.count old new w page refusal c.requires.unmoved e.same stands whole
+    (subst (λ (s : Stop). ReadStops (old.blocks c.args.addr) c.args.addr 0 c.args.count s) is
+    (subst (λ (n : ℕ). ReadStops (old.blocks c.args.addr) c.args.addr 0 n c.in_err-stage.field-0.0) c.requires.count e.refused))) in
     search rules
 
 pub returns-clause-comes : goal.returns-clause-comes
 returns-clause-comes g c = record {
-  each = λ w stands whole.
+  each = λ w stands whole plain.
       let old = g.O.HasHeap.heap c.args.o.now in
       let new = g.O.HasHeap.heap c.stage.new.o in
       let e = c.in_ok-stage.ensures in

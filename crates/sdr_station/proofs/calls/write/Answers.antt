@@ -1,4 +1,4 @@
-use Rattle.std.proofs.Common.{[], rules, refl, subst, sym, length, Err, List, ℕ}
+use Rattle.std.proofs.Common.{rules, subst, sym, length, Err, List, ℕ}
 use Rattle.sdr_base.specs.declared.stop.Stop.{Stop}
 use Rattle.sdr_heap.specs.Raw.{WriteStops}
 use Rattle.sdr_model.specs.declared.answer.Reply.TheVariants as replies
@@ -15,14 +15,14 @@ returns-in_err-write-clause-comes g c =
     let page = c.args.page.now in
     let call = calls.Write c.args.addr c.args.place c.args.from.now in
     let fact : Comes (calls.Write c.args.addr c.args.place c.args.from.now) old new page page (Err c.in_err-write.field-0.0) =
-        comes_stopped call old new page c.in_err-write.field-0.0
-        (λ w refusal stands whole is. write_refused c.args.addr c.args.place c.args.from.now old new w page refusal c.requires.unmoved stands whole
-        (subst (λ (s : Stop). WriteStops (old.blocks c.args.addr) c.args.addr c.args.place (length c.args.from.now) old new s) is c.in_err-write.ensures.refused)) in
+    comes_stopped call old new page c.in_err-write.field-0.0
+    (λ w refusal stands whole plain is. write_refused c.args.addr c.args.place c.args.from.now old new w page refusal c.requires.unmoved stands whole
+    (subst (λ (s : Stop). WriteStops (old.blocks c.args.addr) c.args.addr c.args.place (length c.args.from.now) old new s) is c.in_err-write.ensures.refused)) in
     search rules
 
 pub returns-clause-comes : goal.returns-clause-comes
 returns-clause-comes g c = record {
-  each = λ w stands whole.
+  each = λ w stands whole plain.
       let old = g.O.HasHeap.heap c.args.o.now in
       let new = g.O.HasHeap.heap c.write.new.o in
       subst (λ (shown : List ℕ). Answered w (calls.Write c.args.addr c.args.place c.args.from.now) new shown replies.Done) (sym c.clear.ensures)

@@ -1,6 +1,5 @@
-use Rattle.std.specs.Prelude.{max}
 use Rattle.std.proofs.Common.{refl, sym}
-use Rattle.sdr_lock.proofs.GroundLemmas.{brings_same, leaves_same}
+use Rattle.sdr_lock.proofs.GroundLemmas.{leaves_same}
 use Rattle.sdr_station.proofs.ClosingLemmas.{no_ticket}
 use Rattle.sdr_station.proofs.GroundLemmas.{heap_ground}
 use Rattle.sdr_station.proofs.ground.HeapGroundServes.look.Goals as goal
@@ -10,7 +9,7 @@ returns-clause-shown g c = record {
   each = λ v at. record {
     for = v;
     holds = at;
-    tells = record { shown = sym (no_ticket v.before.world c.args._ticket at.before.tickets); still = record { before = refl; now = refl } };
+    tells = record { shown = sym (no_ticket v.before.world c.args._ticket at.before.plain); still = record { before = refl; now = refl } };
   };
 }
 

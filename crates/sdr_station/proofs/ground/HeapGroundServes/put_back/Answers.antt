@@ -3,12 +3,9 @@ use Rattle.std.proofs.Common.{◌≡◌, ◌∙◌, true, ap, Err, false, refl, 
 use Rattle.sdr_base.specs.Transaction.{Explains}
 use Rattle.sdr_base.specs.declared.stop.Stop.{Stop}
 use Rattle.sdr_heap.specs.Noted.{Held}
-use Rattle.sdr_image.specs.Changed.{GivesEither}
 use Rattle.sdr_image.specs.Opened.{Opened, Rests, transaction_of}
-use Rattle.sdr_log.specs.Logged.{Gives}
-use Rattle.sdr_lock.proofs.GroundLemmas as ground
-use Rattle.sdr_lock.specs.Crash.{LeavesBefore, LeavesEither}
-use Rattle.sdr_lock.specs.Serving.{Brings, Keeps, PutsBack, KeepsGround}
+use Rattle.sdr_lock.specs.Crash.{LeavesBefore}
+use Rattle.sdr_lock.specs.Serving.{Brings, PutsBack, KeepsGround}
 use Rattle.sdr_station.proofs.ClosingLemmas.{back_ground, brings_back, keeps_brought, leaves_back}
 use Rattle.sdr_station.proofs.GroundLemmas.{heap_ground}
 use Rattle.sdr_station.specs.Grounded.{Grounded, Stands}
@@ -31,8 +28,8 @@ returns-in-Ok-clause-put_back g c =
     let is : new ≡ back_ground old disk now = λ i. record { heap = heap i; shown = c.clear.ensures i; stopped = false; moment = now } in
     let now_is = at.ensures.moment ∙ ap (λ (h : Held (Opened D)). max old.moment (m h.cells.disk)) at.ensures.same in
     let brings : Brings (λ g v. Stands b m l g v) old (back_ground old disk now) PutsBack =
-        brings_back b m f l old disk now now_is e.cause.explained.0 e.disk.tells _ (e.any_moment e.cause.explained.0) 
-        (λ rests. subst (λ (h : Held (Opened D)). Rests b m l h.cells) e.ended (e.rests rests)) in
+    brings_back b m f l old disk now now_is e.cause.explained.0 e.disk.tells _ (e.any_moment e.cause.explained.0)
+    (λ rests. subst (λ (h : Held (Opened D)). Rests b m l h.cells) e.ended (e.rests rests)) in
     subst (λ (o : Grounded D). Brings (λ g v. Stands b m l g v) o new PutsBack) c.self.view_is
     (subst (λ (n : Grounded D). Brings (λ g v. Stands b m l g v) old n PutsBack) (sym is) brings)
 
@@ -53,8 +50,8 @@ returns-in-Ok-clause-keeps g c =
     let is : new ≡ back_ground old disk now = λ i. record { heap = heap i; shown = c.clear.ensures i; stopped = false; moment = now } in
     let now_is = at.ensures.moment ∙ ap (λ (h : Held (Opened D)). max old.moment (m h.cells.disk)) at.ensures.same in
     let brings : Brings (λ g v. Stands b m l g v) old (back_ground old disk now) PutsBack =
-        brings_back b m f l old disk now now_is e.cause.explained.0 e.disk.tells _ (e.any_moment e.cause.explained.0) 
-        (λ rests. subst (λ (h : Held (Opened D)). Rests b m l h.cells) e.ended (e.rests rests)) in
+    brings_back b m f l old disk now now_is e.cause.explained.0 e.disk.tells _ (e.any_moment e.cause.explained.0)
+    (λ rests. subst (λ (h : Held (Opened D)). Rests b m l h.cells) e.ended (e.rests rests)) in
     subst (λ (o : Grounded D). KeepsGround (heap_ground b m f l) false o new) c.self.view_is
     (subst (λ (n : Grounded D). KeepsGround (heap_ground b m f l) false old n) (sym is)
     (keeps_brought b m f l PutsBack old _ e.cause.explained.0 e.cause.later brings))

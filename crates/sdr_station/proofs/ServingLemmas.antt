@@ -1,0 +1,387 @@
+-- A call that a heap on an image has answered, as a step of the machine.
+use Rattle.std.proofs.Common.{◌≡◌, ◌∙◌, ◌≤◌, ◌+◌, ◌⊎◌, ℕ, List, [], ◌∷◌, Bool, true, false, true≢false, not, Option, None, Some, Result, Ok, Err, inl, inr, refl, sym, ap, subst, length, arith}
+use Rattle.sdr_audit.specs.Standing.{HeapStandsFor}
+use Rattle.sdr_base.proofs.MovesLemmas.{Moves-none}
+use Rattle.sdr_base.specs.KeptHeap.{KeepsRegion}
+use Rattle.sdr_base.proofs.LayoutLemmas.{number_at-layout}
+use Rattle.sdr_base.specs.Blocks as base
+use Rattle.sdr_base.specs.Blocks.{IsKind}
+use Rattle.sdr_base.specs.Raws.{raw_block}
+use Rattle.sdr_base.specs.Stored.{number_at}
+use Rattle.sdr_base.specs.Transaction.{Explains}
+use Rattle.sdr_base.specs.declared.kind.Kind.TheVariants as kinds
+use Rattle.sdr_base.specs.Moves.{Leads, Moves, MovesPools}
+use Rattle.sdr_base.specs.Objects.{Heap}
+use Rattle.sdr_base.specs.Works.{Works}
+use Rattle.sdr_base.specs.declared.has_heap.HasHeap.{Ghosts as HeapGhosts}
+use Rattle.sdr_base.specs.declared.moves.Move.{Move}
+use Rattle.sdr_base.specs.declared.stop.Stop.{Stop}
+use Rattle.sdr_heap.specs.Noted.{Held}
+use Rattle.sdr_image.proofs.OpenedLemmas.{rests_same}
+use Rattle.sdr_image.specs.Opened.{IsQuiet, Opened, transaction_of}
+use Rattle.sdr_model.specs.declared.answer.Reply.{Reply}
+use Rattle.sdr_model.specs.declared.call.Call.{Call}
+use Rattle.sdr_laws.proofs.FieldLaws.{fields_fit}
+use Rattle.sdr_laws.proofs.FreshLemmas.{none_there}
+use Rattle.sdr_laws.proofs.WholeLaws.{whole_kept}
+use Rattle.sdr_lock.specs.Crash.{LeavesBefore}
+use Rattle.sdr_lock.specs.Demand.{Demand, MayFillLog, demand_after}
+use Rattle.sdr_lock.specs.Ground.{Ground, State, Steps, StepsOn}
+use Rattle.sdr_lock.specs.Serving.{Brings, Calls}
+use Rattle.sdr_lock.specs.Standing.{Standing}
+use Rattle.sdr_log.specs.Frame.{room_of}
+use Rattle.sdr_log.specs.declared.frame.Frame.{Frame}
+use Rattle.sdr_audit.specs.Ties.{Ties, or_null, ties_of}
+use Rattle.sdr_base.specs.declared.refusal.Refusal.{Refusal}
+use Rattle.sdr_base.specs.declared.refusal.Refusal.TheVariants as refusals
+use Rattle.sdr_base.specs.declared.stop.Stop.TheVariants as stops
+use Rattle.sdr_model.specs.declared.accounts.Accounts.{Accounts}
+use Rattle.sdr_model.specs.Fields.{FitsCall}
+use Rattle.sdr_model.specs.Reading.{is_reading}
+use Rattle.sdr_model.specs.Step.{StepTo, is_answer}
+use Rattle.sdr_model.specs.Steps.{Outcome}
+use Rattle.sdr_model.specs.Valid.{IsValid}
+use Rattle.sdr_model.specs.Whole.{IsWhole}
+use Rattle.sdr_model.specs.World.{World, thing_at}
+use Rattle.sdr_model.specs.Zco.{source_on}
+use Rattle.sdr_model.specs.declared.answer.Reply.TheVariants as replies
+use Rattle.sdr_station.proofs.DemandLemmas.{asks_more, enough, reading_lines}
+use Rattle.sdr_station.proofs.EntryLemmas.{source_there}
+use Rattle.sdr_station.proofs.GroundLemmas.{heap_ground}
+use Rattle.sdr_station.proofs.KindLemmas.{IsRawAt, raw_is_at}
+use Rattle.sdr_station.proofs.RawLemmas.{length_of_raw}
+use Rattle.sdr_station.specs.CrashNow.{crash_now}
+use Rattle.sdr_station.specs.Answering.{Aim, Answered, Comes, IsGood, IsPlain, built, lines_of}
+use Rattle.sdr_station.specs.Closing.{moves_left}
+use Rattle.sdr_station.specs.Grounded.{Grounded, Leaves, Stands, StandsAtRest, StandsWithin, heap_in}
+
+-- a heap on an image, as contracts of calls on blocks see it
+abbrev pub image_heap : {D : Type 0} → (D → ℕ) → HeapGhosts (Held (Opened D))
+image_heap faults = record {
+  heap = heap_in;
+  keeps = λ h. KeepsRegion h.size h.cells.bytes;
+  transaction = λ h. transaction_of faults h.cells;
+  quiet = λ a b. IsQuiet a.cells b.cells × (b.size ≡ a.size);
+  moved = λ a b. Moves (KeepsRegion a.size a.cells.bytes) (KeepsRegion b.size b.cells.bytes) a.moves b.moves;
+}
+
+-- a reply that answers tells of no want of log room
+not_full : (room : ℕ) (d : Demand) (w : World) (call : Call) (reply : Reply) → is_answer reply ≡ true → MayFillLog room d w call reply
+not_full room d w call (replies.Refused refusal) is = absurd (true≢false (sym is))
+not_full room d w call reply is = tt
+
+-- where things are tied as before, no source names a raw object
+still_unnamed : (w w' : World) (raw : ℕ) → ties_of w' ≡ ties_of w → IsValid w' → source_on w raw ≡ None → source_on w' raw ≡ None
+still_unnamed w w' raw ties valid none = by (source_on w' raw) refl
+  where
+    null : or_null (source_on w' raw) ≡ 0
+    null = ap (λ (t : Ties). t.named_by raw) ties ∙ ap or_null none
+
+    by : (o : Option ℕ) → source_on w' raw ≡ o → source_on w' raw ≡ None
+    by None is = is
+    by (Some addr) is =
+        let n = source_there w' raw addr is in
+        let zero : addr ≡ 0 = sym (ap or_null is) ∙ null in
+        let gone : thing_at w' addr ≡ None = ap (thing_at w') zero ∙ none_there w' 0 valid.nonzero in
+        absurd (let no : None ≡ Some _ = sym gone ∙ n.there in cc)
+
+-- A call on a heap that stood for a standing, and has not stopped.
+module _ {D : Type 0} (told : D → Option (List ℕ)) (moment faults : D → ℕ) (may_leave : D → ℕ → List ℕ → Type 0)
+    (old : Grounded D) (going : old.stopped ≡ false) (call : Call) (is : built call ≡ true) (fit : FitsCall call) (spare : ℕ)
+    (heap : Held (Opened D)) (page : List ℕ) where
+  -- the heap before the call, with no moves
+  abbrev pub fresh_heap : Held (Opened D)
+  fresh_heap = record old.heap { moves = []; spare = spare }
+
+  -- it stands for the same world
+  fresh_stands : (v : Standing) → Stands told moment may_leave old v → HeapStandsFor (heap_in fresh_heap) v.now.world
+  fresh_stands v at = let s = (at.now going).heap in record { blocks = s.blocks; roots = s.roots; marks = s.marks }
+
+  -- what was quiet since then was quiet
+  quiet_of : {T : Type 0} {lines : ℕ} {result : Result T Stop} → Works (image_heap faults) lines fresh_heap heap result
+      → IsQuiet fresh_heap.cells heap.cells × (heap.size ≡ fresh_heap.size)
+  quiet_of works = works.quiet fresh_heap (record { disk = refl; frame = refl; begun = refl; failed = refl }, refl)
+
+  -- what stands still of a standing
+  stands_on : (new : Grounded D) (v : Standing) → Stands told moment may_leave old v → new.moment ≡ old.moment
+      → IsQuiet old.heap.cells new.heap.cells → new.heap.size ≡ old.heap.size → (now : State) → now.world.taken ≡ 0
+      → (new.stopped ≡ false → StandsWithin new.heap new.shown now)
+      → Stands told moment may_leave new (record { before = v.before; now = now; moves = new.heap.moves })
+  stands_on new v at same q size now taken within = record {
+    sound = q.failed ∙ at.sound;
+    rests = rests_same told moment may_leave old.heap.cells new.heap.cells q at.rests;
+    moment_is = λ x tells. same ∙ at.moment_is x (sym (ap told q.disk) ∙ tells) ∙ sym (ap moment q.disk);
+    size = ap (λ (bytes : List ℕ). length bytes) q.begun ∙ at.size ∙ sym size;
+    before =
+        subst (λ (f : Frame). StandsAtRest (room_of f) new.heap.cells.begun v.before) (sym q.frame)
+        (subst (λ (bytes : List ℕ). StandsAtRest (room_of old.heap.cells.frame) bytes v.before) (sym q.begun) at.before);
+    taken = taken;
+    now = within;
+    moves = refl;
+  }
+
+  module _ (v : Standing) (at : Stands told moment may_leave old v)
+      (moves : Moves (KeepsRegion fresh_heap.size fresh_heap.cells.bytes) (KeepsRegion heap.size heap.cells.bytes) [] heap.moves) where
+    lead : Leads (KeepsRegion heap.size heap.cells.bytes) (at.now going).pools moves.more
+    lead = moves.lead (at.now going).pools (at.now going).keeps
+
+    fits : MovesPools (at.now going).pools heap.moves lead.after
+    fits = subst (λ (ms : List Move). MovesPools (at.now going).pools ms lead.after) (sym moves.moves) lead.fit
+
+    -- the state after a call that came to this
+    abbrev next : World → Reply → State
+    next after reply = record {
+      world = after;
+      base = Ground.OnHeap (room_of heap.cells.frame) lead.after;
+      demand = demand_after v.now.demand v.now.world call (record { moves = heap.moves; after = after; reply = reply });
+    }
+
+    -- it is one of the machine's
+    steps_to : (after : World) (reply : Reply) → heap.cells.frame ≡ old.heap.cells.frame
+        → StepTo v.now.world (record { moves = heap.moves; after = after; reply = reply }) call
+        → MayFillLog (room_of old.heap.cells.frame) v.now.demand v.now.world call reply
+        → Steps v.now call (record { reply = reply; moves = heap.moves; after = next after reply })
+    steps_to after reply frame step full =
+        subst (λ (b : Ground). StepsOn b v.now call (record { reply = reply; moves = heap.moves; after = next after reply })) (sym (at.now going).base)
+        (record {
+          step = step;
+          pools = lead.after;
+          base = ap (λ (f : Frame). Ground.OnHeap (room_of f) lead.after) frame;
+          fit = fits;
+          full = full;
+          demand = refl;
+        })
+
+    -- the world after an answered call, on this heap
+    within_answered : (reply : Reply) → heap.cells.frame ≡ old.heap.cells.frame → length heap.cells.touched ≤ length old.heap.cells.touched + lines_of call
+        → (ans : Answered v.now.world call (heap_in heap) page reply) → StandsWithin heap page (next ans.after reply)
+    within_answered reply frame lines ans =
+        let w = at.now going in
+        let o : Outcome = record { moves = heap.moves; after = ans.after; reply = reply } in
+        let whole = whole_kept v.now.world ans.after call heap.moves reply w.whole ans.fresh (inl ans.row) in
+        let more = enough v.now.demand v.now.world call o is ans.row ans.answered in
+        record {
+          pools = lead.after;
+          base = refl;
+          keeps = lead.keeps;
+          heap = ans.stands;
+          whole = whole;
+          fits = fields_fit v.now.world ans.after call heap.moves reply w.whole.valid w.whole.fits w.fits fit ans.words (inl ans.row);
+          next = subst (λ (a : Accounts). 1 ≤ a.next) (sym ans.accounts) w.next;
+          plain = record {
+            inbound = ap (λ (a : Accounts). a.inbound.tickets) ans.accounts ∙ w.plain.inbound;
+            outbound = ap (λ (a : Accounts). a.outbound.tickets) ans.accounts ∙ w.plain.outbound;
+            unnamed = λ raw. still_unnamed v.now.world ans.after raw ans.ties whole.valid (w.plain.unnamed raw);
+          };
+          gave = ans.gave;
+          lines = omega (arith, lines, w.lines, more);
+        }
+
+    -- the same world after a reading call that was refused
+    within_refused : (heap' : Held (Opened D)) (refusal : Refusal) → heap'.cells ≡ heap.cells → heap'.size ≡ heap.size → heap'.marks ≡ heap.marks
+        → heap_in heap ≡ heap_in fresh_heap → page ≡ old.shown → length heap.cells.touched ≤ length old.heap.cells.touched
+        → StandsWithin heap' page (next v.now.world (replies.Refused refusal))
+    within_refused heap' refusal cells size marks left gave lines =
+        let w = at.now going in
+        let s = subst (λ (h : Heap). HeapStandsFor h v.now.world) (sym left) (fresh_stands v at) in
+        let more = asks_more v.now.demand v.now.world call (record { moves = heap.moves; after = v.now.world; reply = replies.Refused refusal }) in
+        let here : StandsWithin (record heap' { cells = heap.cells; size = heap.size; marks = heap.marks }) page (next v.now.world (replies.Refused refusal)) =
+        record {
+          pools = lead.after;
+          base = refl;
+          keeps = lead.keeps;
+          heap = record { blocks = s.blocks; roots = s.roots; marks = s.marks };
+          whole = w.whole;
+          fits = w.fits;
+          next = w.next;
+          plain = w.plain;
+          gave = w.gave ∙ sym gave;
+          lines = omega (arith, lines, w.lines, more);
+        } in
+        subst (λ (h : Held (Opened D)). StandsWithin h page (next v.now.world (replies.Refused refusal)))
+        (λ i. record heap' { cells = sym cells i; size = sym size i; marks = sym marks i }) here
+
+  -- an answered call brings what its row does
+  pub brings_answered : (reply : Reply) → Comes call (heap_in fresh_heap) (heap_in heap) old.shown page (Ok reply)
+      → Works {T = Reply} (image_heap faults) (lines_of call) fresh_heap heap (Ok reply)
+      → Brings (λ g v. Stands told moment may_leave g v) old (record { heap = heap; shown = page; stopped = old.stopped; moment = old.moment }) (Calls None call reply)
+  brings_answered reply comes works = record {
+    each = λ v at.
+        let w = at.now going in
+        let ans = comes.each v.now.world (fresh_stands v at) w.whole w.plain in
+        let moves = works.moved fresh_heap (Moves-none (KeepsRegion fresh_heap.size fresh_heap.cells.bytes) (KeepsRegion fresh_heap.size fresh_heap.cells.bytes) [] (λ P k. k)) in
+        let q = quiet_of works in
+        let after = next v at moves ans.after reply in
+        record {
+          for = record { before = v.before; now = after; moves = heap.moves };
+          holds = stands_on (record { heap = heap; shown = page; stopped = old.stopped; moment = old.moment }) v at refl q.0 q.1 after (ans.taken ∙ at.taken)
+              (λ _. within_answered v at moves reply q.0.frame works.room.most ans);
+          tells = record {
+            steps = steps_to v at moves ans.after reply q.0.frame (inl ans.row)
+                (not_full (room_of old.heap.cells.frame) v.now.demand v.now.world call reply ans.answered);
+            media = tt;
+            before = refl;
+          };
+        };
+  }
+
+  -- the ground after a call that was refused, with room for so many moves
+  abbrev pub refused_ground : Refusal → ℕ → Grounded D
+  refused_ground refusal n = record {
+    heap = record heap { moves = moves_left refusal heap.moves; spare = n };
+    shown = page;
+    stopped = not (is_reading call);
+    moment = old.moment;
+  }
+
+  reads_only : (b : Bool) → not b ≡ false → b ≡ true
+  reads_only true is = refl
+  reads_only false is = absurd (true≢false is)
+
+  -- a refused call for which there was log room
+  brings_stopped : (refusal : Refusal) (n : ℕ) → moves_left refusal heap.moves ≡ heap.moves
+      → ((room : ℕ) (d : Demand) (w : World) → MayFillLog room d w call (replies.Refused refusal))
+      → ((w : World) → HeapStandsFor (heap_in fresh_heap) w → IsWhole w → IsPlain w
+      → StepTo w (record { moves = heap.moves; after = w; reply = replies.Refused refusal }) call × (is_reading call ≡ true → heap_in heap ≡ heap_in fresh_heap) × (page ≡ old.shown))
+      → Moves (KeepsRegion fresh_heap.size fresh_heap.cells.bytes) (KeepsRegion heap.size heap.cells.bytes) [] heap.moves
+      → Works {T = Reply} (image_heap faults) (lines_of call) fresh_heap heap (Err (stops.Refused refusal))
+      → Brings (λ g v. Stands told moment may_leave g v) old (refused_ground refusal n) (Calls None call (replies.Refused refusal))
+  brings_stopped refusal n same full steps moves works = record {
+    each = λ v at.
+        let w = at.now going in
+        let s = steps v.now.world (fresh_stands v at) w.whole w.plain in
+        let q = quiet_of works in
+        let after = next v at moves v.now.world (replies.Refused refusal) in
+        record {
+          for = record { before = v.before; now = after; moves = moves_left refusal heap.moves };
+          holds = stands_on (refused_ground refusal n) v at refl q.0 q.1 after at.taken
+              (λ going_on.
+              let reads = reads_only (is_reading call) going_on in
+              let none = reading_lines call is reads in
+              within_refused v at moves (refused_ground refusal n).heap refusal refl refl refl (s.1 reads) s.2 (omega (arith, works.room.most, none)));
+          tells = record {
+            steps = subst (λ (ms : List Move). Steps v.now call (record { reply = replies.Refused refusal; moves = ms; after = after })) (sym same)
+                (steps_to v at moves v.now.world (replies.Refused refusal) q.0.frame s.0 (full (room_of old.heap.cells.frame) v.now.demand v.now.world));
+            media = tt;
+            before = refl;
+          };
+        };
+  }
+
+  -- the state after a call for which there was no log room
+  abbrev pub full_state : (v : Standing) → Stands told moment may_leave old v → Reply → State
+  full_state v at reply = record {
+    world = v.now.world;
+    base = Ground.OnHeap (room_of heap.cells.frame) (at.now going).pools;
+    demand = demand_after v.now.demand v.now.world call (record { moves = []; after = v.now.world; reply = reply });
+  }
+
+  -- a refused call for which there was none
+  brings_full : (lines room n : ℕ)
+      → ((w : World) → HeapStandsFor (heap_in fresh_heap) w → IsWhole w → IsPlain w → Aim w call × (is_reading call ≡ false))
+      → Works {T = Reply} (image_heap faults) (lines_of call) fresh_heap heap (Err (stops.Refused (refusals.LogFull lines room)))
+      → Brings (λ g v. Stands told moment may_leave g v) old (refused_ground (refusals.LogFull lines room) n)
+      (Calls None call (replies.Refused (refusals.LogFull lines room)))
+  brings_full lines room n aims works = record {
+    each = λ v at.
+        let w = at.now going in
+        let reply = replies.Refused (refusals.LogFull lines room) in
+        let aim = aims v.now.world (fresh_stands v at) w.whole w.plain in
+        let q = quiet_of works in
+        let after = full_state v at reply in
+        let f = works.room.full in
+        let more = enough v.now.demand v.now.world call aim.0.to is aim.0.row aim.0.answered in
+        record {
+          for = record { before = v.before; now = after; moves = [] };
+          holds = stands_on (refused_ground (refusals.LogFull lines room) n) v at refl q.0 q.1 after at.taken
+              (λ going_on. absurd (true≢false (ap not (sym aim.1) ∙ going_on)));
+          tells = record {
+            steps = subst (λ (b : Ground). StepsOn b v.now call (record { reply = reply; moves = []; after = after })) (sym w.base) (record {
+              step = inr (record {
+                aim = aim.0.to;
+                row = aim.0.row;
+                answered = aim.0.answered;
+                stopped = (record { rest = aim.0.to.moves; whole = refl }, aim.1);
+                same = refl;
+              });
+              pools = w.pools;
+              base = ap (λ (f : Frame). Ground.OnHeap (room_of f) w.pools) q.0.frame;
+              fit = refl;
+              full = record {
+                aim = aim.0.to;
+                row = aim.0.row;
+                answered = aim.0.answered;
+                room_is = f.0;
+                above = f.1;
+                most = omega (arith, f.2, w.lines, more);
+              };
+              demand = refl;
+            });
+            media = tt;
+            before = refl;
+          };
+        };
+  }
+
+  -- a refused call brings what its step does
+  pub brings_refused : (refusal : Refusal) (n : ℕ) → Comes call (heap_in fresh_heap) (heap_in heap) old.shown page (Err (stops.Refused refusal))
+      → Works {T = Reply} (image_heap faults) (lines_of call) fresh_heap heap (Err (stops.Refused refusal))
+      → Brings (λ g v. Stands told moment may_leave g v) old (refused_ground refusal n) (Calls None call (replies.Refused refusal))
+  brings_refused (refusals.LogFull lines room) n comes works =
+      brings_full lines room n (λ w stands whole plain. (comes.each w stands whole plain).step) works
+  brings_refused refusal n comes works =
+      brings_stopped refusal n refl (λ room d w. tt)
+      (λ w stands whole plain. let r = comes.each w stands whole plain in (r.step, r.left, r.gave))
+      (works.moved fresh_heap (Moves-none (KeepsRegion fresh_heap.size fresh_heap.cells.bytes) (KeepsRegion fresh_heap.size fresh_heap.cells.bytes) [] (λ P k. k)))
+      works
+
+-- where the disk is the same and its moment too, a crash leaves the state before
+pub leaves_quiet : {D : Type 0} (told : D → Option (List ℕ)) (moment faults : D → ℕ) (may_leave : D → ℕ → List ℕ → Type 0) (old new : Grounded D)
+    → new.heap.cells.disk ≡ old.heap.cells.disk → new.moment ≡ old.moment → LeavesBefore (heap_ground told moment faults may_leave) old new
+leaves_quiet {D} told moment faults may_leave old new disk same = record {
+  each = λ v at. record {
+    later = omega (arith, same);
+    each = λ m image ge le l.
+        let here : m ≡ old.moment = omega (arith, ge, le, same) in
+        crash_now told moment may_leave old v image at
+        (subst (λ (n : ℕ). Leaves told may_leave old.heap.cells.disk n image) here
+        (subst (λ (d : D). Leaves told may_leave d m image) disk l));
+    past = λ m image le l. subst (λ (d : D). Leaves told may_leave d m image) disk l;
+  };
+}
+
+-- no call on blocks meets a disk fault
+pub no_fault : {D : Type 0} (faults : D → ℕ) (old new : Held (Opened D)) (lines : ℕ) → old.cells.failed ≡ false
+    → (stop : Stop) → Works {T = Reply} (image_heap faults) lines old new (Err stop) → (stop ≡ stops.DiskFault) ⊎ (stop ≡ stops.MediaFault) ⊎ (stop ≡ stops.Failed) → ⊥
+no_fault faults old new lines sound stop works (inl is) =
+    let e = subst (λ (s : Stop). Explains {T = Reply} (transaction_of faults old.cells) (transaction_of faults new.cells) (Err s)) is works.cause.explained in
+    let q = works.quiet old (record { disk = refl; frame = refl; begun = refl; failed = refl }, refl) in
+    true≢false (sym e.1 ∙ q.0.failed ∙ sound)
+no_fault faults old new lines sound stop works (inr (inl is)) =
+    subst (λ (s : Stop). Explains {T = Reply} (transaction_of faults old.cells) (transaction_of faults new.cells) (Err s)) is works.cause.explained
+no_fault faults old new lines sound stop works (inr (inr is)) =
+    let e = subst (λ (s : Stop). Explains {T = Reply} (transaction_of faults old.cells) (transaction_of faults new.cells) (Err s)) is works.cause.explained in
+    true≢false (sym e.0 ∙ sound)
+
+-- where a heap stands for a world of served calls, a raw object's block has its source word, which is 0
+pub good_of : (heap : Heap) (w : World) → HeapStandsFor heap w → IsWhole w → IsPlain w → (addr : ℕ) → IsGood (heap.blocks addr)
+good_of heap w s whole plain addr = by (heap.blocks addr) (λ kind. of (raw_is_at heap w addr s whole.valid kind))
+  where
+    of : IsRawAt heap w addr → (bytes : List ℕ) × (heap.blocks addr ≡ Some (raw_block 0 bytes))
+    of r = (r.bytes, r.block ∙ ap (λ (n : ℕ). Some (raw_block n r.bytes)) (ap or_null (plain.unnamed addr)))
+
+    first : (bytes : List ℕ) → number_at 0 (raw_block 0 bytes).bytes ≡ 0
+    first bytes = number_at-layout (0 ∷ []) bytes 0 (omega arith) (omega arith)
+
+    by : (found : Option base.Block) → (IsKind found kinds.Raw → (bytes : List ℕ) × (found ≡ Some (raw_block 0 bytes))) → IsGood found
+    by None raws = record { whole = tt; unnamed = tt }
+    by (Some block) raws = record {
+      whole = λ kind.
+          let r = raws kind in
+          let same : raw_block 0 r.0 ≡ block = cc in
+          subst (λ (b : base.Block). 8 ≤ length b.bytes) same (omega (arith, length_of_raw 0 r.0));
+      unnamed = λ kind.
+          let r = raws kind in
+          let same : raw_block 0 r.0 ≡ block = cc in
+          subst (λ (b : base.Block). number_at 0 b.bytes ≡ 0) same (first r.0);
+    }
