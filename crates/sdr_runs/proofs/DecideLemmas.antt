@@ -4,7 +4,6 @@ use Rattle.sdr_base.specs.Media.{Told}
 use Rattle.sdr_base.specs.declared.moves.Move.{Move}
 use Rattle.sdr_lock.specs.Agreeing.{AgreesWith}
 use Rattle.sdr_lock.specs.Core.{closed_by}
-use Rattle.sdr_lock.specs.Ground.{HasHeap}
 use Rattle.sdr_lock.specs.Machine.{Machine, Made, MachineStep, Answers, Closes, Comes, Enters, Faults, FaultsWithin, Goes, Holds, Looks, LooksAt, Proceeds, Serves, Works, is_outside, roll_closed, with_transaction}
 use Rattle.sdr_lock.specs.Nesting.{noted}
 use Rattle.sdr_lock.specs.Roll.{Roll, daemon_of, is_stalled, served_number, waits_for, with_drawn}
@@ -20,7 +19,8 @@ use Rattle.sdr_model.specs.declared.call.Call.{Call}
 use Rattle.sdr_model.specs.declared.event.Event.{Event}
 use Rattle.sdr_model.specs.declared.event.Event.TheVariants as events
 use Rattle.sdr_runs.specs.Choosing.{is_chance}
-use Rattle.sdr_runs.proofs.OutcomeLemmas.{either_first, either_second, steps_same}
+use Rattle.sdr_runs.proofs.HeapLemmas.{steps_same}
+use Rattle.sdr_runs.proofs.OutcomeLemmas.{either_first, either_second}
 use Rattle.sdr_runs.proofs.TransactLemmas.{transacts_within}
 
 -- two facts of one test, and of one option
@@ -76,8 +76,7 @@ record SameTransaction (e : Made) (answer : Answer) (bytes : List ℕ) (moves : 
 
 module _ (told : Option Told) (m : Machine) (e : Made) (answer : Answer) (bytes : List ℕ) (moves : List Move) (m1 m2 : Machine)
     (media : AgreesWith told m.now.world e.said.event e.said.answer e.said.bytes) (others : AgreesWith told m.now.world e.said.event answer bytes)
-    (heap : HasHeap m.now.base → moves ≡ e.said.moves)
-    (chance : (is_chance e.said.answer || is_chance answer) ≡ true → answer ≡ e.said.answer)
+    (chance : (is_chance e.said.answer || is_chance answer) ≡ true → (answer ≡ e.said.answer) × (moves ≡ e.said.moves))
     (blind : told ≡ None → bytes ≡ e.said.bytes) where
   abbrev Same : Type 0
   Same = SameStep e answer bytes moves m1 m2
@@ -103,10 +102,10 @@ module _ (told : Option Told) (m : Machine) (e : Made) (answer : Answer) (bytes 
 
   -- a disk fault in one way alone
   first_faults : {R : Type 0} → e.said.answer ≡ answers.Reply replies.DiskFault → (answer ≡ answers.Reply replies.DiskFault → ⊥) → R
-  first_faults is never = absurd (never (chance (either_first (is_chance e.said.answer) (is_chance answer) (ap is_chance is)) ∙ is))
+  first_faults is never = absurd (never ((chance (either_first (is_chance e.said.answer) (is_chance answer) (ap is_chance is))).0 ∙ is))
 
   second_faults : {R : Type 0} → (e.said.answer ≡ answers.Reply replies.DiskFault → ⊥) → answer ≡ answers.Reply replies.DiskFault → R
-  second_faults never is = absurd (never (sym (chance (either_second (is_chance e.said.answer) (is_chance answer) (ap is_chance is))) ∙ is))
+  second_faults never is = absurd (never (sym (chance (either_second (is_chance e.said.answer) (is_chance answer) (ap is_chance is))).0 ∙ is))
 
   looks_at_same : (d : Daemon) (ticket : ℕ) (roll : Roll) → LooksAt m d e ticket roll m1 → LooksAt m d again ticket roll m2 → Same
   looks_at_same d ticket roll one two =
@@ -154,7 +153,7 @@ module _ (told : Option Told) (m : Machine) (e : Made) (answer : Answer) (bytes 
       steps_same told m.now.base m.now call one.done two.done e.said.answer answer e.said.bytes bytes one.steps two.steps
       (record { answer_is = one.answer; bytes_are = one.bytes; media = subst (λ ev. AgreesWith told m.now.world ev e.said.answer e.said.bytes) is media })
       (record { answer_is = two.answer; bytes_are = two.bytes; media = subst (λ ev. AgreesWith told m.now.world ev answer bytes) is others })
-      blind chance (λ on. sym two.moves ∙ heap on ∙ one.moves) in
+      blind (λ is. ((chance is).0, sym two.moves ∙ (chance is).1 ∙ one.moves)) in
       let answer_same : answer ≡ e.said.answer = two.answer ∙ ap (λ o. answers.Reply o.reply) same ∙ sym one.answer in
       record {
         answer_is = answer_same;

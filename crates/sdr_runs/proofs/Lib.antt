@@ -8,6 +8,7 @@ pub mod DeepRow
 pub mod DoomedRow
 pub mod FaultedRow
 pub mod FrameLemmas
+pub mod HeapLemmas
 pub mod JournalLemmas
 pub mod KeepLemmas
 pub mod OutcomeLemmas

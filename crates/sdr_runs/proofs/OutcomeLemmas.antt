@@ -1,20 +1,14 @@
 -- A call comes to one outcome, chance aside.
-use Rattle.std.proofs.Common.{◌≡◌, ◌⊎◌, ◌∙◌, ◌||◌, ◌++◌, ℕ, zero, suc, List, [], ◌∷◌, Bool, true, false, Option, None, Some, refl, sym, ap, subst, inl, inr, true≢false, nat_lt}
+use Rattle.std.proofs.Common.{◌≡◌, ◌⊎◌, ◌∙◌, ◌||◌, ◌++◌, ℕ, List, [], ◌∷◌, Bool, true, false, Option, None, Some, refl, sym, ap, subst, inl, inr, true≢false, nat_lt}
 use Rattle.sdr_base.specs.Media.{Told}
-use Rattle.sdr_base.specs.Moves.{MovesPools}
-use Rattle.sdr_base.specs.Pools.{Pools}
-use Rattle.sdr_base.specs.SmallPool.{Taken}
 use Rattle.sdr_base.specs.declared.moves.Move.{Move}
-use Rattle.sdr_base.specs.declared.moves.Move.TheVariants.{Gave, Short, Took}
+use Rattle.sdr_base.specs.declared.moves.Move.TheVariants.{Took}
 use Rattle.sdr_base.specs.declared.refusal.Refusal.{Refusal}
 use Rattle.sdr_base.specs.declared.refusal.Refusal.TheVariants as refusals
-use Rattle.sdr_laws.proofs.DecidedLemmas.{dry_decides, dry_decides_but_bytes, rows_decide, rows_decide_but_bytes}
+use Rattle.sdr_laws.proofs.DecidedLemmas.{dry_decides, dry_decides_but_bytes}
 use Rattle.sdr_laws.proofs.StepLemmas.{row_is_no_stop}
 use Rattle.sdr_laws.specs.Refused.{is_stop}
-use Rattle.sdr_laws.specs.TakesAt.{TakesAt}
 use Rattle.sdr_lock.specs.Agreeing.{AgreesWith}
-use Rattle.sdr_lock.specs.Demand.{demand_after}
-use Rattle.sdr_lock.specs.Ground.{Ground, HasHeap, NoHeap, OnHeap, Replied, State, StepsOn}
 use Rattle.sdr_lock.specs.Transaction.{bytes_given}
 use Rattle.sdr_lock.proofs.StepLemmas.{from_option, from_test}
 use Rattle.sdr_model.specs.Dry.{StepsDry, StopsReading}
@@ -22,7 +16,7 @@ use Rattle.sdr_model.specs.Pieces.{bytes_by, pieces_asked}
 use Rattle.sdr_model.specs.Limits.{longest_read}
 use Rattle.sdr_model.specs.Reading.{is_reading, reads_media}
 use Rattle.sdr_model.specs.Rows.{ByRow}
-use Rattle.sdr_model.specs.Step.{Step, Stops, StopsWith}
+use Rattle.sdr_model.specs.Step.{LackBlock, Stops, StopsWith}
 use Rattle.sdr_model.specs.Steps.{Outcome, Refuses}
 use Rattle.sdr_model.specs.Wire.{GivesOf, ToldBytes as Wire, headers_part, source_part, trailers_part, wire_part}
 use Rattle.sdr_model.specs.World.{World}
@@ -39,7 +33,7 @@ use Rattle.sdr_runs.specs.Choosing.{is_chance}
 use Rattle.sdr_runs.proofs.RollLemmas.{contrary}
 
 -- a call that reads media is refused, or gives bytes
-data MediaRow (w : World) (o : Outcome) : Type 0 where
+pub data MediaRow (w : World) (o : Outcome) : Type 0 where
   refuses : (refusal : Refusal) → o.moves ≡ [] → o.after.shown ≡ w.shown → o.reply ≡ replies.Refused refusal → MediaRow w o
   gives : (count : ℕ) → o.moves ≡ [] → o.reply ≡ replies.Bytes count → MediaRow w o
 
@@ -51,7 +45,7 @@ gives_row w o addr count of h =
     from_option (object_at w addr) h (λ _ r. refused_row w o _ r)
     (λ z _ r. from_test (nat_lt longest_read count) r (λ _ f. refused_row w o _ f) (λ _ g. MediaRow.gives _ g.0 g.3))
 
-media_row : (w : World) (o : Outcome) (call : Call) → reads_media call ≡ true → ByRow w o call → MediaRow w o
+pub media_row : (w : World) (o : Outcome) (call : Call) → reads_media call ≡ true → ByRow w o call → MediaRow w o
 media_row w o (calls.Transmit addr place count) reads h = gives_row w o addr count (wire_part w place count) h
 media_row w o (calls.ReceiveHeaders addr place count) reads h = gives_row w o addr count (headers_part w place count) h
 media_row w o (calls.ReceiveSource addr place count) reads h = gives_row w o addr count (source_part w place count) h
@@ -66,23 +60,27 @@ media_reads (calls.ReceiveSource addr place count) reads = refl
 media_reads (calls.ReceiveTrailers addr place count) reads = refl
 media_reads call reads = absurd (true≢false (sym reads))
 
--- no row is answered by chance, and each stop is
-whole_chance : (reply : Reply) → is_stop reply ≡ false → is_chance (answers.Reply reply) ≡ false
+-- no row is answered by chance
+pub whole_chance : (reply : Reply) → is_stop reply ≡ false → is_chance (answers.Reply reply) ≡ false
 whole_chance replies.DiskFault whole = whole
 whole_chance replies.MediaFault whole = whole
 whole_chance (replies.Refused (refusals.SourceShort have want)) whole = whole
-whole_chance (replies.Refused (refusals.NoBlock need)) whole = whole
 whole_chance (replies.Refused (refusals.LogFull lines room)) whole = whole
 whole_chance (replies.Refused refusal) whole = refl
 whole_chance reply whole = refl
 
-stop_chance : (reply : Reply) (call : Call) (all moves : List Move) → StopsWith reply call all moves → is_chance (answers.Reply reply) ≡ true
-stop_chance (replies.Refused (refusals.NoBlock need)) call all moves s = refl
-stop_chance (replies.Refused (refusals.LogFull lines room)) call all moves s = refl
-stop_chance (replies.Refused (refusals.SourceShort have want)) call all moves s = refl
-stop_chance (replies.Refused refusal) call all moves s = absurd s
-stop_chance replies.MediaFault call all moves s = refl
-stop_chance reply call all moves s = absurd s
+-- a stop is by chance, or for want of a block
+pub data StopKind (reply : Reply) (all moves : List Move) : Type 0 where
+  by_chance : is_chance (answers.Reply reply) ≡ true → StopKind reply all moves
+  lacks : (need : ℕ) → reply ≡ replies.Refused (refusals.NoBlock need) → LackBlock all moves need → StopKind reply all moves
+
+pub stop_kind : (reply : Reply) (call : Call) (all moves : List Move) → StopsWith reply call all moves → StopKind reply all moves
+stop_kind (replies.Refused (refusals.NoBlock need)) call all moves s = StopKind.lacks need refl s
+stop_kind (replies.Refused (refusals.LogFull lines room)) call all moves s = StopKind.by_chance refl
+stop_kind (replies.Refused (refusals.SourceShort have want)) call all moves s = StopKind.by_chance refl
+stop_kind (replies.Refused refusal) call all moves s = absurd s
+stop_kind replies.MediaFault call all moves s = StopKind.by_chance refl
+stop_kind reply call all moves s = absurd s
 
 -- a call that reads media stops with no moves
 no_such_list : (done : List Move) (move : Move) (rest : List Move) → [] ≡ done ++ move ∷ rest → ⊥
@@ -104,28 +102,17 @@ stop_moves w o call reads stops = by o.reply stops.stopped (aimed (media_row w s
     by replies.MediaFault s none = s.0
     by reply s none = absurd s
 
--- the addresses of the blocks that moves take
-abbrev at_of : List Move → ℕ → ℕ
-at_of [] k = 0
-at_of (Took need addr ∷ moves) zero = addr
-at_of (Took need addr ∷ moves) (suc k) = at_of moves k
-at_of (move ∷ moves) k = at_of moves k
+-- and by chance
+stop_chance : (w : World) (o : Outcome) (call : Call) → reads_media call ≡ true → Stops w o call → is_chance (answers.Reply o.reply) ≡ true
+stop_chance w o call reads stops = by (stop_kind o.reply call stops.aim.moves o.moves stops.stopped)
+  where
+    aimed : MediaRow w stops.aim → stops.aim.moves ≡ []
+    aimed (MediaRow.refuses refusal moves after reply) = moves
+    aimed (MediaRow.gives count moves reply) = moves
 
-takes_own : (moves : List Move) → TakesAt (at_of moves) moves
-takes_own [] = tt
-takes_own (Took need addr ∷ moves) = (refl, takes_own moves)
-takes_own (Gave addr ∷ moves) = takes_own moves
-takes_own (Short need ∷ moves) = takes_own moves
-
--- moves lead from pools to one
-pools_same : (P : Pools) (moves : List Move) (Q R : Pools) → MovesPools P moves Q → MovesPools P moves R → R ≡ Q
-pools_same P [] Q R one two = two ∙ sym one
-pools_same P (Took need addr ∷ moves) Q R one two =
-    let s : Some (record { addr = addr; pools = two.0 }) ≡ Some (record { addr = addr; pools = one.0 }) = sym two.1 ∙ one.1 in
-    let t : record { addr = addr; pools = two.0 } ≡ record { addr = addr; pools = one.0 } = cc in
-    pools_same one.0 moves Q R one.2 (subst (λ X. MovesPools X moves R) (ap (λ (x : Taken). x.pools) t) two.2)
-pools_same P (Gave addr ∷ moves) Q R one two = pools_same _ moves Q R one.1 two.1
-pools_same P (Short need ∷ moves) Q R one two = pools_same P moves Q R one.1 two.1
+    by : StopKind o.reply stops.aim.moves o.moves → is_chance (answers.Reply o.reply) ≡ true
+    by (StopKind.by_chance is) = is
+    by (StopKind.lacks need is lack) = absurd (no_such_list lack.done (Took need lack.addr) lack.rest (sym (aimed (media_row w stops.aim call reads stops.row)) ∙ lack.whole))
 
 -- how a call was answered in a world
 pub record Answered (told : Option Told) (w : World) (call : Call) (reply : Reply) (shown : List ℕ) (answer : Answer) (bytes : List ℕ) : Type 0 where
@@ -168,7 +155,7 @@ module _ (told : Option Told) (w : World) (call : Call) (o o' : Outcome) (answer
     (one : Answered told w call o.reply o.after.shown answer bytes) (two : Answered told w call o'.reply o'.after.shown answer' bytes')
     (blind : told ≡ None → bytes' ≡ bytes) (chance : (is_chance answer || is_chance answer') ≡ true → answer' ≡ answer) where
   -- two rows of one reply show the same
-  rows_shown : reads_media call ≡ true → o.reply ≡ o'.reply → MediaRow w o → MediaRow w o' → o'.after.shown ≡ o.after.shown
+  pub rows_shown : reads_media call ≡ true → o.reply ≡ o'.reply → MediaRow w o → MediaRow w o' → o'.after.shown ≡ o.after.shown
   rows_shown reads same (MediaRow.refuses refusal moves after reply) (MediaRow.refuses other moves' after' reply') = after' ∙ sym after
   rows_shown reads same (MediaRow.refuses refusal moves after reply) (MediaRow.gives count moves' reply') = absurd cc
   rows_shown reads same (MediaRow.gives count moves reply) (MediaRow.refuses other moves' after' reply') = absurd cc
@@ -177,52 +164,34 @@ module _ (told : Option Told) (w : World) (call : Call) (o o' : Outcome) (answer
       (subst (λ r. Answered told w call r o.after.shown answer bytes) reply one)
       (subst (λ r. Answered told w call r o'.after.shown answer' bytes') (sym same ∙ reply) two) blind
 
-  replies_same : answer' ≡ answer → o'.reply ≡ o.reply
+  pub replies_same : answer' ≡ answer → o'.reply ≡ o.reply
   replies_same same = let s : answers.Reply o'.reply ≡ answers.Reply o.reply = sym two.answer_is ∙ same ∙ one.answer_is in cc
 
   -- a row and a stop are no two outcomes of one call
-  row_or_stop : {R : Type 0} → is_chance (answers.Reply o.reply) ≡ false → is_chance (answers.Reply o'.reply) ≡ true → R
+  pub row_or_stop : {R : Type 0} → is_chance (answers.Reply o.reply) ≡ false → is_chance (answers.Reply o'.reply) ≡ true → R
   row_or_stop whole stopped =
       let same : o'.reply ≡ o.reply = replies_same (chance (either_second (is_chance answer) (is_chance answer') (ap is_chance two.answer_is ∙ stopped))) in
       contrary (ap (λ r. is_chance (answers.Reply r)) (sym same) ∙ stopped) whole
 
-  stop_or_row : {R : Type 0} → is_chance (answers.Reply o.reply) ≡ true → is_chance (answers.Reply o'.reply) ≡ false → R
+  pub stop_or_row : {R : Type 0} → is_chance (answers.Reply o.reply) ≡ true → is_chance (answers.Reply o'.reply) ≡ false → R
   stop_or_row stopped whole =
       let same : o'.reply ≡ o.reply = replies_same (chance (either_first (is_chance answer) (is_chance answer') (ap is_chance one.answer_is ∙ stopped))) in
       contrary (ap (λ r. is_chance (answers.Reply r)) same ∙ stopped) whole
 
-  stop_and_stop : is_chance (answers.Reply o.reply) ≡ true → o'.reply ≡ o.reply
+  pub stop_and_stop : is_chance (answers.Reply o.reply) ≡ true → o'.reply ≡ o.reply
   stop_and_stop stopped = replies_same (chance (either_first (is_chance answer) (is_chance answer') (ap is_chance one.answer_is ∙ stopped)))
 
-  row_whole : ByRow w o call → is_chance (answers.Reply o.reply) ≡ false
+  pub row_whole : ByRow w o call → is_chance (answers.Reply o.reply) ≡ false
   row_whole row = whole_chance o.reply (row_is_no_stop w o call row)
 
-  -- two outcomes with the same moves
-  moved_same : Step w call o.moves o.after o.reply → Step w call o'.moves o'.after o'.reply → o'.moves ≡ o.moves → o' ≡ o
-  moved_same (inl row) (inr stops) moves = row_or_stop (row_whole row) (stop_chance o'.reply call stops.aim.moves o'.moves stops.stopped)
-  moved_same (inr stops) (inl row) moves = stop_or_row (stop_chance o.reply call stops.aim.moves o.moves stops.stopped) (whole_chance o'.reply (row_is_no_stop w o' call row))
-  moved_same (inr stops) (inr others) moves =
-      λ i. record { moves = moves i; after = (others.same ∙ sym stops.same) i; reply = stop_and_stop (stop_chance o.reply call stops.aim.moves o.moves stops.stopped) i }
-  moved_same (inl row) (inl other) moves = by (reads_media call) refl
-    where
-      takes : TakesAt (at_of o.moves) o'.moves
-      takes = subst (TakesAt (at_of o.moves)) (sym moves) (takes_own o.moves)
-
-      by : (b : Bool) → reads_media call ≡ b → o' ≡ o
-      by false e = sym (rows_decide w call (at_of o.moves) o o' e row other (takes_own o.moves) takes)
-      by true e =
-          let same = rows_decide_but_bytes w call (at_of o.moves) o o' row other (takes_own o.moves) takes in
-          let shown : o'.after.shown ≡ o.after.shown = rows_shown e same.reply (media_row w o call e row) (media_row w o' call e other) in
-          λ i. record { moves = sym same.moves i; after = (sym (same.after ∙ (λ j. record o'.after { shown = sym shown j }))) i; reply = sym same.reply i }
-
   -- two outcomes without a heap
-  bare_same : StepsDry w call o.moves o.after o.reply ⊎ StopsReading w call o.moves o.after o.reply
+  pub bare_same : StepsDry w call o.moves o.after o.reply ⊎ StopsReading w call o.moves o.after o.reply
       → StepsDry w call o'.moves o'.after o'.reply ⊎ StopsReading w call o'.moves o'.after o'.reply → o' ≡ o
   bare_same (inl dry) (inr stops) =
       row_or_stop (whole_chance o.reply (row_is_no_stop w (record { moves = o.moves; after = record o.after { taken = w.taken }; reply = o.reply }) call dry.step))
-      (stop_chance o'.reply call stops.stopped.aim.moves o'.moves stops.stopped.stopped)
+      (stop_chance w o' call stops.reads stops.stopped)
   bare_same (inr stops) (inl dry) =
-      stop_or_row (stop_chance o.reply call stops.stopped.aim.moves o.moves stops.stopped.stopped)
+      stop_or_row (stop_chance w o call stops.reads stops.stopped)
       (whole_chance o'.reply (row_is_no_stop w (record { moves = o'.moves; after = record o'.after { taken = w.taken }; reply = o'.reply }) call dry.step))
   bare_same (inr stops) (inr others) =
       let none : o.moves ≡ [] = stop_moves w o call stops.reads stops.stopped in
@@ -230,7 +199,7 @@ module _ (told : Option Told) (w : World) (call : Call) (o o' : Outcome) (answer
       λ i. record {
         moves = (also ∙ sym none) i;
         after = (others.stopped.same ∙ sym stops.stopped.same) i;
-        reply = stop_and_stop (stop_chance o.reply call stops.stopped.aim.moves o.moves stops.stopped.stopped) i;
+        reply = stop_and_stop (stop_chance w o call stops.reads stops.stopped) i;
       }
   bare_same (inl dry) (inl other) = by (reads_media call) refl
     where
@@ -245,31 +214,3 @@ module _ (told : Option Told) (w : World) (call : Call) (o o' : Outcome) (answer
           (uncounted w o w.taken (media_row w (record { moves = o.moves; after = record o.after { taken = w.taken }; reply = o.reply }) call e dry.step))
           (uncounted w o' w.taken (media_row w (record { moves = o'.moves; after = record o'.after { taken = w.taken }; reply = o'.reply }) call e other.step)) in
           λ i. record { moves = sym same.0 i; after = (sym (same.1 ∙ (λ j. record o'.after { shown = sym shown j }))) i; reply = sym same.2 i }
-
--- two ways in which a call was answered on a ground
-pub steps_same : (told : Option Told) (g : Ground) (s : State) (call : Call) (o o' : Replied) (answer answer' : Answer) (bytes bytes' : List ℕ) → StepsOn g s call o → StepsOn g s call o'
-    → Answered told s.world call o.reply o.after.world.shown answer bytes → Answered told s.world call o'.reply o'.after.world.shown answer' bytes'
-    → (told ≡ None → bytes' ≡ bytes) → ((is_chance answer || is_chance answer') ≡ true → answer' ≡ answer) → (HasHeap g → o'.moves ≡ o.moves) → o' ≡ o
-steps_same told NoHeap s call o o' answer answer' bytes bytes' steps others one two blind chance moves =
-    let same =
-    bare_same told s.world call (record { moves = o.moves; after = o.after.world; reply = o.reply }) (record { moves = o'.moves; after = o'.after.world; reply = o'.reply })
-    answer answer' bytes bytes' one two blind chance steps.step others.step in
-    λ i. record {
-      reply = (same i).reply;
-      moves = (same i).moves;
-      after = record { world = (same i).after; base = (others.base ∙ sym steps.base) i; demand = (others.demand ∙ sym steps.demand) i };
-    }
-steps_same told (OnHeap room P) s call o o' answer answer' bytes bytes' steps others one two blind chance moves =
-    let same =
-    moved_same told s.world call (record { moves = o.moves; after = o.after.world; reply = o.reply }) (record { moves = o'.moves; after = o'.after.world; reply = o'.reply })
-    answer answer' bytes bytes' one two blind chance steps.step others.step (moves tt) in
-    let pools : others.pools ≡ steps.pools = pools_same P o.moves steps.pools others.pools steps.fit (subst (λ ms. MovesPools P ms others.pools) (moves tt) others.fit) in
-    λ i. record {
-      reply = (same i).reply;
-      moves = (same i).moves;
-      after = record {
-        world = (same i).after;
-        base = (others.base ∙ ap (OnHeap room) pools ∙ sym steps.base) i;
-        demand = (others.demand ∙ ap (demand_after s.demand s.world call) same ∙ sym steps.demand) i;
-      };
-    }

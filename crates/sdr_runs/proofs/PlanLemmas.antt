@@ -1,5 +1,5 @@
 -- What a row asks of the pools, and which moves that leads to.
-use Rattle.std.proofs.Common.{◌≡◌, ◌∙◌, ◌+◌, ◌++◌, ℕ, zero, suc, List, [], ◌∷◌, Option, None, Some, refl, sym, ap, subst, map, length}
+use Rattle.std.proofs.Common.{◌≡◌, ◌∙◌, ◌+◌, ◌++◌, ℕ, suc, List, [], ◌∷◌, Option, None, Some, refl, sym, ap, subst, map, length}
 use Rattle.sdr_base.specs.Moves.{MovesPools}
 use Rattle.sdr_base.specs.Pools.{Pools}
 use Rattle.sdr_base.specs.Rules.{give_of, take_of}
@@ -7,7 +7,7 @@ use Rattle.sdr_base.specs.SmallPool.{Taken}
 use Rattle.sdr_base.specs.declared.moves.Move.{Move}
 use Rattle.sdr_base.specs.declared.moves.Move.TheVariants.{Gave, Short, Took}
 use Rattle.sdr_model.specs.BondSteps.{bond_moves, capsules_of}
-use Rattle.sdr_model.specs.PartSteps.{asked_extents, clone_moves}
+use Rattle.sdr_model.specs.PartSteps.{asked_extents}
 use Rattle.sdr_model.specs.RowMoves.{append_moves, bond_moves_of, clone_moves_of, row_moves}
 use Rattle.sdr_model.specs.Steps.{takes_from}
 use Rattle.sdr_model.specs.Things.{extent_need, object_need, raw_need, source_need}
@@ -70,6 +70,10 @@ taken_same P need need' addr addr' mid mid' same one two =
     let t : record { addr = addr'; pools = mid' } ≡ record { addr = addr; pools = mid } = cc in
     (ap (λ (x : Taken). x.addr) t, ap (λ (x : Taken). x.pools) t)
 
+-- there is none, or there is one
+none_taken : {R : Type 0} (P : Pools) (need : ℕ) (t : Taken) → take_of P need ≡ None → take_of P need ≡ Some t → R
+none_taken P need t none some = absurd cc
+
 -- the first ask, and the rest
 first_same : (a b : Ask) (asks bsks : List Ask) → b ∷ bsks ≡ a ∷ asks → b ≡ a
 first_same a b asks bsks e = cc
@@ -121,14 +125,12 @@ lacks_alike P [] [] need addr need' addr' rest rest' Q R plan one two =
     ((λ i. Short (need_is i) ∷ []), need_is)
 lacks_alike P [] (Took n a ∷ others) need addr need' addr' rest rest' Q R plan one two =
     let same : n ≡ need = takes_same need n (first_same _ _ _ _ plan) in
-    let s : None ≡ Some (record { addr = a; pools = two.0 }) = sym one.0 ∙ ap (take_of P) (sym same) ∙ two.1 in
-    absurd cc
+    none_taken P need (record { addr = a; pools = two.0 }) one.0 (ap (take_of P) (sym same) ∙ two.1)
 lacks_alike P [] (Gave a ∷ others) need addr need' addr' rest rest' Q R plan one two = absurd cc
 lacks_alike P [] (Short n ∷ others) need addr need' addr' rest rest' Q R plan one two = absurd cc
 lacks_alike P (Took n a ∷ done) [] need addr need' addr' rest rest' Q R plan one two =
     let same : need' ≡ n = takes_same n need' (first_same _ _ _ _ plan) in
-    let s : None ≡ Some (record { addr = a; pools = one.0 }) = sym two.0 ∙ ap (take_of P) same ∙ one.1 in
-    absurd cc
+    none_taken P need' (record { addr = a; pools = one.0 }) two.0 (ap (take_of P) same ∙ one.1)
 lacks_alike P (Gave a ∷ done) [] need addr need' addr' rest rest' Q R plan one two = absurd cc
 lacks_alike P (Short n ∷ done) [] need addr need' addr' rest rest' Q R plan one two = absurd cc
 lacks_alike P (Took n a ∷ done) (Took n' a' ∷ others) need addr need' addr' rest rest' Q R plan one two =
@@ -142,8 +144,8 @@ lacks_alike P (Gave a ∷ done) (Took n' a' ∷ others) need addr need' addr' re
 lacks_alike P (Gave a ∷ done) (Gave a' ∷ others) need addr need' addr' rest rest' Q R plan one two =
     let a_is : a' ≡ a = gives_same a a' (first_same _ _ _ _ plan) in
     let more =
-        lacks_alike (give_of P a) done others need addr need' addr' rest rest' Q R (rest_same _ _ _ _ plan) one.1
-        (subst (λ x. MovesPools (give_of P x) (others ++ Short need' ∷ []) R) a_is two.1) in
+    lacks_alike (give_of P a) done others need addr need' addr' rest rest' Q R (rest_same _ _ _ _ plan) one.1
+    (subst (λ x. MovesPools (give_of P x) (others ++ Short need' ∷ []) R) a_is two.1) in
     ((λ i. Gave (a_is i) ∷ more.0 i), more.1)
 lacks_alike P (Gave a ∷ done) (Short n' ∷ others) need addr need' addr' rest rest' Q R plan one two = absurd cc
 lacks_alike P (Short n ∷ done) (Took n' a' ∷ others) need addr need' addr' rest rest' Q R plan one two = absurd cc
@@ -160,8 +162,7 @@ lacks_never P [] [] need addr rest Q R plan one two = cc
 lacks_never P [] (m ∷ others) need addr rest Q R plan one two = cc
 lacks_never P (Took n a ∷ moves) [] need addr rest Q R plan one two =
     let same : need ≡ n = takes_same n need (first_same _ _ _ _ plan) in
-    let s : None ≡ Some (record { addr = a; pools = one.0 }) = sym two.0 ∙ ap (take_of P) same ∙ one.1 in
-    cc
+    none_taken P need (record { addr = a; pools = one.0 }) two.0 (ap (take_of P) same ∙ one.1)
 lacks_never P (Gave a ∷ moves) [] need addr rest Q R plan one two = cc
 lacks_never P (Short n ∷ moves) [] need addr rest Q R plan one two = cc
 lacks_never P (Took n a ∷ moves) (Took n' a' ∷ others) need addr rest Q R plan one two =
