@@ -11,6 +11,10 @@ pub record Gaps : Type 0 where
   pub faults : ℕ
   pub short : ℕ
 
+-- media have not failed, or there are none
+abbrev pub no_gaps : Gaps
+no_gaps = record { faults = 0; short = 0 }
+
 -- the counts have not fallen
 pub record GapsLast (old new : Gaps) : Type 0 where
   pub faults : old.faults ≤ new.faults

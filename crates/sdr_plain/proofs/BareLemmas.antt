@@ -17,12 +17,12 @@ use Rattle.sdr_model.specs.declared.answer.Reply.{Reply}
 use Rattle.sdr_model.specs.declared.answer.Reply.TheVariants as replies
 use Rattle.sdr_model.specs.declared.call.Call.{Call}
 use Rattle.sdr_lock.specs.Crash.{LeavesBefore, LeavesEither}
-use Rattle.sdr_lock.specs.Gaps.{Gaps, HasGapCause}
+use Rattle.sdr_lock.specs.Gaps.{Gaps, HasGapCause, no_gaps}
 use Rattle.sdr_lock.specs.Ground.{bare, MayMissMedia, State, Steps, kept, put_back}
 use Rattle.sdr_lock.specs.Serving.{Brings, Calls, Keeps, KeepsGround, PutsBack, Shows, ShowsBytes, shown_in, with_given}
 use Rattle.sdr_lock.specs.declared.has_ground.HasGround.{Ghosts}
 use Rattle.sdr_lock.proofs.GroundLemmas.{gaps_same, leaves_either, one_less}
-use Rattle.sdr_plain.specs.Bare.{LastsBare, StandsBare, Worlds, no_gaps}
+use Rattle.sdr_plain.specs.Bare.{LastsBare, StandsBare, Worlds}
 
 -- the worlds as a ground
 abbrev pub bare_ground : Ghosts Worlds

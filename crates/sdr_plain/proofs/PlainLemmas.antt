@@ -20,7 +20,7 @@ use Rattle.sdr_lock.specs.Agreeing.{AgreesWith}
 use Rattle.sdr_lock.specs.Core.{Core, core_after}
 use Rattle.sdr_lock.specs.Holders.{HoldFirst, hold_none, holders}
 use Rattle.sdr_lock.specs.Leaving.{LeaveInTurn, MakesLeave, holds_number, served_daemon, staying}
-use Rattle.sdr_lock.specs.Gaps.{HasGapCause}
+use Rattle.sdr_lock.specs.Gaps.{HasGapCause, no_gaps}
 use Rattle.sdr_lock.specs.Machine.{Machine, Made, MachineStep}
 use Rattle.sdr_lock.specs.Roll.{Roll, at_nesting, daemon_of, first_roll, newcomer, served_number, with_daemon}
 use Rattle.sdr_lock.specs.Serving.{Acts, Brings, KeepsGround, Locked, Makes, StoodFor, ShowsBytes, machine_at, made_by, roll_settled}
@@ -29,7 +29,7 @@ use Rattle.sdr_lock.specs.declared.daemon.Daemon.{Daemon}
 use Rattle.sdr_lock.specs.declared.daemon.Holding.{Holding}
 use Rattle.sdr_plain.proofs.BareLemmas.{bare_ground, lasts_empty}
 use Rattle.sdr_plain.specs.Asking.{StepsAt, is_gap, made_dry, settled}
-use Rattle.sdr_plain.specs.Bare.{StandsBare, Worlds, machine_on, no_gaps, standing_bare}
+use Rattle.sdr_plain.specs.Bare.{StandsBare, Worlds, machine_on, standing_bare}
 use Rattle.sdr_plain.specs.Leaves.{AllLeaveFrom, HoldersLeaveFrom, LeaveInTurnFrom}
 use Rattle.sdr_plain.specs.Plain.{IsKept, Plain, machine_of}
 

@@ -2,7 +2,6 @@
 use Rattle.std.specs.Prelude.{◌≡◌, ◌≤◌, ℕ, ◌+◌, ◌*◌, ◌^◌, []}
 use Rattle.sdr_model.specs.Few.{HasFewPieces, most_pieces}
 use Rattle.sdr_model.specs.World.{World}
-use Rattle.sdr_lock.specs.Gaps.{Gaps}
 use Rattle.sdr_lock.specs.Ground.{bare}
 use Rattle.sdr_lock.specs.Machine.{Machine}
 use Rattle.sdr_lock.specs.Roll.{Roll}
@@ -12,10 +11,6 @@ use Rattle.sdr_lock.specs.Standing.{Standing}
 pub record Worlds : Type 0 where
   pub begun : World
   pub now : World
-
--- the worlds read no media themselves
-abbrev pub no_gaps : Gaps
-no_gaps = record { faults = 0; short = 0 }
 
 -- the worlds stand for themselves, with no heap
 pub record StandsBare (w : Worlds) (v : Standing) : Type 0 where

@@ -13,6 +13,8 @@ use Rattle.sdr_heap.proofs.FewLemmas.{block_in-few}
 use Rattle.sdr_heap.specs.Noted.{Held, marked_in}
 use Rattle.sdr_image.specs.Changed.{GivesEither}
 use Rattle.sdr_image.specs.Opened.{Opened, Rests}
+use Rattle.sdr_lock.proofs.GroundLemmas.{gaps_same}
+use Rattle.sdr_lock.specs.Gaps.{no_gaps}
 use Rattle.sdr_lock.specs.Crash.{LeavesBefore, LeavesEither}
 use Rattle.sdr_lock.specs.Demand.{most_lines}
 use Rattle.sdr_lock.specs.Ground.{State, kept, put_back}
@@ -214,6 +216,7 @@ pub keeps_brought : {D : Type 0} (told : D → Option (List ℕ)) (moment faults
     → Brings (λ g v. Stands told moment may_leave g v) old new P → KeepsGround (heap_ground told moment faults may_leave) false old new
 keeps_brought told moment faults may_leave P old new sound later brings = record {
   later = later;
+  gaps = gaps_same no_gaps;
   media = refl;
   lasts = λ n lasts _. let some = lasts sound in let s = brings.each some.for some.holds in record { for = s.for; holds = s.holds };
 }
@@ -232,6 +235,7 @@ pub keeps_failed : {D : Type 0} (told : D → Option (List ℕ)) (moment faults 
     → KeepsGround (heap_ground told moment faults may_leave) false old new
 keeps_failed told moment faults may_leave old new failed later = record {
   later = later;
+  gaps = gaps_same no_gaps;
   media = refl;
   lasts = λ n lasts sound. absurd (true≢false (sym failed ∙ sound));
 }

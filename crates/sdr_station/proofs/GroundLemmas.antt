@@ -3,6 +3,7 @@ use Rattle.std.proofs.Common.{◌≡◌, ◌∙◌, ◌/◌, ◌%◌, ◌==◌, 
 use Rattle.std.specs.Prelude.{replicate, get_or}
 use Rattle.sdr_base.specs.declared.line.TheConstants.{WORD}
 use Rattle.sdr_heap.specs.Noted.{marked_in}
+use Rattle.sdr_lock.specs.Gaps.{no_gaps}
 use Rattle.sdr_lock.specs.declared.has_ground.HasGround.{Ghosts}
 use Rattle.sdr_station.specs.CrashNow.{crash_now}
 use Rattle.sdr_station.specs.Grounded.{Grounded, Lasts, Leaves, Opens, Stands}
@@ -13,6 +14,7 @@ heap_ground told moment faults may_leave = record {
   stands = λ g v. Stands told moment may_leave g v;
   moment = λ g. g.moment;
   faults = λ g. faults g.heap.cells.disk;
+  gaps = λ _. no_gaps;
   told = λ _. None;
   lasts = λ g _. Lasts told moment may_leave g;
   left = λ g m image. Leaves told may_leave g.heap.cells.disk m image;

@@ -6,6 +6,7 @@ pub mod EntryLemmas
 pub mod RawLemmas
 pub mod KindLemmas
 pub mod MallocLemmas
+pub mod MediaLemmas
 pub mod ReadingLemmas
 pub mod WriteLemmas
 pub mod FreeLemmas

@@ -26,6 +26,7 @@ use Rattle.sdr_laws.proofs.FreshLemmas.{none_there}
 use Rattle.sdr_laws.proofs.WholeLaws.{whole_kept}
 use Rattle.sdr_lock.specs.Crash.{LeavesBefore}
 use Rattle.sdr_lock.specs.Demand.{Demand, MayFillLog, demand_after}
+use Rattle.sdr_lock.specs.Gaps.{HasGapCause, no_gaps}
 use Rattle.sdr_lock.specs.Ground.{Ground, State, Steps, StepsOn}
 use Rattle.sdr_lock.specs.Serving.{Brings, Calls}
 use Rattle.sdr_lock.specs.Standing.{Standing}
@@ -44,16 +45,18 @@ use Rattle.sdr_model.specs.Valid.{IsValid}
 use Rattle.sdr_model.specs.Whole.{IsWhole}
 use Rattle.sdr_model.specs.World.{World, thing_at}
 use Rattle.sdr_model.specs.Zco.{source_on}
+use Rattle.sdr_model.specs.declared.answer.Answer.TheVariants as answers
 use Rattle.sdr_model.specs.declared.answer.Reply.TheVariants as replies
 use Rattle.sdr_station.proofs.DemandLemmas.{asks_more, enough, reading_lines}
 use Rattle.sdr_station.proofs.EntryLemmas.{source_there}
 use Rattle.sdr_station.proofs.GroundLemmas.{heap_ground}
+use Rattle.sdr_station.proofs.MediaLemmas.{gap_none, misses_none}
 use Rattle.sdr_station.proofs.KindLemmas.{IsRawAt, raw_is_at}
 use Rattle.sdr_station.proofs.RawLemmas.{length_of_raw}
 use Rattle.sdr_station.specs.CrashNow.{crash_now}
 use Rattle.sdr_station.specs.Answering.{Aim, Answered, Comes, IsGood, IsPlain, built, lines_of}
 use Rattle.sdr_station.specs.Closing.{moves_left}
-use Rattle.sdr_station.specs.Grounded.{Grounded, Leaves, Stands, StandsAtRest, StandsWithin, heap_in}
+use Rattle.sdr_station.specs.Grounded.{Grounded, Leaves, Stands, StandsAtRest, StandsSome, StandsWithin, heap_in}
 
 -- a heap on an image, as contracts of calls on blocks see it
 abbrev pub image_heap : {D : Type 0} → (D → ℕ) → HeapGhosts (Held (Opened D))
@@ -149,6 +152,7 @@ module _ {D : Type 0} (told : D → Option (List ℕ)) (moment faults : D → �
           base = ap (λ (f : Frame). Ground.OnHeap (room_of f) lead.after) frame;
           fit = fits;
           full = full;
+          media = misses_none v.now.world call heap.moves after reply is step;
           demand = refl;
         })
 
@@ -315,6 +319,7 @@ module _ {D : Type 0} (told : D → Option (List ℕ)) (moment faults : D → �
                 above = f.1;
                 most = omega (arith, f.2, w.lines, more);
               };
+              media = tt;
               demand = refl;
             });
             media = tt;
@@ -322,6 +327,24 @@ module _ {D : Type 0} (told : D → Option (List ℕ)) (moment faults : D → �
           };
         };
   }
+
+  -- no call that is served tells of media
+  pub gap_answered : (reply : Reply) → StandsSome told moment may_leave old
+      → Comes call (heap_in fresh_heap) (heap_in heap) old.shown page (Ok reply) → HasGapCause (answers.Reply reply) no_gaps no_gaps
+  gap_answered reply some comes =
+      let w = some.holds.now going in
+      let ans = comes.each some.for.now.world (fresh_stands some.for some.holds) w.whole w.plain in
+      gap_none some.for.now.world call heap.moves ans.after reply no_gaps is (inl ans.row)
+
+  pub gap_refused : (refusal : Refusal) → StandsSome told moment may_leave old
+      → Comes call (heap_in fresh_heap) (heap_in heap) old.shown page (Err (stops.Refused refusal))
+      → HasGapCause (answers.Reply (replies.Refused refusal)) no_gaps no_gaps
+  gap_refused (refusals.LogFull lines room) some comes = tt
+  gap_refused refusal some comes =
+      let world = some.for.now.world in
+      let w = some.holds.now going in
+      let refused = comes.each world (fresh_stands some.for some.holds) w.whole w.plain in
+      gap_none world call heap.moves world (replies.Refused refusal) no_gaps is refused.step
 
   -- a refused call brings what its step does
   pub brings_refused : (refusal : Refusal) (n : ℕ) → Comes call (heap_in fresh_heap) (heap_in heap) old.shown page (Err (stops.Refused refusal))

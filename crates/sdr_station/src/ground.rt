@@ -36,6 +36,7 @@ impl<D: Disk> Model for HeapGround<D> {
 
 impl<D: Disk> HasGround for HeapGround<D> {
     ghost use Rattle.std.specs.Prelude.{None};
+    ghost use Rattle.sdr_lock.specs.Gaps.{no_gaps};
     ghost use Rattle.sdr_station.specs.Grounded as grounded;
     ghost use Rattle.sdr_station.specs.CrashNow as laws;
 
@@ -44,6 +45,8 @@ impl<D: Disk> HasGround for HeapGround<D> {
     ghost moment = { λ g. g.moment };
 
     ghost faults = { λ g. D.faults g.heap.cells.disk };
+
+    ghost gaps = { λ _. no_gaps };
 
     ghost told = { λ _. None };
 

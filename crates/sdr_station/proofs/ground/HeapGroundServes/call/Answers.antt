@@ -12,7 +12,7 @@ use Rattle.sdr_model.specs.declared.answer.Reply.{Reply}
 use Rattle.sdr_model.specs.declared.answer.Reply.TheVariants as replies
 use Rattle.sdr_station.proofs.ClosingLemmas.{keeps_brought}
 use Rattle.sdr_station.proofs.GroundLemmas.{heap_ground}
-use Rattle.sdr_station.proofs.ServingLemmas.{brings_answered, brings_refused, good_of, image_heap, leaves_quiet, no_fault, refused_ground}
+use Rattle.sdr_station.proofs.ServingLemmas.{brings_answered, brings_refused, gap_answered, gap_refused, good_of, image_heap, leaves_quiet, no_fault, refused_ground}
 use Rattle.sdr_station.specs.Answering.{Comes, IsGood, lines_of}
 use Rattle.sdr_station.specs.Grounded.{Grounded, Lasts, Stands, StandsSome, heap_in}
 use Rattle.sdr_station.proofs.ground.HeapGroundServes.call.Goals as goal
@@ -263,3 +263,35 @@ returns-in-Err-Refused-clause-any_moment g c =
     let q = works.quiet fresh (record { disk = refl; frame = refl; begun = refl; failed = refl }, refl) in
     let disk = ap (λ (h : Held (Opened D)). h.cells.disk) c.forget_moves.ensures in
     subst (λ (o : Grounded D). LeavesBefore (heap_ground b m f l) o new) c.self.view_is (leaves_quiet b m f l old new (disk ∙ q.0.disk) refl)
+
+pub returns-in-Ok-clause-gap : goal.returns-in-Ok-clause-gap
+returns-in-Ok-clause-gap g c =
+    let D = g.row.D.Denot in
+    let b = g.D.Disk.bytes in
+    let m = g.D.Disk.moment in
+    let l = g.D.Disk.may_leave in
+    let f = g.D.Disk.faults in
+    let call = c.args.call.now in
+    let old : Grounded D = record { heap = c.self.inside.heap; shown = c.self.inside.shown; stopped = c.self.inside.stopped; moment = c.self.inside.moment } in
+    let sound : old.heap.cells.failed ≡ false = c.self.invariant c.if-self.false in
+    let some : StandsSome b m l old =
+    subst (λ (o : Grounded D). Lasts b m l o) (sym c.self.view_is) c.requires sound in
+    let comes = subst (λ (h : Held (Opened D)). Comes call (heap_in h) (heap_in c.answer.new.o) old.shown c.answer.new.page (Ok c.in-Ok.reply)) c.fresh.ensures.none c.in-Ok.ensures.comes in
+    gap_answered b m f l old c.if-self.false call (sym c.if-not-built.ensures) c.in-Ok.ensures.fits c.fresh.new.self.spare c.answer.new.o c.answer.new.page c.in-Ok.reply some comes
+
+pub returns-in-Err-Refused-clause-gap : goal.returns-in-Err-Refused-clause-gap
+returns-in-Err-Refused-clause-gap g c =
+    let D = g.row.D.Denot in
+    let b = g.D.Disk.bytes in
+    let m = g.D.Disk.moment in
+    let l = g.D.Disk.may_leave in
+    let f = g.D.Disk.faults in
+    let call = c.args.call.now in
+    let old : Grounded D = record { heap = c.self.inside.heap; shown = c.self.inside.shown; stopped = c.self.inside.stopped; moment = c.self.inside.moment } in
+    let sound : old.heap.cells.failed ≡ false = c.self.invariant c.if-self.false in
+    let some : StandsSome b m l old =
+    subst (λ (o : Grounded D). Lasts b m l o) (sym c.self.view_is) c.requires sound in
+    let fresh : Held (Opened D) = record old.heap { moves = []; spare = c.fresh.new.self.spare } in
+    let comes = subst (λ (s : Stop). Comes call (heap_in fresh) (heap_in c.answer.new.o) old.shown c.answer.new.page (Err s)) c.in-Err-Refused.field-0-is
+    (subst (λ (h : Held (Opened D)). Comes call (heap_in h) (heap_in c.answer.new.o) old.shown c.answer.new.page (Err c.in-Err-Refused.field-0)) c.fresh.ensures.none c.in-Err-Refused.ensures.comes) in
+    gap_refused b m f l old c.if-self.false call (sym c.if-not-built.ensures) c.in-Err-Refused.ensures.fits c.fresh.new.self.spare c.answer.new.o c.answer.new.page c.in-Err-Refused.refusal some comes
