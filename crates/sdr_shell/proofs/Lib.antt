@@ -1,7 +1,2 @@
-mod GreetingExample
-pub mod GapLemmas
-pub mod GatheringLemmas
-pub mod MediaLemmas
-pub mod ScheduleLemmas
 pub mod ScriptRead
 pub mod StillLemmas

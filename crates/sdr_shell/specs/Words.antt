@@ -10,7 +10,7 @@ use Rattle.sdr_disk.specs.declared.disk.Disk.{Ghosts as DiskGhosts}
 use Rattle.sdr_shell.specs.Answers.{AnswersDry, AnswersFormat, Wrote, seen}
 use Rattle.sdr_shell.specs.Form.{OnFormat, form_of}
 use Rattle.sdr_shell.specs.Formatting.{HasFormatted, LeavesDisk}
-use Rattle.sdr_shell.specs.Schedule.{HaveFailed, media_change}
+use Rattle.sdr_dry.specs.Schedule.{HaveFailed, media_change}
 use Rattle.sdr_shell.specs.declared.form.Form.TheVariants as forms
 use Rattle.sdr_shell.specs.declared.outcome.Outcome.{Outcome}
 use Rattle.sdr_shell.specs.declared.status.TheConstants.{USAGE}

@@ -8,7 +8,7 @@ ghost use Rattle.sdr_log.specs.Frame.{disk_bytes};
 ghost use Rattle.sdr_shell.specs.Form.{form_of, OnFormat};
 ghost use Rattle.sdr_shell.specs.Formatting.{line_formatted, line_too_small, IsFormatted};
 ghost use Rattle.sdr_shell.specs.Formatting.{HasFormatted, IsFormatStatus, LeavesDisk};
-ghost use Rattle.sdr_shell.specs.Schedule.{HaveFailed, SomeRun, media_change};
+ghost use Rattle.sdr_dry.specs.Schedule.{HaveFailed, SomeRun, media_change};
 ghost use Rattle.sdr_shell.specs.Still.{Writes, HadRun, IsDone, IsRefused, IsDryStatus, IsStarved};
 ghost use Rattle.sdr_shell.specs.Still.{Tells, line_refused};
 ghost use Rattle.sdr_base.specs.Written.{AppendsPart};
@@ -18,12 +18,12 @@ use crate::Outcome;
 use crate::form::{Form, form_of};
 use crate::formatting::format_disk;
 use crate::last_line::last_line;
-use crate::run::{RunError, run};
 use crate::status::{
     DISK_FAULT, DONE, INPUT_FAULT, NO_MEMORY, OUTPUT_FAULT, REFUSED_LINE, TOO_SMALL, USAGE,
 };
 use sdr_base::{Media, Sink, Source};
 use sdr_disk::Disk;
+use sdr_dry::{RunError, run};
 use sdr_model::{Journal, Step};
 use sdr_text::Line;
 use sdr_words::{ScriptError, read_script};

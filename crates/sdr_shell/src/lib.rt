@@ -12,9 +12,7 @@ mod commands;
 mod form;
 mod formatting;
 mod last_line;
-mod media;
 mod outcome;
-mod run;
 mod status;
 mod top_call;
 

@@ -3,7 +3,7 @@ ghost use Rattle.std.specs.Prelude.{◌≡◌, ◌≢◌, ◌≤◌, ◌+◌, �
 ghost use Rattle.sdr_disk.specs.Pending.{IsSynced};
 ghost use Rattle.sdr_shell.specs.Form.{form_of, OnFormat};
 ghost use Rattle.sdr_shell.specs.Formatting.{HasFormatted, LeavesDisk};
-ghost use Rattle.sdr_shell.specs.Schedule.{HaveFailed, media_change};
+ghost use Rattle.sdr_dry.specs.Schedule.{HaveFailed, media_change};
 ghost use Rattle.sdr_shell.specs.Words.{AnswersWords};
 
 use crate::Outcome;

@@ -2,7 +2,7 @@ use Rattle.std.proofs.Common.{rules, ◌≡◌, Some, refl, sym, subst}
 use Rattle.sdr_disk.specs.Pending.{IsSynced}
 use Rattle.sdr_shell.specs.Formatting.{HasFormatted}
 use Rattle.sdr_shell.specs.Answers.{AnswersDry, AnswersFormat, seen}
-use Rattle.sdr_shell.specs.Schedule.{media_change}
+use Rattle.sdr_dry.specs.Schedule.{media_change}
 use Rattle.sdr_shell.specs.Form.{form_of, OnFormat}
 use Rattle.sdr_shell.specs.declared.form.Form.TheVariants.{Dry, Format}
 use Rattle.sdr_shell.proofs.StillLemmas.{dry_completes, format_completes, no_format, not_run, on_format}

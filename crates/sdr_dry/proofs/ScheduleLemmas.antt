@@ -14,8 +14,8 @@ use Rattle.sdr_model.specs.World.{empty_world}
 use Rattle.sdr_plain.specs.Asking.{StepsAt, bytes_of, made_dry}
 use Rattle.sdr_base.specs.Media.{Told}
 use Rattle.sdr_words.specs.Bindings.{Binding, bound, event_of}
-use Rattle.sdr_shell.proofs.MediaLemmas.{caused_later, caused_more, failed_refl}
-use Rattle.sdr_shell.specs.Schedule.{Answers, AreCaused, Follows, HaveFailed, IsCaused, MakesEvent, MediaChange, RunsDry, SeenMedia, SomeAnswer, SomeRun, answer_line, run_text, daemons_of, from_to}
+use Rattle.sdr_dry.proofs.MediaLemmas.{caused_later, caused_more, failed_refl}
+use Rattle.sdr_dry.specs.Schedule.{Answers, AreCaused, Follows, HaveFailed, IsCaused, MakesEvent, MediaChange, RunsDry, SeenMedia, SomeAnswer, SomeRun, answer_line, run_text, daemons_of, from_to}
 use Rattle.sdr_text.proofs.TextLemmas.{part_later}
 use Rattle.sdr_text.specs.Text.{line_text}
 use Rattle.sdr_model.specs.declared.script.Step.{Step}

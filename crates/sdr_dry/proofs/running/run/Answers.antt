@@ -1,5 +1,5 @@
-use Rattle.sdr_shell.proofs.ScheduleLemmas.{some_none, some_weaker}
-use Rattle.sdr_shell.proofs.run.run.Goals as goal
+use Rattle.sdr_dry.proofs.ScheduleLemmas.{some_none, some_weaker}
+use Rattle.sdr_dry.proofs.running.run.Goals as goal
 
 pub returns-in_err-daemons-clause-memory : goal.returns-in_err-daemons-clause-memory
 returns-in_err-daemons-clause-memory g c is = some_none _ _ _

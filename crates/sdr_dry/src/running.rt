@@ -8,7 +8,7 @@ ghost use Rattle.sdr_plain.specs.Asking.{Asks};
 ghost use Rattle.sdr_plain.specs.Plain.{first_plain, machine_of};
 ghost use Rattle.sdr_model.specs.Pieces.{pieces_told};
 ghost use Rattle.sdr_model.specs.declared.event.Event.{Event};
-ghost use Rattle.sdr_shell.specs.Schedule.{Answers, HaveFailed, IsCaused, Responds, SomeAnswer, SomeLine, SomeRun, SomeStep, all_daemons, answer_line, daemons_of, media_change};
+ghost use Rattle.sdr_dry.specs.Schedule.{Answers, HaveFailed, IsCaused, Responds, SomeAnswer, SomeLine, SomeRun, SomeStep, all_daemons, answer_line, daemons_of, media_change};
 
 use crate::media::{Gap, gather};
 use sdr_base::{Media, NoMemory, Refusal, Sink, SinkFault};
@@ -31,7 +31,7 @@ pub enum RunError {
 }
 
 impl From<NoMemory> for RunError {
-    ghost use Rattle.sdr_shell.specs.declared.run.RunError.TheVariants as errors;
+    ghost use Rattle.sdr_dry.specs.declared.running.RunError.TheVariants as errors;
 
     ghost from_gives = { λ _ e. e ≡ errors.NoMemory };
 
@@ -41,7 +41,7 @@ impl From<NoMemory> for RunError {
 }
 
 impl From<SinkFault> for RunError {
-    ghost use Rattle.sdr_shell.specs.declared.run.RunError.TheVariants as errors;
+    ghost use Rattle.sdr_dry.specs.declared.running.RunError.TheVariants as errors;
 
     ghost from_gives = { λ _ e. e ≡ errors.Output };
 

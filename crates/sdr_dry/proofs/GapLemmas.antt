@@ -10,8 +10,8 @@ use Rattle.sdr_model.specs.declared.answer.Answer.TheVariants as answers
 use Rattle.sdr_model.specs.declared.answer.Reply.TheVariants as replies
 use Rattle.sdr_model.specs.declared.event.Event.{Event}
 use Rattle.sdr_plain.specs.Asking.{AsksNothing, StepsAt, is_gap, made_dry}
-use Rattle.sdr_shell.proofs.MediaLemmas.{failed_refl}
-use Rattle.sdr_shell.specs.Schedule.{IsCaused, Responds, SeenMedia, from_to}
+use Rattle.sdr_dry.proofs.MediaLemmas.{failed_refl}
+use Rattle.sdr_dry.specs.Schedule.{IsCaused, Responds, SeenMedia, from_to}
 
 -- an answer that tells of no gap needs no cause
 no_cause : (answer : Answer) (media : SeenMedia) → is_gap answer ≡ false → IsCaused answer (from_to media media)

@@ -2,10 +2,10 @@ use Rattle.std.proofs.Common.{◌≡◌, ◌∙◌, Err, ◌∷◌, refl, ap, sy
 use Rattle.std.proofs.lemmas.List.{nil_from_length}
 use Rattle.std.proofs.lemmas.Result.{err_from_is_err_and}
 use Rattle.sdr_plain.specs.Plain.{Plain, machine_of}
-use Rattle.sdr_shell.specs.declared.run.RunError.TheVariants.{NoMemory, Output}
-use Rattle.sdr_shell.proofs.ScheduleLemmas.{Running, running_start, running_next, running_kept, running_cut, running_done}
-use Rattle.sdr_shell.specs.Schedule.{from_to, seen_media}
-use Rattle.sdr_shell.proofs.run.run_on.Goals as goal
+use Rattle.sdr_dry.specs.declared.running.RunError.TheVariants.{NoMemory, Output}
+use Rattle.sdr_dry.proofs.ScheduleLemmas.{Running, running_start, running_next, running_kept, running_cut, running_done}
+use Rattle.sdr_dry.specs.Schedule.{from_to, seen_media}
+use Rattle.sdr_dry.proofs.running.run_on.Goals as goal
 
 pub loop-step-init : goal.loop-step-init
 loop-step-init g c =

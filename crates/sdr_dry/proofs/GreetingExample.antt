@@ -21,7 +21,7 @@ use Rattle.sdr_model.specs.declared.event.Event.TheVariants as events
 use Rattle.sdr_model.specs.declared.script.Arg.TheVariants as args
 use Rattle.sdr_model.specs.declared.script.Step.{Step}
 use Rattle.sdr_model.specs.declared.things.Thing.TheVariants as things
-use Rattle.sdr_shell.specs.Schedule.{RunsDry, run_text}
+use Rattle.sdr_dry.specs.Schedule.{RunsDry, run_text}
 use Rattle.sdr_words.specs.Verbs.{verbs}
 
 -- begin, string "hi", end

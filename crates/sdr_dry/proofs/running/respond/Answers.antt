@@ -1,7 +1,7 @@
 use Rattle.std.proofs.Common.{Ok, ap}
-use Rattle.sdr_shell.proofs.GapLemmas.{unasked_causes, unasked_responds}
+use Rattle.sdr_dry.proofs.GapLemmas.{unasked_causes, unasked_responds}
 use Rattle.sdr_plain.specs.Plain.{machine_of}
-use Rattle.sdr_shell.proofs.run.respond.Goals as goal
+use Rattle.sdr_dry.proofs.running.respond.Goals as goal
 
 pub returns-in-None-clause-answers : goal.returns-in-None-clause-answers
 returns-in-None-clause-answers g c =

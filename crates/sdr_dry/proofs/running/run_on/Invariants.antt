@@ -1,8 +1,8 @@
 use Rattle.std.proofs.Common.{◌≡◌, ◌≤◌, ◌<◌, ◌+◌, length}
 use Rattle.sdr_plain.specs.Plain.{machine_of}
-use Rattle.sdr_shell.specs.Schedule.{media_change}
-use Rattle.sdr_shell.proofs.ScheduleLemmas.{Running}
-use Rattle.sdr_shell.proofs.run.run_on.Given as goal
+use Rattle.sdr_dry.specs.Schedule.{media_change}
+use Rattle.sdr_dry.proofs.ScheduleLemmas.{Running}
+use Rattle.sdr_dry.proofs.running.run_on.Given as goal
 
 abbrev pub invariant-loop-step : goal.invariant-loop-step
 invariant-loop-step g l = record {

@@ -3,7 +3,7 @@ use Rattle.std.proofs.Common.{◌≡◌, ◌+◌, ℕ, List, [], ◌∷◌, ◌+
 use Rattle.std.specs.List.{sum_by}
 use Rattle.std.proofs.lemmas.List.Sums.{sum_by-append, sum_by-cons}
 use Rattle.sdr_lock.specs.Machine.{Made}
-use Rattle.sdr_shell.specs.Schedule.{AreCaused, HaveFailed, IsCaused, MediaChange, RoseBy, SeenMedia, from_to, is_media_fault, is_short, media_faults, once, short_answers}
+use Rattle.sdr_dry.specs.Schedule.{AreCaused, HaveFailed, IsCaused, MediaChange, RoseBy, SeenMedia, from_to, is_media_fault, is_short, media_faults, once, short_answers}
 
 -- a count that rose so often, and so often more
 rose-more : (a b before between now : ℕ) → RoseBy a before between → RoseBy b between now → RoseBy (a + b) before now

@@ -1,7 +1,7 @@
 use Rattle.std.proofs.Common.{subst, inr}
 use Rattle.sdr_plain.specs.Plain.{machine_of}
-use Rattle.sdr_shell.specs.Schedule.{Answers}
-use Rattle.sdr_shell.proofs.run.make.Goals as goal
+use Rattle.sdr_dry.specs.Schedule.{Answers}
+use Rattle.sdr_dry.proofs.running.make.Goals as goal
 
 pub returns-in_err-bind-clause-memory : goal.returns-in_err-bind-clause-memory
 returns-in_err-bind-clause-memory g c is = inr (record {

@@ -1,0 +1,5 @@
+mod GreetingExample
+pub mod GapLemmas
+pub mod GatheringLemmas
+pub mod MediaLemmas
+pub mod ScheduleLemmas

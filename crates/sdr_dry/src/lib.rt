@@ -1,0 +1,11 @@
+//! A dry run of a script, on the machine in memory.
+//!
+//! 1. Each step is an event of a daemon, under what the names hold, and its answer is printed as it is made.
+//! 2. A call that asks bytes of files or items is answered by what media give: each piece is asked once, in order.
+//! 3. Behind the last step all daemons make their leaves, which print nothing.
+#![tactic(auto)]
+
+mod media;
+mod running;
+
+pub use running::{RunError, run};
