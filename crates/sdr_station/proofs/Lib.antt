@@ -11,3 +11,4 @@ pub mod WriteLemmas
 pub mod FreeLemmas
 pub mod DemandLemmas
 pub mod ServingLemmas
+pub mod OpeningLemmas
