@@ -1,5 +1,5 @@
 -- Lines of the fresh heap, and what is found in a line.
-use Rattle.std.proofs.Common.{◌≡◌, ◌∙◌, ◌≤◌, ◌<◌, ◌+◌, ◌-◌, ◌*◌, ◌/◌, ℕ, List, get_or, length, sym, ap, subst, arith, inl, inr}
+use Rattle.std.proofs.Common.{◌≡◌, ◌∙◌, ◌≤◌, ◌<◌, ◌+◌, ◌-◌, ◌*◌, ◌/◌, ℕ, List, get_or, length, sym, ap, arith, inl, inr}
 use Rattle.std.specs.Prelude.{replicate}
 use Rattle.std.proofs.lemmas.Bool.{cases_lt}
 use Rattle.std.proofs.lemmas.List.{ext_get_or, get_or_append_left, get_or-replicate}
@@ -69,6 +69,10 @@ all_agree size bytes done is region all agree =
     let lines = size / 64 in
     let least : 32 ≤ lines = omega (arith, region.whole, region.least) in
     let long : length bytes ≡ 64 * lines = omega (arith, is, region.whole) in
-    subst (λ (n : ℕ). bytes ≡ fresh_heap (n / 64)) is
-    (ext_get_or 0 bytes (fresh_heap lines) (long ∙ sym (length-fresh_heap lines least))
-    (λ i within. agree i (omega (arith, within, long, all))))
+    record {
+      lines = lines;
+      least = least;
+      most = omega (arith, region.whole, region.most);
+      is = ext_get_or 0 bytes (fresh_heap lines) (long ∙ sym (length-fresh_heap lines least))
+          (λ i within. agree i (omega (arith, within, long, all)));
+    }

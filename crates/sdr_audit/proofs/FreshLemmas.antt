@@ -24,7 +24,8 @@ use Rattle.sdr_model.specs.Valid.{IsValid, IsValidThing}
 use Rattle.sdr_model.specs.Charges.{occupancy, thing_charge}
 use Rattle.sdr_model.specs.World.{fresh_world}
 use Rattle.sdr_model.specs.declared.things.Thing.{Thing}
-use Rattle.sdr_audit.specs.Standing.{StandsFor, entries_of, other_entries, roots_of, thing_entries}
+use Rattle.sdr_laws.proofs.FreshWorlds as laws
+use Rattle.sdr_audit.specs.Standing.{StandsFor, StandsForWhole, entries_of, other_entries, roots_of, thing_entries}
 use Rattle.sdr_audit.specs.Ties.{ties_of}
 
 -- no thing is there
@@ -107,4 +108,19 @@ fresh_fits heap = record {
   names = All-nil _;
   inbound = All-nil _;
   outbound = All-nil _;
+}
+
+-- the bytes of the fresh heap stand for it, whole
+pub fresh_stands_whole : (lines : ℕ) → 32 ≤ lines → lines ≤ 262144 →
+    StandsForWhole (fresh_heap lines) (fresh_world (32 * lines)) (fresh_pools lines)
+fresh_stands_whole lines least most = record {
+  stands = fresh_stands lines least most;
+  whole = record {
+    valid = fresh_valid (32 * lines);
+    fits = laws.fresh_fits (32 * lines);
+    queues = laws.fresh_queues (32 * lines) (omega (arith, most));
+    barred = laws.fresh_barred (32 * lines);
+  };
+  fits = fresh_fits (32 * lines);
+  next = omega arith;
 }

@@ -1,17 +1,20 @@
 -- What an audit answers.
-use Rattle.std.specs.Prelude.{◌≡◌, ◌≢◌, ◌<◌, ◌*◌, ◌/◌, ℕ, List, length, get_or, ⊤, Result, Ok, Err}
+use Rattle.std.specs.Prelude.{◌≡◌, ◌≢◌, ◌≤◌, ◌<◌, ◌*◌, ℕ, List, length, get_or, ⊤, Result, Ok, Err}
 use Rattle.sdr_base.specs.FreshHeap.{fresh_heap}
 use Rattle.sdr_base.specs.Transaction.{HasReason, Transaction}
-use Rattle.sdr_base.specs.declared.line.TheConstants.{LINE}
+use Rattle.sdr_base.specs.declared.line.TheConstants.{LEAST_LINES, LINE, MOST_LINES}
 use Rattle.sdr_base.specs.declared.stop.Stop.{Stop}
 use Rattle.sdr_base.specs.declared.stop.Stop.TheVariants as stops
 use Rattle.sdr_audit.specs.declared.checking.AuditError.{AuditError}
 use Rattle.sdr_audit.specs.declared.checking.AuditError.TheVariants as errors
 use Rattle.sdr_audit.specs.declared.checking.Why.TheVariants as whys
 
--- the bytes are those of a fresh heap of as many lines
-abbrev pub IsFresh : List ℕ → Type 0
-IsFresh bytes = bytes ≡ fresh_heap (length bytes / LINE)
+-- the bytes are those of a fresh heap of as many lines as are allowed
+pub record IsFresh (bytes : List ℕ) : Type 0 where
+  pub lines : ℕ
+  pub least : LEAST_LINES ≤ lines
+  pub most : lines ≤ MOST_LINES
+  pub is : bytes ≡ fresh_heap lines
 
 -- the two have the same bytes before a place
 abbrev pub AgreeBelow : ℕ → List ℕ → List ℕ → Type 0

@@ -2,3 +2,4 @@ pub mod Answering
 pub mod Closing
 pub mod CrashNow
 pub mod Grounded
+pub mod Opening

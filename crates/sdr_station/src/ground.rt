@@ -1,13 +1,26 @@
 // A heap on an image as the ground of a lock.
+ghost use Rattle.std.specs.Prelude.{◌≡◌, ◌≤◌, false, IfErr, IfOk};
+ghost use Rattle.sdr_disk.specs.Moments.{AtEach};
+ghost use Rattle.sdr_disk.specs.Told.{Told};
+ghost use Rattle.sdr_image.specs.Opening.{MayBeOpened};
+ghost use Rattle.sdr_lock.specs.Standing.{Standing};
+ghost use Rattle.sdr_log.specs.Calls.{KeepsDisk};
+ghost use Rattle.sdr_log.specs.Logged.{GivesSame};
+ghost use Rattle.sdr_station.specs.Grounded.{Stands};
+ghost use Rattle.sdr_station.specs.Opening.{ExplainsOpen, IsOfAudit, IsOfImage, IsOpen, disk_of};
+
 use crate::calls::{answer, built};
 use crate::closing::{cancel, commit, forget_moves, moment_since};
+use crate::error::{OpenError, Shut};
 use crate::page::Page;
-use sdr_base::Stop;
+use sdr_audit::{AuditError, check};
+use sdr_base::{Move, Stop};
 use sdr_disk::Disk;
 use sdr_heap::Heap;
-use sdr_image::Image;
+use sdr_image::{Image, ImageError};
 use sdr_lock::{Fault, Halt, HasGround, Serves};
 use sdr_model::{Call, Reply};
+use std::alloc::Global;
 use std::marker::Model;
 
 /// A heap on an image as the ground of a lock.
@@ -59,6 +72,99 @@ impl<D: Disk> HasGround for HeapGround<D> {
     ghost crash_now = { λ g v image at left. laws.crash_now D.bytes D.moment D.may_leave g v image at left };
 
     ghost lasts_less = { λ g n lasts. lasts };
+}
+
+// Why an image wasn't opened.
+fn of_image(why: ImageError) -> OpenError
+    ensures { IsOfImage why result }
+{
+    match why {
+        ImageError::NotFormatted => OpenError::NotFormatted,
+        ImageError::DiskFault => OpenError::DiskFault,
+        ImageError::NoMemory => OpenError::NoMemory,
+    }
+}
+
+// Why the bytes of a heap were not taken.
+fn of_audit(why: AuditError) -> OpenError
+    ensures { IsOfAudit why result }
+{
+    match why {
+        AuditError::Damaged { place, why } => OpenError::Damaged { place, why },
+        AuditError::DiskFault => OpenError::DiskFault,
+        AuditError::Failed => OpenError::DiskFault,
+    }
+}
+
+impl<D: Disk> HeapGround<D> {
+    /// Opens the heap on a disk. Where batches are open, their lines are put back. All memory is taken here. A crash on the
+    /// way leaves the same heap as one before, where nothing is pending on the disk that is handed in, or a recovery of it
+    /// was stopped. So far only a fresh heap is opened.
+    pub fn open(alloc: Global, disk: D) -> Result<HeapGround<D>, Shut<D>>
+        ensures opened { IfOk result (IsOpen D.bytes D.moment D.may_leave disk) }
+        ensures why { IfErr result (λ shut. ExplainsOpen (D.bytes disk) (D.faults disk) (D.faults shut.disk) shut.why) }
+        ensures disk { KeepsDisk D.size D.bytes disk (disk_of result) }
+        ensures later { D.faults disk ≤ D.faults (disk_of result) }
+        ensures any_moment { Told (D.bytes disk) (λ x. MayBeOpened x (D.may_leave disk (D.moment disk))
+            → AtEach D.moment D.may_leave disk (disk_of result) (GivesSame x)) }
+    {
+        let mut image = match Image::open(alloc, disk) {
+            Ok(image) => image,
+            Err(shut) => {
+                return Err(Shut {
+                    why: of_image(shut.why),
+                    disk: shut.disk,
+                });
+            }
+        };
+        if let Err(why) = check(&mut image) {
+            return Err(Shut {
+                why: of_audit(why),
+                disk: image.into_disk(),
+            });
+        }
+        let moment = image.now();
+        match Heap::new(alloc, image) {
+            Ok(heap) => Ok(HeapGround {
+                heap,
+                shown: Page::new(),
+                stopped: false,
+                moment,
+            }),
+            Err(shut) => Err(Shut {
+                why: OpenError::NoMemory,
+                disk: shut.cells.into_disk(),
+            }),
+        }
+    }
+
+    /// The disk. What the open transaction has done is lost.
+    pub fn into_disk(self) -> D
+        ensures { result ≡ self.heap.cells.disk }
+    {
+        let HeapGround {
+            heap,
+            shown: _,
+            stopped: _,
+            moment: _,
+        } = self;
+        heap.into_cells().into_disk()
+    }
+
+    /// The moves of the last call.
+    pub fn moves(&self) -> &[Move]
+        ensures { (v : Standing) → Stands D.bytes D.moment D.may_leave self.now v → result.now ≡ v.moves }
+    {
+        self.heap.moves()
+    }
+
+    /// The bytes that the last answered call of the open transaction gave, unless a call was stopped since.
+    pub fn shown(&self) -> &[u8]
+        ensures { (v : Standing) → Stands D.bytes D.moment D.may_leave self.now v → self.now.stopped ≡ false
+            → result.now ≡ v.now.world.shown }
+    {
+        self.shown.as_slice()
+    }
 }
 
 impl<D: Disk> Serves for HeapGround<D> {

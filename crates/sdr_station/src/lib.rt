@@ -6,7 +6,9 @@
 
 mod calls;
 mod closing;
+mod error;
 mod ground;
 mod page;
 
+pub use error::{OpenError, Shut};
 pub use ground::HeapGround;

@@ -1,0 +1,78 @@
+-- A fresh heap that was opened.
+use Rattle.std.proofs.Common.{◌≡◌, ◌∙◌, ◌≤◌, ◌*◌, ℕ, List, [], false, Option, Some, refl, sym, ap, subst, length}
+use Rattle.std.specs.Prelude.{replicate}
+use Rattle.std.specs.FinMap.{get-empty}
+use Rattle.std.specs.Ordering.{nat_cmp}
+use Rattle.sdr_audit.proofs.FreshLemmas.{fresh_stands_whole}
+use Rattle.sdr_audit.specs.Checking.{IsFresh}
+use Rattle.sdr_audit.specs.Standing.{StandsForWhole}
+use Rattle.sdr_base.specs.FreshHeap.{fresh_heap}
+use Rattle.sdr_base.specs.Pools.{fresh_pools}
+use Rattle.sdr_image.proofs.OpenedLemmas.{rests_same}
+use Rattle.sdr_image.specs.Opened.{IsQuiet, Opened}
+use Rattle.sdr_image.specs.Opening.{IsOpened}
+use Rattle.sdr_laws.proofs.FreshWorlds.{fresh_fits}
+use Rattle.sdr_lock.specs.Ground.{Ground, State, resting}
+use Rattle.sdr_log.specs.Frame.{room_of}
+use Rattle.sdr_model.specs.World.{fresh_world}
+use Rattle.sdr_station.proofs.ClosingLemmas.{within_of}
+use Rattle.sdr_station.proofs.EntryLemmas.{none_named}
+use Rattle.sdr_station.specs.Answering.{IsPlain}
+use Rattle.sdr_station.specs.Grounded.{Grounded, StandsAtRest}
+use Rattle.sdr_station.specs.Opening.{IsOpen}
+
+-- a world without things has no ticket and no source
+fresh_plain : (heap : ℕ) → IsPlain (fresh_world heap)
+fresh_plain heap = record {
+  inbound = refl;
+  outbound = refl;
+  unnamed = λ raw. none_named (fresh_world heap) raw (fresh_fits heap) (get-empty nat_cmp raw);
+}
+
+-- the bytes of a fresh heap stand for it at rest
+fresh_rest : (room lines : ℕ) (bytes : List ℕ) → 32 ≤ lines → lines ≤ 262144 → bytes ≡ fresh_heap lines
+    → StandsAtRest room bytes (resting (fresh_world (32 * lines)) (Ground.OnHeap room (fresh_pools lines)))
+fresh_rest room lines bytes least most is = record {
+  pools = fresh_pools lines;
+  base = refl;
+  stands = subst (λ (b : List ℕ). StandsForWhole b (fresh_world (32 * lines)) (fresh_pools lines)) (sym is) (fresh_stands_whole lines least most);
+  plain = fresh_plain (32 * lines);
+  demand = refl;
+}
+
+-- an image that was opened, and whose bytes were found to be a fresh heap's, stands for it
+pub open_stands : {D : Type 0} (told : D → Option (List ℕ)) (moment : D → ℕ) (may_leave : D → ℕ → List ℕ → Type 0) (disk : D) (i j : Opened D)
+    (count spare : ℕ) → IsOpened told moment may_leave disk i → IsQuiet i j → j.bytes ≡ i.bytes → j.touched ≡ i.touched → IsFresh i.bytes
+    → IsOpen told moment may_leave disk (record {
+      heap = record { cells = j; size = length j.bytes; marks = replicate count false; moves = []; spare = spare };
+      shown = [];
+      stopped = false;
+      moment = moment j.disk;
+    })
+open_stands {D} told moment may_leave disk i j count spare o q bytes touched f =
+    let room = room_of j.frame in
+    let s : State = resting (fresh_world (32 * f.lines)) (Ground.OnHeap room (fresh_pools f.lines)) in
+    let begun : j.begun ≡ j.bytes = q.begun ∙ o.begun ∙ sym bytes in
+    let rest : StandsAtRest room j.bytes s = fresh_rest room f.lines j.bytes f.least f.most (bytes ∙ f.is) in
+    let g : Grounded D = record {
+      heap = record { cells = j; size = length j.bytes; marks = replicate count false; moves = []; spare = spare };
+      shown = [];
+      stopped = false;
+      moment = moment j.disk;
+    } in
+    record {
+      lines = f.lines;
+      least = f.least;
+      most = f.most;
+      gives = λ x is. o.heap x is ∙ ap (λ (b : List ℕ). Some b) f.is;
+      stands = λ may. record {
+        sound = q.failed ∙ o.sound;
+        rests = rests_same told moment may_leave i j q (o.rests may);
+        moment_is = λ x is. refl;
+        size = ap (λ (b : List ℕ). length b) begun;
+        before = subst (λ (b : List ℕ). StandsAtRest room b s) (sym begun) rest;
+        taken = refl;
+        now = λ _. within_of g.heap count s refl (touched ∙ o.touched) refl rest;
+        moves = refl;
+      };
+    }

@@ -1,0 +1,73 @@
+-- When a heap is opened.
+use Rattle.std.specs.Prelude.{◌≡◌, ◌≤◌, ◌*◌, ℕ, List, [], ⊤, Option, None, Some, Result, Ok, Err}
+use Rattle.sdr_audit.specs.Checking.{DiffersFirst}
+use Rattle.sdr_audit.specs.declared.checking.AuditError.{AuditError}
+use Rattle.sdr_audit.specs.declared.checking.AuditError.TheVariants as audits
+use Rattle.sdr_audit.specs.declared.checking.Why.TheVariants as whys
+use Rattle.sdr_base.specs.Causes.{Rose}
+use Rattle.sdr_base.specs.FreshHeap.{fresh_heap}
+use Rattle.sdr_base.specs.Pools.{fresh_pools}
+use Rattle.sdr_base.specs.declared.line.TheConstants.{LEAST_LINES, MOST_LINES}
+use Rattle.sdr_disk.specs.Told.{Told}
+use Rattle.sdr_image.specs.Opening.{MayBeOpened}
+use Rattle.sdr_image.specs.declared.error.ImageError.{ImageError}
+use Rattle.sdr_image.specs.declared.error.ImageError.TheVariants as images
+use Rattle.sdr_lock.specs.Ground.{Ground, resting}
+use Rattle.sdr_lock.specs.Standing.{Standing, standing_at}
+use Rattle.sdr_log.specs.Frame.{room_of}
+use Rattle.sdr_log.specs.Log.{put_back_of}
+use Rattle.sdr_model.specs.World.{fresh_world}
+use Rattle.sdr_station.specs.Grounded.{Grounded, Stands}
+use Rattle.sdr_station.specs.declared.error.OpenError.{OpenError}
+use Rattle.sdr_station.specs.declared.error.OpenError.TheVariants as errors
+use Rattle.sdr_station.specs.declared.error.Shut.{Shut}
+
+-- the fresh heap of so many lines, with this log room: the world without things, and no transaction
+abbrev pub fresh_standing : ℕ → ℕ → Standing
+fresh_standing room lines = standing_at (resting (fresh_world (32 * lines)) (Ground.OnHeap room (fresh_pools lines))) []
+
+-- A heap was opened: the disk gives a fresh one, for whose world it stands where nothing was pending on the disk, or a recovery
+-- was stopped.
+pub record IsOpen {D : Type 0} (told : D → Option (List ℕ)) (moment : D → ℕ) (may_leave : D → ℕ → List ℕ → Type 0)
+    (disk : D) (g : Grounded D) : Type 0 where
+  pub lines : ℕ
+  pub least : LEAST_LINES ≤ lines
+  pub most : lines ≤ MOST_LINES
+  pub gives : Told (told disk) (λ x. put_back_of x ≡ Some (fresh_heap lines))
+  pub stands : Told (told disk) (λ x. MayBeOpened x (may_leave disk (moment disk)))
+      → Stands told moment may_leave g (fresh_standing (room_of g.heap.cells.frame) lines)
+
+-- the disk of a heap that was opened, or of what is left where none was
+abbrev pub disk_of : {D : Type 0} → Result (Grounded D) (Shut D) → D
+disk_of (Ok g) = g.heap.cells.disk
+disk_of (Err shut) = shut.disk
+
+-- the heap differs from the fresh one of so many lines in a byte, which is the first
+pub record DiffersFrom (place : ℕ) (heap : List ℕ) : Type 0 where
+  pub lines : ℕ
+  pub differs : DiffersFirst place heap (fresh_heap lines)
+
+-- the heap that the disk gives is damaged at a place
+pub record GivesDamaged (place : ℕ) (x : List ℕ) : Type 0 where
+  pub heap : List ℕ
+  pub gives : put_back_of x ≡ Some heap
+  pub differs : DiffersFrom place heap
+
+-- why a heap wasn't opened, where the disk told these bytes, and its count of faults was so and is so
+abbrev pub ExplainsOpen : Option (List ℕ) → ℕ → ℕ → OpenError → Type 0
+ExplainsOpen told before now errors.NotFormatted = Told told (λ x. put_back_of x ≡ None)
+ExplainsOpen told before now (errors.Damaged place why) = (why ≡ whys.Control) × Told told (GivesDamaged place)
+ExplainsOpen told before now errors.DiskFault = Rose before now
+ExplainsOpen told before now errors.NoMemory = ⊤
+
+-- an image's error as a heap's
+abbrev pub IsOfImage : ImageError → OpenError → Type 0
+IsOfImage images.NotFormatted why = why ≡ errors.NotFormatted
+IsOfImage images.DiskFault why = why ≡ errors.DiskFault
+IsOfImage images.NoMemory why = why ≡ errors.NoMemory
+
+-- an audit's error as a heap's
+abbrev pub IsOfAudit : AuditError → OpenError → Type 0
+IsOfAudit (audits.Damaged place check) why = why ≡ errors.Damaged place check
+IsOfAudit audits.DiskFault why = why ≡ errors.DiskFault
+IsOfAudit audits.Failed why = why ≡ errors.DiskFault

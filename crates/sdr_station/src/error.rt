@@ -1,0 +1,23 @@
+// Why a heap isn't opened.
+use sdr_audit::Why;
+
+/// Why a heap isn't opened.
+#[derive(Clone, Copy, Debug, PartialEq, Eq)]
+pub enum OpenError {
+    /// The disk gives no heap.
+    NotFormatted,
+    /// No world is known to stand for the heap that the disk gives, by what is wrong at a place in it.
+    Damaged { place: u64, why: Why },
+    /// The disk failed.
+    DiskFault,
+    /// There is no memory for the heap, or for the undo of a transaction.
+    NoMemory,
+}
+
+/// A disk whose heap isn't opened, and why. Its bytes are as before where it didn't fail, but for open batches
+/// that were put back.
+#[derive(Drop)]
+pub struct Shut<D> {
+    pub why: OpenError,
+    pub disk: D,
+}
