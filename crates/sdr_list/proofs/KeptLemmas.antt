@@ -12,11 +12,12 @@ use Rattle.sdr_base.specs.Making.{besides}
 use Rattle.sdr_base.specs.Objects.{Heap}
 use Rattle.sdr_base.specs.Words.{HasWord, layout, with_word}
 use Rattle.sdr_base.specs.declared.kind.Kind.TheVariants as kinds
+use Rattle.sdr_base.proofs.LayoutLemmas.{number_at-layout}
 use Rattle.sdr_base.proofs.StandingLemmas.{found}
 use Rattle.sdr_base.proofs.HeapLemmas.{heap_blocks}
 use Rattle.sdr_base.proofs.WritingLemmas.{block, reaches, word_is, word_set}
 use Rattle.sdr_list.specs.Calls.{SetsInList}
-use Rattle.sdr_list.specs.Kept.{IsSpot, Spot, addr_before, addr_from}
+use Rattle.sdr_list.specs.Kept.{IsSpot, Spot, addr_before, addr_from, elements_in}
 use Rattle.sdr_list.proofs.ChainLemmas.{linked_found}
 
 -- the words of a list's block, or of an element's
@@ -35,6 +36,13 @@ pub list_there : {b : Blocks} {list : ℕ} {row : ListRow} → KeepsList b list 
     b list ≡ Some (block kinds.List (layout (list_words row) []))
 list_there {b} {list} {row} k =
     found b list (block kinds.List (layout (list_words row) [])) [] (elements_between list 0 0 row.elements ++ k.rest) k.stands
+
+-- the number of elements in a list's block is that of any list that is kept there
+pub elements_are : {b : Blocks} {list : ℕ} {row : ListRow} → KeepsList b list row → elements_in (b list) ≡ length row.elements
+elements_are {b} {list} {row} k =
+    let few = k.few in
+    ap elements_in (list_there k)
+    ∙ number_at-layout (list_words row) [] 1 (omega arith) (omega (arith, few))
 
 pub list_reaches : {b : Blocks} {list : ℕ} {row : ListRow} → KeepsList b list row → Reaches (b list) 32
 list_reaches {b} {list} {row} k =
