@@ -21,14 +21,13 @@ use Rattle.sdr_base.specs.declared.refusal.Refusal.TheVariants.{LogFull}
 use Rattle.sdr_base.specs.declared.stop.Stop.{Stop}
 use Rattle.sdr_base.specs.declared.stop.Stop.TheVariants.{Refused, DiskFault, MediaFault, Failed}
 use Rattle.sdr_base.proofs.HeapLemmas.{given_blocks}
-use Rattle.sdr_base.proofs.LayoutLemmas.{number_at-layout}
 use Rattle.sdr_base.proofs.StandingLemmas.{found, moved_back, went}
 use Rattle.sdr_base.proofs.WritingLemmas.{reaches, word_is}
 use Rattle.sdr_list.specs.Destroying.{DestroysList, DestroyStops}
 use Rattle.sdr_list.specs.Giving.{ChainAt, GaveSome, GiveStops, Gives, GivesChain, Gone, SomeChain, gave}
 use Rattle.sdr_list.proofs.GivingLemmas.{length-addrs, one_more, part_begun, part_found, part_given, part_made, part_more, part_some, part_spare, part_stands}
 use Rattle.sdr_list.specs.Kept.{SomeList, elements_in, if_list}
-use Rattle.sdr_list.proofs.KeptLemmas.{first_fits, first_is, length_is, list_there, list_words, words}
+use Rattle.sdr_list.proofs.KeptLemmas.{elements_are, first_fits, first_is, length_is, list_words, words}
 
 pub start : {old : Heap} {first count : ℕ} → Gives old old first count first 0
 start {old} = record {
@@ -108,13 +107,6 @@ elements_by (Some block) n kind h = ap (λ (k : Kind). if_list k (number_at 8 bl
 
 pub elements_is : (b : Blocks) (list n : ℕ) → IsKind (b list) kinds.List → HasWord (b list) 1 n → elements_in (b list) ≡ n
 elements_is b list n kind h = elements_by (b list) n kind h
-
--- that is as many as any list has that is kept there
-pub elements_are : {b : Blocks} {list : ℕ} {row : ListRow} → KeepsList b list row → elements_in (b list) ≡ length row.elements
-elements_are {b} {list} {row} k =
-    let few = k.few in
-    ap elements_in (list_there k)
-    ∙ number_at-layout (list_words row) [] 1 (omega arith) (omega (arith, few))
 
 -- the block of a list
 abbrev head : ListRow → Block

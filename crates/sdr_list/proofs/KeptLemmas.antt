@@ -1,7 +1,7 @@
 -- What the blocks of a kept list and of its elements say.
 use Rattle.std.proofs.Common.{◌≡◌, ℕ, zero, suc, ◌+◌, ◌<◌, ◌^◌, List, [], ◌∷◌, ◌++◌, length, take, drop, Some, None}
 use Rattle.std.proofs.Common.{sym, ap, ◌∙◌, arith, subst}
-use Rattle.std.specs.Prelude.{All, slice_get}
+use Rattle.std.specs.Prelude.{All, slice_get, Result, Ok, Err, IfOk, OnOk}
 use Rattle.std.proofs.lemmas.List.{take-append-drop}
 use Rattle.std.proofs.lemmas.List.Elements.{All-head, All-tail, All-take, All-drop}
 use Rattle.sdr_base.specs.Blocks.{Blocks, Reaches, IsKind}
@@ -12,11 +12,13 @@ use Rattle.sdr_base.specs.Making.{besides}
 use Rattle.sdr_base.specs.Objects.{Heap}
 use Rattle.sdr_base.specs.Words.{HasWord, layout, with_word}
 use Rattle.sdr_base.specs.declared.kind.Kind.TheVariants as kinds
+use Rattle.sdr_base.specs.declared.stop.Stop.{Stop}
+use Rattle.sdr_base.proofs.LayoutLemmas.{number_at-layout}
 use Rattle.sdr_base.proofs.StandingLemmas.{found}
 use Rattle.sdr_base.proofs.HeapLemmas.{heap_blocks}
 use Rattle.sdr_base.proofs.WritingLemmas.{block, reaches, word_is, word_set}
-use Rattle.sdr_list.specs.Calls.{SetsInList}
-use Rattle.sdr_list.specs.Kept.{IsSpot, Spot, addr_before, addr_from}
+use Rattle.sdr_list.specs.Calls.{SetsInList, TellsOfElement, TellsOfList}
+use Rattle.sdr_list.specs.Kept.{IsSpot, Spot, addr_before, addr_from, elements_in}
 use Rattle.sdr_list.proofs.ChainLemmas.{linked_found}
 
 -- the words of a list's block, or of an element's
@@ -35,6 +37,13 @@ pub list_there : {b : Blocks} {list : ℕ} {row : ListRow} → KeepsList b list 
     b list ≡ Some (block kinds.List (layout (list_words row) []))
 list_there {b} {list} {row} k =
     found b list (block kinds.List (layout (list_words row) [])) [] (elements_between list 0 0 row.elements ++ k.rest) k.stands
+
+-- the number of elements in a list's block is that of any list that is kept there
+pub elements_are : {b : Blocks} {list : ℕ} {row : ListRow} → KeepsList b list row → elements_in (b list) ≡ length row.elements
+elements_are {b} {list} {row} k =
+    let few = k.few in
+    ap elements_in (list_there k)
+    ∙ number_at-layout (list_words row) [] 1 (omega arith) (omega (arith, few))
 
 pub list_reaches : {b : Blocks} {list : ℕ} {row : ListRow} → KeepsList b list row → Reaches (b list) 32
 list_reaches {b} {list} {row} k =
@@ -161,3 +170,17 @@ user_set {list} {user} {old} {new} kind w = record {
   };
   same = ap besides w;
 }
+
+-- a word of a list's block tells what it says of each list that is kept
+pub told_of_list : {b : Blocks} {list : ℕ} (r : Result ℕ Stop) (field : ℕ) (of : ListRow → ℕ) →
+    ((value : ℕ) → HasWord (b list) field value → (row : ListRow) → KeepsList b list row → value ≡ of row) →
+    OnOk r (IsKind (b list) kinds.List) → IfOk r (HasWord (b list) field) → IfOk r (TellsOfList list of b)
+told_of_list (Ok value) field of is kind h = record { kind = kind; tells = is value h }
+told_of_list (Err stop) field of is kind h = tt
+
+-- and one of an element's of each place that it has
+pub told_of_element : {b : Blocks} {element : ℕ} (r : Result ℕ Stop) (field : ℕ) (of : Spot → ℕ) →
+    ((value : ℕ) → HasWord (b element) field value → (spot : Spot) → IsSpot b element spot → value ≡ of spot) →
+    OnOk r (IsKind (b element) kinds.Element) → IfOk r (HasWord (b element) field) → IfOk r (TellsOfElement element of b)
+told_of_element (Ok value) field of is kind h = record { kind = kind; tells = is value h }
+told_of_element (Err stop) field of is kind h = tt

@@ -1,5 +1,5 @@
 pub mod ChainLemmas
-mod KeptLemmas
+pub mod KeptLemmas
 mod LinkLemmas
 mod GapLemmas
 mod InsertLemmas
@@ -7,6 +7,7 @@ mod PlaceLemmas
 mod DeleteLemmas
 mod KeyLemmas
 mod WalkLemmas
+mod InOrderLemmas
 mod OrderedLemmas
 pub mod GivingLemmas
 mod DestroyLemmas

@@ -19,7 +19,7 @@ use Rattle.sdr_base.proofs.WritingLemmas.{block, word_is}
 use Rattle.sdr_list.specs.Calls.{InsertsBeside, InsertsInList}
 use Rattle.sdr_list.specs.Gaps.{FollowsIn, InsertsBetween, IsPlace, SomePlaceBehind}
 use Rattle.sdr_list.specs.Kept.{IsSpot, SomeList, Spot, with_element}
-use Rattle.sdr_list.specs.Orders.{FindsPlace, IsKey, ReadsKey, ordered_place}
+use Rattle.sdr_list.specs.Orders.{FindsPlace, IsKey, ReadsKey, key_place}
 use Rattle.sdr_list.proofs.ChainLemmas.{last_holds}
 use Rattle.sdr_list.proofs.GapLemmas.{before_reaches}
 use Rattle.sdr_list.proofs.InsertLemmas.{at_place, gap_at}
@@ -146,14 +146,14 @@ place_reaches p = before_reaches (at_place p.row p.place p.keeps.rest p.keeps.st
 pub ordered_behind : {order : List ℕ → List ℕ → Ordering} {b : Blocks} {list prev : ℕ} {key : List ℕ} → FindsPlace order b list key prev → SomeList b list →
     SomePlaceBehind b list prev
 ordered_behind {order} {b} {key = key} f k =
-    record { row = k.row; place = ordered_place order b key k.row; keeps = k.keeps; at_prev = f.place k.row k.keeps }
+    record { row = k.row; place = key_place order b key k.row; keeps = k.keeps; at_prev = f.place k.row k.keeps }
 
 -- it is between the element that was found and the one that follows
 pub ordered_at : {order : List ℕ → List ℕ → Ordering} {b : Blocks} {list prev next : ℕ} {key : List ℕ} {row : ListRow} → FindsPlace order b list key prev →
-    FollowsIn b list prev next → KeepsList b list row → IsPlace b list prev next row (ordered_place order b key row)
+    FollowsIn b list prev next → KeepsList b list row → IsPlace b list prev next row (key_place order b key row)
 ordered_at {order} {b} {key = key} {row = row} f n k =
     let p = f.place row k in
-    record { keeps = k; at_prev = p; at_next = n.follows row (ordered_place order b key row) k p }
+    record { keeps = k; at_prev = p; at_next = n.follows row (key_place order b key row) k p }
 
 -- a key that was read is one
 pub key_short : {found : Option Block} {count : ℕ} {into : List ℕ} → ReadsKey found count into → IsKey (take count into)

@@ -6,3 +6,4 @@ pub mod Walks
 pub mod Calls
 pub mod Destroying
 pub mod Giving
+pub mod InOrder

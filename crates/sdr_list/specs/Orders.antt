@@ -45,8 +45,12 @@ place_behind test (x ∷ xs) =
     if place == 0 && not (test x.datum) then 0 else place + 1
 
 -- where a key goes in order: behind the last element whose key is less or equal
-abbrev pub ordered_place : (List ℕ → List ℕ → Ordering) → Blocks → List ℕ → ListRow → ℕ
-ordered_place order blocks key row = place_behind (λ other. not (is_gt (order (sort_key blocks other) key))) row.elements
+abbrev pub key_place : (List ℕ → List ℕ → Ordering) → Blocks → List ℕ → ListRow → ℕ
+key_place order blocks key row = place_behind (λ other. not (is_gt (order (sort_key blocks other) key))) row.elements
+
+-- where a new element of this datum goes in order
+abbrev pub ordered_place : (List ℕ → List ℕ → Ordering) → Blocks → ℕ → ListRow → ℕ
+ordered_place order blocks datum row = key_place order blocks (sort_key blocks datum) row
 
 -- the address of the element, 0 where there is none
 abbrev pub found_addr : Option ListElement → ℕ
@@ -54,8 +58,12 @@ found_addr None = 0
 found_addr (Some element) = element.addr
 
 -- the address of the first element of equal key, 0 where there is none
-abbrev pub equal_addr : (List ℕ → List ℕ → Ordering) → Blocks → List ℕ → ListRow → ℕ
-equal_addr order blocks key row = found_addr (find (λ x. is_eq (order (sort_key blocks x.datum) key)) row.elements)
+abbrev pub key_addr : (List ℕ → List ℕ → Ordering) → Blocks → List ℕ → ListRow → ℕ
+key_addr order blocks key row = found_addr (find (λ x. is_eq (order (sort_key blocks x.datum) key)) row.elements)
+
+-- the address of the first element whose key is that of this datum, by the order, 0 where there is none
+abbrev pub equal_addr : (List ℕ → List ℕ → Ordering) → Blocks → ℕ → ListRow → ℕ
+equal_addr order blocks datum row = key_addr order blocks (sort_key blocks datum) row
 
 -- the first bytes of a buffer, so many, are the key in a block
 pub record ReadsKey (found : Option Block) (count : ℕ) (into : List ℕ) : Type 0 where
@@ -70,8 +78,8 @@ pub record Compares (order : List ℕ → List ℕ → Ordering) (blocks : Block
 
 -- behind the element at this address, or at the front where that is 0, a key has its place in whichever list is kept
 pub record FindsPlace (order : List ℕ → List ℕ → Ordering) (blocks : Blocks) (list : ℕ) (key : List ℕ) (prev : ℕ) : Type 0 where
-  pub place : (row : ListRow) → KeepsList blocks list row → prev ≡ addr_before row (ordered_place order blocks key row)
+  pub place : (row : ListRow) → KeepsList blocks list row → prev ≡ addr_before row (key_place order blocks key row)
 
 -- this is the first element of equal key in whichever list is kept, or 0
 pub record FindsEqual (order : List ℕ → List ℕ → Ordering) (blocks : Blocks) (list : ℕ) (key : List ℕ) (found : ℕ) : Type 0 where
-  pub equal : (row : ListRow) → KeepsList blocks list row → found ≡ equal_addr order blocks key row
+  pub equal : (row : ListRow) → KeepsList blocks list row → found ≡ key_addr order blocks key row

@@ -9,8 +9,9 @@ ghost use Rattle.sdr_list.specs.Destroying.{DestroysList, DestroyStops};
 ghost use Rattle.sdr_list.specs.Giving.{GivesChain, GiveStops, SomeChain};
 ghost use Rattle.sdr_list.specs.Kept.{IsList, elements_in};
 
+use crate::reading::list_word;
 use sdr_base::layout::{element as element_words, list as words};
-use sdr_base::{Addr, Kind, Objects, Stop, check_failed, expect_kind, word};
+use sdr_base::{Addr, Objects, Stop, check_failed, word};
 
 /// Gives the elements of a list back, the first one first, and then the list. What the data name
 /// stays.
@@ -23,8 +24,7 @@ pub fn destroy<O: Objects>(o: &mut O, list: Addr) -> Result<(), Stop>
     ensures works { Works O.HasHeap
         (24 * (elements_in ((O.heap o.old).blocks list) + 1)) o.old o.new result }
 {
-    expect_kind(o, list, Kind::List)?;
-    let length = word(o, list, words::LENGTH)?;
+    let length = list_word(o, list, words::LENGTH)?;
     let first = word(o, list, words::FIRST)?;
     give_chain(o, first, length)?;
     o.give(list)

@@ -7,8 +7,9 @@ ghost use Rattle.sdr_base.specs.declared.kind.Kind.TheVariants as kinds;
 ghost use Rattle.sdr_list.specs.Calls.{ChangeStops, SetsInElement, TellsOfElement};
 ghost use Rattle.sdr_list.specs.Kept.{IsElement, addr_before, addr_from, with_datum};
 
+use crate::reading::element_word;
 use sdr_base::layout::element as words;
-use sdr_base::{Addr, Kind, Objects, Stop, expect_kind, set_word, word};
+use sdr_base::{Addr, Kind, Objects, Stop, expect_kind, set_word};
 
 /// The element behind another in its list, 0 where that is the last.
 pub fn next<O: Objects>(o: &mut O, element: Addr) -> Result<Addr, Stop>
@@ -20,8 +21,7 @@ pub fn next<O: Objects>(o: &mut O, element: Addr) -> Result<Addr, Stop>
         (Misses ((O.heap o.old).blocks element) element kinds.Element) }
     ensures looks { Looks O.HasHeap o.old o.new result }
 {
-    expect_kind(o, element, Kind::Element)?;
-    word(o, element, words::NEXT)
+    element_word(o, element, words::NEXT)
 }
 
 /// The element before another in its list, 0 where that is the first.
@@ -34,8 +34,7 @@ pub fn prev<O: Objects>(o: &mut O, element: Addr) -> Result<Addr, Stop>
         (Misses ((O.heap o.old).blocks element) element kinds.Element) }
     ensures looks { Looks O.HasHeap o.old o.new result }
 {
-    expect_kind(o, element, Kind::Element)?;
-    word(o, element, words::PREVIOUS)
+    element_word(o, element, words::PREVIOUS)
 }
 
 /// The datum of an element.
@@ -48,8 +47,7 @@ pub fn datum<O: Objects>(o: &mut O, element: Addr) -> Result<u64, Stop>
         (Misses ((O.heap o.old).blocks element) element kinds.Element) }
     ensures looks { Looks O.HasHeap o.old o.new result }
 {
-    expect_kind(o, element, Kind::Element)?;
-    word(o, element, words::DATUM)
+    element_word(o, element, words::DATUM)
 }
 
 /// Sets the datum of an element.

@@ -11,8 +11,9 @@ ghost use Rattle.sdr_list.specs.Gaps.{InsertsBetween, SomePlace};
 ghost use Rattle.sdr_list.specs.Kept.{IsElement, IsList};
 
 use crate::link::{link_next, link_prev};
+use crate::reading::{element_word, list_word};
 use sdr_base::layout::{element as element_words, list as words};
-use sdr_base::{Addr, Kind, Objects, Stop, expect_kind, set_word, take_words, word};
+use sdr_base::{Addr, Kind, Objects, Stop, set_word, take_words, word};
 
 /// Makes a new first element of a list.
 pub fn insert_first<O: Objects>(o: &mut O, list: Addr, datum: u64) -> Result<Addr, Stop>
@@ -24,8 +25,7 @@ pub fn insert_first<O: Objects>(o: &mut O, list: Addr, datum: u64) -> Result<Add
     ensures refused { IfErr result (InsertStops kinds.List list (O.heap o.old) (O.heap o.new)) }
     ensures works { Works O.HasHeap 35 o.old o.new result }
 {
-    expect_kind(o, list, Kind::List)?;
-    let first = word(o, list, words::FIRST)?;
+    let first = list_word(o, list, words::FIRST)?;
     insert_between(o, list, 0, first, datum)
 }
 
@@ -39,8 +39,7 @@ pub fn insert_last<O: Objects>(o: &mut O, list: Addr, datum: u64) -> Result<Addr
     ensures refused { IfErr result (InsertStops kinds.List list (O.heap o.old) (O.heap o.new)) }
     ensures works { Works O.HasHeap 35 o.old o.new result }
 {
-    expect_kind(o, list, Kind::List)?;
-    let last = word(o, list, words::LAST)?;
+    let last = list_word(o, list, words::LAST)?;
     insert_between(o, list, last, 0, datum)
 }
 
@@ -55,8 +54,7 @@ pub fn insert_before<O: Objects>(o: &mut O, element: Addr, datum: u64) -> Result
         (InsertStops kinds.Element element (O.heap o.old) (O.heap o.new)) }
     ensures works { Works O.HasHeap 35 o.old o.new result }
 {
-    expect_kind(o, element, Kind::Element)?;
-    let list = word(o, element, element_words::LIST)?;
+    let list = element_word(o, element, element_words::LIST)?;
     let prev = word(o, element, element_words::PREVIOUS)?;
     insert_between(o, list, prev, element, datum)
 }
@@ -72,8 +70,7 @@ pub fn insert_after<O: Objects>(o: &mut O, element: Addr, datum: u64) -> Result<
         (InsertStops kinds.Element element (O.heap o.old) (O.heap o.new)) }
     ensures works { Works O.HasHeap 35 o.old o.new result }
 {
-    expect_kind(o, element, Kind::Element)?;
-    let list = word(o, element, element_words::LIST)?;
+    let list = element_word(o, element, element_words::LIST)?;
     let next = word(o, element, element_words::NEXT)?;
     insert_between(o, list, element, next, datum)
 }

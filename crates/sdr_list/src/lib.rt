@@ -14,6 +14,7 @@ mod link;
 mod list;
 mod ordered;
 mod orders;
+mod reading;
 mod remove;
 
 pub use collation::{Collate, Collation, LONGEST_KEY};

@@ -10,8 +10,9 @@ ghost use Rattle.sdr_base.specs.declared.kind.Kind.TheVariants as kinds;
 ghost use Rattle.sdr_list.specs.Calls.{ChangeStops, SetsInList, TellsOfList};
 ghost use Rattle.sdr_list.specs.Kept.{IsList};
 
+use crate::reading::list_word;
 use sdr_base::layout::list as words;
-use sdr_base::{Addr, Kind, Objects, Stop, expect_kind, set_word, take_words, word};
+use sdr_base::{Addr, Kind, Objects, Stop, expect_kind, set_word, take_words};
 
 /// Makes a list without elements, with the user's number.
 pub fn create<O: Objects>(o: &mut O, user: u64) -> Result<Addr, Stop>
@@ -34,8 +35,7 @@ pub fn length<O: Objects>(o: &mut O, list: Addr) -> Result<u64, Stop>
     ensures refused { IfErr result (Misses ((O.heap o.old).blocks list) list kinds.List) }
     ensures looks { Looks O.HasHeap o.old o.new result }
 {
-    expect_kind(o, list, Kind::List)?;
-    word(o, list, words::LENGTH)
+    list_word(o, list, words::LENGTH)
 }
 
 /// The user's number of a list.
@@ -46,8 +46,7 @@ pub fn user_data<O: Objects>(o: &mut O, list: Addr) -> Result<u64, Stop>
     ensures refused { IfErr result (Misses ((O.heap o.old).blocks list) list kinds.List) }
     ensures looks { Looks O.HasHeap o.old o.new result }
 {
-    expect_kind(o, list, Kind::List)?;
-    word(o, list, words::USER)
+    list_word(o, list, words::USER)
 }
 
 /// Sets the user's number of a list.
@@ -72,8 +71,7 @@ pub fn first<O: Objects>(o: &mut O, list: Addr) -> Result<Addr, Stop>
     ensures refused { IfErr result (Misses ((O.heap o.old).blocks list) list kinds.List) }
     ensures looks { Looks O.HasHeap o.old o.new result }
 {
-    expect_kind(o, list, Kind::List)?;
-    word(o, list, words::FIRST)
+    list_word(o, list, words::FIRST)
 }
 
 /// The last element of a list, 0 where there is none.
@@ -85,6 +83,5 @@ pub fn last<O: Objects>(o: &mut O, list: Addr) -> Result<Addr, Stop>
     ensures refused { IfErr result (Misses ((O.heap o.old).blocks list) list kinds.List) }
     ensures looks { Looks O.HasHeap o.old o.new result }
 {
-    expect_kind(o, list, Kind::List)?;
-    word(o, list, words::LAST)
+    list_word(o, list, words::LAST)
 }

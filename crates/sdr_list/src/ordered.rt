@@ -6,9 +6,10 @@ ghost use Rattle.sdr_base.specs.Works.{Looks, Works};
 ghost use Rattle.sdr_base.specs.declared.kind.Kind.TheVariants as kinds;
 ghost use Rattle.sdr_list.specs.Calls.{InsertsInList, InsertStops, TellsOfList};
 ghost use Rattle.sdr_list.specs.Gaps.{FollowsIn, SomePlaceBehind};
+ghost use Rattle.sdr_list.specs.InOrder.{StaysInOrder};
 ghost use Rattle.sdr_list.specs.Kept.{IsList, SomeList};
 ghost use Rattle.sdr_list.specs.Orders.{FindsEqual, FindsPlace, IsKey};
-ghost use Rattle.sdr_list.specs.Orders.{equal_addr, ordered_place, sort_key};
+ghost use Rattle.sdr_list.specs.Orders.{equal_addr, ordered_place};
 
 use crate::collation::{Collate, Collation, LONGEST_KEY};
 use crate::insert::insert_between;
@@ -28,8 +29,11 @@ pub fn insert_ordered<O: Objects, F: Collate>(
     requires spare { 1 ≤ (O.heap o.old).spare }
     requires list { IsList (O.heap o.old).blocks list }
     ensures inserted { IfOk result (λ addr. InsertsInList list
-        (ordered_place (F.order by.now.by) (O.heap o.old).blocks (sort_key (O.heap o.old).blocks datum))
-        datum addr (O.heap o.old) (O.heap o.new)) }
+        (ordered_place (F.order by.now.by) (O.heap o.old).blocks datum) datum addr
+        (O.heap o.old) (O.heap o.new)) }
+    // Where the list was in order, it is.
+    ensures ordered { IfOk result (StaysInOrder (F.order by.now.by) (O.heap o.old).blocks list
+        (ordered_place (F.order by.now.by) (O.heap o.old).blocks datum) datum) }
     ensures refused { IfErr result (InsertStops kinds.List list (O.heap o.old) (O.heap o.new)) }
     ensures works { Works O.HasHeap 35 o.old o.new result }
 {
@@ -52,7 +56,7 @@ pub fn search<O: Objects, F: Collate>(
     requires kept { KeepsSome (O.keeps o.old) }
     requires list { IsList (O.heap o.old).blocks list }
     ensures found { IfOk result (TellsOfList list
-        (equal_addr (F.order by.now.by) (O.heap o.old).blocks (sort_key (O.heap o.old).blocks datum))
+        (equal_addr (F.order by.now.by) (O.heap o.old).blocks datum)
         (O.heap o.old).blocks) }
     ensures refused { IfErr result (Misses ((O.heap o.old).blocks list) list kinds.List) }
     ensures looks { Looks O.HasHeap o.old o.new result }

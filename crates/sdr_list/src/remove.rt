@@ -11,8 +11,9 @@ ghost use Rattle.sdr_list.specs.Gaps.{SomeBetween, Unlinks};
 ghost use Rattle.sdr_list.specs.Kept.{IsElement};
 
 use crate::link::{link_next, link_prev};
+use crate::reading::element_word;
 use sdr_base::layout::{element as words, list as list_words};
-use sdr_base::{Addr, Kind, Objects, Stop, expect_kind, set_word, word};
+use sdr_base::{Addr, Objects, Stop, set_word, word};
 
 /// Takes an element out of its list, and gives it back. What its datum names stays.
 pub fn delete<O: Objects>(o: &mut O, element: Addr) -> Result<(), Stop>
@@ -24,8 +25,7 @@ pub fn delete<O: Objects>(o: &mut O, element: Addr) -> Result<(), Stop>
         (ChangeStops kinds.Element element (O.heap o.old) (O.heap o.new)) }
     ensures works { Works O.HasHeap 30 o.old o.new result }
 {
-    expect_kind(o, element, Kind::Element)?;
-    let list = word(o, element, words::LIST)?;
+    let list = element_word(o, element, words::LIST)?;
     let prev = word(o, element, words::PREVIOUS)?;
     let next = word(o, element, words::NEXT)?;
     unlink(o, list, prev, next, element)

@@ -9,29 +9,23 @@ use Rattle.sdr_list.proofs.insert.insert_before.Goals as goal
 
 pub word-requires-clause-inside : goal.word-requires-clause-inside
 word-requires-clause-inside g c =
-    rw c.expect_kind.ensures.looks.same
-    (reaches_less _ 32 _ (element_reaches (c.requires.element c.in_ok-expect_kind.ensures.found).is) (omega arith))
-
-pub word-requires-2-clause-inside : goal.word-requires-2-clause-inside
-word-requires-2-clause-inside g c =
-    rw (c.word.ensures.looks.same, c.expect_kind.ensures.looks.same)
-    (reaches_less _ 32 _ (element_reaches (c.requires.element c.in_ok-expect_kind.ensures.found).is) (omega arith))
+    rw c.element_word.ensures.looks.same
+    (reaches_less _ 32 _ (element_reaches (c.requires.element c.in_ok-list.ensures.found).is) (omega arith))
 
 pub insert_between-requires-clause-place : goal.insert_between-requires-clause-place
 insert_between-requires-clause-place g c =
-    let s = c.requires.element c.in_ok-expect_kind.ensures.found in
-    let h = rw c.expect_kind.ensures.looks.same at c.in_ok-list.ensures.given in
-    let n = rw (c.word.ensures.looks.same, c.expect_kind.ensures.looks.same) at c.in_ok-prev.ensures.given in
-    rw (c.word-2.ensures.looks.same, c.word.ensures.looks.same, c.expect_kind.ensures.looks.same)
-    (record { row = s.spot.row; place = _; is = before_place h n s.is })
+    let s = c.requires.element c.in_ok-list.ensures.found in
+    let n = rw c.element_word.ensures.looks.same at c.in_ok-prev.ensures.given in
+    rw (c.word.ensures.looks.same, c.element_word.ensures.looks.same)
+    (record { row = s.spot.row; place = _; is = before_place c.in_ok-list.ensures.given n s.is })
 
 pub returns-clause-inserted : goal.returns-clause-inserted
 returns-clause-inserted g c =
     let old = g.O.HasHeap.heap c.args.o.now in
     let new = g.O.HasHeap.heap c.insert_between.new.o in
-    let h = rw c.expect_kind.ensures.looks.same at c.in_ok-list.ensures.given in
-    let n = rw (c.word.ensures.looks.same, c.expect_kind.ensures.looks.same) at c.in_ok-prev.ensures.given in
+    let h = c.in_ok-list.ensures.given in
+    let n = rw c.element_word.ensures.looks.same at c.in_ok-prev.ensures.given in
     ok_both _ _ _ {R = λ addr. InsertsBeside c.args.element (λ place. place) c.args.datum addr old new}
-    (λ addr i m. inserts_beside old new (λ place. place) c.in_ok-expect_kind.ensures.found h (λ spot s. before_place h n s) i m)
-    (rw (c.word-2.ensures.looks.same, c.word.ensures.looks.same, c.expect_kind.ensures.looks.same) at c.insert_between.ensures.inserted)
-    (rw (c.word-2.ensures.looks.same, c.word.ensures.looks.same, c.expect_kind.ensures.looks.same) at c.insert_between.ensures.made)
+    (λ addr i m. inserts_beside old new (λ place. place) c.in_ok-list.ensures.found h (λ spot s. before_place h n s) i m)
+    (rw (c.word.ensures.looks.same, c.element_word.ensures.looks.same) at c.insert_between.ensures.inserted)
+    (rw (c.word.ensures.looks.same, c.element_word.ensures.looks.same) at c.insert_between.ensures.made)

@@ -2,6 +2,7 @@
 use Rattle.sdr_base.proofs.HeapLemmas.{ok_both}
 use Rattle.sdr_list.specs.Calls.{InsertsInList}
 use Rattle.sdr_list.specs.Orders.{FindsPlace, ordered_place, sort_key}
+use Rattle.sdr_list.proofs.InOrderLemmas.{ok_any, stays_in_order}
 use Rattle.sdr_list.proofs.PlaceLemmas.{inserts_in, key_short, ordered_at, ordered_behind}
 use Rattle.sdr_list.proofs.ordered.insert_ordered.Goals as goal
 
@@ -37,10 +38,15 @@ returns-clause-inserted g c =
     let here : FindsPlace order old.blocks c.args.list (sort_key old.blocks c.args.datum) c.in_ok-prev.prev = rw key.key at found in
     let next = rw (c.last_upto.ensures.looks.same, c.read_key.ensures.looks.same, c.expect_kind.ensures.looks.same)
     at c.in_ok-next.ensures.given in
-    ok_both _ _ _ {R = λ addr. InsertsInList c.args.list (ordered_place order old.blocks (sort_key old.blocks c.args.datum)) c.args.datum addr old new}
-    (λ addr i m. inserts_in old new (ordered_place order old.blocks (sort_key old.blocks c.args.datum))
+    ok_both _ _ _ {R = λ addr. InsertsInList c.args.list (ordered_place order old.blocks c.args.datum) c.args.datum addr old new}
+    (λ addr i m. inserts_in old new (ordered_place order old.blocks c.args.datum)
     c.in_ok-expect_kind.ensures.found (λ row k. ordered_at here next k) i m)
     (rw (c.following.ensures.looks.same, c.last_upto.ensures.looks.same, c.read_key.ensures.looks.same, c.expect_kind.ensures.looks.same)
     at c.insert_between.ensures.inserted)
     (rw (c.following.ensures.looks.same, c.last_upto.ensures.looks.same, c.read_key.ensures.looks.same, c.expect_kind.ensures.looks.same)
     at c.insert_between.ensures.made)
+
+pub returns-clause-ordered : goal.returns-clause-ordered
+returns-clause-ordered g c =
+    ok_any c.insert_between.result _
+    (λ addr. stays_in_order (g.met.F.Collate.total c.args.by.now.by) (g.O.HasHeap.heap c.args.o.now).blocks c.args.list c.args.datum addr)

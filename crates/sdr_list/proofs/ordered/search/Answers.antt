@@ -18,6 +18,6 @@ returns-clause-found g c =
     let order = g.F.Collate.order c.args.by.now.by in
     let key = rw c.expect_kind.ensures.looks.same at c.in_ok-count.ensures.given in
     let found = rw (c.read_key.ensures.looks.same, c.expect_kind.ensures.looks.same) at c.first_equal.ensures.found in
-    IfOk-weaker _ _ (TellsOfList c.args.list (equal_addr order old.blocks (sort_key old.blocks c.args.datum)) old.blocks)
+    IfOk-weaker _ _ (TellsOfList c.args.list (equal_addr order old.blocks c.args.datum) old.blocks)
     (λ addr f. record { kind = c.in_ok-expect_kind.ensures.found; tells = λ row k. (let e : FindsEqual order old.blocks c.args.list (sort_key old.blocks c.args.datum) addr = rw key.key at f in e.equal row k) })
     found
