@@ -130,9 +130,9 @@ pub run_agrees : (told : Option Told) (daemons : List ℕ) (first : State) (made
     → AgreesWithJournal core.log.journal core.machine.roll
 run_agrees told daemons first made core runs = (run_keeps told daemons first made core runs).roll.agree
 
-pub run_stalls : (told : Option Told) (daemons : List ℕ) (first : State) (made : List Made) (core : Core) → IsDistinct nat_eq daemons
-    → RunsCore told (first_core daemons first) made core → (w : World) → is_stalled core.machine.roll w ≡ have_stalled daemons core.log.journal w
-run_stalls told daemons first made core distinct runs w =
+pub run_stalls : (told : Option Told) (daemons : List ℕ) (first : State) (made : List Made) (core : Core) → RunsCore told (first_core daemons first) made core
+    → IsDistinct nat_eq daemons → (w : World) → is_stalled core.machine.roll w ≡ have_stalled daemons core.log.journal w
+run_stalls told daemons first made core runs distinct w =
     stalled_same daemons core.log.journal core.machine.roll w (run_keeps told daemons first made core runs).roll distinct
 
 -- the moments of the entries, where the last of them was done by this one

@@ -16,10 +16,11 @@ entry_under u c e = option_map (entry_of u.number e) (what_of u c.log.works e)
 -- the entry that an event adds by which the machine went on to m, if it adds one
 abbrev pub entry_added : Core → Made → Machine → Option Entry
 entry_added c e m =
-    option_map_or (λ (d : Daemon). entry_under (under c.machine.roll d m.roll e.said.event) c e) (daemon_of c.machine.roll e.daemon) None
+    option_map_or (λ (d : Daemon). entry_under (under c.machine.roll d m.roll e.said.event) c e)
+    (daemon_of c.machine.roll e.daemon) None
 
--- An entry that an event adds may stand behind the journal, from the state before the open transaction to the one after the
--- event. Where none is added, that state stays.
+-- An entry that an event adds may stand behind the journal, from the state before the open transaction to the one after
+-- the event. Where none is added, that state stays.
 abbrev pub AddsRightly : Option Told → List ℕ → Core → Made → Machine → Type 0
 AddsRightly told daemons c e m =
     MatchOption (entry_added c e m) (m.before ≡ c.machine.before)

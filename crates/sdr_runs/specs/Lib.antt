@@ -8,5 +8,6 @@ pub mod NestedRow
 pub mod Replying
 pub mod Rising
 pub mod Rows
+pub mod Running
 pub mod StalledRow
 pub mod SuspendedRow

@@ -14,6 +14,7 @@ ghost use Rattle.sdr_runs.specs.Choosing.{RunAlike};
 pub fn runs_decide()
     ensures { (told : Option Told) (daemons : List ℕ) (first : State) (made others : List Made) (core core' : Core) →
         RunAlike told made others →
-        RunsCore told (first_core daemons first) made core → RunsCore told (first_core daemons first) others core' →
+        RunsCore told (first_core daemons first) made core →
+        RunsCore told (first_core daemons first) others core' →
         (others ≡ made) × (core' ≡ core) }
 {}

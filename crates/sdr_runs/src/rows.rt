@@ -35,5 +35,6 @@ pub fn depth_sixty_four()
 /// A law: where the disk fails as a transaction ends, its entry tells so, and each later event is answered with the
 /// moment at which that end returned. It does nothing.
 pub fn the_first_sync_fails()
-    ensures { (begun done : ℕ) → LeavesJournal (1 ∷ []) fresh_state (faulted_made begun done) (faulted_journal begun done) }
+    ensures { (begun done : ℕ) →
+        LeavesJournal (1 ∷ []) fresh_state (faulted_made begun done) (faulted_journal begun done) }
 {}
