@@ -11,6 +11,7 @@ pub mod FrameLemmas
 pub mod HeapLemmas
 pub mod JournalLemmas
 pub mod KeepLemmas
+pub mod LeavingLemmas
 pub mod OutcomeLemmas
 pub mod PlanLemmas
 pub mod RollLemmas

@@ -87,7 +87,7 @@ stalled_by_roll daemons journal r w keeps stalled =
     r.daemons (each_is_found r.daemons)))
 
 -- where the numbers are each another, each daemon is found by its own
-each_found_itself : (ds : List Daemon) → IsDistinct nat_eq (map (λ (d : Daemon). d.id) ds) → AllByRecursion (λ d. among d.id ds ≡ Some d) ds
+pub each_found_itself : (ds : List Daemon) → IsDistinct nat_eq (map (λ (d : Daemon). d.id) ds) → AllByRecursion (λ d. among d.id ds ≡ Some d) ds
 unfolding IsDistinct
 each_found_itself [] distinct = tt
 each_found_itself (x ∷ ds) distinct =
