@@ -1,6 +1,5 @@
 -- Answers that media have no part in.
-use Rattle.std.proofs.Common.{◌≡◌, ℕ, Option, Bool, true, false, Result, Ok, Err, IfOk, refl, subst, sym, true≢false}
-use Rattle.std.specs.List.{list_any}
+use Rattle.std.proofs.Common.{◌≡◌, ℕ, Option, false, Result, Ok, Err, IfOk, refl, true≢false}
 use Rattle.sdr_base.specs.Media.{Told}
 use Rattle.sdr_base.specs.declared.refusal.Refusal.TheVariants as refusals
 use Rattle.sdr_lock.specs.Machine.{Machine}

@@ -6,7 +6,7 @@ use Rattle.std.specs.Fmt.{digits}
 use Rattle.sdr_base.specs.declared.moves.Move.{Move}
 use Rattle.sdr_lock.specs.Core.{Core, CoreStep, core_after, first_core}
 use Rattle.sdr_lock.specs.Ground.{bare, kept}
-use Rattle.sdr_lock.specs.Machine.{Machine, Made, first_machine}
+use Rattle.sdr_lock.specs.Machine.{Machine, Made}
 use Rattle.sdr_lock.specs.Roll.{Roll}
 use Rattle.sdr_lock.specs.declared.daemon.Holding.{Holding}
 use Rattle.sdr_model.specs.Dry.{dry_moves}

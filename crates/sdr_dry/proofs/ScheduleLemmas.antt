@@ -11,7 +11,7 @@ use Rattle.sdr_lock.specs.Machine.{Machine, Made, MachineStep, first_machine}
 use Rattle.sdr_lock.specs.declared.came.Came.{Came}
 use Rattle.sdr_base.specs.declared.moves.Move.{Move}
 use Rattle.sdr_model.specs.World.{empty_world}
-use Rattle.sdr_plain.specs.Asking.{StepsAt, bytes_of, made_dry}
+use Rattle.sdr_plain.specs.Asking.{made_dry}
 use Rattle.sdr_base.specs.Media.{Told}
 use Rattle.sdr_words.specs.Bindings.{Binding, bound, event_of}
 use Rattle.sdr_dry.proofs.MediaLemmas.{caused_later, caused_more, failed_refl}

@@ -1,13 +1,9 @@
 // The calls that wait for nobody.
-ghost use Rattle.std.specs.Prelude.{◌≡◌, ◌≢◌, ◌≤◌, ◌<◌, ◌+◌, ◌↔◌, ◌⊎◌, ◌++◌, codes};
-ghost use Rattle.std.specs.Prelude.{None, Some, [], length, is_some};
+ghost use Rattle.std.specs.Prelude.{◌≡◌, ◌≤◌, ◌<◌, ◌+◌, ◌⊎◌, ◌++◌, codes};
+ghost use Rattle.std.specs.Prelude.{None, Some, [], length};
 ghost use Rattle.std.specs.Io.KnownBytes.{Appends};
 ghost use Rattle.sdr_base.specs.Causes.{Rose};
-ghost use Rattle.sdr_disk.specs.Pending.{IsSynced};
-ghost use Rattle.sdr_log.specs.Frame.{disk_bytes};
-ghost use Rattle.sdr_shell.specs.Form.{form_of, OnFormat};
-ghost use Rattle.sdr_shell.specs.Formatting.{line_formatted, line_too_small, IsFormatted};
-ghost use Rattle.sdr_shell.specs.Formatting.{HasFormatted, IsFormatStatus, LeavesDisk};
+ghost use Rattle.sdr_shell.specs.Form.{form_of};
 ghost use Rattle.sdr_dry.specs.Schedule.{HaveFailed, SomeRun, media_change};
 ghost use Rattle.sdr_shell.specs.Still.{Writes, HadRun, IsDone, IsRefused, IsDryStatus, IsStarved};
 ghost use Rattle.sdr_shell.specs.Still.{Tells, line_refused};

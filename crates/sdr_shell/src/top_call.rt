@@ -1,15 +1,8 @@
 // The call that the program makes.
-ghost use Rattle.std.specs.Prelude.{◌≡◌, ◌≢◌, ◌≤◌, ◌+◌, ◌↔◌, codes, None, Some, [], is_some};
-ghost use Rattle.sdr_disk.specs.Pending.{IsSynced};
-ghost use Rattle.sdr_shell.specs.Form.{form_of, OnFormat};
-ghost use Rattle.sdr_shell.specs.Formatting.{HasFormatted, LeavesDisk};
-ghost use Rattle.sdr_dry.specs.Schedule.{HaveFailed, media_change};
 ghost use Rattle.sdr_shell.specs.Words.{AnswersWords};
 
 use crate::Outcome;
 use crate::commands::still;
-use crate::form::Form;
-use crate::status::USAGE;
 use sdr_base::{Gate, Media, Sink, Source};
 use sdr_disk::Disk;
 use std::alloc::Global;

@@ -1,4 +1,4 @@
-use Rattle.std.proofs.Common.{◌≡◌, ◌≤◌, ◌<◌, ◌+◌, length}
+use Rattle.std.proofs.Common.{◌≡◌, ◌≤◌, ◌+◌, length}
 use Rattle.sdr_plain.specs.Plain.{machine_of}
 use Rattle.sdr_dry.specs.Schedule.{media_change}
 use Rattle.sdr_dry.proofs.ScheduleLemmas.{Running}

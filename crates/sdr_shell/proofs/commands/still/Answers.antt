@@ -33,12 +33,12 @@ returns-in-Some-Dry g c =
       usage = search rules;
       usage_text = search rules;
       dry = λ _. (
-      c.outcome.ensures.disk,
-      subst (λ s. AnswersDry s source source'
-          (media_change g.M.Media.told g.M.Media.faults g.M.Media.short c.args.media c.outcome.result.media) sink sink') (sym c.outcome.ensures.status)
-          (subst (λ m. AnswersDry c.dry-status.result source source'
-          (media_change g.M.Media.told g.M.Media.faults g.M.Media.short c.args.media m) sink sink') (sym c.outcome.ensures.media) answers),
-    );
+        c.outcome.ensures.disk,
+        subst (λ s. AnswersDry s source source'
+            (media_change g.M.Media.told g.M.Media.faults g.M.Media.short c.args.media c.outcome.result.media) sink sink') (sym c.outcome.ensures.status)
+            (subst (λ m. AnswersDry c.dry-status.result source source'
+            (media_change g.M.Media.told g.M.Media.faults g.M.Media.short c.args.media m) sink sink') (sym c.outcome.ensures.media) answers),
+      );
       format = no_format _ _ form;
       synced = no_format _ _ form;
       counts = search rules;
@@ -76,11 +76,11 @@ returns-in-Some-Format g c =
       usage_text = search rules;
       dry = search rules;
       format = subst (λ o. OnFormat o (λ frame. (c.args.input.now ≡ c.args.input.now) × AnswersFormat c.outcome-in-Some-Format.result.status frame (g.D.Disk.size c.args.disk)
-    disk (seen g.D.Disk.bytes g.D.Disk.faults c.outcome-in-Some-Format.result.disk) sink sink')) (sym form) (
-      refl,
-      subst (λ s. AnswersFormat s c.in-Some-Format.frame (g.D.Disk.size c.args.disk) disk (seen g.D.Disk.bytes g.D.Disk.faults c.outcome-in-Some-Format.result.disk) sink sink') (sym status)
-          (subst (λ d. AnswersFormat c.format_disk-status.result c.in-Some-Format.frame (g.D.Disk.size c.args.disk) disk (seen g.D.Disk.bytes g.D.Disk.faults d) sink sink') (sym kept) answers),
-    );
+          disk (seen g.D.Disk.bytes g.D.Disk.faults c.outcome-in-Some-Format.result.disk) sink sink')) (sym form) (
+            refl,
+            subst (λ s. AnswersFormat s c.in-Some-Format.frame (g.D.Disk.size c.args.disk) disk (seen g.D.Disk.bytes g.D.Disk.faults c.outcome-in-Some-Format.result.disk) sink sink') (sym status)
+                (subst (λ d. AnswersFormat c.format_disk-status.result c.in-Some-Format.frame (g.D.Disk.size c.args.disk) disk (seen g.D.Disk.bytes g.D.Disk.faults d) sink sink') (sym kept) answers),
+          );
       synced = on_format _ c.in-Some-Format.frame
           (λ _. HasFormatted c.outcome-in-Some-Format.result.status → IsSynced g.D.Disk.bytes g.D.Disk.moment g.D.Disk.may_leave c.outcome-in-Some-Format.result.disk) form
           (subst (λ s. HasFormatted s → IsSynced g.D.Disk.bytes g.D.Disk.moment g.D.Disk.may_leave c.outcome-in-Some-Format.result.disk) (sym status)
