@@ -1,1 +1,2 @@
 mod OneListLemmas
+mod StringLemmas

@@ -11,6 +11,12 @@ use sdr_image::{Image, format};
 use sdr_log::Frame;
 use std::alloc::Global;
 
+/// The regions of the tests' disks.
+pub const FRAME: Frame = Frame {
+    log_lines: 128,
+    heap_lines: 256,
+};
+
 // A disk in memory with these regions, formatted and opened. `None`: there is no memory.
 fn formatted(alloc: Global, frame: Frame) -> Option<Image<MemoryDisk>>
     requires { IsInLimits frame }

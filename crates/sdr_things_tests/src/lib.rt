@@ -1,4 +1,4 @@
-//! Tests of `sdr_list`, as rows of literals.
+//! Tests of `sdr_string` and `sdr_list`, as rows of literals.
 //!
 //! 1. A row is what is called, and what is answered then.
 //! 2. A function plays rows in a loop, with one call of what is tested in it, and answers the first
@@ -13,3 +13,5 @@ mod disks;
 mod list_tests;
 #[cfg(test)]
 mod order_tests;
+#[cfg(test)]
+mod string_tests;

@@ -3,11 +3,10 @@ ghost use Rattle.std.specs.Prelude.{◌≡◌, ◌+◌, ◌≤◌, ◌<◌, ◌^
 ghost use Rattle.sdr_base.specs.Moves.{KeepsSome};
 ghost use Rattle.sdr_things_tests.specs.OneList.{KeepsNone, KeepsOne};
 
-use crate::disks::fresh;
+use crate::disks::{FRAME, fresh};
 use sdr_base::layout::raw;
 use sdr_base::{Addr, Kind, Objects, Stop, take_bytes};
 use sdr_list::{Collation, Keys, create, datum, first, insert_ordered, next};
-use sdr_log::Frame;
 use std::alloc::Global;
 
 // The most bytes of a raw object here.
@@ -111,11 +110,6 @@ fn plays<O: Objects>(o: &mut O, row: &Row) -> Result<bool, Stop>
     }
     Ok(true)
 }
-
-const FRAME: Frame = Frame {
-    log_lines: 128,
-    heap_lines: 256,
-};
 
 // The first row whose data stand otherwise, or their number where a call fails.
 fn wrong_row(alloc: Global) -> Option<usize> {
