@@ -4,6 +4,8 @@ use Rattle.std.proofs.Common.{refl, sym, ap, ◌∙◌, arith, length-take, leng
 use Rattle.std.specs.Prelude.{min}
 use Rattle.std.proofs.lemmas.List.{take-append-le, take_all}
 use Rattle.sdr_base.specs.Blocks.{Block, HasBytes, Reaches, kind_length}
+use Rattle.sdr_base.specs.Raws.{raw_block}
+use Rattle.sdr_base.specs.Words.{layout}
 use Rattle.sdr_base.specs.declared.kind.Kind.{Kind}
 use Rattle.sdr_base.specs.declared.kind.Kind.TheVariants as kinds
 use Rattle.sdr_list.specs.Orders.{ReadsKey, if_raw, key_in}
@@ -11,6 +13,11 @@ use Rattle.sdr_list.specs.Orders.{ReadsKey, if_raw, key_in}
 -- the length of the key in a block of a kind
 length-raw : (kind : Kind) (bytes : List ℕ) → kind ≡ kinds.Raw → length (if_raw kind bytes) ≡ length (take 64 (drop 8 bytes))
 length-raw kind bytes e = ap (λ (k : Kind). length (if_raw k bytes)) e
+
+-- the key in the block of a raw object is its first bytes
+pub key-raw : (named_by : ℕ) (bytes : List ℕ) → key_in (Some (raw_block named_by bytes)) ≡ take 64 bytes
+unfolding layout
+key-raw named_by bytes = refl
 
 -- the kind and the length, Raw and 0 where there are none
 kind_or : Option (Kind × ℕ) → Kind × ℕ

@@ -5,7 +5,7 @@ mod GapLemmas
 mod InsertLemmas
 mod PlaceLemmas
 mod DeleteLemmas
-mod KeyLemmas
+pub mod KeyLemmas
 mod WalkLemmas
 mod InOrderLemmas
 mod OrderedLemmas

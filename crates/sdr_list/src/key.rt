@@ -15,7 +15,8 @@ use std::cmp::Ordering;
 // How many bytes the key of a datum has: the first ones of the raw object that it names.
 fn key_length<O: Objects>(o: &mut O, datum: u64) -> Result<usize, Stop>
     requires kept { KeepsSome (O.keeps o.old) }
-    ensures given { IfOk result (λ count. count ≡ length (key_in ((O.heap o.old).blocks datum))) }
+    ensures given { IfOk result
+        (λ count. count ≡ length (key_in ((O.heap o.old).blocks datum))) }
     ensures short { IfOk result (λ count. count ≤ LONGEST_KEY) }
     ensures refused { IfErr result OnlyFault }
     ensures looks { Looks O.HasHeap o.old o.new result }

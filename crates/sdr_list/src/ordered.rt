@@ -17,8 +17,8 @@ use crate::key::{compare_element, read_key};
 use sdr_base::layout::{element as element_words, list as words};
 use sdr_base::{Addr, Kind, Objects, Stop, expect_kind, word};
 
-/// Makes a new element of a list behind the last one whose key is less than or equal to that of the
-/// datum, else first. Each key is read once.
+/// Makes a new element of a list behind the last one whose key is less than or equal to that of
+/// the datum, else first. Each key is read once.
 pub fn insert_ordered<O: Objects, F: Collate>(
     o: &mut O,
     list: Addr,
@@ -45,8 +45,8 @@ pub fn insert_ordered<O: Objects, F: Collate>(
     insert_between(o, list, prev, next, datum)
 }
 
-/// The first element of a list whose key is equal to that of the datum, 0 where none is. Each key is
-/// read once.
+/// The first element of a list whose key is equal to that of the datum, 0 where none is. Each key
+/// is read once.
 pub fn search<O: Objects, F: Collate>(
     o: &mut O,
     list: Addr,
