@@ -2,7 +2,7 @@
 use Rattle.std.proofs.Common.{List, ℕ, length, refl, subst, sym}
 use Rattle.sdr_base.specs.KeptHeap.{KeepsHeap}
 use Rattle.sdr_base.specs.Pools.{fresh_pools}
-use Rattle.sdr_heap.proofs.FreshLemmas.{fresh_kept}
+use Rattle.sdr_base.proofs.FreshBlocksLemmas.{fresh_keeps_heap}
 use Rattle.sdr_heap.proofs.HeldLemmas.{keeps_region}
 use Rattle.sdr_things_tests.proofs.disks.fresh.Goals as goal
 
@@ -12,5 +12,5 @@ returns-in-Ok-clause-kept c =
     let pools = fresh_pools c.args.frame.heap_lines in
     let keeps : KeepsHeap bytes pools =
     subst (λ (l : List ℕ). KeepsHeap l pools) (sym c.in_ok-image.ensures.fresh)
-    (fresh_kept c.args.frame.heap_lines c.requires.least_heap c.requires.most_heap) in
+    (fresh_keeps_heap c.args.frame.heap_lines c.requires.least_heap c.requires.most_heap) in
     rw c.in-Ok.ensures.made (record { pools = pools; keeps = keeps_region (length bytes) bytes pools refl keeps })
