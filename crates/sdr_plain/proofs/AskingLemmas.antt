@@ -30,8 +30,7 @@ use Rattle.sdr_model.specs.Reading.{is_reading, reads_media}
 use Rattle.sdr_model.specs.Rows.{ByRow}
 use Rattle.sdr_model.specs.Step.{StopsWith, is_answer}
 use Rattle.sdr_model.specs.Steps.{Outcome, Refuses}
-use Rattle.sdr_model.specs.Wire as Wire
-use Rattle.sdr_model.specs.Wire.{Spells, Gives, headers_part, source_part, trailers_part, wire_part}
+use Rattle.sdr_model.specs.Wire.{Gives, Spells, ToldBytes, headers_part, source_part, trailers_part, wire_part}
 use Rattle.sdr_model.specs.World.{World, block_at, misnamed, refusal_for}
 use Rattle.sdr_model.specs.Zco.{object_at}
 use Rattle.sdr_model.specs.declared.answer.Answer.{Answer}
@@ -94,7 +93,7 @@ misnamed_quietly reply addr None is = refuses_quietly reply _ is (λ media w cal
 misnamed_quietly reply addr (Some block) is = refuses_quietly reply _ is (λ media w call bytes. tt)
 
 -- a call that asks for no bytes of an object is refused, and tells nothing of media
-module _ (w : World) (o : Outcome) (addr count : ℕ) (of : ZcoObject → Wire.Told) where
+module _ (w : World) (o : Outcome) (addr count : ℕ) (of : ZcoObject → ToldBytes) where
   long_quietly : (z : ZcoObject) (long : Bool) → nat_lt longest_read count ≡ long → ¬ AsksPage (Some z) count
       → MatchBool long (Refuses w o (refusals.BadLength count longest_read)) (Gives w o (of z)) → RefusesQuietly o.reply
   long_quietly z true is fails h = refuses_quietly o.reply _ h.2 (λ media w call bytes. tt)

@@ -23,7 +23,6 @@ pub struct Bare {
 }
 
 impl Model for Bare {
-    ghost use Rattle.sdr_lock.specs.Gaps.{no_gaps};
     ghost use Rattle.sdr_plain.specs.Bare.{Worlds};
     ghost use Rattle.sdr_plain.specs.CodedPlain.{coded_worlds};
 
@@ -36,6 +35,7 @@ impl Model for Bare {
 
 impl HasGround for Bare {
     ghost use Rattle.std.specs.Prelude.{None};
+    ghost use Rattle.sdr_lock.specs.Gaps.{no_gaps};
     ghost use Rattle.sdr_plain.specs.Bare.{LastsBare, StandsBare};
     ghost use Rattle.sdr_model.specs.Few.{most_pieces};
     ghost use Rattle.sdr_lock.proofs.GroundLemmas.{one_less};
