@@ -12,3 +12,4 @@ pub mod FreeLemmas
 pub mod DemandLemmas
 pub mod ServingLemmas
 pub mod OpeningLemmas
+pub mod StationLemmas

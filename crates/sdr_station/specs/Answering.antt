@@ -1,5 +1,5 @@
 -- What a call comes to on a heap that stands for a world.
-use Rattle.std.specs.Prelude.{◌≡◌, ◌+◌, ◌/◌, ℕ, Bool, true, false, List, [], length, ⊤, All, Option, None, Result, Ok, Err}
+use Rattle.std.specs.Prelude.{◌≡◌, ◌+◌, ◌/◌, ℕ, Bool, true, false, not, List, [], length, ⊤, All, Option, None, Result, Ok, Err}
 use Rattle.sdr_audit.specs.Standing.{HeapStandsFor}
 use Rattle.sdr_audit.specs.Ties.{ties_of}
 use Rattle.sdr_base.specs.Blocks.{Block}
@@ -45,6 +45,11 @@ built (calls.Read addr place count) = true
 built (calls.Write addr place bytes) = true
 built (calls.Stage addr count) = true
 built call = false
+
+-- whether a call that was answered so dooms its transaction: it is a change that was refused
+abbrev pub dooms : Call → Reply → Bool
+dooms call (replies.Refused refusal) = not (is_reading call)
+dooms call reply = false
 
 -- so many lines a call that is served touches at most
 abbrev pub lines_of : Call → ℕ

@@ -9,6 +9,8 @@ mod closing;
 mod error;
 mod ground;
 mod page;
+mod station;
 
 pub use error::{OpenError, Shut};
 pub use ground::HeapGround;
+pub use station::{Closed, Station};
