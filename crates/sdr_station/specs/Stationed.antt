@@ -1,11 +1,12 @@
 -- A station: what its calls and events do.
-use Rattle.std.specs.Prelude.{◌≡◌, ◌==◌, ℕ, false, ⊤, Option, None, Some, Result, Ok, Err, nat_le, MatchBool, MatchOption}
+use Rattle.std.specs.Prelude.{◌≡◌, ◌==◌, ℕ, Bool, false, ⊤, Option, None, Some, Result, Ok, Err, nat_le, MatchBool, MatchOption}
 use Rattle.sdr_base.specs.declared.refusal.Refusal.TheVariants as refusals
 use Rattle.sdr_base.specs.declared.stop.Stop.{Stop}
 use Rattle.sdr_base.specs.declared.stop.Stop.TheVariants as stops
 use Rattle.sdr_lock.specs.Crash.{LeavesOr, is_kept}
 use Rattle.sdr_lock.specs.Nesting.{Inner, closing, deepened, nested, noted, unbegun}
-use Rattle.sdr_lock.specs.Serving.{Brings, Calls, MeetsFault, Settles}
+use Rattle.sdr_lock.specs.Serving.{Brings, Calls, MeetsFault, Settles, shown_in}
+use Rattle.sdr_lock.specs.Standing.{Standing}
 use Rattle.sdr_lock.specs.declared.has_ground.HasGround.{Ghosts}
 use Rattle.sdr_lock.specs.declared.nesting.Nesting.{Nesting}
 use Rattle.sdr_model.specs.declared.answer.Answer.{Answer}
@@ -106,3 +107,10 @@ ClosesBy g event inner old new result =
     (Closes g (closing old.nesting event) old new result)
     (Rises (inner old.nesting) old new result))
     (λ moment. (result ≡ Err stops.Failed) × (new ≡ old))
+
+-- what a look does: there is no ticket before the transaction, or it fails after a disk fault
+abbrev pub LooksAt : {D : Type 0} → Ghosts (Grounded D) → ℕ → Stationed D → Result Bool Stop → Type 0
+LooksAt g ticket s result =
+    MatchOption s.failed
+    ((result ≡ Err (stops.Refused (refusals.BadTicket ticket))) × ((v : Standing) → g.stands s.ground v → shown_in v.before.world ticket ≡ None))
+    (λ moment. result ≡ Err stops.Failed)

@@ -1,17 +1,20 @@
 // A transaction on the world that a disk keeps.
-ghost use Rattle.std.specs.Prelude.{◌≡◌, ◌<◌, None, true, false, length, take};
+ghost use Rattle.std.specs.Prelude.{◌≡◌, ◌<◌, None, true, false, length, take, IfErr, IfOk};
 ghost use Rattle.sdr_lock.specs.Crash.{is_kept};
-ghost use Rattle.sdr_lock.specs.Nesting.{cancelled, closing, ended};
+ghost use Rattle.sdr_lock.specs.Nesting.{cancelled, closing, ended, unbegun};
 ghost use Rattle.sdr_station.specs.Answering.{built};
 ghost use Rattle.sdr_station.specs.Grounded.{Lasts};
-ghost use Rattle.sdr_station.specs.Stationed.{Begins, Closes, ClosesBy, HasRisen, SaysOr, closed_as};
+ghost use Rattle.sdr_station.specs.Opening.{ExplainsOpen, IsOpen};
+ghost use Rattle.sdr_station.specs.Stationed.{Begins, Closes, ClosesBy, HasRisen, LooksAt, SaysOr, closed_as};
 
 use crate::HeapGround;
+use crate::error::Shut;
 use crate::page::PAGE;
 use sdr_base::{Move, Reason, Refusal, Stop};
 use sdr_disk::Disk;
 use sdr_lock::{Fault, HasGround, Nesting, Serves};
 use sdr_model::{Answer, Call, Close, Event, Reply};
+use std::alloc::Global;
 use std::marker::Model;
 
 /// What an end, a cancel or an exit came to.
@@ -45,6 +48,44 @@ impl<D: Disk> Model for Station<D> {
 }
 
 impl<D: Disk> Station<D> {
+    /// Opens the heap on a disk, as `HeapGround::open` does. No transaction is open, and all memory is taken here.
+    pub fn open(alloc: Global, disk: D) -> Result<Station<D>, Shut<D>>
+        ensures opened { IfOk result (λ s. IsOpen D.bytes D.moment D.may_leave disk s.ground) }
+        ensures idle { IfOk result (λ s. (s.nesting ≡ unbegun) × (s.failed ≡ None)) }
+        ensures why { IfErr result (λ shut. ExplainsOpen (D.bytes disk) (D.faults disk) (D.faults shut.disk) shut.why) }
+    {
+        let ground = HeapGround::open(alloc, disk)?;
+        Ok(Station {
+            ground,
+            nesting: Nesting::none(),
+            failed: None,
+        })
+    }
+
+    /// Whether a ticket is granted. So far no world has one.
+    pub fn look(&mut self, ticket: u64) -> Result<bool, Stop>
+        requires { self.old.nesting.depth ≡ 0 }
+        ensures looks { LooksAt ⟦<HeapGround<D> as HasGround>⟧ ticket self.old result }
+        ensures same { self.new ≡ self.old }
+    {
+        if self.failed.is_some() {
+            return Err(Stop::Failed);
+        }
+        Err(Stop::Refused(Refusal::BadTicket { ticket }))
+    }
+
+    /// The disk. What the open transaction has done is lost.
+    pub fn into_disk(self) -> D
+        ensures { result ≡ self.ground.heap.cells.disk }
+    {
+        let Station {
+            ground,
+            nesting: _,
+            failed: _,
+        } = self;
+        ground.into_disk()
+    }
+
     /// Begins a transaction, or one inside it, and answers the depth. It is refused at the greatest, which dooms.
     pub fn begin(&mut self) -> Result<u64, Stop>
         ensures { Begins self.old self.new result }
