@@ -78,12 +78,12 @@ pub record Answered (w : World) (call : Call) (new : Heap) (shown : List ℕ) (r
   pub accounts : after.accounts ≡ w.accounts
   pub taken : after.taken ≡ w.taken
 
--- The call is refused by a step that leaves the world. Where log room is wanting, its row would answer it; one that reads
--- leaves the heap.
+-- The call is refused by a step that leaves the world. Where log room is wanting, its row would answer it.
 abbrev pub StepsRefused : World → Call → List Move → Refusal → Type 0
 StepsRefused w call moves (refusals.LogFull lines room) = Aim w call × (is_reading call ≡ false)
 StepsRefused w call moves refusal = StepTo w (record { moves = moves; after = w; reply = replies.Refused refusal }) call
 
+-- The call is refused by such a step. One that reads leaves the heap, and the bytes that are shown stay.
 pub record IsRefused (w : World) (call : Call) (old new : Heap) (was shown : List ℕ) (refusal : Refusal) : Type 0 where
   pub step : StepsRefused w call new.moves refusal
   pub left : is_reading call ≡ true → new ≡ old
