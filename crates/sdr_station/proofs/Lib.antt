@@ -13,3 +13,4 @@ pub mod FreeLemmas
 pub mod DemandLemmas
 pub mod ServingLemmas
 pub mod OpeningLemmas
+pub mod StationLemmas

@@ -54,7 +54,7 @@ use Rattle.sdr_station.proofs.MediaLemmas.{gap_none, misses_none}
 use Rattle.sdr_station.proofs.KindLemmas.{IsRawAt, raw_is_at}
 use Rattle.sdr_station.proofs.RawLemmas.{length_of_raw}
 use Rattle.sdr_station.specs.CrashNow.{crash_now}
-use Rattle.sdr_station.specs.Answering.{Aim, Answered, Comes, IsGood, IsPlain, built, lines_of}
+use Rattle.sdr_station.specs.Answering.{Aim, Answered, Comes, IsGood, IsPlain, built, dooms, lines_of}
 use Rattle.sdr_station.specs.Closing.{moves_left}
 use Rattle.sdr_station.specs.Grounded.{Grounded, Leaves, Stands, StandsAtRest, StandsSome, StandsWithin, heap_in}
 
@@ -408,3 +408,8 @@ good_of heap w s whole plain addr = by (heap.blocks addr) (λ kind. of (raw_is_a
           let same : raw_block 0 r.0 ≡ block = cc in
           subst (λ (b : base.Block). number_at 0 b.bytes ≡ 0) same (first r.0);
     }
+
+-- a reply that answers dooms nothing
+pub answers_no_doom : (call : Call) (reply : Reply) → is_answer reply ≡ true → dooms call reply ≡ false
+answers_no_doom call (replies.Refused refusal) is = absurd (true≢false (sym is))
+answers_no_doom call reply is = refl

@@ -1,5 +1,5 @@
 -- What a call comes to on a heap that stands for a world.
-use Rattle.std.specs.Prelude.{◌≡◌, ◌+◌, ◌/◌, ℕ, Bool, true, false, List, [], length, ⊤, All, Option, None, Result, Ok, Err}
+use Rattle.std.specs.Prelude.{◌≡◌, ◌+◌, ◌/◌, ℕ, Bool, true, false, not, List, [], length, ⊤, All, Option, None, Result, Ok, Err}
 use Rattle.sdr_audit.specs.Standing.{HeapStandsFor}
 use Rattle.sdr_audit.specs.Ties.{ties_of}
 use Rattle.sdr_base.specs.Blocks.{Block}
@@ -46,6 +46,11 @@ built (calls.Write addr place bytes) = true
 built (calls.Stage addr count) = true
 built call = false
 
+-- whether a call that was answered so dooms its transaction: it is a change that was refused
+abbrev pub dooms : Call → Reply → Bool
+dooms call (replies.Refused refusal) = not (is_reading call)
+dooms call reply = false
+
 -- so many lines a call that is served touches at most
 abbrev pub lines_of : Call → ℕ
 lines_of (calls.Malloc bytes) = 24 + (8 + bytes) / 64
@@ -73,12 +78,12 @@ pub record Answered (w : World) (call : Call) (new : Heap) (shown : List ℕ) (r
   pub accounts : after.accounts ≡ w.accounts
   pub taken : after.taken ≡ w.taken
 
--- The call is refused by a step that leaves the world. Where log room is wanting, its row would answer it; one that reads
--- leaves the heap.
+-- The call is refused by a step that leaves the world. Where log room is wanting, its row would answer it.
 abbrev pub StepsRefused : World → Call → List Move → Refusal → Type 0
 StepsRefused w call moves (refusals.LogFull lines room) = Aim w call × (is_reading call ≡ false)
 StepsRefused w call moves refusal = StepTo w (record { moves = moves; after = w; reply = replies.Refused refusal }) call
 
+-- The call is refused by such a step. One that reads leaves the heap, and the bytes that are shown stay.
 pub record IsRefused (w : World) (call : Call) (old new : Heap) (was shown : List ℕ) (refusal : Refusal) : Type 0 where
   pub step : StepsRefused w call new.moves refusal
   pub left : is_reading call ≡ true → new ≡ old

@@ -1,5 +1,5 @@
 -- When a heap is opened.
-use Rattle.std.specs.Prelude.{◌≡◌, ◌≤◌, ◌*◌, ℕ, List, [], ⊤, Option, None, Some, Result, Ok, Err}
+use Rattle.std.specs.Prelude.{◌≡◌, ◌≤◌, ◌*◌, ℕ, List, [], false, ⊤, Option, None, Some, Result, Ok, Err}
 use Rattle.sdr_audit.specs.Checking.{DiffersFirst}
 use Rattle.sdr_audit.specs.declared.checking.AuditError.{AuditError}
 use Rattle.sdr_audit.specs.declared.checking.AuditError.TheVariants as audits
@@ -33,6 +33,8 @@ pub record IsOpen {D : Type 0} (told : D → Option (List ℕ)) (moment : D → 
   pub lines : ℕ
   pub least : LEAST_LINES ≤ lines
   pub most : lines ≤ MOST_LINES
+  pub going : g.stopped ≡ false
+  pub sound : g.heap.cells.failed ≡ false
   pub gives : Told (told disk) (λ x. put_back_of x ≡ Some (fresh_heap lines))
   pub stands : Told (told disk) (λ x. MayBeOpened x (may_leave disk (moment disk)))
       → Stands told moment may_leave g (fresh_standing (room_of g.heap.cells.frame) lines)

@@ -1,12 +1,15 @@
 // A heap on an image as the ground of a lock.
-ghost use Rattle.std.specs.Prelude.{◌≡◌, ◌≤◌, false, IfErr, IfOk};
+ghost use Rattle.std.specs.Prelude.{◌≡◌, ◌≤◌, None, false, true, length, IfErr, IfOk, OnErr, OnOk};
 ghost use Rattle.sdr_disk.specs.Moments.{AtEach};
 ghost use Rattle.sdr_disk.specs.Told.{Told};
 ghost use Rattle.sdr_image.specs.Opening.{MayBeOpened};
+ghost use Rattle.sdr_lock.specs.Crash.{LeavesBefore, LeavesEither};
+ghost use Rattle.sdr_lock.specs.Serving.{Brings, Calls, Keeps, KeepsGround, MeetsFault, PutsBack};
 ghost use Rattle.sdr_lock.specs.Standing.{Standing};
 ghost use Rattle.sdr_log.specs.Calls.{KeepsDisk};
 ghost use Rattle.sdr_log.specs.Logged.{GivesSame};
-ghost use Rattle.sdr_station.specs.Grounded.{Stands};
+ghost use Rattle.sdr_station.specs.Answering.{built, dooms};
+ghost use Rattle.sdr_station.specs.Grounded.{Lasts, Stands};
 ghost use Rattle.sdr_station.specs.Opening.{ExplainsOpen, IsOfAudit, IsOfImage, IsOpen, disk_of};
 
 use crate::calls::{answer, built};
@@ -138,6 +141,82 @@ impl<D: Disk> HeapGround<D> {
         }
     }
 
+    /// Makes a call that is served, in a transaction in which none was stopped. Where a changing call is refused, the
+    /// transaction can only be put back.
+    pub fn serve(&mut self, call: &Call) -> Reply
+        requires lasts { Lasts D.bytes D.moment D.may_leave self.old }
+        requires going { self.old.stopped ≡ false }
+        requires built { built call.now ≡ true }
+        ensures answered { Brings ⟦<HeapGround<D> as HasGround>⟧.stands self.old self.new (Calls None call.now result) }
+        ensures stopped { self.new.stopped ≡ dooms call.now result }
+        ensures sound { self.new.heap.cells.failed ≡ false }
+        ensures keeps { KeepsGround ⟦<HeapGround<D> as HasGround>⟧ true self.old self.new }
+        ensures any_moment { LeavesBefore ⟦<HeapGround<D> as HasGround>⟧ self.old self.new }
+    {
+        self.heap.fresh();
+        match answer(&mut self.heap, call, &mut self.shown) {
+            Ok(reply) => reply,
+            Err(Stop::Refused(refusal)) => {
+                forget_moves(&mut self.heap, &refusal);
+                self.stopped = !call.is_reading();
+                Reply::Refused(refusal)
+            }
+            Err(Stop::DiskFault) => unreachable!(),
+            Err(Stop::MediaFault) => unreachable!(),
+            Err(Stop::Failed) => unreachable!(),
+        }
+    }
+
+    /// Keeps the open transaction, in which no call was stopped.
+    pub fn save(&mut self) -> Result<(), Fault>
+        requires going { self.old.stopped ≡ false }
+        ensures kept { OnOk result (Brings ⟦<HeapGround<D> as HasGround>⟧.stands self.old self.new Keeps) }
+        ensures going { OnOk result (self.new.stopped ≡ false) }
+        ensures sound { OnOk result (self.new.heap.cells.failed ≡ false) }
+        ensures fault { OnErr result (MeetsFault ⟦<HeapGround<D> as HasGround>⟧ self.old self.new) }
+        ensures keeps { KeepsGround ⟦<HeapGround<D> as HasGround>⟧ false self.old self.new }
+        ensures any_moment { LeavesEither ⟦<HeapGround<D> as HasGround>⟧ self.old self.new }
+    {
+        match commit(&mut self.heap) {
+            Ok(()) => {
+                self.moment = moment_since(self.moment, &mut self.heap);
+                self.shown.clear();
+                self.stopped = false;
+                Ok(())
+            }
+            Err(_) => {
+                self.moment = moment_since(self.moment, &mut self.heap);
+                self.stopped = true;
+                Err(Fault)
+            }
+        }
+    }
+
+    /// Puts back what was before the open transaction.
+    pub fn restore(&mut self) -> Result<(), Fault>
+        ensures put_back { OnOk result (Brings ⟦<HeapGround<D> as HasGround>⟧.stands self.old self.new PutsBack) }
+        ensures going { OnOk result (self.old.heap.cells.failed ≡ false → self.new.stopped ≡ false) }
+        ensures sound { OnOk result (self.new.heap.cells.failed ≡ self.old.heap.cells.failed) }
+        ensures fault { OnErr result (MeetsFault ⟦<HeapGround<D> as HasGround>⟧ self.old self.new) }
+        ensures keeps { KeepsGround ⟦<HeapGround<D> as HasGround>⟧ false self.old self.new }
+        ensures any_moment { LeavesBefore ⟦<HeapGround<D> as HasGround>⟧ self.old self.new }
+    {
+        match cancel(&mut self.heap) {
+            Ok(()) => {
+                self.moment = moment_since(self.moment, &mut self.heap);
+                self.shown.clear();
+                self.stopped = false;
+                Ok(())
+            }
+            Err(Stop::DiskFault) => {
+                self.moment = moment_since(self.moment, &mut self.heap);
+                self.stopped = true;
+                Err(Fault)
+            }
+            Err(_) => Ok(()),
+        }
+    }
+
     /// The disk. What the open transaction has done is lost.
     pub fn into_disk(self) -> D
         ensures { result ≡ self.heap.cells.disk }
@@ -153,14 +232,17 @@ impl<D: Disk> HeapGround<D> {
 
     /// The moves of the last call.
     pub fn moves(&self) -> &[Move]
-        ensures { (v : Standing) → Stands D.bytes D.moment D.may_leave self.now v → result.now ≡ v.moves }
+        ensures moves { result.now ≡ self.now.heap.moves }
+        ensures told { (v : Standing) → Stands D.bytes D.moment D.may_leave self.now v → result.now ≡ v.moves }
     {
         self.heap.moves()
     }
 
     /// The bytes that the last answered call of the open transaction gave, unless a call was stopped since.
     pub fn shown(&self) -> &[u8]
-        ensures { (v : Standing) → Stands D.bytes D.moment D.may_leave self.now v → self.now.stopped ≡ false
+        ensures shown { result.now ≡ self.now.shown }
+        ensures few { length result.now ≤ 4096 }
+        ensures told { (v : Standing) → Stands D.bytes D.moment D.may_leave self.now v → self.now.stopped ≡ false
             → result.now ≡ v.now.world.shown }
     {
         self.shown.as_slice()
@@ -176,54 +258,21 @@ impl<D: Disk> Serves for HeapGround<D> {
         if self.stopped || !built(call) {
             return Err(Halt::Memory);
         }
-        self.heap.fresh();
-        match answer(&mut self.heap, call, &mut self.shown) {
-            Ok(reply) => Ok(reply),
-            Err(Stop::Refused(refusal)) => {
-                forget_moves(&mut self.heap, &refusal);
-                self.stopped = !call.is_reading();
-                Ok(Reply::Refused(refusal))
-            }
-            Err(Stop::DiskFault) => unreachable!(),
-            Err(Stop::MediaFault) => unreachable!(),
-            Err(Stop::Failed) => unreachable!(),
-        }
+        Ok(self.serve(call))
     }
 
     fn keep(&mut self) -> Result<(), Halt> {
         if self.stopped {
             return Err(Halt::Memory);
         }
-        match commit(&mut self.heap) {
-            Ok(()) => {
-                self.moment = moment_since(self.moment, &mut self.heap);
-                self.shown.clear();
-                self.stopped = false;
-                Ok(())
-            }
-            Err(_) => {
-                self.moment = moment_since(self.moment, &mut self.heap);
-                self.stopped = true;
-                Err(Halt::Fault)
-            }
+        match self.save() {
+            Ok(()) => Ok(()),
+            Err(Fault) => Err(Halt::Fault),
         }
     }
 
     fn put_back(&mut self) -> Result<(), Fault> {
-        match cancel(&mut self.heap) {
-            Ok(()) => {
-                self.moment = moment_since(self.moment, &mut self.heap);
-                self.shown.clear();
-                self.stopped = false;
-                Ok(())
-            }
-            Err(Stop::DiskFault) => {
-                self.moment = moment_since(self.moment, &mut self.heap);
-                self.stopped = true;
-                Err(Fault)
-            }
-            Err(_) => Ok(()),
-        }
+        self.restore()
     }
 
     fn look(&mut self, _ticket: u64) -> Result<Option<bool>, Fault> {

@@ -1,7 +1,12 @@
 //! Transactions on the disk.
 //!
 //! 1. `HeapGround` is a heap on an image as the ground of a lock. What it stands for is a relation: the bytes at begin stand
-//!    for the world before the transaction, and the heap now for the one that it has made.
+//!    for the world before the transaction, and the heap now for the one that it has made. The six calls on raw objects are
+//!    steps of the machine; any other isn't served yet.
+//! 2. Where a changing call is refused, the transaction can only be put back: `HeapGround` keeps nothing of it, and answers
+//!    want of memory where it is asked to.
+//! 3. `Station` nests transactions on such a ground: an end is all or nothing, a doomed call is refused, and after a disk
+//!    fault everything fails.
 #![tactic(auto)]
 
 mod calls;
@@ -9,6 +14,8 @@ mod closing;
 mod error;
 mod ground;
 mod page;
+mod station;
 
 pub use error::{OpenError, Shut};
 pub use ground::HeapGround;
+pub use station::{Closed, Station};

@@ -52,7 +52,8 @@ impl Page {
 
     /// The bytes.
     pub fn as_slice(&self) -> &[u8]
-        ensures { result.now ≡ self.now }
+        ensures bytes { result.now ≡ self.now }
+        ensures few { length result.now ≤ 4096 }
     {
         &self.bytes[..self.count]
     }

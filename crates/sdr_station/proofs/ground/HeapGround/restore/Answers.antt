@@ -9,7 +9,7 @@ use Rattle.sdr_lock.specs.Serving.{Brings, PutsBack, KeepsGround}
 use Rattle.sdr_station.proofs.ClosingLemmas.{back_ground, brings_back, keeps_brought, leaves_back}
 use Rattle.sdr_station.proofs.GroundLemmas.{heap_ground}
 use Rattle.sdr_station.specs.Grounded.{Grounded, Stands}
-use Rattle.sdr_station.proofs.ground.HeapGroundServes.put_back.Goals as goal
+use Rattle.sdr_station.proofs.ground.HeapGround.restore.Goals as goal
 
 pub returns-in-Ok-clause-put_back : goal.returns-in-Ok-clause-put_back
 returns-in-Ok-clause-put_back g c =

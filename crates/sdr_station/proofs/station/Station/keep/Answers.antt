@@ -1,0 +1,31 @@
+use Rattle.std.proofs.Common.{◌∙◌, ap, refl, subst, Ok, Err, Some, ℕ}
+use Rattle.sdr_base.specs.declared.stop.Stop.TheVariants as stops
+use Rattle.sdr_model.specs.declared.answer.Close.TheVariants as closes
+use Rattle.sdr_station.proofs.GroundLemmas.{heap_ground}
+use Rattle.sdr_station.specs.Stationed.{Closes, Stationed}
+use Rattle.sdr_station.specs.declared.station.Closed.TheVariants as closed
+use Rattle.sdr_station.proofs.station.Station.keep.Goals as goal
+
+pub returns-in-Ok : goal.returns-in-Ok
+returns-in-Ok g c =
+    let D = g.row.D.Denot in
+    let h = heap_ground g.D.Disk.bytes g.D.Disk.moment g.D.Disk.faults g.D.Disk.may_leave in
+    let old : Stationed D = record { ground = c.self.inside.ground; nesting = c.self.inside.nesting; failed = c.self.inside.failed } in
+    let new : Stationed D = record { ground = c.save.new.self; nesting = c.none-self-inside.result; failed = c.self.inside.failed } in
+    subst (λ (o : Stationed D). Closes h closes.Ended o new (Ok closed.Ended)) c.self.view_is (record {
+      closes = (refl, c.in-Ok.ensures.kept, ap (λ (s : Stationed D). s.failed) c.self.view_is ∙ c.requires.sound);
+      nesting = c.none-self-inside.ensures;
+      any_moment = c.in-Ok.ensures.any_moment;
+    })
+
+pub returns-in-Err : goal.returns-in-Err
+returns-in-Err g c =
+    let D = g.row.D.Denot in
+    let h = heap_ground g.D.Disk.bytes g.D.Disk.moment g.D.Disk.faults g.D.Disk.may_leave in
+    let old : Stationed D = record { ground = c.self.inside.ground; nesting = c.self.inside.nesting; failed = c.self.inside.failed } in
+    let new : Stationed D = record { ground = c.save.new.self; nesting = c.none-self-inside-in-Err.result; failed = Some c.moment.result } in
+    subst (λ (o : Stationed D). Closes h closes.Ended o new (Err stops.DiskFault)) c.self.view_is (record {
+      closes = (refl, c.in-Err.ensures.fault, ap (λ (m : ℕ). Some m) c.moment.ensures);
+      nesting = c.none-self-inside-in-Err.ensures;
+      any_moment = c.in-Err.ensures.any_moment;
+    })

@@ -1,0 +1,32 @@
+use Rattle.std.proofs.Common.{◌∙◌, ap, refl, subst, Ok, Err, Some, ℕ}
+use Rattle.sdr_base.specs.declared.stop.Stop.TheVariants as stops
+use Rattle.sdr_station.proofs.GroundLemmas.{heap_ground}
+use Rattle.sdr_station.specs.Stationed.{Closes, Stationed}
+use Rattle.sdr_station.proofs.StationLemmas.{leaves_unkept, settles_back}
+use Rattle.sdr_station.proofs.station.Station.put_back.Goals as goal
+
+pub returns-in-Ok : goal.returns-in-Ok
+returns-in-Ok g c =
+    let D = g.row.D.Denot in
+    let h = heap_ground g.D.Disk.bytes g.D.Disk.moment g.D.Disk.faults g.D.Disk.may_leave in
+    let close = c.args.close in
+    let old : Stationed D = record { ground = c.self.inside.ground; nesting = c.self.inside.nesting; failed = c.self.inside.failed } in
+    let new : Stationed D = record { ground = c.restore.new.self; nesting = c.none-self-inside.result; failed = c.self.inside.failed } in
+    subst (λ (o : Stationed D). Closes h close o new (Ok c.args.told)) c.self.view_is (record {
+      closes = (c.requires.told, settles_back h close old.ground new.ground c.requires.unkept c.in-Ok.ensures.put_back, ap (λ (s : Stationed D). s.failed) c.self.view_is ∙ c.requires.sound);
+      nesting = c.none-self-inside.ensures;
+      any_moment = leaves_unkept h close old.ground new.ground c.requires.unkept c.in-Ok.ensures.any_moment;
+    })
+
+pub returns-in-Err : goal.returns-in-Err
+returns-in-Err g c =
+    let D = g.row.D.Denot in
+    let h = heap_ground g.D.Disk.bytes g.D.Disk.moment g.D.Disk.faults g.D.Disk.may_leave in
+    let close = c.args.close in
+    let old : Stationed D = record { ground = c.self.inside.ground; nesting = c.self.inside.nesting; failed = c.self.inside.failed } in
+    let new : Stationed D = record { ground = c.restore.new.self; nesting = c.none-self-inside-in-Err.result; failed = Some c.moment.result } in
+    subst (λ (o : Stationed D). Closes h close o new (Err stops.DiskFault)) c.self.view_is (record {
+      closes = (refl, c.in-Err.ensures.fault, ap (λ (m : ℕ). Some m) c.moment.ensures);
+      nesting = c.none-self-inside-in-Err.ensures;
+      any_moment = leaves_unkept h close old.ground new.ground c.requires.unkept c.in-Err.ensures.any_moment;
+    })

@@ -1,0 +1,41 @@
+use Rattle.std.proofs.Common.{◌≡◌, ◌∙◌, ap, arith, sym, subst}
+use Rattle.sdr_lock.proofs.WorkLemmas.{on_none}
+use Rattle.sdr_lock.specs.declared.nesting.Nesting.{Nesting}
+use Rattle.sdr_station.proofs.GroundLemmas.{heap_ground}
+use Rattle.sdr_station.proofs.StationLemmas.{noted_depth, undoomed_noted}
+use Rattle.sdr_station.specs.Grounded.{Lasts}
+use Rattle.sdr_station.specs.Stationed.{SaysOr, Stationed}
+use Rattle.sdr_station.proofs.station.Station.reply.Goals as goal
+
+pub serve-reply-requires-clause-lasts : goal.serve-reply-requires-clause-lasts
+serve-reply-requires-clause-lasts g c =
+    subst (λ (s : Stationed g.row.D.Denot). Lasts g.D.Disk.bytes g.D.Disk.moment g.D.Disk.may_leave s.ground) (sym c.self.view_is) c.requires.lasts
+
+pub returns-clause-lasts : goal.returns-clause-lasts
+returns-clause-lasts g c =
+    c.serve-reply.ensures.keeps.lasts 0
+    (subst (λ (s : Stationed g.row.D.Denot). Lasts g.D.Disk.bytes g.D.Disk.moment g.D.Disk.may_leave s.ground) (sym c.self.view_is) c.requires.lasts)
+
+pub returns-clause-says : goal.returns-clause-says
+returns-clause-says g c =
+    let D = g.row.D.Denot in
+    let h = heap_ground g.D.Disk.bytes g.D.Disk.moment g.D.Disk.faults g.D.Disk.may_leave in
+    let old : Stationed D = record { ground = c.self.inside.ground; nesting = c.self.inside.nesting; failed = c.self.inside.failed } in
+    let new : Stationed D = record { ground = c.serve-reply.new.self; nesting = c.note.new.self; failed = c.self.inside.failed } in
+    subst (λ (s : Stationed D). SaysOr h c.args.call.now c.serve-reply.result s new) c.self.view_is
+    (on_none _ _ c.self.inside.failed c.in_default.is (on_none _ _ c.self.inside.nesting.doom c.in_default-doom.is
+    (record { steps = c.serve-reply.ensures.answered; nesting = c.note.ensures; failed = c.in_default.is })))
+
+pub invariant_of-self : goal.invariant_of-self
+invariant_of-self g c =
+    let call = c.args.call.now in
+    let reply = c.serve-reply.result in
+    let n : Nesting = c.self.inside.nesting in
+    record {
+      going = λ sound none. c.serve-reply.ensures.stopped ∙ undoomed_noted call reply n (ap (λ (m : Nesting). m.doom) (sym c.note.ensures) ∙ none);
+      idle = λ sound zero.
+          let same : c.note.new.self.depth ≡ n.depth = ap (λ (m : Nesting). m.depth) c.note.ensures ∙ noted_depth call reply n in
+          let here : n.depth ≡ c.args.self.now.nesting.depth = ap (λ (s : Stationed g.row.D.Denot). s.nesting.depth) c.self.view_is in
+          absurd (omega (arith, same, here, zero, c.requires.begun));
+      sound = λ sound. c.serve-reply.ensures.sound;
+    }

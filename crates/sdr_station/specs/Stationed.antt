@@ -1,0 +1,116 @@
+-- A station: what its calls and events do.
+use Rattle.std.specs.Prelude.{◌≡◌, ◌==◌, ℕ, Bool, false, ⊤, Option, None, Some, Result, Ok, Err, nat_le, MatchBool, MatchOption}
+use Rattle.sdr_base.specs.declared.refusal.Refusal.TheVariants as refusals
+use Rattle.sdr_base.specs.declared.stop.Stop.{Stop}
+use Rattle.sdr_base.specs.declared.stop.Stop.TheVariants as stops
+use Rattle.sdr_lock.specs.Crash.{LeavesOr, is_kept}
+use Rattle.sdr_lock.specs.Nesting.{Inner, closing, deepened, nested, noted, unbegun}
+use Rattle.sdr_lock.specs.Serving.{Brings, Calls, MeetsFault, Settles, shown_in}
+use Rattle.sdr_lock.specs.Standing.{Standing}
+use Rattle.sdr_lock.specs.declared.has_ground.HasGround.{Ghosts}
+use Rattle.sdr_lock.specs.declared.nesting.Nesting.{Nesting}
+use Rattle.sdr_model.specs.declared.answer.Answer.{Answer}
+use Rattle.sdr_model.specs.declared.answer.Answer.TheVariants as answers
+use Rattle.sdr_model.specs.declared.answer.Close.{Close}
+use Rattle.sdr_model.specs.declared.answer.Close.TheVariants as closes
+use Rattle.sdr_model.specs.declared.answer.Reply.{Reply}
+use Rattle.sdr_model.specs.declared.answer.Reply.TheVariants as replies
+use Rattle.sdr_model.specs.declared.call.Call.{Call}
+use Rattle.sdr_model.specs.declared.event.Event.{Event}
+use Rattle.sdr_station.specs.Grounded.{Grounded}
+use Rattle.sdr_station.specs.declared.station.Closed.{Closed}
+use Rattle.sdr_station.specs.declared.station.Closed.TheVariants as closed
+
+-- the ground, the nesting of the open transaction, and the disk's moment as it failed
+pub record Stationed (D : Type 0) : Type 0 where
+  pub ground : Grounded D
+  pub nesting : Nesting
+  pub failed : Option ℕ
+
+-- Unless the disk has failed: where the transaction isn't doomed, no call was stopped in it; and where none has begun, none is
+-- doomed.
+pub record IsStation {D : Type 0} (ground : Grounded D) (nesting : Nesting) (failed : Option ℕ) : Type 0 where
+  pub going : failed ≡ None → nesting.doom ≡ None → ground.stopped ≡ false
+  pub idle : failed ≡ None → nesting.depth ≡ 0 → nesting.doom ≡ None
+  pub sound : failed ≡ None → ground.heap.cells.failed ≡ false
+
+-- the answer to an inner close, as a depth
+abbrev pub HasRisen : Answer → Result Closed Stop → Type 0
+HasRisen (answers.Depth depth) result = result ≡ Ok (closed.Depth depth)
+HasRisen answer result = ⊤
+
+-- the answer tells what an event came to: a depth, or a refusal
+abbrev pub IsToldAs : Answer → Result ℕ Stop → Type 0
+IsToldAs (answers.Depth depth) (Ok told) = told ≡ depth
+IsToldAs (answers.Reply (replies.Refused refusal)) (Err (stops.Refused told)) = told ≡ refusal
+IsToldAs answer result = ⊥
+
+-- an inner begin, or the first one
+pub record Deepens {D : Type 0} (inner : Inner) (old new : Stationed D) (result : Result ℕ Stop) : Type 0 where
+  pub told : IsToldAs inner.answer result
+  pub after : new ≡ record old { nesting = inner.after }
+
+-- what a begin does: the first one opens, another one is one deeper or refused, and after a disk fault it fails
+abbrev pub Begins : {D : Type 0} → Stationed D → Stationed D → Result ℕ Stop → Type 0
+Begins old new result =
+    MatchOption old.failed
+    (MatchBool (old.nesting.depth == 0)
+    ((result ≡ Ok 1) × (new ≡ record old { nesting = nested 1 }))
+    (Deepens (deepened old.nesting) old new result))
+    (λ moment. (result ≡ Err stops.Failed) × (new ≡ old))
+
+-- A call in a transaction that isn't doomed is a step, and is noted.
+pub record Says {D : Type 0} (g : Ghosts (Grounded D)) (call : Call) (reply : Reply) (old new : Stationed D) : Type 0 where
+  pub steps : Brings g.stands old.ground new.ground (Calls None call reply)
+  pub nesting : new.nesting ≡ noted call reply old.nesting
+  pub failed : new.failed ≡ None
+
+-- what a call does: it is a step, or is refused where the transaction is doomed, or fails after a disk fault
+abbrev pub SaysOr : {D : Type 0} → Ghosts (Grounded D) → Call → Reply → Stationed D → Stationed D → Type 0
+SaysOr g call reply old new =
+    MatchOption old.failed
+    (MatchOption old.nesting.doom
+    (Says g call reply old new)
+    (λ by. (reply ≡ replies.Refused (refusals.Doomed by)) × (new ≡ old)))
+    (λ moment. (reply ≡ replies.Failed moment) × (new ≡ old))
+
+-- how an outermost close is told
+abbrev pub closed_as : Close → Closed
+closed_as closes.Ended = closed.Ended
+closed_as closes.Exited = closed.Exited
+closed_as (closes.Cancelled reason) = closed.Cancelled reason
+closed_as closes.Faulted = closed.Exited
+
+-- an outermost close: the transaction is kept or put back, and told so, or the disk failed
+abbrev pub ClosesWith : {D : Type 0} → Ghosts (Grounded D) → Close → Stationed D → Stationed D → Result Closed Stop → Type 0
+ClosesWith g close old new (Ok told) = (told ≡ closed_as close) × Brings g.stands old.ground new.ground (Settles close) × (new.failed ≡ None)
+ClosesWith g close old new (Err stop) = (stop ≡ stops.DiskFault) × MeetsFault g old.ground new.ground × (new.failed ≡ Some (g.moment new.ground))
+
+-- an outermost close, after which no transaction has begun
+pub record Closes {D : Type 0} (g : Ghosts (Grounded D)) (close : Close) (old new : Stationed D) (result : Result Closed Stop) : Type 0 where
+  pub closes : ClosesWith g close old new result
+  pub nesting : new.nesting ≡ unbegun
+  pub any_moment : LeavesOr (is_kept close) g old.ground new.ground
+
+-- an inner close: one less deep
+pub record Rises {D : Type 0} (inner : Inner) (old new : Stationed D) (result : Result Closed Stop) : Type 0 where
+  pub depth : ℕ
+  pub told : result ≡ Ok (closed.Depth depth)
+  pub is : inner.answer ≡ answers.Depth depth
+  pub after : new ≡ record old { nesting = inner.after }
+
+-- what an end, a cancel or an exit does
+abbrev pub ClosesBy : {D : Type 0} → Ghosts (Grounded D) → Event → (Nesting → Inner) → Stationed D → Stationed D → Result Closed Stop → Type 0
+ClosesBy g event inner old new result =
+    MatchOption old.failed
+    (MatchBool (nat_le old.nesting.depth 1)
+    (Closes g (closing old.nesting event) old new result)
+    (Rises (inner old.nesting) old new result))
+    (λ moment. (result ≡ Err stops.Failed) × (new ≡ old))
+
+-- what a look does: there is no ticket before the transaction, or it fails after a disk fault
+abbrev pub LooksAt : {D : Type 0} → Ghosts (Grounded D) → ℕ → Stationed D → Result Bool Stop → Type 0
+LooksAt g ticket s result =
+    MatchOption s.failed
+    ((result ≡ Err (stops.Refused (refusals.BadTicket ticket))) × ((v : Standing) → g.stands s.ground v → shown_in v.before.world ticket ≡ None))
+    (λ moment. result ≡ Err stops.Failed)

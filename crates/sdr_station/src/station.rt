@@ -1,0 +1,260 @@
+// A transaction on the world that a disk keeps.
+ghost use Rattle.std.specs.Prelude.{◌≡◌, ◌<◌, None, true, false, length, take, IfErr, IfOk};
+ghost use Rattle.sdr_lock.specs.Crash.{is_kept};
+ghost use Rattle.sdr_lock.specs.Nesting.{cancelled, closing, ended, unbegun};
+ghost use Rattle.sdr_station.specs.Answering.{built};
+ghost use Rattle.sdr_station.specs.Grounded.{Lasts};
+ghost use Rattle.sdr_station.specs.Opening.{ExplainsOpen, IsOpen};
+ghost use Rattle.sdr_station.specs.Stationed.{Begins, Closes, ClosesBy, HasRisen, LooksAt, SaysOr, closed_as};
+
+use crate::HeapGround;
+use crate::error::Shut;
+use crate::page::PAGE;
+use sdr_base::{Move, Reason, Refusal, Stop};
+use sdr_disk::Disk;
+use sdr_lock::{Fault, HasGround, Nesting, Serves};
+use sdr_model::{Answer, Call, Close, Event, Reply};
+use std::alloc::Global;
+use std::marker::Model;
+
+/// What an end, a cancel or an exit came to.
+#[derive(Clone, Copy, Debug, PartialEq, Eq)]
+pub enum Closed {
+    /// The depth of nested transactions that is left.
+    Depth(u64),
+    Ended,
+    Cancelled(Reason),
+    Exited,
+}
+
+/// A transaction on the world that a disk keeps, nested to a depth of 64. An end is all or nothing. After a disk
+/// fault each call answers `Failed`.
+#[derive(Drop)]
+pub struct Station<D: Disk> {
+    ground: HeapGround<D>,
+    nesting: Nesting,
+    /// The disk's moment as it failed.
+    failed: Option<u64>,
+}
+
+impl<D: Disk> Model for Station<D> {
+    ghost use Rattle.sdr_station.specs.Stationed.{IsStation, Stationed};
+
+    ghost Value = { Stationed D };
+
+    ghost view = { λ s. record { ground = s.ground; nesting = s.nesting; failed = s.failed } };
+
+    ghost invariant = { λ s. IsStation s.ground s.nesting s.failed };
+}
+
+impl<D: Disk> Station<D> {
+    /// Opens the heap on a disk, as `HeapGround::open` does. No transaction is open, and all memory is taken here.
+    pub fn open(alloc: Global, disk: D) -> Result<Station<D>, Shut<D>>
+        ensures opened { IfOk result (λ s. IsOpen D.bytes D.moment D.may_leave disk s.ground) }
+        ensures idle { IfOk result (λ s. (s.nesting ≡ unbegun) × (s.failed ≡ None)) }
+        ensures why { IfErr result (λ shut. ExplainsOpen (D.bytes disk) (D.faults disk) (D.faults shut.disk) shut.why) }
+    {
+        let ground = HeapGround::open(alloc, disk)?;
+        Ok(Station {
+            ground,
+            nesting: Nesting::none(),
+            failed: None,
+        })
+    }
+
+    /// Whether a ticket is granted. So far no world has one.
+    pub fn look(&mut self, ticket: u64) -> Result<bool, Stop>
+        requires { self.old.nesting.depth ≡ 0 }
+        ensures looks { LooksAt ⟦<HeapGround<D> as HasGround>⟧ ticket self.old result }
+        ensures same { self.new ≡ self.old }
+    {
+        if self.failed.is_some() {
+            return Err(Stop::Failed);
+        }
+        Err(Stop::Refused(Refusal::BadTicket { ticket }))
+    }
+
+    /// The disk. What the open transaction has done is lost.
+    pub fn into_disk(self) -> D
+        ensures { result ≡ self.ground.heap.cells.disk }
+    {
+        let Station {
+            ground,
+            nesting: _,
+            failed: _,
+        } = self;
+        ground.into_disk()
+    }
+
+    /// Begins a transaction, or one inside it, and answers the depth. It is refused at the greatest, which dooms.
+    pub fn begin(&mut self) -> Result<u64, Stop>
+        ensures { Begins self.old self.new result }
+    {
+        if self.failed.is_some() {
+            return Err(Stop::Failed);
+        }
+        if self.nesting.depth == 0 {
+            self.nesting = Nesting::at(1);
+            return Ok(1);
+        }
+        match self.nesting.begin() {
+            Answer::Depth { depth } => Ok(depth),
+            _ => Err(Stop::Refused(Refusal::TooDeep)),
+        }
+    }
+
+    /// Makes a call, and fills the buffer with the bytes that it gives.
+    pub fn call(&mut self, call: &Call, into: &mut [u8; PAGE]) -> Reply
+        requires begun { 0 < self.old.nesting.depth }
+        requires built { built call.now ≡ true }
+        requires lasts { Lasts D.bytes D.moment D.may_leave self.old.ground }
+        ensures says { SaysOr ⟦<HeapGround<D> as HasGround>⟧ call.now result self.old self.new }
+        ensures shown { take (length self.new.ground.shown) into.new ≡ self.new.ground.shown }
+        ensures lasts { Lasts D.bytes D.moment D.may_leave self.new.ground }
+    {
+        let reply = self.reply(call);
+        let shown = self.ground.shown();
+        into[..shown.len()].copy_from_slice(shown);
+        reply
+    }
+
+    // Makes a call.
+    fn reply(&mut self, call: &Call) -> Reply
+        requires begun { 0 < self.old.nesting.depth }
+        requires built { built call.now ≡ true }
+        requires lasts { Lasts D.bytes D.moment D.may_leave self.old.ground }
+        ensures says { SaysOr ⟦<HeapGround<D> as HasGround>⟧ call.now result self.old self.new }
+        ensures lasts { Lasts D.bytes D.moment D.may_leave self.new.ground }
+    {
+        if let Some(moment) = self.failed {
+            return Reply::Failed { moment };
+        }
+        if let Some(by) = self.nesting.doom {
+            return Reply::Refused(Refusal::Doomed { by });
+        }
+        let reply = self.ground.serve(call);
+        self.nesting.note(call, reply);
+        reply
+    }
+
+    /// The moves of the last call.
+    pub fn moves(&self) -> &[Move]
+        ensures { result.now ≡ self.now.ground.heap.moves }
+    {
+        self.ground.moves()
+    }
+
+    /// The disk's moment.
+    pub fn now(&self) -> u64
+        ensures { result ≡ self.now.ground.moment }
+    {
+        self.ground.moment()
+    }
+
+    // Keeps the transaction.
+    fn keep(&mut self) -> Result<Closed, Stop>
+        requires sound { self.old.failed ≡ None }
+        requires undoomed { self.old.nesting.doom ≡ None }
+        ensures { Closes ⟦<HeapGround<D> as HasGround>⟧ Close.Ended self.old self.new result }
+    {
+        match self.ground.save() {
+            Ok(()) => {
+                self.nesting = Nesting::none();
+                Ok(Closed::Ended)
+            }
+            Err(Fault) => {
+                self.nesting = Nesting::none();
+                self.failed = Some(self.ground.moment());
+                Err(Stop::DiskFault)
+            }
+        }
+    }
+
+    // Puts the transaction back, which closes so.
+    fn put_back(&mut self, told: Closed, close: Close) -> Result<Closed, Stop>
+        requires sound { self.old.failed ≡ None }
+        requires told { told ≡ closed_as close }
+        requires unkept { is_kept close ≡ false }
+        ensures { Closes ⟦<HeapGround<D> as HasGround>⟧ close self.old self.new result }
+    {
+        match self.ground.restore() {
+            Ok(()) => {
+                self.nesting = Nesting::none();
+                Ok(told)
+            }
+            Err(Fault) => {
+                self.nesting = Nesting::none();
+                self.failed = Some(self.ground.moment());
+                Err(Stop::DiskFault)
+            }
+        }
+    }
+
+    // Closes the transaction.
+    fn close(&mut self, event: &Event) -> Result<Closed, Stop>
+        requires sound { self.old.failed ≡ None }
+        ensures { Closes ⟦<HeapGround<D> as HasGround>⟧ (closing self.old.nesting event.now) self.old self.new result }
+    {
+        match self.nesting.closing(event) {
+            Close::Ended => self.keep(),
+            Close::Exited => self.put_back(Closed::Exited, Close::Exited),
+            Close::Cancelled(reason) => {
+                self.put_back(Closed::Cancelled(reason), Close::Cancelled(reason))
+            }
+            Close::Faulted => self.put_back(Closed::Exited, Close::Faulted),
+        }
+    }
+
+    // One less deep, by what the answer tells.
+    fn risen(answer: Answer) -> Result<Closed, Stop>
+        ensures { HasRisen answer result }
+    {
+        match answer {
+            Answer::Depth { depth } => Ok(Closed::Depth(depth)),
+            _ => Err(Stop::Failed),
+        }
+    }
+
+    /// Ends the transaction, or the innermost one inside it. The outermost end keeps what was done, unless it is
+    /// doomed.
+    pub fn end(&mut self) -> Result<Closed, Stop>
+        requires begun { 0 < self.old.nesting.depth }
+        ensures { ClosesBy ⟦<HeapGround<D> as HasGround>⟧ Event.End ended self.old self.new result }
+    {
+        if self.failed.is_some() {
+            return Err(Stop::Failed);
+        }
+        if self.nesting.depth <= 1 {
+            return self.close(&Event::End);
+        }
+        Self::risen(self.nesting.end())
+    }
+
+    /// Cancels the transaction. An inner cancel dooms it.
+    pub fn cancel(&mut self) -> Result<Closed, Stop>
+        requires begun { 0 < self.old.nesting.depth }
+        ensures { ClosesBy ⟦<HeapGround<D> as HasGround>⟧ Event.Cancel cancelled self.old self.new result }
+    {
+        if self.failed.is_some() {
+            return Err(Stop::Failed);
+        }
+        if self.nesting.depth <= 1 {
+            return self.close(&Event::Cancel);
+        }
+        Self::risen(self.nesting.cancel())
+    }
+
+    /// Ends the transaction, which was to change nothing.
+    pub fn exit(&mut self) -> Result<Closed, Stop>
+        requires begun { 0 < self.old.nesting.depth }
+        ensures { ClosesBy ⟦<HeapGround<D> as HasGround>⟧ Event.Exit ended self.old self.new result }
+    {
+        if self.failed.is_some() {
+            return Err(Stop::Failed);
+        }
+        if self.nesting.depth <= 1 {
+            return self.close(&Event::Exit);
+        }
+        Self::risen(self.nesting.end())
+    }
+}
