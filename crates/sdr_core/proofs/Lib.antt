@@ -1,2 +1,3 @@
+pub mod KeeperLemmas
 pub mod PlaceLemmas
 pub mod SpokenLemmas

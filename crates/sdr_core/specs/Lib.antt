@@ -1,3 +1,6 @@
+pub mod CoreKept
+pub mod Drafting
 pub mod Keeping
+pub mod Logging
 pub mod Noting
 pub mod Room

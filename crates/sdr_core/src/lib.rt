@@ -2,11 +2,14 @@
 #![tactic(auto)]
 
 mod copying;
+mod draft;
+mod keeper;
 mod noted;
 mod spoken;
 mod tells;
 
-pub use copying::copy_of;
-pub use noted::{Noted, Under, closed_by, is_outside, what_else};
-pub use spoken::{Spoken, reserve_said, say, take_spoken};
+pub use draft::Draft;
+pub use keeper::Keeper;
+pub use noted::{Noted, Under};
+pub use spoken::Spoken;
 pub use tells::{Room, Tells};
