@@ -1,5 +1,5 @@
 -- What a keeper keeps of one more that is said.
-use Rattle.std.proofs.Common.{◌≡◌, ◌∙◌, ℕ, List, [], ◌∷◌, ◌++◌, Bool, true, false, Option, None, Some, MatchOption, refl, sym, ap, subst}
+use Rattle.std.proofs.Common.{◌≡◌, ◌∙◌, ℕ, List, [], ◌∷◌, ◌++◌, Bool, true, false, None, Some, MatchOption, refl, sym, ap, subst}
 use Rattle.std.specs.Option.{option_map, option_map_or, option_to_list}
 use Rattle.std.specs.Prelude.{if◌then◌else◌, ⊤}
 use Rattle.sdr_lock.specs.Core.{Log, Under, Work, all_said, closed_by, entry_of, is_outside, log_after, said_by, what_else, with_said, without_work, works_after}
@@ -35,11 +35,11 @@ pub closed_log : (u : Under) (log log' : Log) (e : Made) (close : Close) → clo
 closed_log u log log' e close closes within works journal =
     let inside : is_outside e.said ≡ false = subst (λ o. MatchOption o ⊤ (λ (c : Close). is_outside e.said ≡ false)) closes within in
     let kept : log'.works ≡ (if is_outside e.said then log.works else works_after log.works e.daemon e.said) =
-        works ∙ without_work-with_said log.works e.daemon e.said
-        ∙ sym (ap (λ b. if b then log.works else works_after log.works e.daemon e.said) inside
-        ∙ ap (λ o. option_map_or (λ (c : Close). without_work log.works e.daemon) o (with_said log.works e.daemon e.said)) closes) in
+    works ∙ without_work-with_said log.works e.daemon e.said
+    ∙ sym (ap (λ b. if b then log.works else works_after log.works e.daemon e.said) inside
+    ∙ ap (λ o. option_map_or (λ (c : Close). without_work log.works e.daemon) o (with_said log.works e.daemon e.said)) closes) in
     let added : log'.journal ≡ (log_after u log e).journal =
-        journal
-        ∙ sym (ap (λ o. log.journal ++ option_to_list (option_map (entry_of u.number e)
-        (option_map_or (λ (c : Close). Some (whats.Work (all_said log.works e.daemon e.said) c)) o (what_else u e.said.event e.said.answer)))) closes) in
+    journal
+    ∙ sym (ap (λ o. log.journal ++ option_to_list (option_map (entry_of u.number e)
+    (option_map_or (λ (c : Close). Some (whats.Work (all_said log.works e.daemon e.said) c)) o (what_else u e.said.event e.said.answer)))) closes) in
     λ i. record { works = kept i; journal = added i }

@@ -1,11 +1,11 @@
 -- Where a daemon's transaction stands among others.
-use Rattle.std.proofs.Common.{◌≡◌, ◌∙◌, ◌==◌, ◌+◌, ◌-◌, ◌<◌, ℕ, List, [], ◌∷◌, ◌++◌, Bool, true, false, not, cond, length, Option, None, Some, MatchOption, Result, Ok, Err, OnOk, refl, sym, ap, subst, find, map, arith, length-append, append-nil}
+use Rattle.std.proofs.Common.{◌≡◌, ◌∙◌, ◌==◌, ◌+◌, ◌<◌, ℕ, List, [], ◌∷◌, ◌++◌, Bool, true, false, not, cond, length, Option, None, Some, MatchOption, Result, Ok, Err, OnOk, refl, sym, ap, subst, find, arith, length-append, append-nil}
 use Rattle.std.specs.List.{filter, flat_map, position_from, remove}
 use Rattle.std.specs.Prelude.{if◌then◌else◌, position, slice_index_or, slice_set, ⊤}
 use Rattle.std.proofs.lemmas.Iterator.Adapters.{position_from-zero}
 use Rattle.sdr_model.specs.declared.journal.Said.{Said}
 use Rattle.sdr_lock.specs.Core.{Work, said_by, with_said, without_work}
-use Rattle.sdr_core.proofs.SpokenLemmas.{found_head, said_by-none, without_work-none}
+use Rattle.sdr_core.proofs.SpokenLemmas.{said_by-none, without_work-none}
 use Rattle.sdr_core.specs.Keeping.{AreApart, HasSpace, MaySay, StandsAt, is_of, spoken_of, work_of, works_of}
 use Rattle.std.proofs.Math.Seq.{get_or-append_seam, set-append_seam}
 use Rattle.sdr_core.specs.declared.spoken.Spoken.{Spoken}

@@ -4,7 +4,6 @@ use Rattle.std.specs.declared.alloc.AllocError.{AllocError}
 use Rattle.std.specs.Option.{option_map_or}
 use Rattle.sdr_base.specs.Media.{Told}
 use Rattle.sdr_base.specs.declared.moves.Move.{Move}
-use Rattle.sdr_model.specs.declared.answer.Answer.{Answer}
 use Rattle.sdr_model.specs.declared.event.Event.{Event}
 use Rattle.sdr_lock.specs.Core.{AreInTime, Core, CoreStep, Log, RunsCore, first_core, log_after, under}
 use Rattle.sdr_lock.specs.Crash.{LeavesOr}
@@ -131,7 +130,7 @@ pub keeps_new : {T : Type 0} (g : Ghosts T) (b : Begins) (daemons : List ℕ) (b
     → log ≡ record { works = []; journal = [] } → BeginsOn g b daemons base → KeepsRun g b (record { lock = lock; log = log })
 keeps_new g b daemons base lock log made none begins =
     let kept : record { lock = record { roll = first_roll daemons; base = base }; log = record { works = []; journal = [] } } ≡ record { lock = lock; log = log } =
-        λ i. record { lock = sym made i; log = sym none i } in
+    λ i. record { lock = sym made i; log = sym none i } in
     subst (KeepsRun g b) kept (keeps_first g b daemons base begins)
 
 -- the journal that is kept is legal

@@ -1,7 +1,7 @@
 -- What one more that is said makes of the open transactions.
-use Rattle.std.proofs.Common.{◌≡◌, ◌∙◌, ◌==◌, ℕ, List, [], ◌∷◌, ◌++◌, Bool, true, false, not, cond, Option, None, Some, refl, sym, ap, subst, find, append-nil}
+use Rattle.std.proofs.Common.{◌≡◌, ◌∙◌, ◌==◌, ℕ, List, [], ◌∷◌, ◌++◌, Bool, true, false, not, cond, Option, None, Some, refl, sym, ap, subst, find}
 use Rattle.std.specs.List.{filter, flat_map}
-use Rattle.std.specs.Prelude.{if◌then◌else◌, ⊤}
+use Rattle.std.specs.Prelude.{if◌then◌else◌}
 use Rattle.sdr_model.specs.declared.journal.Said.{Said}
 use Rattle.sdr_lock.specs.Core.{Work, said_by, with_said, without_work}
 use Rattle.sdr_core.specs.Keeping.{AreApart, is_of}

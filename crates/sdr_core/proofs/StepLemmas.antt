@@ -1,5 +1,5 @@
 -- What a step of the machine may leave to be noted.
-use Rattle.std.proofs.Common.{◌≡◌, ◌∙◌, ◌≤◌, ◌||◌, ℕ, List, [], ◌∷◌, Bool, true, false, length, Option, None, Some, MatchOption, refl, sym, ap, subst, arith, vec_capacity, true≢false}
+use Rattle.std.proofs.Common.{◌≡◌, ◌∙◌, ◌≤◌, ◌||◌, ℕ, List, [], Bool, true, false, length, None, MatchOption, refl, sym, ap, subst, arith, vec_capacity, true≢false}
 use Rattle.std.specs.Prelude.{⊤}
 use Rattle.sdr_model.specs.declared.answer.Answer.{Answer}
 use Rattle.sdr_model.specs.declared.answer.Answer.TheVariants as answers
@@ -12,9 +12,7 @@ use Rattle.sdr_lock.specs.Core.{closed_by, is_failed, is_outside, is_passed_over
 use Rattle.sdr_lock.specs.Machine.{Comes, Holds, Machine, Made, MachineStep}
 use Rattle.sdr_lock.specs.Roll.{daemon_of}
 use Rattle.sdr_lock.specs.Transaction.{bytes_given}
-use Rattle.sdr_lock.specs.declared.daemon.Daemon.{Daemon}
-use Rattle.sdr_lock.specs.declared.daemon.Holding.{Holding}
-use Rattle.sdr_lock.proofs.StepLemmas.{IsCalled, IsQuiet, Kind, from_option, from_test, step_is}
+use Rattle.sdr_lock.proofs.StepLemmas.{IsCalled, Kind, from_option, from_test, step_is}
 use Rattle.sdr_core.specs.Drafting.{FitsIn}
 use Rattle.sdr_core.specs.Logging.{ClosesWithin}
 use Rattle.sdr_core.specs.Room.{HoldsEvent}

@@ -1,10 +1,9 @@
 -- What the type of a core keeps.
-use Rattle.std.specs.Prelude.{◌≡◌, ◌≤◌, ℕ, List, [], ◌∷◌, Option, true, ⊤}
+use Rattle.std.specs.Prelude.{◌≡◌, ◌≤◌, ℕ, List, [], ◌∷◌, Option, ⊤}
 use Rattle.sdr_base.specs.Media.{Told}
 use Rattle.sdr_lock.specs.Core.{AreInTime, Core, CoreStep, Log, RunsCore, first_core}
 use Rattle.sdr_lock.specs.Ground.{State, resting}
 use Rattle.sdr_lock.specs.Machine.{Made}
-use Rattle.sdr_lock.specs.Roll.{Roll}
 use Rattle.sdr_lock.specs.Serving.{Leads, Locked, Stood, StoodFor, machine_at, made_by}
 use Rattle.sdr_lock.specs.Standing.{Standing}
 use Rattle.sdr_lock.specs.declared.came.Came.{Came}

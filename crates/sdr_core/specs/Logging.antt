@@ -1,5 +1,5 @@
 -- The log that a keeper keeps, and what it has room for.
-use Rattle.std.specs.Prelude.{◌≡◌, ◌<◌, ◌++◌, ℕ, List, false, Option, MatchOption, if◌then◌else◌, vec_capacity, vec_len, ⊤}
+use Rattle.std.specs.Prelude.{◌≡◌, ◌<◌, ◌++◌, ℕ, false, MatchOption, if◌then◌else◌, vec_capacity, vec_len, ⊤}
 use Rattle.std.specs.Option.{option_map, option_to_list}
 use Rattle.sdr_lock.specs.Core.{Log, closed_by, is_outside, what_else, with_said}
 use Rattle.sdr_model.specs.declared.journal.Said.{Said}

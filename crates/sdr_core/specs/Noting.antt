@@ -1,7 +1,7 @@
 -- What is noted of an event.
 use Rattle.std.specs.Prelude.{ℕ, List}
 use Rattle.sdr_base.specs.declared.moves.Move.{Move}
-use Rattle.sdr_lock.specs.Core.{Under, entry_of}
+use Rattle.sdr_lock.specs.Core.{Under}
 use Rattle.sdr_lock.specs.Machine.{Made}
 use Rattle.sdr_lock.specs.Serving.{made_with, said_with}
 use Rattle.sdr_model.specs.declared.event.Event.{Event}

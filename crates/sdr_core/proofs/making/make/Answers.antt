@@ -1,4 +1,4 @@
-use Rattle.std.proofs.Common.{◌∙◌, ◌≡◌, None, ap, refl, sym}
+use Rattle.std.proofs.Common.{◌∙◌, ap, refl, sym}
 use Rattle.sdr_lock.specs.Roll.{daemon_of}
 use Rattle.sdr_core.proofs.RunLemmas.{steps_unknown}
 use Rattle.sdr_core.specs.Logging.{log_of}

@@ -1,4 +1,4 @@
-use Rattle.std.proofs.Common.{◌∙◌, ◌≡◌, ◌&&◌, not, true, ap, subst, sym}
+use Rattle.std.proofs.Common.{◌∙◌, ◌&&◌, not, ap, subst, sym}
 use Rattle.sdr_lock.specs.Core.{has_left, log_after}
 use Rattle.sdr_lock.specs.Machine.{Made}
 use Rattle.sdr_lock.specs.Roll.{number_of}

@@ -9,14 +9,14 @@ pub push_reserved-requires : goal.push_reserved-requires
 push_reserved-requires c =
     let items = c.args.spoken.now.items in
     let at : StandsAt items c.args.daemon c.in-Some.place = found_place items c.args.daemon (Some c.in-Some.place)
-        (sym c.in-Some.is ∙ c.place_of.ensures.value ∙ ap (position (λ (s : Spoken). s.daemon == c.args.daemon)) c.as_slice.ensures.value) in
+    (sym c.in-Some.is ∙ c.place_of.ensures.value ∙ ap (position (λ (s : Spoken). s.daemon == c.args.daemon)) c.as_slice.ensures.value) in
     has_space items c.args.daemon c.in-Some.place c.index_mut.result.now at c.index_mut.ensures.value c.requires
 
 pub returns-in-Some-clause-says : goal.returns-in-Some-clause-says
 returns-in-Some-clause-says c =
     let items = c.args.spoken.now.items in
     let at : StandsAt items c.args.daemon c.in-Some.place = found_place items c.args.daemon (Some c.in-Some.place)
-        (sym c.in-Some.is ∙ c.place_of.ensures.value ∙ ap (position (λ (s : Spoken). s.daemon == c.args.daemon)) c.as_slice.ensures.value) in
+    (sym c.in-Some.is ∙ c.place_of.ensures.value ∙ ap (position (λ (s : Spoken). s.daemon == c.args.daemon)) c.as_slice.ensures.value) in
     said_at items c.args.daemon c.in-Some.place c.index_mut.result.now at c.index_mut.ensures.value _ c.args.said
     (ap (λ said. record { daemon = c.index_mut.result.now.daemon; said = said }) c.push_reserved.ensures.items)
 
