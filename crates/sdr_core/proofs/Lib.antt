@@ -1,4 +1,6 @@
+pub mod CrashLemmas
 pub mod KeeperLemmas
+pub mod OpeningLemmas
 pub mod PlaceLemmas
 pub mod RunLemmas
 pub mod SpokenLemmas

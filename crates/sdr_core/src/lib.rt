@@ -3,6 +3,7 @@
 
 mod copying;
 mod core_run;
+mod crashes;
 mod draft;
 mod keeper;
 mod making;
@@ -12,6 +13,7 @@ mod spoken;
 mod tells;
 
 pub use core_run::Core;
+pub use crashes::crashes_leave_first_entries;
 pub use draft::Draft;
 pub use keeper::Keeper;
 pub use making::make;
