@@ -6,7 +6,8 @@ ghost use Rattle.sdr_lock.specs.Roll.{MayDraw, first_roll, held_by};
 ghost use Rattle.sdr_lock.specs.Serving.{Asks};
 ghost use Rattle.sdr_core.specs.CoreKept.{BeginsOn, StepsCore};
 
-use crate::{Keeper, Origin, Tells, make};
+use crate::making::make;
+use crate::{Keeper, Origin, Tells};
 use sdr_base::NoMemory;
 use sdr_lock::{Came, Lock, Roll};
 use sdr_model::{Entry, Event, Journal};

@@ -8,52 +8,50 @@ use Rattle.sdr_core.proofs.StepLemmas.{noted_said, step_closes, step_fits}
 use Rattle.sdr_core.specs.Drafting.{FitsIn}
 use Rattle.sdr_core.specs.Logging.{ClosesWithin, log_of}
 use Rattle.sdr_core.specs.declared.noted.Noted.{Noted}
+use Rattle.sdr_core.specs.Noting.{said_noted}
+use Rattle.sdr_model.specs.declared.journal.Said.{Said}
+use Rattle.sdr_core.proofs.making.make_known.Given.{Over}
 use Rattle.sdr_core.proofs.making.make_known.Goals as goal
 
-pub note-requires-clause-fit : goal.note-requires-clause-fit
-note-requires-clause-fit g c =
+-- what is noted
+abbrev noted_in : (g : Over) → goal.After-shown g → Noted
+noted_in g c = record {
+  line = c.args.line;
+  daemon = c.args.daemon;
+  came = c.in_ok-came.came;
+  begun = c.moment-begun.result;
+  done = c.moment-done.result;
+  under = record { number = c.number_of-number.result; waited = c.looks_again-waited.result; left = c.leaves_now-left.result };
+}
+
+-- what was said
+abbrev said_in : (g : Over) → goal.After-shown g → Said
+said_in g c = said_noted (noted_in g c) c.in_ok-draft.draft.event c.moves.result.now c.shown.result.now
+
+-- it fits in its draft, and what closes a transaction was said in one
+noted : (g : Over) (c : goal.After-shown g) → FitsIn c.in_ok-draft.draft (said_in g c) × ClosesWithin (said_in g c)
+noted g c =
     let ghosts = g.T.HasGround in
     let came = c.in_ok-came.came in
-    let n : Noted = record {
-      line = c.args.line;
-      daemon = c.args.daemon;
-      came = came;
-      begun = c.moment-begun.result;
-      done = c.moment-done.result;
-      under = record { number = c.number_of-number.result; waited = c.looks_again-waited.result; left = c.leaves_now-left.result };
-    } in
     let old = c.args.lock.now in
     let v = c.requires.stands.for in
     let s = c.in_ok-came.ensures.step.leads.each v c.requires.stands.stood in
+    let m = machine_at old.roll v in
+    let m' = machine_at c.event.new.self.roll s.for in
     let e : Made = made_by c.args.daemon c.args.event.now came (ghosts.moment old.base) (ghosts.moment c.event.new.self.base) c.args.line s.for in
-    subst (FitsIn c.in_ok-draft.draft)
-    (sym (noted_said n c.args.event.now c.in_ok-draft.draft.event c.moves.result.now c.shown.result.now s.for c.in_ok-draft.ensures.event_is
+    subst (λ said. FitsIn c.in_ok-draft.draft said × ClosesWithin said)
+    (sym (noted_said (noted_in g c) c.args.event.now c.in_ok-draft.draft.event c.moves.result.now c.shown.result.now s.for c.in_ok-draft.ensures.event_is
     (λ called. let stands = s.stood (s.tells.sound called) in
     (c.moves.ensures s.for (subst (λ b. ghosts.stands b s.for) (sym c.base-2.ensures) stands), c.shown.ensures s.for (subst (λ b. ghosts.stands b s.for) (sym c.base-3.ensures) stands)))))
-    (step_fits c.in_ok-draft.draft c.room_for.result c.in_ok-draft.ensures.moves c.in_ok-draft.ensures.bytes (machine_at old.roll v) e (machine_at c.event.new.self.roll s.for)
-    (λ none. c.room_for.ensures v (subst (λ b. ghosts.stands b v) (sym c.base.ensures) (c.requires.stands.stood none))) (s.tells.step c.args.line))
+    (step_fits c.in_ok-draft.draft c.room_for.result c.in_ok-draft.ensures.moves c.in_ok-draft.ensures.bytes m e m'
+    (λ none. c.room_for.ensures v (subst (λ b. ghosts.stands b v) (sym c.base.ensures) (c.requires.stands.stood none))) (s.tells.step c.args.line),
+    step_closes m e m' (s.tells.step c.args.line))
+
+pub note-requires-clause-fit : goal.note-requires-clause-fit
+note-requires-clause-fit g c = (noted g c).0
 
 pub note-requires-clause-within : goal.note-requires-clause-within
-note-requires-clause-within g c =
-    let ghosts = g.T.HasGround in
-    let came = c.in_ok-came.came in
-    let n : Noted = record {
-      line = c.args.line;
-      daemon = c.args.daemon;
-      came = came;
-      begun = c.moment-begun.result;
-      done = c.moment-done.result;
-      under = record { number = c.number_of-number.result; waited = c.looks_again-waited.result; left = c.leaves_now-left.result };
-    } in
-    let old = c.args.lock.now in
-    let v = c.requires.stands.for in
-    let s = c.in_ok-came.ensures.step.leads.each v c.requires.stands.stood in
-    let e : Made = made_by c.args.daemon c.args.event.now came (ghosts.moment old.base) (ghosts.moment c.event.new.self.base) c.args.line s.for in
-    subst ClosesWithin
-    (sym (noted_said n c.args.event.now c.in_ok-draft.draft.event c.moves.result.now c.shown.result.now s.for c.in_ok-draft.ensures.event_is
-    (λ called. let stands = s.stood (s.tells.sound called) in
-    (c.moves.ensures s.for (subst (λ b. ghosts.stands b s.for) (sym c.base-2.ensures) stands), c.shown.ensures s.for (subst (λ b. ghosts.stands b s.for) (sym c.base-3.ensures) stands)))))
-    (step_closes (machine_at old.roll v) e (machine_at c.event.new.self.roll s.for) (s.tells.step c.args.line))
+note-requires-clause-within g c = (noted g c).1
 
 pub returns-clause-step : goal.returns-clause-step
 returns-clause-step g c =
