@@ -1,0 +1,7 @@
+pub mod CrashLemmas
+pub mod KeeperLemmas
+pub mod OpeningLemmas
+pub mod PlaceLemmas
+pub mod RunLemmas
+pub mod SpokenLemmas
+pub mod StepLemmas

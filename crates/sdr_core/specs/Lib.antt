@@ -1,0 +1,8 @@
+pub mod CoreFacts
+pub mod CoreKept
+pub mod Crashing
+pub mod Drafting
+pub mod Keeping
+pub mod Logging
+pub mod Noting
+pub mod Room

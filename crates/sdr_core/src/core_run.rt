@@ -1,0 +1,119 @@
+// A lock, and the journal of its run.
+ghost use Rattle.std.specs.Prelude.{◌≡◌, ◌≤◌, [], IfErr, IfOk, OnErr, length};
+ghost use Rattle.sdr_lock.specs.Crash.{keeps_by};
+ghost use Rattle.sdr_lock.specs.Legal.{IsLegal};
+ghost use Rattle.sdr_lock.specs.Roll.{MayDraw, first_roll, held_by};
+ghost use Rattle.sdr_lock.specs.Serving.{Asks};
+ghost use Rattle.sdr_core.specs.CoreKept.{BeginsOn, StepsCore};
+
+use crate::making::make;
+use crate::{Keeper, Origin, Tells};
+use sdr_base::NoMemory;
+use sdr_lock::{Came, Lock, Roll};
+use sdr_model::{Entry, Event, Journal};
+use std::alloc::Global;
+use std::marker::{Model, PhantomData};
+
+/// A lock, and the journal of its run from the origin.
+pub struct Core<T: Tells, J: Origin> {
+    lock: Lock<T>,
+    keeper: Keeper,
+    alloc: Global,
+    of: PhantomData<J>,
+}
+
+impl<T: Tells, J: Origin> Model for Core<T, J> {
+    ghost use Rattle.sdr_core.specs.CoreKept.{Kept};
+
+    ghost Value = { Kept T };
+
+    ghost use Rattle.sdr_core.specs.CoreFacts.{IsCore};
+    ghost use Rattle.sdr_core.specs.Logging.{log_of};
+
+    ghost view = { λ s. record { lock = s.lock; log = log_of s.keeper } };
+
+    ghost invariant = { λ s. IsCore T.HasGround J.begins s.lock s.keeper };
+}
+
+impl<T: Tells, J: Origin> Core<T, J> {
+    /// Before any event of these daemons, on a ground that is where the run begins. Want of memory gives it back.
+    pub fn new(alloc: Global, daemons: &[u8], base: T) -> Result<Core<T, J>, (NoMemory, T)>
+        requires few { length daemons.now ≤ 256 }
+        requires begins { BeginsOn T.HasGround J.begins daemons.now base }
+        ensures made { IfOk result (λ core. core ≡ record {
+          lock = record { roll = first_roll daemons.now; base = base };
+          log = record { works = []; journal = [] };
+        }) }
+        ensures back { IfErr result (λ why. why.1 ≡ base) }
+    {
+        let keeper = match Keeper::new(alloc, daemons.len()) {
+            Ok(keeper) => keeper,
+            Err(why) => return Err((why, base)),
+        };
+        match Lock::new(alloc, daemons, base) {
+            Ok(lock) => Ok(Core {
+                lock,
+                keeper,
+                alloc,
+                of: PhantomData,
+            }),
+            Err(why) => Err(why),
+        }
+    }
+
+    /// Makes an event of a daemon, of the statement on a line. Want of memory leaves all as before.
+    pub fn event(&mut self, daemon: u8, line: u64, event: &Event) -> Result<Came, NoMemory>
+        requires drawn { MayDraw self.old.lock.roll (held_by self.old.lock.roll daemon) }
+        requires lasts { T.lasts self.old.lock.base 1 }
+        ensures step { IfOk result (λ came. StepsCore T.HasGround daemon line event.now came self.old self.new) }
+        ensures asks { IfOk result (λ came. Asks T.HasGround (keeps_by self.old.lock.roll daemon event.now) came
+            self.old.lock self.new.lock) }
+        ensures err { OnErr result (self.new ≡ self.old) }
+    {
+        make(
+            &mut self.lock,
+            &mut self.keeper,
+            self.alloc,
+            daemon,
+            line,
+            event,
+        )
+    }
+
+    /// The entries so far.
+    pub fn journal(&self) -> &[Entry]
+        ensures journal { result.now ≡ self.now.log.journal }
+        ensures legal { IsLegal J.begins.told J.begins.daemons J.begins.first result.now }
+    {
+        self.keeper.journal()
+    }
+
+    /// The roll of its daemons.
+    pub fn roll(&self) -> &Roll
+        ensures { result.now ≡ self.now.lock.roll }
+    {
+        self.lock.roll()
+    }
+
+    /// Its ground.
+    pub fn base(&self) -> &T
+        ensures { result.now ≡ self.now.lock.base }
+    {
+        self.lock.base()
+    }
+
+    /// The journal, and the lock. What daemons have said in open transactions is let go.
+    pub fn finish(self) -> (Journal, Lock<T>)
+        ensures journal { result.0 ≡ self.log.journal }
+        ensures lock { result.1 ≡ self.lock }
+        ensures legal { IsLegal J.begins.told J.begins.daemons J.begins.first result.0 }
+    {
+        let Core {
+            lock,
+            keeper,
+            alloc: _,
+            of: _,
+        } = self;
+        (keeper.into_journal(), lock)
+    }
+}

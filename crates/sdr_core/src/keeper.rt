@@ -1,0 +1,150 @@
+// The keeper of a log.
+ghost use Rattle.std.specs.Prelude.{◌≡◌, ◌<◌, ◌≤◌, ◌++◌, ◌∷◌, [], ℕ, IfOk, OnOk, vec_capacity, vec_len};
+ghost use Rattle.sdr_lock.specs.Core.{log_after, said_by, with_said, without_work, closed_by};
+ghost use Rattle.sdr_model.specs.declared.journal.What.TheVariants as whats;
+ghost use Rattle.sdr_core.specs.Drafting.{FitsIn, IsBlank};
+ghost use Rattle.sdr_core.specs.Keeping.{AreApart, works_of};
+ghost use Rattle.sdr_core.specs.Logging.{ClosesWithin, GoesOn, HasRoom, log_of};
+ghost use Rattle.sdr_core.specs.Noting.{entry_noted, made_noted, said_noted, under_of};
+
+use crate::noted::{closed_by, is_outside, what_else};
+use crate::spoken::{reserve_said, say, take_spoken};
+use crate::{Draft, Noted, Spoken};
+use sdr_base::{Items, Move, NoMemory};
+use sdr_model::{Close, Entry, Journal, Said, What};
+use std::alloc::Global;
+
+/// What each daemon has said in its open transaction, and the journal so far.
+#[derive(Drop)]
+pub struct Keeper {
+    works: Vec<Spoken>,
+    journal: Vec<Entry>,
+    alloc: Global,
+}
+
+impl Keeper {
+    /// Nothing said, and no entry. There is room for two entries a daemon.
+    pub fn new(alloc: Global, daemons: usize) -> Result<Keeper, NoMemory>
+        requires { daemons ≤ 256 }
+        ensures { IfOk result (λ keeper. log_of keeper ≡ record { works = []; journal = [] }) }
+    {
+        Ok(Keeper {
+            works: Vec::with_capacity(alloc, daemons)?,
+            journal: Vec::with_capacity(alloc, 2 * daemons)?,
+            alloc,
+        })
+    }
+
+    /// Takes the memory for an event of the daemon.
+    pub fn reserve(&mut self, daemon: u8) -> Result<(), NoMemory>
+        ensures same { log_of self.new ≡ log_of self.old }
+        ensures ok { OnOk result (HasRoom self.new daemon) }
+    {
+        self.works.reserve(1)?;
+        self.journal.reserve(1)?;
+        reserve_said(&mut self.works, daemon)
+    }
+
+    // A daemon has said this too in its transaction, or this first.
+    fn keep(&mut self, daemon: u8, said: Said, mut first: Vec<Said>)
+        requires room { HasRoom self.old daemon }
+        requires blank { first.items ≡ [] }
+        requires begins { 0 < vec_capacity first }
+        ensures works { works_of self.new.works.items ≡ with_said (works_of self.old.works.items) daemon said }
+        ensures journal { self.new.journal ≡ self.old.journal }
+    {
+        if let Some(said) = say(&mut self.works, daemon, said) {
+            first.push_reserved(said);
+            self.works.push_reserved(Spoken {
+                daemon,
+                said: first,
+            });
+        }
+    }
+
+    // Adds an entry.
+    fn add(&mut self, noted: &Noted, what: What)
+        requires room { vec_len self.old.journal < vec_capacity self.old.journal }
+        ensures works { self.new.works ≡ self.old.works }
+        ensures journal { self.new.journal.items ≡ self.old.journal.items ++ entry_noted noted.now what ∷ [] }
+    {
+        self.journal.push_reserved(noted.entry(what));
+    }
+
+    // All that a daemon has said in its transaction, which is closed.
+    fn take_said(&mut self, daemon: u8) -> Vec<Said>
+        requires apart { AreApart (works_of self.old.works.items) }
+        ensures said { result.items ≡ said_by (works_of self.old.works.items) daemon }
+        ensures works { works_of self.new.works.items ≡ without_work (works_of self.old.works.items) daemon }
+        ensures journal { self.new.journal ≡ self.old.journal }
+    {
+        match take_spoken(&mut self.works, daemon) {
+            None => Vec::new(self.alloc),
+            Some(spoken) => spoken.said,
+        }
+    }
+
+    // Closes the transaction of a daemon, and adds its entry.
+    fn close(&mut self, noted: &Noted, close: Close)
+        requires apart { AreApart (works_of self.old.works.items) }
+        requires room { vec_len self.old.journal < vec_capacity self.old.journal }
+        ensures works { works_of self.new.works.items ≡ without_work (works_of self.old.works.items) noted.now.daemon }
+        ensures journal { self.new.journal.items ≡ self.old.journal.items
+            ++ entry_noted noted.now (whats.Work (said_by (works_of self.old.works.items) noted.now.daemon) close) ∷ [] }
+    {
+        let said = Items::of(self.take_said(noted.daemon));
+        self.add(noted, What::Work { said, close });
+    }
+
+    // Notes what closes no transaction.
+    fn go_on(&mut self, noted: &Noted, said: Said, first: Vec<Said>)
+        requires room { HasRoom self.old noted.now.daemon }
+        requires blank { first.items ≡ [] }
+        requires begins { 0 < vec_capacity first }
+        requires answer { said.answer ≡ noted.now.came.answer }
+        ensures { GoesOn noted.now said (log_of self.old) (log_of self.new) }
+    {
+        let what = what_else(&noted.under, &said.event, noted.came.answer);
+        if !is_outside(&said.event, noted.came.answer) {
+            self.keep(noted.daemon, said, first);
+        }
+        if let Some(what) = what {
+            self.add(noted, what);
+        }
+    }
+
+    /// Notes an event that was made. It takes no memory.
+    pub fn note(&mut self, noted: &Noted, draft: Draft, moves: &[Move], shown: &[u8])
+        requires room { HasRoom self.old noted.now.daemon }
+        requires blank { IsBlank draft }
+        requires fit { FitsIn draft (said_noted noted.now draft.event moves.now shown.now) }
+        requires within { ClosesWithin (said_noted noted.now draft.event moves.now shown.now) }
+        requires apart { AreApart (works_of self.old.works.items) }
+        ensures log { log_of self.new ≡ log_after (under_of noted.now.under) (log_of self.old)
+            (made_noted noted.now draft.event moves.now shown.now) }
+        ensures apart { AreApart (works_of self.new.works.items) }
+    {
+        let (said, first) = draft.said(noted, moves, shown);
+        match closed_by(noted.came.answer) {
+            None => self.go_on(noted, said, first),
+            Some(close) => {
+                self.keep(noted.daemon, said, first);
+                self.close(noted, close);
+            }
+        }
+    }
+
+    /// The entries so far.
+    pub fn journal(&self) -> &[Entry]
+        ensures { result.now ≡ (log_of self.now).journal }
+    {
+        self.journal.as_slice()
+    }
+
+    /// The journal. What daemons have said in open transactions is let go.
+    pub fn into_journal(self) -> Journal
+        ensures { result ≡ (log_of self).journal }
+    {
+        Items::of(self.journal)
+    }
+}

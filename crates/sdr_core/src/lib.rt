@@ -1,0 +1,33 @@
+//! The core of a node's storage: a lock on any ground that tells what its calls did, and the journal of its run.
+//!
+//! 1. `Tells` is a ground that tells the moves and bytes of its last call, and how many there may be in the call that
+//!    follows. So the memory for an entry is taken before anything happens, and want of memory leaves all as before.
+//! 2. `Keeper` keeps what each daemon has said in its open transaction, and the journal. A `Draft` is an event that is about
+//!    to be made, with room for what it may come to; to note it takes no memory.
+//! 3. `Core` makes each event a step of a core run (`StepsCore`), with the daemon, the line, the answer, the disk's moments,
+//!    and the moves and bytes that the ground tells. What the run begins from is named by a type parameter (`Origin`).
+//! 4. The type of `Core` keeps that there is a core run from its first core to the one that it is at. So its journal is
+//!    legal, in whatever order daemons come.
+//! 5. A crash leaves the state after some first entries of a journal: the law `crashes_leave_first_entries` says so of each
+//!    event by which the journal grows.
+#![tactic(auto)]
+
+mod copying;
+mod core_run;
+mod crashes;
+mod draft;
+mod keeper;
+mod making;
+mod noted;
+mod origin;
+mod spoken;
+mod tells;
+
+pub use core_run::Core;
+pub use crashes::crashes_leave_first_entries;
+pub use draft::Draft;
+pub use keeper::Keeper;
+pub use noted::{Noted, Under};
+pub use origin::Origin;
+pub use spoken::Spoken;
+pub use tells::{Room, Tells};

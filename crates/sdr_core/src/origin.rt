@@ -1,0 +1,7 @@
+// What a core begins from.
+ghost use Rattle.sdr_core.specs.CoreKept.{Begins};
+
+/// What the facts of a core begin from. The caller that makes one picks it.
+pub trait Origin {
+    ghost begins: { Begins };
+}

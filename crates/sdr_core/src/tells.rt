@@ -1,0 +1,34 @@
+// A ground that tells what its calls did.
+ghost use Rattle.std.specs.Prelude.{◌≡◌};
+ghost use Rattle.sdr_lock.specs.Standing.{Standing};
+
+use sdr_base::Move;
+use sdr_lock::Serves;
+use sdr_model::Call;
+
+/// Room for what came of a call.
+#[derive(Clone, Copy)]
+pub struct Room {
+    /// How many moves.
+    pub moves: usize,
+    /// How many bytes.
+    pub bytes: usize,
+}
+
+/// A ground that tells the moves of its last call and the bytes that it shows, and how many there may be in the call that
+/// follows.
+pub trait Tells: Serves {
+    ghost use Rattle.sdr_core.specs.Room.{HoldsAny};
+
+    /// The moves of the last call.
+    fn moves(&self) -> &[Move]
+        ensures { (v : Standing) → Self.stands self.now v → result.now ≡ v.moves };
+
+    /// The bytes that it shows.
+    fn shown(&self) -> &[u8]
+        ensures { (v : Standing) → Self.stands self.now v → result.now ≡ v.now.world.shown };
+
+    /// Room for what a call that follows may come to.
+    fn room_for(&self, call: &Call) -> Room
+        ensures { (v : Standing) → Self.stands self.now v → HoldsAny result v.now call.now };
+}
