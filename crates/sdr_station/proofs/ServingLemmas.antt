@@ -328,24 +328,6 @@ module _ {D : Type 0} (told : D → Option (List ℕ)) (moment faults : D → �
         };
   }
 
-  -- no call that is served tells of media
-  pub gap_answered : (reply : Reply) → StandsSome told moment may_leave old
-      → Comes call (heap_in fresh_heap) (heap_in heap) old.shown page (Ok reply) → HasGapCause (answers.Reply reply) no_gaps no_gaps
-  gap_answered reply some comes =
-      let w = some.holds.now going in
-      let ans = comes.each some.for.now.world (fresh_stands some.for some.holds) w.whole w.plain in
-      gap_none some.for.now.world call heap.moves ans.after reply no_gaps is (inl ans.row)
-
-  pub gap_refused : (refusal : Refusal) → StandsSome told moment may_leave old
-      → Comes call (heap_in fresh_heap) (heap_in heap) old.shown page (Err (stops.Refused refusal))
-      → HasGapCause (answers.Reply (replies.Refused refusal)) no_gaps no_gaps
-  gap_refused (refusals.LogFull lines room) some comes = tt
-  gap_refused refusal some comes =
-      let world = some.for.now.world in
-      let w = some.holds.now going in
-      let refused = comes.each world (fresh_stands some.for some.holds) w.whole w.plain in
-      gap_none world call heap.moves world (replies.Refused refusal) no_gaps is refused.step
-
   -- a refused call brings what its step does
   pub brings_refused : (refusal : Refusal) (n : ℕ) → Comes call (heap_in fresh_heap) (heap_in heap) old.shown page (Err (stops.Refused refusal))
       → Works {T = Reply} (image_heap faults) (lines_of call) fresh_heap heap (Err (stops.Refused refusal))
@@ -413,3 +395,15 @@ good_of heap w s whole plain addr = by (heap.blocks addr) (λ kind. of (raw_is_a
 pub answers_no_doom : (call : Call) (reply : Reply) → is_answer reply ≡ true → dooms call reply ≡ false
 answers_no_doom call (replies.Refused refusal) is = absurd (true≢false (sym is))
 answers_no_doom call reply is = refl
+
+-- a call that is served tells of no media
+pub gap_brought : {D : Type 0} (told : D → Option (List ℕ)) (moment : D → ℕ) (may_leave : D → ℕ → List ℕ → Type 0) (old new : Grounded D)
+    (call : Call) (reply : Reply) → built call ≡ true → old.stopped ≡ false → StandsSome told moment may_leave old
+    → Brings (λ g v. Stands told moment may_leave g v) old new (Calls None call reply) → HasGapCause (answers.Reply reply) no_gaps no_gaps
+gap_brought told moment may_leave old new call reply is going some brings =
+    let v = some.for in
+    let s = brings.each v some.holds in
+    let steps =
+    subst (λ (b : Ground). StepsOn b v.now call (record { reply = reply; moves = s.for.moves; after = s.for.now }))
+    (some.holds.now going).base s.tells.steps in
+    gap_none v.now.world call s.for.moves s.for.now.world reply no_gaps is steps.step
