@@ -42,10 +42,11 @@ noted g c =
     subst (λ said. FitsIn c.in_ok-draft.draft said × ClosesWithin said)
     (sym (noted_said (noted_in g c) c.args.event.now c.in_ok-draft.draft.event c.moves.result.now c.shown.result.now s.for c.in_ok-draft.ensures.event_is
     (λ called. let stands = s.stood (s.tells.sound called) in
-    (c.moves.ensures s.for (subst (λ b. ghosts.stands b s.for) (sym c.base-2.ensures) stands), c.shown.ensures s.for (subst (λ b. ghosts.stands b s.for) (sym c.base-3.ensures) stands)))))
-    (step_fits c.in_ok-draft.draft c.room_for.result c.in_ok-draft.ensures.moves c.in_ok-draft.ensures.bytes m e m'
-    (λ none. c.room_for.ensures v (subst (λ b. ghosts.stands b v) (sym c.base.ensures) (c.requires.stands.stood none))) (s.tells.step c.args.line),
-    step_closes m e m' (s.tells.step c.args.line))
+    (c.moves.ensures s.for (subst (λ b. ghosts.stands b s.for) (sym c.base-2.ensures) stands), c.shown.ensures s.for (subst (λ b. ghosts.stands b s.for) (sym c.base-3.ensures) stands))))) (
+      step_fits c.in_ok-draft.draft c.room_for.result c.in_ok-draft.ensures.moves c.in_ok-draft.ensures.bytes m e m'
+          (λ none. c.room_for.ensures v (subst (λ b. ghosts.stands b v) (sym c.base.ensures) (c.requires.stands.stood none))) (s.tells.step c.args.line),
+      step_closes m e m' (s.tells.step c.args.line),
+    )
 
 pub note-requires-clause-fit : goal.note-requires-clause-fit
 note-requires-clause-fit g c = (noted g c).0
