@@ -1,5 +1,6 @@
 pub mod CrashLemmas
 pub mod KeeperLemmas
+pub mod LeaverLemmas
 pub mod OpeningLemmas
 pub mod PlaceLemmas
 pub mod RunLemmas
