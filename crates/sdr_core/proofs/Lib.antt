@@ -1,4 +1,5 @@
 pub mod CrashLemmas
+pub mod EndLemmas
 pub mod KeeperLemmas
 pub mod LeaverLemmas
 pub mod OpeningLemmas

@@ -28,7 +28,7 @@ pub use core_run::Core;
 pub use crashes::crashes_leave_first_entries;
 pub use draft::Draft;
 pub use keeper::Keeper;
-pub use leavers::leavers_hold_nothing;
+pub use leavers::{leavers_hold_nothing, outer_ends_keep};
 pub use noted::{Noted, Under};
 pub use origin::Origin;
 pub use spoken::Spoken;
