@@ -1,17 +1,14 @@
 -- What an outermost end leaves of a transaction that isn't doomed.
-use Rattle.std.proofs.Common.{◌≡◌, ◌⊎◌, ◌∙◌, ◌==◌, ◌&&◌, not, ℕ, Bool, true, false, Option, None, Some, MatchBool, is_none, nat_le, refl, sym, ap, subst, inl, inr, true≢false}
+use Rattle.std.proofs.Common.{◌≡◌, ◌∙◌, ◌==◌, ◌&&◌, not, Bool, true, false, Option, None, Some, is_none, nat_le, refl, sym, ap, inl, inr, true≢false}
 use Rattle.std.specs.Option.{option_map_or}
 use Rattle.sdr_base.specs.declared.refusal.Reason.{Reason}
 use Rattle.sdr_model.specs.declared.answer.Answer.TheVariants as answers
-use Rattle.sdr_model.specs.declared.answer.Close.{Close}
 use Rattle.sdr_model.specs.declared.answer.Close.TheVariants as closes
-use Rattle.sdr_model.specs.declared.answer.Reply.TheVariants as replies
 use Rattle.sdr_model.specs.declared.event.Event.{Event}
 use Rattle.sdr_model.specs.declared.event.Event.TheVariants as events
 use Rattle.sdr_lock.specs.Closing.{close_of}
 use Rattle.sdr_lock.specs.Crash.{keeps_by, keeps_of, keeps_under}
-use Rattle.sdr_lock.specs.Ground.{kept}
-use Rattle.sdr_lock.specs.Machine.{Closes, FaultsWithin, Holds, Machine, Made, MachineStep, Serves, Works, is_outside}
+use Rattle.sdr_lock.specs.Machine.{Closes, FaultsWithin, Holds, Machine, Made, MachineStep, Serves, is_outside}
 use Rattle.sdr_lock.specs.Nesting.{closing}
 use Rattle.sdr_lock.specs.Roll.{daemon_of, served_number}
 use Rattle.sdr_lock.specs.Transaction.{left_by}
@@ -40,8 +37,8 @@ module _ (m : Machine) (e : Made) (m' : Machine) (d : Daemon) (h : Holding) wher
   end_closes : e.said.event ≡ events.End → is_none h.nesting.doom ≡ true → Closes m d h e m' → EndsOrFaults m e m'
   end_closes is none c =
       let ended : c.close ≡ closes.Ended =
-          c.closes.how ∙ ap (λ event. closing h.nesting event) is
-          ∙ ap (λ o. option_map_or (λ (reason : Reason). closes.Cancelled reason) o (close_of events.End h.nesting.modified)) (undoomed h.nesting.doom none) in
+      c.closes.how ∙ ap (λ event. closing h.nesting event) is
+      ∙ ap (λ o. option_map_or (λ (reason : Reason). closes.Cancelled reason) o (close_of events.End h.nesting.modified)) (undoomed h.nesting.doom none) in
       EndsOrFaults.ends (c.closes.told.answer ∙ ap answers.Closed ended)
       (ap (λ (n : Machine). n.before) c.after ∙ c.closes.left ∙ ap (λ close. left_by close m.before m.now) ended)
       (ap (λ (n : Machine). n.roll.failed) c.after)

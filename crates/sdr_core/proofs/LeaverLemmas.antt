@@ -1,5 +1,5 @@
 -- Daemons that have left hold no number.
-use Rattle.std.proofs.Common.{◌≡◌, ◌⊎◌, ◌∙◌, ◌==◌, ◌+◌, ◌&&◌, ℕ, List, [], ◌∷◌, Bool, true, false, Option, None, Some, MatchBool, refl, sym, ap, subst, inl, inr, true≢false}
+use Rattle.std.proofs.Common.{◌≡◌, ◌⊎◌, ◌∙◌, ◌==◌, ◌+◌, ◌&&◌, ℕ, List, [], ◌∷◌, Bool, true, false, Option, None, Some, MatchBool, refl, sym, subst, inl, inr, true≢false}
 use Rattle.std.specs.List.{AllByRecursion}
 use Rattle.std.specs.Option.{option_map_or}
 use Rattle.std.specs.Prelude.{if◌then◌else◌}
@@ -8,9 +8,9 @@ use Rattle.sdr_model.specs.AccountSteps.{pending_of}
 use Rattle.sdr_model.specs.declared.answer.Answer.{Answer}
 use Rattle.sdr_model.specs.declared.event.Event.{Event}
 use Rattle.sdr_model.specs.declared.event.Event.TheVariants as events
-use Rattle.sdr_lock.specs.Core.{Core, CoreStep, RunsCore, first_core}
+use Rattle.sdr_lock.specs.Core.{Core, RunsCore, first_core}
 use Rattle.sdr_lock.specs.Ground.{State}
-use Rattle.sdr_lock.specs.Machine.{Answers, Closes, Comes, Enters, FaultsWithin, Goes, Holds, Looks, LooksAt, Machine, Made, MachineStep, Serves, Works, is_outside, roll_acting, roll_coming, roll_failed, roll_holding}
+use Rattle.sdr_lock.specs.Machine.{Closes, Comes, Enters, FaultsWithin, Goes, Holds, Looks, Machine, Made, MachineStep, Serves, Works, is_outside, roll_acting, roll_coming, roll_failed, roll_holding}
 use Rattle.sdr_lock.specs.Roll.{Roll, after_entry, after_leave, after_number, after_wait, daemon_of, is_stalled, put_daemon, served_number, waits_for, with_daemon, with_drawn, with_number}
 use Rattle.sdr_lock.specs.Transaction.{is_closing, is_opening, transaction_of}
 use Rattle.sdr_lock.specs.declared.daemon.Daemon.{Daemon}
