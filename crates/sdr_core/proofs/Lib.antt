@@ -1,5 +1,7 @@
 pub mod CrashLemmas
+pub mod EndLemmas
 pub mod KeeperLemmas
+pub mod LeaverLemmas
 pub mod OpeningLemmas
 pub mod PlaceLemmas
 pub mod RunLemmas
