@@ -42,6 +42,7 @@ pub record HasEntry (place : ℕ) (names : List NameRow) (value : ℕ × ℕ × 
   pub here : slice_get names place ≡ Some row
   pub read : IsRead row value into
 
+-- so it was of whichever catalogue is kept
 pub record ReadsEntry (place : ℕ) (heap : Heap) (value : ℕ × ℕ × ℕ) (into : List ℕ) : Type 0 where
   pub has : (names : List NameRow) → KeepsNames heap names → HasEntry place names value into
 
