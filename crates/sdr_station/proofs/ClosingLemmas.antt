@@ -26,7 +26,7 @@ use Rattle.sdr_model.specs.World.{World}
 use Rattle.sdr_model.specs.declared.accounts.Ticket.{Ticket}
 use Rattle.sdr_station.specs.Answering.{IsPlain}
 use Rattle.sdr_station.specs.Closing as closing
-use Rattle.sdr_station.specs.Grounded.{Grounded, Opens, Stands, StandsAtRest, StandsWithin, heap_in}
+use Rattle.sdr_station.specs.Grounded.{Grounded, Opens, StandsAtRest, StandsForBoth, StandsWithin, heap_in}
 use Rattle.sdr_station.proofs.GroundLemmas.{heap_ground, unmarked}
 use Rattle.sdr_station.proofs.RestLemmas.{fits_rest, put_back_is, whole_rest}
 
@@ -101,7 +101,7 @@ module _ {D : Type 0} (told : D → Option (List ℕ)) (moment : D → ℕ) (fau
   told_old y t = some_of (told old.heap.cells.disk) (sym tells ∙ ap is_some t)
 
   -- the ground's moment is the disk's
-  pub here : (v : Standing) → Stands told moment may_leave old v → Told (told disk) (λ _. now ≡ moment disk)
+  pub here : (v : Standing) → StandsForBoth told moment may_leave old v → Told (told disk) (λ _. now ≡ moment disk)
   here v at y t =
       let x = told_old y t in
       let e = each at.rests x.0 x.1 in
@@ -111,7 +111,7 @@ module _ {D : Type 0} (told : D → Option (List ℕ)) (moment : D → ℕ) (fau
   -- it stands for what is kept
   pub brings_kept : old.stopped ≡ false
       → (Rests told moment may_leave old.heap.cells → Rests told moment may_leave (kept_ground old disk now).heap.cells)
-      → Brings (λ g v. Stands told moment may_leave g v) old (kept_ground old disk now) Keeps
+      → Brings (λ g v. StandsForBoth told moment may_leave g v) old (kept_ground old disk now) Keeps
   brings_kept going rests = record {
     each = λ v at.
         let w = at.now going in
@@ -134,7 +134,7 @@ module _ {D : Type 0} (told : D → Option (List ℕ)) (moment : D → ℕ) (fau
 
   -- it stands for what is put back
   pub brings_back : (Rests told moment may_leave old.heap.cells → Rests told moment may_leave (back_ground old disk now).heap.cells)
-      → Brings (λ g v. Stands told moment may_leave g v) old (back_ground old disk now) PutsBack
+      → Brings (λ g v. StandsForBoth told moment may_leave g v) old (back_ground old disk now) PutsBack
   brings_back rests = record {
     each = λ v at.
         let next = put_back v.before v.now in
@@ -159,7 +159,7 @@ module _ {D : Type 0} (told : D → Option (List ℕ)) (moment : D → ℕ) (fau
 
   -- each image gives what Q tells of, on a ground with this disk and moment
   at_each : (new : Grounded D) → new.heap.cells.disk ≡ disk → new.moment ≡ now → (v : Standing) → (Q : List ℕ → Type 0)
-      → Stands told moment may_leave old v → ((image : List ℕ) → P image → Q image)
+      → StandsForBoth told moment may_leave old v → ((image : List ℕ) → P image → Q image)
       → AtEach (heap_ground told moment faults may_leave).moment (heap_ground told moment faults may_leave).left old new Q
   at_each new on at_now v Q at also = record {
     later = omega (arith, is, at_now);
@@ -213,7 +213,7 @@ module _ {D : Type 0} (told : D → Option (List ℕ)) (moment : D → ℕ) (fau
 pub keeps_brought : {D : Type 0} (told : D → Option (List ℕ)) (moment faults : D → ℕ) (may_leave : D → ℕ → List ℕ → Type 0)
     (P : Standing → Standing → Type 0) (old new : Grounded D) → old.heap.cells.failed ≡ false
     → faults old.heap.cells.disk ≤ faults new.heap.cells.disk
-    → Brings (λ g v. Stands told moment may_leave g v) old new P → KeepsGround (heap_ground told moment faults may_leave) false old new
+    → Brings (λ g v. StandsForBoth told moment may_leave g v) old new P → KeepsGround (heap_ground told moment faults may_leave) false old new
 keeps_brought told moment faults may_leave P old new sound later brings = record {
   later = later;
   gaps = gaps_same no_gaps;

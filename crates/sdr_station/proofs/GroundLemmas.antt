@@ -6,12 +6,12 @@ use Rattle.sdr_heap.specs.Noted.{marked_in}
 use Rattle.sdr_lock.specs.Gaps.{no_gaps}
 use Rattle.sdr_lock.specs.declared.has_ground.HasGround.{Ghosts}
 use Rattle.sdr_station.specs.CrashNow.{crash_now}
-use Rattle.sdr_station.specs.Grounded.{Grounded, Lasts, Leaves, Opens, Stands}
+use Rattle.sdr_station.specs.Grounded.{Grounded, Lasts, Leaves, Opens, StandsForBoth}
 
 -- a heap on an image as a ground, where the disk is told so
 abbrev pub heap_ground : {D : Type 0} → (D → Option (List ℕ)) → (D → ℕ) → (D → ℕ) → (D → ℕ → List ℕ → Type 0) → Ghosts (Grounded D)
 heap_ground told moment faults may_leave = record {
-  stands = λ g v. Stands told moment may_leave g v;
+  stands = λ g v. StandsForBoth told moment may_leave g v;
   moment = λ g. g.moment;
   faults = λ g. faults g.heap.cells.disk;
   gaps = λ _. no_gaps;

@@ -56,7 +56,7 @@ use Rattle.sdr_station.proofs.RawLemmas.{length_of_raw}
 use Rattle.sdr_station.specs.CrashNow.{crash_now}
 use Rattle.sdr_station.specs.Answering.{Aim, Answered, Comes, IsGood, IsPlain, built, dooms, lines_of}
 use Rattle.sdr_station.specs.Closing.{moves_left}
-use Rattle.sdr_station.specs.Grounded.{Grounded, Leaves, Stands, StandsAtRest, StandsSome, StandsWithin, heap_in}
+use Rattle.sdr_station.specs.Grounded.{Grounded, Leaves, StandsAtRest, StandsForBoth, StandsSome, StandsWithin, heap_in}
 
 -- a heap on an image, as contracts of calls on blocks see it
 abbrev pub image_heap : {D : Type 0} → (D → ℕ) → HeapGhosts (Held (Opened D))
@@ -97,7 +97,7 @@ module _ {D : Type 0} (told : D → Option (List ℕ)) (moment faults : D → �
   fresh_heap = record old.heap { moves = []; spare = spare }
 
   -- it stands for the same world
-  fresh_stands : (v : Standing) → Stands told moment may_leave old v → HeapStandsFor (heap_in fresh_heap) v.now.world
+  fresh_stands : (v : Standing) → StandsForBoth told moment may_leave old v → HeapStandsFor (heap_in fresh_heap) v.now.world
   fresh_stands v at = let s = (at.now going).heap in record { blocks = s.blocks; roots = s.roots; marks = s.marks }
 
   -- what was quiet since then was quiet
@@ -106,10 +106,10 @@ module _ {D : Type 0} (told : D → Option (List ℕ)) (moment faults : D → �
   quiet_of works = works.quiet fresh_heap (record { disk = refl; frame = refl; begun = refl; failed = refl }, refl)
 
   -- what stands still of a standing
-  stands_on : (new : Grounded D) (v : Standing) → Stands told moment may_leave old v → new.moment ≡ old.moment
+  stands_on : (new : Grounded D) (v : Standing) → StandsForBoth told moment may_leave old v → new.moment ≡ old.moment
       → IsQuiet old.heap.cells new.heap.cells → new.heap.size ≡ old.heap.size → (now : State) → now.world.taken ≡ 0
       → (new.stopped ≡ false → StandsWithin new.heap new.shown now)
-      → Stands told moment may_leave new (record { before = v.before; now = now; moves = new.heap.moves })
+      → StandsForBoth told moment may_leave new (record { before = v.before; now = now; moves = new.heap.moves })
   stands_on new v at same q size now taken within = record {
     sound = q.failed ∙ at.sound;
     rests = rests_same told moment may_leave old.heap.cells new.heap.cells q at.rests;
@@ -123,7 +123,7 @@ module _ {D : Type 0} (told : D → Option (List ℕ)) (moment faults : D → �
     moves = refl;
   }
 
-  module _ (v : Standing) (at : Stands told moment may_leave old v)
+  module _ (v : Standing) (at : StandsForBoth told moment may_leave old v)
       (moves : Moves (KeepsRegion fresh_heap.size fresh_heap.cells.bytes) (KeepsRegion heap.size heap.cells.bytes) [] heap.moves) where
     lead : Leads (KeepsRegion heap.size heap.cells.bytes) (at.now going).pools moves.more
     lead = moves.lead (at.now going).pools (at.now going).keeps
@@ -208,7 +208,7 @@ module _ {D : Type 0} (told : D → Option (List ℕ)) (moment faults : D → �
   -- an answered call brings what its row does
   pub brings_answered : (reply : Reply) → Comes call (heap_in fresh_heap) (heap_in heap) old.shown page (Ok reply)
       → Works {T = Reply} (image_heap faults) (lines_of call) fresh_heap heap (Ok reply)
-      → Brings (λ g v. Stands told moment may_leave g v) old (record { heap = heap; shown = page; stopped = old.stopped; moment = old.moment }) (Calls None call reply)
+      → Brings (λ g v. StandsForBoth told moment may_leave g v) old (record { heap = heap; shown = page; stopped = old.stopped; moment = old.moment }) (Calls None call reply)
   brings_answered reply comes works = record {
     each = λ v at.
         let w = at.now going in
@@ -249,7 +249,7 @@ module _ {D : Type 0} (told : D → Option (List ℕ)) (moment faults : D → �
       → StepTo w (record { moves = heap.moves; after = w; reply = replies.Refused refusal }) call × (is_reading call ≡ true → heap_in heap ≡ heap_in fresh_heap) × (page ≡ old.shown))
       → Moves (KeepsRegion fresh_heap.size fresh_heap.cells.bytes) (KeepsRegion heap.size heap.cells.bytes) [] heap.moves
       → Works {T = Reply} (image_heap faults) (lines_of call) fresh_heap heap (Err (stops.Refused refusal))
-      → Brings (λ g v. Stands told moment may_leave g v) old (refused_ground refusal n) (Calls None call (replies.Refused refusal))
+      → Brings (λ g v. StandsForBoth told moment may_leave g v) old (refused_ground refusal n) (Calls None call (replies.Refused refusal))
   brings_stopped refusal n same full steps moves works = record {
     each = λ v at.
         let w = at.now going in
@@ -273,7 +273,7 @@ module _ {D : Type 0} (told : D → Option (List ℕ)) (moment faults : D → �
   }
 
   -- the state after a call for which there was no log room
-  abbrev pub full_state : (v : Standing) → Stands told moment may_leave old v → Reply → State
+  abbrev pub full_state : (v : Standing) → StandsForBoth told moment may_leave old v → Reply → State
   full_state v at reply = record {
     world = v.now.world;
     base = Ground.OnHeap (room_of heap.cells.frame) (at.now going).pools;
@@ -284,7 +284,7 @@ module _ {D : Type 0} (told : D → Option (List ℕ)) (moment faults : D → �
   brings_full : (lines room n : ℕ)
       → ((w : World) → HeapStandsFor (heap_in fresh_heap) w → IsWhole w → IsPlain w → Aim w call × (is_reading call ≡ false))
       → Works {T = Reply} (image_heap faults) (lines_of call) fresh_heap heap (Err (stops.Refused (refusals.LogFull lines room)))
-      → Brings (λ g v. Stands told moment may_leave g v) old (refused_ground (refusals.LogFull lines room) n)
+      → Brings (λ g v. StandsForBoth told moment may_leave g v) old (refused_ground (refusals.LogFull lines room) n)
       (Calls None call (replies.Refused (refusals.LogFull lines room)))
   brings_full lines room n aims works = record {
     each = λ v at.
@@ -331,7 +331,7 @@ module _ {D : Type 0} (told : D → Option (List ℕ)) (moment faults : D → �
   -- a refused call brings what its step does
   pub brings_refused : (refusal : Refusal) (n : ℕ) → Comes call (heap_in fresh_heap) (heap_in heap) old.shown page (Err (stops.Refused refusal))
       → Works {T = Reply} (image_heap faults) (lines_of call) fresh_heap heap (Err (stops.Refused refusal))
-      → Brings (λ g v. Stands told moment may_leave g v) old (refused_ground refusal n) (Calls None call (replies.Refused refusal))
+      → Brings (λ g v. StandsForBoth told moment may_leave g v) old (refused_ground refusal n) (Calls None call (replies.Refused refusal))
   brings_refused (refusals.LogFull lines room) n comes works =
       brings_full lines room n (λ w stands whole plain. (comes.each w stands whole plain).step) works
   brings_refused refusal n comes works =
@@ -399,7 +399,7 @@ answers_no_doom call reply is = refl
 -- a call that is served tells of no media
 pub gap_brought : {D : Type 0} (told : D → Option (List ℕ)) (moment : D → ℕ) (may_leave : D → ℕ → List ℕ → Type 0) (old new : Grounded D)
     (call : Call) (reply : Reply) → built call ≡ true → old.stopped ≡ false → StandsSome told moment may_leave old
-    → Brings (λ g v. Stands told moment may_leave g v) old new (Calls None call reply) → HasGapCause (answers.Reply reply) no_gaps no_gaps
+    → Brings (λ g v. StandsForBoth told moment may_leave g v) old new (Calls None call reply) → HasGapCause (answers.Reply reply) no_gaps no_gaps
 gap_brought told moment may_leave old new call reply is going some brings =
     let v = some.for in
     let s = brings.each v some.holds in

@@ -59,7 +59,7 @@ pub record StandsWithin {D : Type 0} (h : Held (Opened D)) (shown : List ℕ) (s
 -- A heap on an image whose disk hasn't failed stands for the states before the transaction and now: the bytes at begin stand
 -- for the one, and for the other the heap does, unless a call was stopped on its way. The disk rests, and the moves are the
 -- heap's.
-pub record Stands {D : Type 0} (told : D → Option (List ℕ)) (moment : D → ℕ) (may_leave : D → ℕ → List ℕ → Type 0)
+pub record StandsForBoth {D : Type 0} (told : D → Option (List ℕ)) (moment : D → ℕ) (may_leave : D → ℕ → List ℕ → Type 0)
     (g : Grounded D) (v : Standing) : Type 0 where
   pub sound : g.heap.cells.failed ≡ false
   pub rests : Rests told moment may_leave g.heap.cells
@@ -74,7 +74,7 @@ pub record Stands {D : Type 0} (told : D → Option (List ℕ)) (moment : D → 
 pub record StandsSome {D : Type 0} (told : D → Option (List ℕ)) (moment : D → ℕ) (may_leave : D → ℕ → List ℕ → Type 0)
     (g : Grounded D) : Type 0 where
   pub for : Standing
-  pub holds : Stands told moment may_leave g for
+  pub holds : StandsForBoth told moment may_leave g for
 
 -- a heap on an image lasts where it stands for something, unless the disk has failed
 abbrev pub Lasts : {D : Type 0} → (D → Option (List ℕ)) → (D → ℕ) → (D → ℕ → List ℕ → Type 0) → Grounded D → Type 0

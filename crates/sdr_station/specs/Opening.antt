@@ -17,7 +17,7 @@ use Rattle.sdr_lock.specs.Standing.{Standing, standing_at}
 use Rattle.sdr_log.specs.Frame.{room_of}
 use Rattle.sdr_log.specs.Log.{put_back_of}
 use Rattle.sdr_model.specs.World.{fresh_world}
-use Rattle.sdr_station.specs.Grounded.{Grounded, Stands}
+use Rattle.sdr_station.specs.Grounded.{Grounded, StandsForBoth}
 use Rattle.sdr_station.specs.declared.error.OpenError.{OpenError}
 use Rattle.sdr_station.specs.declared.error.OpenError.TheVariants as errors
 use Rattle.sdr_station.specs.declared.error.Shut.{Shut}
@@ -37,7 +37,7 @@ pub record IsOpen {D : Type 0} (told : D → Option (List ℕ)) (moment : D → 
   pub sound : g.heap.cells.failed ≡ false
   pub gives : Told (told disk) (λ x. put_back_of x ≡ Some (fresh_heap lines))
   pub stands : Told (told disk) (λ x. MayBeOpened x (may_leave disk (moment disk)))
-      → Stands told moment may_leave g (fresh_standing (room_of g.heap.cells.frame) lines)
+      → StandsForBoth told moment may_leave g (fresh_standing (room_of g.heap.cells.frame) lines)
 
 -- the disk of a heap that was opened, or of what is left where none was
 abbrev pub disk_of : {D : Type 0} → Result (Grounded D) (Shut D) → D

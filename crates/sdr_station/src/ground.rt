@@ -9,7 +9,7 @@ ghost use Rattle.sdr_lock.specs.Standing.{Standing};
 ghost use Rattle.sdr_log.specs.Calls.{KeepsDisk};
 ghost use Rattle.sdr_log.specs.Logged.{GivesSame};
 ghost use Rattle.sdr_station.specs.Answering.{built, dooms};
-ghost use Rattle.sdr_station.specs.Grounded.{Lasts, Stands};
+ghost use Rattle.sdr_station.specs.Grounded.{Lasts, StandsForBoth};
 ghost use Rattle.sdr_station.specs.Opening.{ExplainsOpen, IsOfAudit, IsOfImage, IsOpen, disk_of};
 
 use crate::calls::{answer, built};
@@ -56,7 +56,7 @@ impl<D: Disk> HasGround for HeapGround<D> {
     ghost use Rattle.sdr_station.specs.Grounded as grounded;
     ghost use Rattle.sdr_station.specs.CrashNow as laws;
 
-    ghost stands = { λ g v. grounded.Stands D.bytes D.moment D.may_leave g v };
+    ghost stands = { λ g v. grounded.StandsForBoth D.bytes D.moment D.may_leave g v };
 
     ghost moment = { λ g. g.moment };
 
@@ -233,7 +233,7 @@ impl<D: Disk> HeapGround<D> {
     /// The moves of the last call.
     pub fn moves(&self) -> &[Move]
         ensures moves { result.now ≡ self.now.heap.moves }
-        ensures told { (v : Standing) → Stands D.bytes D.moment D.may_leave self.now v → result.now ≡ v.moves }
+        ensures told { (v : Standing) → StandsForBoth D.bytes D.moment D.may_leave self.now v → result.now ≡ v.moves }
     {
         self.heap.moves()
     }
@@ -242,7 +242,7 @@ impl<D: Disk> HeapGround<D> {
     pub fn shown(&self) -> &[u8]
         ensures shown { result.now ≡ self.now.shown }
         ensures few { length result.now ≤ 4096 }
-        ensures told { (v : Standing) → Stands D.bytes D.moment D.may_leave self.now v → self.now.stopped ≡ false
+        ensures told { (v : Standing) → StandsForBoth D.bytes D.moment D.may_leave self.now v → self.now.stopped ≡ false
             → result.now ≡ v.now.world.shown }
     {
         self.shown.as_slice()

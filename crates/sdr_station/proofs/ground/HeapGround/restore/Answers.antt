@@ -8,7 +8,7 @@ use Rattle.sdr_lock.specs.Crash.{LeavesBefore}
 use Rattle.sdr_lock.specs.Serving.{Brings, PutsBack, KeepsGround}
 use Rattle.sdr_station.proofs.ClosingLemmas.{back_ground, brings_back, keeps_brought, leaves_back}
 use Rattle.sdr_station.proofs.GroundLemmas.{heap_ground}
-use Rattle.sdr_station.specs.Grounded.{Grounded, Stands}
+use Rattle.sdr_station.specs.Grounded.{Grounded, StandsForBoth}
 use Rattle.sdr_station.proofs.ground.HeapGround.restore.Goals as goal
 
 pub returns-in-Ok-clause-put_back : goal.returns-in-Ok-clause-put_back
@@ -27,11 +27,11 @@ returns-in-Ok-clause-put_back g c =
     let heap : at.new.heap ≡ (back_ground old disk now).heap = at.ensures.same ∙ e.ended in
     let is : new ≡ back_ground old disk now = λ i. record { heap = heap i; shown = c.clear.ensures i; stopped = false; moment = now } in
     let now_is = at.ensures.moment ∙ ap (λ (h : Held (Opened D)). max old.moment (m h.cells.disk)) at.ensures.same in
-    let brings : Brings (λ g v. Stands b m l g v) old (back_ground old disk now) PutsBack =
+    let brings : Brings (λ g v. StandsForBoth b m l g v) old (back_ground old disk now) PutsBack =
     brings_back b m f l old disk now now_is e.cause.explained.0 e.disk.tells _ (e.any_moment e.cause.explained.0)
     (λ rests. subst (λ (h : Held (Opened D)). Rests b m l h.cells) e.ended (e.rests rests)) in
-    subst (λ (o : Grounded D). Brings (λ g v. Stands b m l g v) o new PutsBack) c.self.view_is
-    (subst (λ (n : Grounded D). Brings (λ g v. Stands b m l g v) old n PutsBack) (sym is) brings)
+    subst (λ (o : Grounded D). Brings (λ g v. StandsForBoth b m l g v) o new PutsBack) c.self.view_is
+    (subst (λ (n : Grounded D). Brings (λ g v. StandsForBoth b m l g v) old n PutsBack) (sym is) brings)
 
 pub returns-in-Ok-clause-keeps : goal.returns-in-Ok-clause-keeps
 returns-in-Ok-clause-keeps g c =
@@ -49,7 +49,7 @@ returns-in-Ok-clause-keeps g c =
     let heap : at.new.heap ≡ (back_ground old disk now).heap = at.ensures.same ∙ e.ended in
     let is : new ≡ back_ground old disk now = λ i. record { heap = heap i; shown = c.clear.ensures i; stopped = false; moment = now } in
     let now_is = at.ensures.moment ∙ ap (λ (h : Held (Opened D)). max old.moment (m h.cells.disk)) at.ensures.same in
-    let brings : Brings (λ g v. Stands b m l g v) old (back_ground old disk now) PutsBack =
+    let brings : Brings (λ g v. StandsForBoth b m l g v) old (back_ground old disk now) PutsBack =
     brings_back b m f l old disk now now_is e.cause.explained.0 e.disk.tells _ (e.any_moment e.cause.explained.0)
     (λ rests. subst (λ (h : Held (Opened D)). Rests b m l h.cells) e.ended (e.rests rests)) in
     subst (λ (o : Grounded D). KeepsGround (heap_ground b m f l) false o new) c.self.view_is

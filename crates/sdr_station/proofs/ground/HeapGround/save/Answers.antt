@@ -6,7 +6,7 @@ use Rattle.sdr_lock.specs.Crash.{LeavesEither}
 use Rattle.sdr_lock.specs.Serving.{Brings, Keeps, KeepsGround}
 use Rattle.sdr_station.proofs.ClosingLemmas.{brings_kept, keeps_brought, keeps_failed, kept_ground, leaves_either, stop_fails}
 use Rattle.sdr_station.proofs.GroundLemmas.{heap_ground}
-use Rattle.sdr_station.specs.Grounded.{Grounded, Stands}
+use Rattle.sdr_station.specs.Grounded.{Grounded, StandsForBoth}
 use Rattle.sdr_station.proofs.ground.HeapGround.save.Goals as goal
 
 pub returns-in-Ok-clause-kept : goal.returns-in-Ok-clause-kept
@@ -26,11 +26,11 @@ returns-in-Ok-clause-kept g c =
     let heap : at.new.heap ≡ (kept_ground old disk now).heap = at.ensures.same ∙ e.ended in
     let is : new ≡ kept_ground old disk now = λ i. record { heap = heap i; shown = c.clear.ensures i; stopped = false; moment = now } in
     let now_is = at.ensures.moment ∙ ap (λ (h : Held (Opened D)). max old.moment (m h.cells.disk)) at.ensures.same in
-    let brings : Brings (λ g v. Stands b m l g v) old (kept_ground old disk now) Keeps =
+    let brings : Brings (λ g v. StandsForBoth b m l g v) old (kept_ground old disk now) Keeps =
     brings_kept b m f l old disk now now_is e.cause.explained.0 e.disk.tells _ (e.any_moment e.cause.explained.0) going
     (λ rests. subst (λ (h : Held (Opened D)). Rests b m l h.cells) e.ended (e.rests rests)) in
-    subst (λ (o : Grounded D). Brings (λ g v. Stands b m l g v) o new Keeps) c.self.view_is
-    (subst (λ (n : Grounded D). Brings (λ g v. Stands b m l g v) old n Keeps) (sym is) brings)
+    subst (λ (o : Grounded D). Brings (λ g v. StandsForBoth b m l g v) o new Keeps) c.self.view_is
+    (subst (λ (n : Grounded D). Brings (λ g v. StandsForBoth b m l g v) old n Keeps) (sym is) brings)
 
 pub returns-in-Ok-clause-keeps : goal.returns-in-Ok-clause-keeps
 returns-in-Ok-clause-keeps g c =
@@ -49,7 +49,7 @@ returns-in-Ok-clause-keeps g c =
     let heap : at.new.heap ≡ (kept_ground old disk now).heap = at.ensures.same ∙ e.ended in
     let is : new ≡ kept_ground old disk now = λ i. record { heap = heap i; shown = c.clear.ensures i; stopped = false; moment = now } in
     let now_is = at.ensures.moment ∙ ap (λ (h : Held (Opened D)). max old.moment (m h.cells.disk)) at.ensures.same in
-    let brings : Brings (λ g v. Stands b m l g v) old (kept_ground old disk now) Keeps =
+    let brings : Brings (λ g v. StandsForBoth b m l g v) old (kept_ground old disk now) Keeps =
     brings_kept b m f l old disk now now_is e.cause.explained.0 e.disk.tells _ (e.any_moment e.cause.explained.0) going
     (λ rests. subst (λ (h : Held (Opened D)). Rests b m l h.cells) e.ended (e.rests rests)) in
     subst (λ (o : Grounded D). KeepsGround (heap_ground b m f l) false o new) c.self.view_is

@@ -15,7 +15,7 @@ use Rattle.sdr_station.proofs.ClosingLemmas.{keeps_brought}
 use Rattle.sdr_station.proofs.GroundLemmas.{heap_ground}
 use Rattle.sdr_station.proofs.ServingLemmas.{answers_no_doom, brings_answered, brings_refused, good_of, image_heap, leaves_quiet, no_fault, refused_ground}
 use Rattle.sdr_station.specs.Answering.{Comes, IsGood, lines_of}
-use Rattle.sdr_station.specs.Grounded.{Grounded, Lasts, Stands, StandsSome, heap_in}
+use Rattle.sdr_station.specs.Grounded.{Grounded, Lasts, StandsForBoth, StandsSome, heap_in}
 use Rattle.sdr_station.proofs.ground.HeapGround.serve.Goals as goal
 
 pub answer-requires-clause-kept : goal.answer-requires-clause-kept
@@ -110,10 +110,10 @@ returns-in-Ok-clause-answered g c =
     let fresh : Held (Opened D) = record old.heap { moves = []; spare = c.fresh.new.self.spare } in
     let comes = subst (λ (h : Held (Opened D)). Comes call (heap_in h) (heap_in heap) old.shown page (Ok reply)) c.fresh.ensures.none c.in-Ok.ensures.comes in
     let works = subst (λ (h : Held (Opened D)). Works {T = Reply} (image_heap f) (lines_of call) h heap (Ok reply)) c.fresh.ensures.none c.in-Ok.ensures.works in
-    let brings : Brings (λ g v. Stands b m l g v) old new (Calls None call reply) =
+    let brings : Brings (λ g v. StandsForBoth b m l g v) old new (Calls None call reply) =
     brings_answered b m f l old going call c.requires.built c.in-Ok.ensures.fits c.fresh.new.self.spare heap page reply comes works in
     let q = works.quiet fresh (record { disk = refl; frame = refl; begun = refl; failed = refl }, refl) in
-    subst (λ (o : Grounded D). Brings (λ g v. Stands b m l g v) o new (Calls None call reply)) c.self.view_is brings
+    subst (λ (o : Grounded D). Brings (λ g v. StandsForBoth b m l g v) o new (Calls None call reply)) c.self.view_is brings
 
 pub returns-in-Ok-clause-stopped : goal.returns-in-Ok-clause-stopped
 returns-in-Ok-clause-stopped g c =
@@ -156,7 +156,7 @@ returns-in-Ok-clause-keeps g c =
     let fresh : Held (Opened D) = record old.heap { moves = []; spare = c.fresh.new.self.spare } in
     let comes = subst (λ (h : Held (Opened D)). Comes call (heap_in h) (heap_in heap) old.shown page (Ok reply)) c.fresh.ensures.none c.in-Ok.ensures.comes in
     let works = subst (λ (h : Held (Opened D)). Works {T = Reply} (image_heap f) (lines_of call) h heap (Ok reply)) c.fresh.ensures.none c.in-Ok.ensures.works in
-    let brings : Brings (λ g v. Stands b m l g v) old new (Calls None call reply) =
+    let brings : Brings (λ g v. StandsForBoth b m l g v) old new (Calls None call reply) =
     brings_answered b m f l old going call c.requires.built c.in-Ok.ensures.fits c.fresh.new.self.spare heap page reply comes works in
     let q = works.quiet fresh (record { disk = refl; frame = refl; begun = refl; failed = refl }, refl) in
     subst (λ (o : Grounded D). KeepsGround (heap_ground b m f l) true o new) c.self.view_is
@@ -180,7 +180,7 @@ returns-in-Ok-clause-any_moment g c =
     let fresh : Held (Opened D) = record old.heap { moves = []; spare = c.fresh.new.self.spare } in
     let comes = subst (λ (h : Held (Opened D)). Comes call (heap_in h) (heap_in heap) old.shown page (Ok reply)) c.fresh.ensures.none c.in-Ok.ensures.comes in
     let works = subst (λ (h : Held (Opened D)). Works {T = Reply} (image_heap f) (lines_of call) h heap (Ok reply)) c.fresh.ensures.none c.in-Ok.ensures.works in
-    let brings : Brings (λ g v. Stands b m l g v) old new (Calls None call reply) =
+    let brings : Brings (λ g v. StandsForBoth b m l g v) old new (Calls None call reply) =
     brings_answered b m f l old going call c.requires.built c.in-Ok.ensures.fits c.fresh.new.self.spare heap page reply comes works in
     let q = works.quiet fresh (record { disk = refl; frame = refl; begun = refl; failed = refl }, refl) in
     subst (λ (o : Grounded D). LeavesBefore (heap_ground b m f l) o new) c.self.view_is (leaves_quiet b m f l old new q.0.disk refl)
@@ -214,12 +214,12 @@ returns-in-Err-Refused-clause-answered g c =
       stopped = sym (ap not c.is_reading.ensures) i;
       moment = old.moment;
     } in
-    let brings : Brings (λ g v. Stands b m l g v) old new (Calls None call reply) =
-    subst (λ (n : Grounded D). Brings (λ g v. Stands b m l g v) old n (Calls None call reply)) is
+    let brings : Brings (λ g v. StandsForBoth b m l g v) old new (Calls None call reply) =
+    subst (λ (n : Grounded D). Brings (λ g v. StandsForBoth b m l g v) old n (Calls None call reply)) is
     (brings_refused b m f l old going call c.requires.built c.in-Err-Refused.ensures.fits c.fresh.new.self.spare heap page refusal told.spare comes works) in
     let q = works.quiet fresh (record { disk = refl; frame = refl; begun = refl; failed = refl }, refl) in
     let disk = ap (λ (h : Held (Opened D)). h.cells.disk) c.forget_moves.ensures in
-    subst (λ (o : Grounded D). Brings (λ g v. Stands b m l g v) o new (Calls None call reply)) c.self.view_is brings
+    subst (λ (o : Grounded D). Brings (λ g v. StandsForBoth b m l g v) o new (Calls None call reply)) c.self.view_is brings
 
 pub returns-in-Err-Refused-clause-keeps : goal.returns-in-Err-Refused-clause-keeps
 returns-in-Err-Refused-clause-keeps g c =
@@ -250,8 +250,8 @@ returns-in-Err-Refused-clause-keeps g c =
       stopped = sym (ap not c.is_reading.ensures) i;
       moment = old.moment;
     } in
-    let brings : Brings (λ g v. Stands b m l g v) old new (Calls None call reply) =
-    subst (λ (n : Grounded D). Brings (λ g v. Stands b m l g v) old n (Calls None call reply)) is
+    let brings : Brings (λ g v. StandsForBoth b m l g v) old new (Calls None call reply) =
+    subst (λ (n : Grounded D). Brings (λ g v. StandsForBoth b m l g v) old n (Calls None call reply)) is
     (brings_refused b m f l old going call c.requires.built c.in-Err-Refused.ensures.fits c.fresh.new.self.spare heap page refusal told.spare comes works) in
     let q = works.quiet fresh (record { disk = refl; frame = refl; begun = refl; failed = refl }, refl) in
     let disk = ap (λ (h : Held (Opened D)). h.cells.disk) c.forget_moves.ensures in
@@ -288,8 +288,8 @@ returns-in-Err-Refused-clause-any_moment g c =
       stopped = sym (ap not c.is_reading.ensures) i;
       moment = old.moment;
     } in
-    let brings : Brings (λ g v. Stands b m l g v) old new (Calls None call reply) =
-    subst (λ (n : Grounded D). Brings (λ g v. Stands b m l g v) old n (Calls None call reply)) is
+    let brings : Brings (λ g v. StandsForBoth b m l g v) old new (Calls None call reply) =
+    subst (λ (n : Grounded D). Brings (λ g v. StandsForBoth b m l g v) old n (Calls None call reply)) is
     (brings_refused b m f l old going call c.requires.built c.in-Err-Refused.ensures.fits c.fresh.new.self.spare heap page refusal told.spare comes works) in
     let q = works.quiet fresh (record { disk = refl; frame = refl; begun = refl; failed = refl }, refl) in
     let disk = ap (λ (h : Held (Opened D)). h.cells.disk) c.forget_moves.ensures in
