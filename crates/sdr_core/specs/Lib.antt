@@ -6,4 +6,3 @@ pub mod Ending
 pub mod Keeping
 pub mod Logging
 pub mod Noting
-pub mod Room

@@ -238,9 +238,10 @@ pub keeps_served : (r : Roll) (h : Holding) (event : Event) → (served_number r
     → keeps_in h.nesting event ≡ keeps_under r h event
 keeps_served r h event mine inside = sym (λ i. mine i && not (inside i) && keeps_in h.nesting event)
 
--- An event of a daemon that holds a number keeps what one under that number does.
-pub keeps_holding : (r : Roll) (d : Daemon) (h : Holding) (event : Event) → d.holds ≡ Some h → keeps_under r h event ≡ keeps_of r d event
-keeps_holding r d h event holds = sym (ap (λ (o : Option Holding). option_map_or (λ (h : Holding). keeps_under r h event) o false) holds)
+-- An event of a daemon that hasn't left and holds a number keeps what one under that number does.
+pub keeps_holding : (r : Roll) (d : Daemon) (h : Holding) (event : Event) → d.left ≡ false → d.holds ≡ Some h → keeps_under r h event ≡ keeps_of r d event
+keeps_holding r d h event stays holds =
+    sym (λ i. not (stays i) && option_map_or (λ (h : Holding). keeps_under r h event) (holds i) false)
 
 -- An event of the daemon that is found keeps what one of that daemon does.
 pub keeps_found : (r : Roll) (id : ℕ) (d : Daemon) (event : Event) → daemon_of r id ≡ Some d → keeps_of r d event ≡ keeps_by r id event

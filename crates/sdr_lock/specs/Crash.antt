@@ -115,9 +115,9 @@ keeps_in n event = false
 abbrev pub keeps_under : Roll → Holding → Event → Bool
 keeps_under r h event = served_number r == h.number && not (is_outside h event) && keeps_in h.nesting event
 
--- whether an event of a daemon that is so keeps what its transaction has done
+-- whether an event of a daemon that is so keeps what its transaction has done: the daemon hasn't left
 abbrev pub keeps_of : Roll → Daemon → Event → Bool
-keeps_of r d event = option_map_or (λ (h : Holding). keeps_under r h event) d.holds false
+keeps_of r d event = not d.left && option_map_or (λ (h : Holding). keeps_under r h event) d.holds false
 
 -- whether an event of the daemon of a number keeps what its transaction has done
 abbrev pub keeps_by : Roll → ℕ → Event → Bool

@@ -12,6 +12,7 @@ pub mod Legal
 pub mod Machine
 pub mod Nesting
 pub mod Roll
+pub mod Room
 pub mod Serving
 pub mod Standing
 pub mod Transaction

@@ -32,6 +32,12 @@ use Rattle.sdr_lock.specs.declared.daemon.Daemon.{Daemon}
 use Rattle.sdr_lock.specs.declared.daemon.Holding.{Holding}
 use Rattle.sdr_lock.specs.declared.has_ground.HasGround.{Ghosts}
 
+-- whether an event may find no memory: it is a call or an end
+abbrev pub takes_memory : Event → Bool
+takes_memory (events.Say call) = true
+takes_memory events.End = true
+takes_memory event = false
+
 -- whether the answer is a disk fault
 abbrev pub is_fault_answer : Answer → Bool
 is_fault_answer (answers.Reply replies.DiskFault) = true

@@ -26,6 +26,7 @@ mod seeing;
 mod serves;
 mod settling;
 mod shows;
+mod tells;
 
 pub use came::Came;
 pub use daemon::{Daemon, Holding};
@@ -36,3 +37,4 @@ pub use nesting::{Nesting, refused};
 pub use roll::Roll;
 pub use serves::Serves;
 pub use shows::Shows;
+pub use tells::{Room, Tells};

@@ -4,7 +4,7 @@ ghost use Rattle.sdr_lock.specs.Crash.{keeps_by, keeps_in, keeps_of, keeps_under
 ghost use Rattle.sdr_lock.specs.Ground.{State};
 ghost use Rattle.sdr_lock.specs.Machine.{MachineStep, Answers, Comes, ComesLooking, Holds, Serves, Performs, Enters, Looks, LooksHolding, Opens, Closes, FaultsWithin, ComesLeaving, Draws, IsSuspended, LeavesHolding, is_of_work, is_outside};
 ghost use Rattle.sdr_lock.specs.Roll.{MayDraw, after_entry, at_nesting, first_roll, held_by, with_daemon, with_fault, with_number};
-ghost use Rattle.sdr_lock.specs.Serving.{Acts, is_served};
+ghost use Rattle.sdr_lock.specs.Serving.{Acts, is_served, takes_memory};
 ghost use Rattle.sdr_lock.specs.Transaction.{is_closing, transaction_of};
 
 use crate::failing::go_failed;
@@ -164,6 +164,7 @@ impl<T: Serves> Lock<T> {
         ensures closes { IfOk result (λ came. Acts T.HasGround (keeps_in holding.nesting Event.End) (λ m e m'. Serves m daemon holding Event.End e m')
             daemon.id Event.End came self.old self.new) }
         ensures err { OnErr result (self.new ≡ self.old) }
+        ensures memory { OnErr result (takes_memory Event.End ≡ true) }
     {
         let mut nesting = holding.nesting;
         if nesting.depth <= 1 {
@@ -180,6 +181,7 @@ impl<T: Serves> Lock<T> {
         ensures closes { IfOk result (λ came. Acts T.HasGround false (λ m e m'. Serves m daemon holding Event.Exit e m')
             daemon.id Event.Exit came self.old self.new) }
         ensures err { OnErr result (self.new ≡ self.old) }
+        ensures memory { OnErr result (takes_memory Event.Exit ≡ true) }
     {
         let mut nesting = holding.nesting;
         if nesting.depth <= 1 {
@@ -196,6 +198,7 @@ impl<T: Serves> Lock<T> {
         ensures closes { IfOk result (λ came. Acts T.HasGround false (λ m e m'. Serves m daemon holding Event.Cancel e m')
             daemon.id Event.Cancel came self.old self.new) }
         ensures err { OnErr result (self.new ≡ self.old) }
+        ensures memory { OnErr result (takes_memory Event.Cancel ≡ true) }
     {
         let mut nesting = holding.nesting;
         if nesting.depth <= 1 {
@@ -339,6 +342,7 @@ impl<T: Serves> Lock<T> {
         ensures holds { IfOk result (λ came. Acts T.HasGround (keeps_under self.old.roll holding event.now)
             (λ m e m'. Holds m daemon holding event.now e m') daemon.id event.now came self.old self.new) }
         ensures err { OnErr result (self.new ≡ self.old) }
+        ensures memory { OnErr result (takes_memory event.now ≡ true) }
     {
         match event {
             Event::Request => Ok(told(Answer::Lock {
@@ -358,6 +362,7 @@ impl<T: Serves> Lock<T> {
         ensures enters { IfOk result (λ came. Acts T.HasGround (keeps_under self.old.roll holding event.now)
             (λ m e m'. Enters m daemon holding event.now e m') daemon.id event.now came self.old self.new) }
         ensures err { OnErr result (self.new ≡ self.old) }
+        ensures memory { OnErr result (takes_memory event.now ≡ true) }
     {
         let mine = holding.number;
         if is_outside(&holding, event) {
@@ -378,6 +383,7 @@ impl<T: Serves> Lock<T> {
         ensures serves { IfOk result (λ came. Acts T.HasGround (keeps_in holding.nesting event.now)
             (λ m e m'. Serves m daemon holding event.now e m') daemon.id event.now came self.old self.new) }
         ensures err { OnErr result (self.new ≡ self.old) }
+        ensures memory { OnErr result (takes_memory event.now ≡ true) }
     {
         match event {
             Event::Begin => Ok(self.begin(daemon, holding)),
@@ -397,6 +403,7 @@ impl<T: Serves> Lock<T> {
         ensures performs { IfOk result (λ came. Acts T.HasGround (keeps_of self.old.roll daemon event.now)
             (λ m e m'. Performs m daemon e m') daemon.id event.now came self.old self.new) }
         ensures err { OnErr result (self.new ≡ self.old) }
+        ensures memory { OnErr result (takes_memory event.now ≡ true) }
     {
         if daemon.left {
             return Ok(told(refused(Refusal::NotBegun)));
@@ -415,6 +422,7 @@ impl<T: Serves> Lock<T> {
         ensures answers { IfOk result (λ came. Acts T.HasGround (keeps_by self.old.roll id event.now) (λ m e m'. Answers m e m')
             id event.now came self.old self.new) }
         ensures err { OnErr result (self.new ≡ self.old) }
+        ensures memory { OnErr result (takes_memory event.now ≡ true) }
     {
         match self.roll.daemon(id) {
             None => Ok(told(refused(Refusal::NotBegun))),
@@ -422,13 +430,14 @@ impl<T: Serves> Lock<T> {
         }
     }
 
-    /// Makes an event of a daemon. Want of memory leaves all as before.
+    /// Makes an event of a daemon. Want of memory leaves all as before; only a call and an end may find none.
     pub fn event(&mut self, daemon: u8, event: &Event) -> Result<Came, NoMemory>
         requires drawn { MayDraw self.old.roll (held_by self.old.roll daemon) }
         requires lasts { T.lasts self.old.base 1 }
         ensures step { IfOk result (λ came. Acts T.HasGround (keeps_by self.old.roll daemon event.now) MachineStep
             daemon event.now came self.old self.new) }
         ensures err { OnErr result (self.new ≡ self.old) }
+        ensures memory { OnErr result (takes_memory event.now ≡ true) }
     {
         match self.roll.failed() {
             Some(moment) => Ok(self.fail_again(daemon, event, moment)),
@@ -448,6 +457,14 @@ impl<T: Serves> Lock<T> {
         ensures { result.now ≡ self.now.base }
     {
         &self.base
+    }
+
+    /// Its ground. The roll is let go.
+    pub fn into_base(self) -> T
+        ensures { result ≡ self.base }
+    {
+        let Lock { roll: _, base } = self;
+        base
     }
 
     /// The disk's moment.

@@ -20,7 +20,7 @@ pub returns-in-Some-clause-performs : goal.returns-in-Some-clause-performs
 returns-in-Some-clause-performs g c =
     let h = c.in-Some.holding in
     if_ok c.hold.result _ _ (λ a acts. acts_also g.T.HasGround _ _ _ _ c.args.daemon.id c.args.event.now a c.args.self.now c.hold.new.self
-    (keeps_holding c.args.self.now.roll c.args.daemon h c.args.event.now c.in-Some.is)
+    (keeps_holding c.args.self.now.roll c.args.daemon h c.args.event.now c.if-daemon.false c.in-Some.is)
     (λ v v' line holds. on_false _ _ _ c.if-daemon.false (on_some _ _ _ h c.in-Some.is holds)) acts) c.hold.ensures.holds
 
 pub come-requires : goal.come-requires

@@ -1,9 +1,9 @@
 // A ground that tells what its calls did.
-ghost use Rattle.std.specs.Prelude.{◌≡◌};
+ghost use Rattle.std.specs.Prelude.{◌≡◌, IfOk};
 ghost use Rattle.sdr_lock.specs.Standing.{Standing};
 
-use sdr_base::Move;
-use sdr_lock::Serves;
+use crate::Serves;
+use sdr_base::{Move, NoMemory};
 use sdr_model::Call;
 
 /// Room for what came of a call.
@@ -18,7 +18,7 @@ pub struct Room {
 /// A ground that tells the moves of its last call and the bytes that it shows, and how many there may be in the call that
 /// follows.
 pub trait Tells: Serves {
-    ghost use Rattle.sdr_core.specs.Room.{HoldsAny};
+    ghost use Rattle.sdr_lock.specs.Room.{HoldsAny};
 
     /// The moves of the last call.
     fn moves(&self) -> &[Move]
@@ -28,7 +28,7 @@ pub trait Tells: Serves {
     fn shown(&self) -> &[u8]
         ensures { (v : Standing) → Self.stands self.now v → result.now ≡ v.now.world.shown };
 
-    /// Room for what a call that follows may come to.
-    fn room_for(&self, call: &Call) -> Room
-        ensures { (v : Standing) → Self.stands self.now v → HoldsAny result v.now call.now };
+    /// Room for what a call that follows may come to; want of memory where the ground serves no such call.
+    fn room_for(&self, call: &Call) -> Result<Room, NoMemory>
+        ensures { IfOk result (λ room. (v : Standing) → Self.stands self.now v → HoldsAny room v.now call.now) };
 }
