@@ -4,7 +4,7 @@ ghost use Rattle.sdr_base.specs.Moves.{KeepsSome};
 ghost use Rattle.sdr_base.specs.Works.{Looks, Works};
 ghost use Rattle.sdr_heap.specs.Raw.{IsUnnamed, IsWhole, ReadStops};
 ghost use Rattle.sdr_model.specs.Fields.{AreBytes, FitsCall};
-ghost use Rattle.sdr_station.specs.Answering.{Comes, IsGood, built, lines_of};
+ghost use Rattle.sdr_station.specs.Answering.{Comes, IsGood, built, most_lines};
 
 use crate::page::{PAGE, Page};
 use sdr_base::{Addr, Kind, Objects, Refusal, Stop, expect_kind};
@@ -187,7 +187,7 @@ pub fn answer<O: Objects>(o: &mut O, call: &Call, page: &mut Page) -> Result<Rep
     requires unmoved { (O.heap o.old).moves ≡ [] }
     requires built { built call.now ≡ true }
     ensures comes { Comes call.now (O.heap o.old) (O.heap o.new) page.old page.new result }
-    ensures works { Works O.HasHeap (lines_of call.now) o.old o.new result }
+    ensures works { Works O.HasHeap (most_lines call.now) o.old o.new result }
     ensures fits { FitsCall call.now }
 {
     match call {
