@@ -1,9 +1,10 @@
+pub mod AddedLemmas
 pub mod CrashLemmas
 pub mod EndLemmas
 pub mod KeeperLemmas
-pub mod LeaverLemmas
 pub mod OpeningLemmas
 pub mod PlaceLemmas
 pub mod RunLemmas
+pub mod SafeLemmas
 pub mod SpokenLemmas
 pub mod StepLemmas

@@ -6,14 +6,21 @@ use Rattle.std.specs.Prelude.{slice_get}
 use Rattle.sdr_base.specs.Media.{Told}
 use Rattle.sdr_disk.specs.Moments.{AtEach}
 use Rattle.sdr_model.specs.declared.journal.Entry.{Entry}
-use Rattle.sdr_lock.specs.Crash.{AfterSome, IsCrashSafe, KeptInVain, LeavesBefore, LeavesOr, OpensAfter, begun_below, done_by, is_sound, is_whole}
+use Rattle.sdr_model.specs.declared.journal.What.{What}
+use Rattle.sdr_lock.specs.Crash.{AfterSome, IsCrashSafe, KeptInVain, LeavesBefore, LeavesOr, OpensAfter, as_ended, begun_below, done_by, is_sound, is_whole}
 use Rattle.sdr_lock.specs.Ground.{State, kept}
 use Rattle.sdr_lock.specs.Legal.{IsAfter, Lead, MayStand}
 use Rattle.sdr_lock.specs.Standing.{Standing}
 use Rattle.sdr_lock.specs.declared.has_ground.HasGround.{Ghosts}
 use Rattle.sdr_runs.proofs.JournalLemmas.{lead_more, take_all}
-use Rattle.sdr_core.specs.Crashing.{WouldStand}
 use Rattle.sdr_core.proofs.CrashLemmas.{begun-more, crash_ended, crash_faulted, done_by-unsound}
+
+-- The entry, in which the disk failed as its transaction ended, might stand behind the journal if the end had been answered, and
+-- would leave this state.
+pub record WouldStand (told : Option Told) (daemons : List ℕ) (journal : List Entry) (before : State) (e : Entry) (left : State) : Type 0 where
+  pub what : What
+  pub ended : as_ended e.what ≡ Some what
+  pub stands : MayStand told daemons journal before e.number e.daemon what left
 
 -- the states after the first entries stay where one is added
 after_more : (told : Option Told) (daemons : List ℕ) (first : State) (journal : List Entry) (e : Entry) (k : ℕ) (s : State) → k ≤ length journal

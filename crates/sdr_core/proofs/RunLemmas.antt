@@ -122,7 +122,7 @@ keeps_first g b daemons base begins =
       rests = begins.rests;
       media = begins.told;
       in_time = tt;
-      done = let is = begins.start in omega arith;
+      done = begins.later;
     }
 
 -- as a core is made

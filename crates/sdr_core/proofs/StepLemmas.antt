@@ -15,7 +15,7 @@ use Rattle.sdr_lock.specs.Transaction.{bytes_given}
 use Rattle.sdr_lock.proofs.StepLemmas.{IsCalled, Kind, from_option, from_test, step_is}
 use Rattle.sdr_core.specs.Drafting.{FitsIn}
 use Rattle.sdr_core.specs.Logging.{ClosesWithin}
-use Rattle.sdr_core.specs.Room.{HoldsEvent}
+use Rattle.sdr_lock.specs.Room.{HoldsEvent}
 use Rattle.sdr_base.specs.declared.moves.Move.{Move}
 use Rattle.sdr_lock.specs.Serving.{made_by}
 use Rattle.sdr_lock.specs.Standing.{Standing}
@@ -23,13 +23,7 @@ use Rattle.sdr_core.proofs.RunLemmas.{made_known}
 use Rattle.sdr_core.specs.Noting.{said_noted}
 use Rattle.sdr_core.specs.declared.noted.Noted.{Noted}
 use Rattle.sdr_core.specs.declared.draft.Draft.{Draft}
-use Rattle.sdr_core.specs.declared.tells.Room.{Room}
-
--- no more bytes are given than are shown
-given_within : (answer : Answer) (shown : List ℕ) → length (bytes_given answer shown) ≤ length shown
-given_within (answers.Reply (replies.Refused refusal)) shown = omega arith
-given_within (answers.Reply replies.MediaFault) shown = omega arith
-given_within answer shown = omega arith
+use Rattle.sdr_lock.specs.declared.tells.Room.{Room}
 
 module _ (draft : Draft) (room : Room) (moves : room.moves ≤ vec_capacity draft.moves) (bytes : room.bytes ≤ vec_capacity draft.bytes) where
   fits_nothing : (said : Said) → said.moves ≡ [] → said.bytes ≡ [] → FitsIn draft said
@@ -40,8 +34,9 @@ module _ (draft : Draft) (room : Room) (moves : room.moves ≤ vec_capacity draf
   fits_called m e m' holds called =
       let fits = subst (HoldsEvent room m.now) called.event holds called.replies.done called.replies.steps in
       let n = ap (λ l. length l) called.replies.moves in
-      let b = ap (λ (l : List ℕ). length l) called.replies.bytes in
-      record { moves = omega (arith, fits.moves); bytes = omega (arith, fits.bytes, given_within e.said.answer called.replies.done.after.world.shown) }
+      let b = ap (λ (l : List ℕ). length l)
+      (called.replies.bytes ∙ ap (λ a. bytes_given a called.replies.done.after.world.shown) called.replies.answer) in
+      record { moves = omega (arith, fits.moves); bytes = omega (arith, fits.bytes) }
 
   fits_kind : (m : Machine) (e : Made) (m' : Machine) → HoldsEvent room m.now e.said.event → Kind m e m' → FitsIn draft e.said
   fits_kind m e m' holds (Kind.stays quiet before now) = fits_nothing e.said quiet.moves quiet.bytes

@@ -1,12 +1,13 @@
 -- What holds of every core.
 use Rattle.sdr_lock.specs.Serving.{Locked}
 use Rattle.sdr_lock.specs.declared.has_ground.HasGround.{Ghosts}
-use Rattle.sdr_core.specs.CoreKept.{Begins, KeepsRun}
+use Rattle.sdr_core.specs.CoreKept.{Begins, KeepsRun, KeepsSafe}
 use Rattle.sdr_core.specs.Keeping.{AreApart, works_of}
 use Rattle.sdr_core.specs.Logging.{log_of}
 use Rattle.sdr_core.specs.declared.keeper.Keeper.{Keeper}
 
--- The lock and the log are those of a run, and no daemon is in two transactions.
+-- The lock and the log are those of a run, of which a crash leaves some first entries, and no daemon is in two transactions.
 pub record IsCore {T : Type 0} (g : Ghosts T) (b : Begins) (lock : Locked T) (keeper : Keeper) : Type 0 where
   pub run : KeepsRun g b (record { lock = lock; log = log_of keeper })
+  pub safe : KeepsSafe g b keeper.journal.items lock.roll.failed lock.base
   pub apart : AreApart (works_of keeper.works.items)

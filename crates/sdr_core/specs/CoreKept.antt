@@ -1,14 +1,18 @@
 -- What the type of a core keeps.
-use Rattle.std.specs.Prelude.{◌≡◌, ◌≤◌, ℕ, List, [], ◌∷◌, Option, ⊤}
+use Rattle.std.specs.Prelude.{◌≡◌, ◌≤◌, ◌<◌, ℕ, List, [], ◌∷◌, Option, None, false, true, is_none, length, ⊤}
+use Rattle.sdr_base.specs.Causes.{Rose}
 use Rattle.sdr_base.specs.Media.{Told}
 use Rattle.sdr_lock.specs.Core.{AreInTime, Core, CoreStep, Log, RunsCore, first_core}
+use Rattle.sdr_lock.specs.Crash.{IsCrashSafe, OpensAfter, done_by, is_sound}
 use Rattle.sdr_lock.specs.Ground.{State, resting}
 use Rattle.sdr_lock.specs.Machine.{Made}
-use Rattle.sdr_lock.specs.Serving.{Leads, Locked, Stood, StoodFor, machine_at, made_by}
+use Rattle.sdr_lock.specs.Legal.{IsAfter, IsLegal}
+use Rattle.sdr_lock.specs.Serving.{Leads, Locked, StandsFor, Stood, StoodFor, machine_at, made_by}
 use Rattle.sdr_lock.specs.Standing.{Standing}
 use Rattle.sdr_lock.specs.declared.came.Came.{Came}
 use Rattle.sdr_lock.specs.declared.has_ground.HasGround.{Ghosts}
 use Rattle.sdr_model.specs.declared.event.Event.{Event}
+use Rattle.sdr_model.specs.declared.journal.Entry.{Entry}
 use Rattle.sdr_base.specs.declared.moves.Move.{Move}
 use Rattle.sdr_lock.specs.Standing.{standing_at}
 
@@ -21,21 +25,25 @@ pub record Kept (T : Type 0) : Type 0 where
 abbrev pub core_at : {T : Type 0} → Kept T → Standing → Core
 core_at k v = record { machine = machine_at k.lock.roll v; log = k.log }
 
--- what a run begins from: what media tell, the daemons, the first state, and the disk's first moment
+-- what a run begins from: what media tell, the daemons, the first state, the disk's first moment, and its count of faults then
 pub record Begins : Type 0 where
   pub told : Option Told
   pub daemons : List ℕ
   pub first : State
   pub start : ℕ
+  pub faults : ℕ
 
--- the ground is where the run begins: it stands for the first state, in which no transaction is open, at the first moment
+-- The ground is where the run begins: it stands for the first state, in which no transaction is open, and at each moment since
+-- the first a crash left what opens to that state.
 pub record BeginsOn {T : Type 0} (g : Ghosts T) (b : Begins) (daemons : List ℕ) (base : T) : Type 0 where
   pub told : g.told base ≡ b.told
   pub daemons_are : daemons ≡ b.daemons
-  pub start : g.moment base ≡ b.start
+  pub later : b.start ≤ g.moment base
+  pub faults : b.faults ≤ g.faults base
   pub rests : b.first ≡ resting b.first.world b.first.base
   pub moves : List Move
   pub stands : g.stands base (standing_at b.first moves)
+  pub opening : (m : ℕ) (image : List ℕ) → b.start ≤ m → m ≤ g.moment base → g.left base m image → g.opens image b.first
 
 -- the moment at which the last of these events was done, from this one on
 abbrev pub last_done : ℕ → List Made → ℕ
@@ -54,6 +62,20 @@ pub record KeepsRun {T : Type 0} (g : Ghosts T) (b : Begins) (k : Kept T) : Type
   pub in_time : AreInTime b.start made
   pub done : last_done b.start made ≤ g.moment k.lock.base
 
+-- what a crash leaves of a ground, where this is the journal and the disk has failed or not
+pub record KeepsSafe {T : Type 0} (g : Ghosts T) (b : Begins) (journal : List Entry) (failed : Option ℕ) (base : T) : Type 0 where
+  -- the disk has failed just where it did in an entry
+  pub sound : is_sound journal ≡ is_none failed
+  -- every entry is done by now, and none before the run began
+  pub all : failed ≡ None → (m : ℕ) → g.moment base ≤ m → done_by m journal ≡ length journal
+  pub early : (m : ℕ) → m < b.start → done_by m journal ≡ 0
+  -- at each moment a crash leaves the state after some first entries, and all that are done
+  pub crash : IsCrashSafe g.moment g.left (OpensAfter g.opens b.told b.daemons b.first journal) b.start journal base
+  -- no moment and no count of faults has fallen, and the disk failed only where the count rose
+  pub later : b.start ≤ g.moment base
+  pub counted : b.faults ≤ g.faults base
+  pub cause : is_sound journal ≡ false → Rose b.faults (g.faults base)
+
 -- the lock stands for something, unless the disk has failed
 abbrev pub StandsStill : {T : Type 0} → (T → Standing → Type 0) → Locked T → Type 0
 StandsStill stands lock = StoodFor stands lock (λ _. ⊤)
@@ -64,3 +86,14 @@ abbrev pub StepsCore : {T : Type 0} → Ghosts T → (daemon line : ℕ) → Eve
 StepsCore g daemon line event a old new =
     Leads g.stands old.lock new.lock (λ v v'. CoreStep (g.told old.lock.base) (core_at old v)
     (made_by daemon event a (g.moment old.lock.base) (g.moment new.lock.base) line v') (core_at new v'))
+
+-- What the ground and the journal are as a run ends: the journal is legal, and a crash leaves the state after some first entries
+-- of it. Unless the disk failed, the ground stands for the state after all of them.
+pub record IsRunOf {T : Type 0} (g : Ghosts T) (b : Begins) (journal : List Entry) (base : T) : Type 0 where
+  pub legal : IsLegal b.told b.daemons b.first journal
+  pub crash : IsCrashSafe g.moment g.left (OpensAfter g.opens b.told b.daemons b.first journal) b.start journal base
+  pub early : (m : ℕ) → m < b.start → done_by m journal ≡ 0
+  pub rests : is_sound journal ≡ true → StandsFor g.stands base (λ v. IsAfter b.told b.daemons b.first journal (length journal) v.before)
+  pub later : b.start ≤ g.moment base
+  pub counted : b.faults ≤ g.faults base
+  pub cause : is_sound journal ≡ false → Rose b.faults (g.faults base)

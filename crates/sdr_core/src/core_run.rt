@@ -4,17 +4,18 @@ ghost use Rattle.sdr_lock.specs.Crash.{keeps_by};
 ghost use Rattle.sdr_lock.specs.Legal.{IsLegal};
 ghost use Rattle.sdr_lock.specs.Roll.{MayDraw, first_roll, held_by};
 ghost use Rattle.sdr_lock.specs.Serving.{Asks};
-ghost use Rattle.sdr_core.specs.CoreKept.{BeginsOn, StepsCore};
+ghost use Rattle.sdr_core.specs.CoreKept.{BeginsOn, IsRunOf, StepsCore};
 
 use crate::making::make;
-use crate::{Keeper, Origin, Tells};
+use crate::{Keeper, Origin};
 use sdr_base::NoMemory;
-use sdr_lock::{Came, Lock, Roll};
+use sdr_lock::{Came, Lock, Roll, Tells};
 use sdr_model::{Entry, Event, Journal};
 use std::alloc::Global;
 use std::marker::{Model, PhantomData};
 
-/// A lock, and the journal of its run from the origin.
+/// A lock, and the journal of its run from the origin. At each moment since the first a crash leaves the state after some
+/// first entries, all that are done by then among them.
 pub struct Core<T: Tells, J: Origin> {
     lock: Lock<T>,
     keeper: Keeper,
@@ -102,11 +103,11 @@ impl<T: Tells, J: Origin> Core<T, J> {
         self.lock.base()
     }
 
-    /// The journal, and the lock. What daemons have said in open transactions is let go.
-    pub fn finish(self) -> (Journal, Lock<T>)
+    /// The journal, and the ground. What daemons have said in open transactions is let go.
+    pub fn finish(self) -> (Journal, T)
         ensures journal { result.0 ≡ self.log.journal }
-        ensures lock { result.1 ≡ self.lock }
-        ensures legal { IsLegal J.begins.told J.begins.daemons J.begins.first result.0 }
+        ensures base { result.1 ≡ self.lock.base }
+        ensures run { IsRunOf T.HasGround J.begins result.0 result.1 }
     {
         let Core {
             lock,
@@ -114,6 +115,6 @@ impl<T: Tells, J: Origin> Core<T, J> {
             alloc: _,
             of: _,
         } = self;
-        (keeper.into_journal(), lock)
+        (keeper.into_journal(), lock.into_base())
     }
 }

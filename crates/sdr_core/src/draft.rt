@@ -5,9 +5,9 @@ ghost use Rattle.sdr_core.specs.Drafting.{FitsIn, IsBlank, IsDraft};
 ghost use Rattle.sdr_core.specs.Noting.{said_noted};
 
 use crate::copying::copy_of;
-use crate::{Noted, Room};
+use crate::Noted;
 use sdr_base::{Bytes, Items, Move, NoMemory};
-use sdr_lock::Came;
+use sdr_lock::{Came, Room};
 use sdr_model::{Answer, Event, Moves, Reply, Said};
 use std::alloc::Global;
 

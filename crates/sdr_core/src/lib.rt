@@ -8,29 +8,23 @@
 //!    and the moves and bytes that the ground tells. What the run begins from is named by a type parameter (`Origin`).
 //! 4. The type of `Core` keeps that there is a core run from its first core to the one that it is at. So its journal is
 //!    legal, in whatever order daemons come.
-//! 5. Laws: a crash leaves the state after some first entries of a journal, in each case of an event by which it grows
-//!    (`crashes_leave_first_entries`); a daemon that has left holds no number (`leavers_hold_nothing`); an event that may
-//!    keep its transaction ends it, or meets a disk fault (`outer_ends_keep`).
+//! 5. The type also keeps what a crash leaves: at each moment since the first the state after some first entries, all
+//!    that are done among them (`KeepsSafe`). An entry in which the disk failed is never done, and where it failed as its
+//!    transaction was kept, the state with that transaction whole may be left.
 #![tactic(auto)]
 
 mod copying;
 mod core_run;
-mod crashes;
 mod draft;
 mod keeper;
-mod leavers;
 mod making;
 mod noted;
 mod origin;
 mod spoken;
-mod tells;
 
 pub use core_run::Core;
-pub use crashes::crashes_leave_first_entries;
 pub use draft::Draft;
 pub use keeper::Keeper;
-pub use leavers::{leavers_hold_nothing, outer_ends_keep};
 pub use noted::{Noted, Under};
 pub use origin::Origin;
 pub use spoken::Spoken;
-pub use tells::{Room, Tells};

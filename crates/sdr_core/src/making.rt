@@ -1,5 +1,5 @@
 // How an event is made and noted.
-ghost use Rattle.std.specs.Prelude.{◌≡◌, ◌&&◌, not, Some, IfOk, OnErr};
+ghost use Rattle.std.specs.Prelude.{◌≡◌, ◌&&◌, not, true, None, Some, IfOk, OnErr};
 ghost use Rattle.sdr_lock.specs.Core.{has_left, looks_again};
 ghost use Rattle.sdr_lock.specs.Crash.{keeps_by};
 ghost use Rattle.sdr_lock.specs.Roll.{MayDraw, daemon_of, held_by, number_of};
@@ -8,11 +8,11 @@ ghost use Rattle.sdr_lock.specs.Standing.{Standing};
 ghost use Rattle.sdr_core.specs.CoreKept.{StandsStill, StepsCore};
 ghost use Rattle.sdr_core.specs.Keeping.{AreApart, works_of};
 ghost use Rattle.sdr_core.specs.Logging.{log_of};
-ghost use Rattle.sdr_core.specs.Room.{HoldsEvent};
+ghost use Rattle.sdr_lock.specs.Room.{HoldsEvent};
 
-use crate::{Draft, Keeper, Noted, Room, Tells, Under};
+use crate::{Draft, Keeper, Noted, Under};
 use sdr_base::NoMemory;
-use sdr_lock::{Came, Daemon, Lock, Roll};
+use sdr_lock::{Came, Daemon, Lock, Roll, Room, Tells};
 use sdr_model::Event;
 use std::alloc::Global;
 
@@ -38,12 +38,12 @@ fn looks_again(known: &Daemon, event: &Event) -> bool
 }
 
 // Room for what the event may come to.
-fn room_for<T: Tells>(base: &T, event: &Event) -> Room
-    ensures { (v : Standing) → T.stands base.now v → HoldsEvent result v.now event.now }
+fn room_for<T: Tells>(base: &T, event: &Event) -> Result<Room, NoMemory>
+    ensures { IfOk result (λ room. (v : Standing) → T.stands base.now v → HoldsEvent room v.now event.now) }
 {
     match event {
         Event::Say(call) => base.room_for(call),
-        _ => Room { moves: 0, bytes: 0 },
+        _ => Ok(Room { moves: 0, bytes: 0 }),
     }
 }
 
@@ -71,13 +71,15 @@ fn make_known<T: Tells>(
     requires found { daemon_of lock.old.roll daemon ≡ Some known.now }
     ensures step { IfOk result (λ came. StepsCore T.HasGround daemon line event.now came
         (record { lock = lock.old; log = log_of keeper.old }) (record { lock = lock.new; log = log_of keeper.new })) }
+    ensures called { IfOk result (λ came. came.called ≡ true → lock.new.roll.failed ≡ None) }
     ensures asks { IfOk result (λ came. Asks T.HasGround (keeps_by lock.old.roll daemon event.now) came lock.old lock.new) }
     ensures err { OnErr result ((lock.new ≡ lock.old) × (log_of keeper.new ≡ log_of keeper.old)) }
     ensures apart { AreApart (works_of keeper.new.works.items) }
 {
     let number = number_of(lock.roll(), known);
     let waited = looks_again(known, event);
-    let draft = Draft::new(alloc, event, room_for(lock.base(), event))?;
+    let room = room_for(lock.base(), event)?;
+    let draft = Draft::new(alloc, event, room)?;
     keeper.reserve(daemon)?;
     let begun = lock.moment();
     let came = lock.event(daemon, event)?;
@@ -115,6 +117,7 @@ pub fn make<T: Tells>(
     requires apart { AreApart (works_of keeper.old.works.items) }
     ensures step { IfOk result (λ came. StepsCore T.HasGround daemon line event.now came
         (record { lock = lock.old; log = log_of keeper.old }) (record { lock = lock.new; log = log_of keeper.new })) }
+    ensures called { IfOk result (λ came. came.called ≡ true → lock.new.roll.failed ≡ None) }
     ensures asks { IfOk result (λ came. Asks T.HasGround (keeps_by lock.old.roll daemon event.now) came lock.old lock.new) }
     ensures err { OnErr result ((lock.new ≡ lock.old) × (log_of keeper.new ≡ log_of keeper.old)) }
     ensures apart { AreApart (works_of keeper.new.works.items) }

@@ -9,6 +9,7 @@ use Rattle.sdr_base.specs.declared.refusal.Refusal.TheVariants as refusals
 use Rattle.sdr_model.specs.declared.answer.Answer.{Answer}
 use Rattle.sdr_model.specs.declared.answer.Answer.TheVariants as answers
 use Rattle.sdr_model.specs.declared.answer.Close.TheVariants as closes
+use Rattle.sdr_model.specs.declared.answer.Reply.TheVariants as replies
 use Rattle.sdr_model.specs.declared.event.Event.{Event}
 use Rattle.sdr_model.specs.declared.event.Event.TheVariants as events
 use Rattle.sdr_model.specs.declared.journal.Said.{Said}
@@ -105,7 +106,7 @@ module _ {told : Option Told} {daemons : List ℕ} {first : State} {c : Core} {e
       adds_none p found c.machine c.log.works (next_outside p found is told_so outside)
       (what_unclosed p found is told_so c.machine unclosed
       ∙ adds (under c.machine.roll d c.machine.roll event) (left_same c.machine d (found_there p found) refl))
-      p.keeps.roll refl (λ none. none) p.keeps.works
+      p.keeps.roll refl refl p.keeps.works
 
   pub not_begun : e.said.answer ≡ refused refusals.NotBegun → StepKeeps told daemons first c e c.machine
   not_begun told_so = unchanged refl told_so (not_begun_passes e.said.event) refl (λ u stays. refused_adds_none u e.said.event refusals.NotBegun stays)
@@ -145,7 +146,7 @@ module _ {told : Option Told} {daemons : List ℕ} {first : State} {c : Core} {e
       ∙ adds (under c.machine.roll d (with_number c.machine.roll d 0) event)
       (left_same (with_roll c.machine (with_number c.machine.roll d 0)) (drawn_by c.machine.roll d 0)
       (found_put c.machine.roll.daemons (drawn_by c.machine.roll d 0) d (found_there p found)) refl))
-      (drawn_roll p.keeps.roll (found_there p found) 0 none) refl (λ none. none)
+      (drawn_roll p.keeps.roll (found_there p found) 0 none) refl refl
       (λ sound. let k = p.keeps.works sound in record { apart = k.apart; current = drawn_current c.log.works 0 k.current none (own_said k.current none) (λ other apart. refl) })
 
   -- a transaction that has just begun
@@ -164,7 +165,7 @@ module _ {told : Option Told} {daemons : List ℕ} {first : State} {c : Core} {e
   begins is given none =
       adds_none p found (with_roll c.machine (with_number c.machine.roll d 1)) (with_said c.log.works d.id e.said) (next_inside p found is given.answer refl refl)
       (what_unclosed p found is given.answer (with_roll c.machine (with_number c.machine.roll d 1)) refl)
-      (drawn_roll p.keeps.roll (found_there p found) 1 none) refl (λ none. none)
+      (drawn_roll p.keeps.roll (found_there p found) 1 none) refl refl
       (λ sound. let k = p.keeps.works sound in record {
         apart = apart_said c.log.works d.id e.said k.apart;
         current =
@@ -205,7 +206,7 @@ module _ {told : Option Told} {daemons : List ℕ} {first : State} {c : Core} {e
       (left_same (with_done c.machine d d.left waits drawn) (done_with d d.left waits) (found_put c.machine.roll.daemons (done_with d d.left waits) d (found_there p found)) refl) refl)
       (done_roll p.keeps.roll (found_there p found) d.left waits c.machine.roll.failed turn
       (let a = p.keeps.roll.agree d.id d (found_there p found) in record { left = a.left; waits = same ∙ a.waits }))
-      refl (λ none. none)
+      refl refl
       (λ sound. done_works d.left waits drawn (idle sound) (p.keeps.works sound))
 
   -- it is done with its number, and an entry is added that leaves the state
@@ -223,6 +224,7 @@ module _ {told : Option Told} {daemons : List ℕ} {first : State} {c : Core} {e
       (what_unclosed p found is told_so (with_done c.machine d left waits drawn) unclosed ∙ adds)
       (entry_roll p.keeps.roll (found_there p found) left waits c.machine.roll.failed (entry_of (number_of c.machine.roll d) e what) turn refl (number_is p found) agree)
       stands turn.higher leaves (λ none. (none, whole))
+      (subst (λ b. MatchBool b (e.said.answer ≡ answers.Reply replies.DiskFault) (c.machine.roll.failed ≡ c.machine.roll.failed)) (sym whole) refl)
       (λ sound. done_works left waits drawn (idle sound) (p.keeps.works sound))
 
   module _ {h : Holding} (holds : d.holds ≡ Some h) where
@@ -234,7 +236,7 @@ module _ {told : Option Told} {daemons : List ℕ} {first : State} {c : Core} {e
         → StepKeeps told daemons first c e c.machine
     looked_inside ticket inside is given =
         adds_none p found c.machine (with_said c.log.works d.id e.said) (next_inside p found is given.answer refl refl)
-        (what_unclosed p found is given.answer c.machine refl) p.keeps.roll refl (λ none. none)
+        (what_unclosed p found is given.answer c.machine refl) p.keeps.roll refl refl
         (λ sound. let k = p.keeps.works sound in record {
           apart = apart_said c.log.works d.id e.said k.apart;
           current = current_looked told daemons c.log.journal c.machine c.log.works p.keeps.roll d.id d h e.said ticket k.apart k.current mine inside is given;
@@ -254,7 +256,7 @@ module _ {told : Option Told} {daemons : List ℕ} {first : State} {c : Core} {e
           adds_none p found (with_roll c.machine (with_daemon c.machine.roll (at_nesting d h (nested 1)))) (with_said c.log.works d.id e.said)
           (next_inside p found is given.answer refl refl)
           (what_unclosed p found is given.answer (with_roll c.machine (with_daemon c.machine.roll (at_nesting d h (nested 1)))) refl)
-          (nested_roll p.keeps.roll (found_there p found) (nested 1) holds) refl (λ none. none)
+          (nested_roll p.keeps.roll (found_there p found) (nested 1) holds) refl refl
           (λ sound.
           let k = p.keeps.works sound in
           let idle = idle_mine outside in

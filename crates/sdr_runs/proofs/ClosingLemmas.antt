@@ -1,5 +1,5 @@
 -- A transaction goes on or closes: what a core keeps after that.
-use Rattle.std.proofs.Common.{◌≡◌, ◌∙◌, ◌==◌, ◌+◌, ℕ, List, [], ◌∷◌, ◌++◌, true, false, Option, None, Some, refl, sym, ap, subst, inl}
+use Rattle.std.proofs.Common.{◌≡◌, ◌∙◌, ◌==◌, ◌+◌, ℕ, List, [], ◌∷◌, ◌++◌, true, false, MatchBool, Option, None, Some, refl, sym, ap, subst, inl}
 use Rattle.std.specs.Option.{option_map_or}
 use Rattle.std.specs.Prelude.{if◌then◌else◌}
 use Rattle.sdr_base.specs.Media.{Told}
@@ -16,6 +16,7 @@ use Rattle.sdr_lock.specs.Core.{Core, Under, all_said, entry_of, said_by, under,
 use Rattle.sdr_lock.specs.Ground.{HasHeap, State}
 use Rattle.sdr_lock.specs.Legal.{MayStand, is_fault}
 use Rattle.sdr_lock.specs.Machine.{Machine, Made, roll_closed, with_transaction}
+use Rattle.sdr_lock.specs.Nesting.{closing}
 use Rattle.sdr_lock.specs.Roll.{after_entry, at_nesting, daemon_of, number_of, put_daemon, served_number, with_fault}
 use Rattle.sdr_lock.specs.Transaction.{ClosesSo, Finishes, IsAnswered, Runs, OpenTransaction, Transacts, asks_disk, is_closing, transaction_of}
 use Rattle.sdr_lock.specs.declared.daemon.Daemon.{Daemon}
@@ -64,7 +65,7 @@ module _ {told : Option Told} {daemons : List ℕ} {first : State} {c : Core} {e
       (entry_roll p.keeps.roll (found_there p found) d.left None (Some e.done) (entry_of (number_of c.machine.roll d) e (whats.Work (all_said c.log.works d.id e.said) closes.Faulted)) turn refl (number_is p found) (record { left = stays; waits = refl }))
       (subst (λ all. Runs told c.machine.before (number_of c.machine.roll d) all closes.Faulted c.machine.before) (sym alone)
       (record { ticket = ticket; event = is; faults = record { heap = heap; how = refl; told = given; left = refl } }))
-      turn.higher (inl sound) (λ none. absurd cc) (λ none. absurd cc)
+      turn.higher (inl sound) (λ none. absurd cc) given.answer (λ none. absurd cc)
     where
       alone : all_said c.log.works d.id e.said ≡ e.said ∷ []
       alone =
@@ -87,7 +88,7 @@ module _ {told : Option Told} {daemons : List ℕ} {first : State} {c : Core} {e
         (what_unclosed p found refl refl (with_transaction c.machine d h t) within.open_still
         ∙ within_adds_none (under c.machine.roll d (with_transaction c.machine d h t).roll e.said.event) e.said.event e.said.answer within
         (left_same p found (with_transaction c.machine d h t) (at_nesting d h t.nesting) there refl))
-        (nested_roll p.keeps.roll (found_there p found) t.nesting holds) refl (λ none. none)
+        (nested_roll p.keeps.roll (found_there p found) t.nesting holds) refl refl
         (λ none. record {
           apart = apart_said c.log.works d.id e.said (p.keeps.works sound).apart;
           current =
@@ -140,11 +141,16 @@ module _ {told : Option Told} {daemons : List ℕ} {first : State} {c : Core} {e
         (entry_roll p.keeps.roll (found_there p found) d.left None c.machine.roll.failed
         (entry_of (number_of c.machine.roll d) e (whats.Work (all_said c.log.works d.id e.said) close)) turn refl (number_is p found) (record { left = stays; waits = refl }))
         (finished close left (Finishes.closed closing_one so)) turn.higher (inl sound)
-        (λ none. (sound, ap (λ k. is_fault (whats.Work (all_said c.log.works d.id e.said) k)) so.how ∙ closing_whole h.nesting e.said.event (all_said c.log.works d.id e.said)))
+        (λ none. (sound, ap (λ k. is_fault (whats.Work (all_said c.log.works d.id e.said) k)) so.how ∙ whole))
+        (subst (λ b. MatchBool b (e.said.answer ≡ answers.Reply replies.DiskFault) (c.machine.roll.failed ≡ c.machine.roll.failed))
+        (sym (ap (λ k. is_fault (whats.Work (all_said c.log.works d.id e.said) k)) so.how ∙ whole)) refl)
         (λ none. closed_works (p.keeps.works sound) far_and_others.1 left)
       where
         turn : IsTurn c.log.journal c.machine.roll d c.machine.roll.drawn
         turn = turn_mine p.keeps.roll (found_there p found) holds served
+
+        whole : is_fault (whats.Work (all_said c.log.works d.id e.said) (closing h.nesting e.said.event)) ≡ false
+        whole = closing_whole h.nesting e.said.event (all_said c.log.works d.id e.said)
 
     -- the disk fails in the transaction
     pub faults_so : d.left ≡ false → asks_disk (transaction_of h c.machine.now) e.said.event ≡ true → HasHeap c.machine.before.base

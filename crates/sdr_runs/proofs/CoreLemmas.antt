@@ -1,10 +1,12 @@
 -- What a core keeps in its run, and what an event adds to its journal.
-use Rattle.std.proofs.Common.{◌==◌, ◌≡◌, ◌<◌, ◌⊎◌, ◌∙◌, ◌&&◌, ◌||◌, ℕ, List, [], ◌∷◌, ◌++◌, Bool, true, false, not, Option, None, Some, MatchOption, refl, sym, ap, subst, append-nil}
+use Rattle.std.proofs.Common.{◌==◌, ◌≡◌, ◌<◌, ◌⊎◌, ◌∙◌, ◌&&◌, ◌||◌, ℕ, List, [], ◌∷◌, ◌++◌, Bool, true, false, not, Option, None, Some, MatchBool, MatchOption, refl, sym, ap, subst, append-nil}
 use Rattle.std.specs.List.{list_any}
 use Rattle.std.specs.Option.{option_map, option_map_or, option_to_list}
 use Rattle.std.specs.Prelude.{if◌then◌else◌}
 use Rattle.sdr_base.specs.Media.{Told}
 use Rattle.sdr_model.specs.declared.answer.Answer.{Answer}
+use Rattle.sdr_model.specs.declared.answer.Answer.TheVariants as answers
+use Rattle.sdr_model.specs.declared.answer.Reply.TheVariants as replies
 use Rattle.sdr_model.specs.declared.answer.Close.{Close}
 use Rattle.sdr_model.specs.declared.event.Event.{Event}
 use Rattle.sdr_model.specs.declared.journal.Entry.{Entry}
@@ -16,7 +18,7 @@ use Rattle.sdr_lock.specs.Legal.{Lead, MayStand, is_fault, is_leave}
 use Rattle.sdr_lock.specs.Machine.{Machine, Made}
 use Rattle.sdr_lock.specs.Roll.{daemon_of, number_of}
 use Rattle.sdr_lock.specs.declared.daemon.Daemon.{Daemon}
-use Rattle.sdr_runs.specs.Adding.{AddsRightly, entry_added, entry_under}
+use Rattle.sdr_runs.specs.Adding.{AddsRightly, FailsRightly, entry_added, entry_under}
 use Rattle.sdr_runs.proofs.CurrentLemmas.{Current}
 use Rattle.sdr_runs.proofs.JournalLemmas.{last_number}
 use Rattle.sdr_runs.proofs.KeepLemmas.{KeepsJournal, KeepsRoll, journal_more}
@@ -39,6 +41,7 @@ pub record KeepsCore (told : Option Told) (daemons : List ℕ) (first : State) (
 pub record StepKeeps (told : Option Told) (daemons : List ℕ) (first : State) (c : Core) (e : Made) (m' : Machine) : Type 0 where
   pub keeps : KeepsCore told daemons first (core_after c e m')
   pub adds : AddsRightly told daemons c e m'
+  pub fails : FailsRightly c e m'
 
 -- an event that is made of a core that keeps it
 pub record IsNext (told : Option Told) (daemons : List ℕ) (first : State) (c : Core) (e : Made) : Type 0 where
@@ -55,6 +58,10 @@ and_not true = refl
 and_not false = refl
 
 module _ {told : Option Told} {daemons : List ℕ} {first : State} {c : Core} {e : Made} (p : IsNext told daemons first c e) where
+  -- where the disk failed in this, the event was answered so, and else it hasn't failed by it
+  abbrev FailsBy : What → Machine → Type 0
+  FailsBy what m' = MatchBool (is_fault what) (e.said.answer ≡ answers.Reply replies.DiskFault) (m'.roll.failed ≡ c.machine.roll.failed)
+
   -- the journal stays
   still : (failed : Option ℕ) (before : State) → before ≡ c.machine.before → (failed ≡ None → c.machine.roll.failed ≡ None)
       → KeepsJournal told daemons first c.log.journal failed before
@@ -76,6 +83,9 @@ module _ {told : Option Told} {daemons : List ℕ} {first : State} {c : Core} {e
         (record { roll = p.keeps.roll; journal = still c.machine.roll.failed c.machine.before refl (λ none. none); works = p.keeps.works });
     adds =
         subst (λ o. MatchOption o (c.machine.before ≡ c.machine.before) (λ (x : Entry). MayStand told daemons c.log.journal c.machine.before x.number x.daemon x.what c.machine.before))
+        (sym (ap (λ o. option_map_or (λ (d : Daemon). entry_under (under c.machine.roll d c.machine.roll e.said.event) c e) o None) none)) refl;
+    fails =
+        subst (λ o. MatchOption o (c.machine.roll.failed ≡ c.machine.roll.failed) (λ (x : Entry). FailsBy x.what c.machine))
         (sym (ap (λ o. option_map_or (λ (d : Daemon). entry_under (under c.machine.roll d c.machine.roll e.said.event) c e) o None) none)) refl;
   }
 
@@ -104,17 +114,20 @@ module _ {told : Option Told} {daemons : List ℕ} {first : State} {c : Core} {e
 
     -- an event that adds no entry
     pub adds_none : (m' : Machine) (works' : List Work) → next_works ≡ works' → what_of (made_under m') c.log.works e ≡ None
-        → KeepsRoll daemons c.log.journal m'.roll → m'.before ≡ c.machine.before → (m'.roll.failed ≡ None → c.machine.roll.failed ≡ None)
+        → KeepsRoll daemons c.log.journal m'.roll → m'.before ≡ c.machine.before → m'.roll.failed ≡ c.machine.roll.failed
         → (m'.roll.failed ≡ None → KeepsWorks told m' works') → StepKeeps told daemons first c e m'
-    adds_none m' works' works none roll before sound open_ones = record {
+    adds_none m' works' works none roll before same open_ones = record {
       keeps =
           subst (KeepsCore told daemons first)
           (sym (after_is m' works' c.log.journal works
           (ap (λ o. c.log.journal ++ option_to_list (option_map (entry_of (made_under m').number e) o)) none ∙ append-nil c.log.journal)))
-          (record { roll = roll; journal = still m'.roll.failed m'.before before sound; works = open_ones });
+          (record { roll = roll; journal = still m'.roll.failed m'.before before (λ none. sym same ∙ none); works = open_ones });
       adds =
           subst (λ o. MatchOption o (m'.before ≡ c.machine.before) (λ (x : Entry). MayStand told daemons c.log.journal c.machine.before x.number x.daemon x.what m'.before))
           (sym (added_is m' ∙ ap (option_map (entry_of (made_under m').number e)) none)) before;
+      fails =
+          subst (λ o. MatchOption o (m'.roll.failed ≡ c.machine.roll.failed) (λ (x : Entry). FailsBy x.what m'))
+          (sym (added_is m' ∙ ap (option_map (entry_of (made_under m').number e)) none)) same;
     }
 
     member : list_any (λ n. n == e.daemon) daemons ≡ true
@@ -127,8 +140,9 @@ module _ {told : Option Told} {daemons : List ℕ} {first : State} {c : Core} {e
         → last_number 0 c.log.journal < number_of c.machine.roll d
         → (c.machine.roll.failed ≡ None) ⊎ (is_leave what ≡ true)
         → (m'.roll.failed ≡ None → (c.machine.roll.failed ≡ None) × (is_fault what ≡ false))
+        → FailsBy what m'
         → (m'.roll.failed ≡ None → KeepsWorks told m' works') → StepKeeps told daemons first c e m'
-    adds_some m' works' what works some roll stands higher leaves sound open_ones = record {
+    adds_some m' works' what works some roll stands higher leaves sound same open_ones = record {
       keeps =
           subst (KeepsCore told daemons first)
           (sym (after_is m' works' (c.log.journal ++ entry_of (number_of c.machine.roll d) e what ∷ []) works
@@ -143,6 +157,9 @@ module _ {told : Option Told} {daemons : List ℕ} {first : State} {c : Core} {e
       adds =
           subst (λ o. MatchOption o (m'.before ≡ c.machine.before) (λ (x : Entry). MayStand told daemons c.log.journal c.machine.before x.number x.daemon x.what m'.before))
           (sym (added_is m' ∙ ap (option_map (entry_of (made_under m').number e)) some)) stands;
+      fails =
+          subst (λ o. MatchOption o (m'.roll.failed ≡ c.machine.roll.failed) (λ (x : Entry). FailsBy x.what m'))
+          (sym (added_is m' ∙ ap (option_map (entry_of (made_under m').number e)) some)) same;
     }
 
     module _ {event : Event} {answer : Answer} (is : e.said.event ≡ event) (told_so : e.said.answer ≡ answer) where

@@ -16,7 +16,7 @@ use Rattle.sdr_lock.specs.Machine.{Made}
 use Rattle.sdr_lock.specs.Roll.{daemon_of, is_stalled, newcomer}
 use Rattle.sdr_lock.specs.declared.daemon.Daemon.{Daemon}
 use Rattle.sdr_lock.specs.declared.daemon.Holding.{Holding}
-use Rattle.sdr_runs.specs.Adding.{AddsRightly, entry_added, entry_under}
+use Rattle.sdr_runs.specs.Adding.{AddsRightly, FailsRightly, entry_added, entry_under}
 use Rattle.sdr_runs.specs.Rising.{MomentsRise, NumbersRise}
 use Rattle.sdr_runs.specs.LastEntries.{AgreesWithJournal}
 use Rattle.sdr_runs.proofs.CoreLemmas.{KeepsCore}
@@ -57,11 +57,12 @@ first_keeps told daemons first = record {
 
 -- a step of the core
 pub core_step_keeps : (told : Option Told) (daemons : List ℕ) (first : State) (c : Core) (e : Made) (c' : Core) → KeepsCore told daemons first c → CoreStep told c e c'
-    → KeepsCore told daemons first c' × AddsRightly told daemons c e c'.machine
+    → KeepsCore told daemons first c' × AddsRightly told daemons c e c'.machine × FailsRightly c e c'.machine
 core_step_keeps told daemons first c e c' keeps step =
     let after = step_keeps (record { keeps = keeps }) step.next step.step step.media in (
       subst (KeepsCore told daemons first) (sym step.history) after.keeps,
       subst (λ (x : Core). AddsRightly told daemons c e x.machine) (sym step.history) after.adds,
+      subst (λ (x : Core). FailsRightly c e x.machine) (sym step.history) after.fails,
     )
 
 -- a run of it

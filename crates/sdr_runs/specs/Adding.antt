@@ -1,10 +1,12 @@
 -- The entry that an event adds to the journal.
-use Rattle.std.specs.Prelude.{◌≡◌, ℕ, List, Option, None, MatchOption}
+use Rattle.std.specs.Prelude.{◌≡◌, ℕ, List, Option, None, MatchBool, MatchOption}
 use Rattle.std.specs.Option.{option_map, option_map_or}
 use Rattle.sdr_base.specs.Media.{Told}
+use Rattle.sdr_model.specs.declared.answer.Answer.TheVariants as answers
+use Rattle.sdr_model.specs.declared.answer.Reply.TheVariants as replies
 use Rattle.sdr_model.specs.declared.journal.Entry.{Entry}
 use Rattle.sdr_lock.specs.Core.{Core, Under, entry_of, under, what_of}
-use Rattle.sdr_lock.specs.Legal.{MayStand}
+use Rattle.sdr_lock.specs.Legal.{MayStand, is_fault}
 use Rattle.sdr_lock.specs.Machine.{Machine, Made}
 use Rattle.sdr_lock.specs.Roll.{daemon_of}
 use Rattle.sdr_lock.specs.declared.daemon.Daemon.{Daemon}
@@ -25,3 +27,9 @@ abbrev pub AddsRightly : Option Told → List ℕ → Core → Made → Machine 
 AddsRightly told daemons c e m =
     MatchOption (entry_added c e m) (m.before ≡ c.machine.before)
     (λ (x : Entry). MayStand told daemons c.log.journal c.machine.before x.number x.daemon x.what m.before)
+
+-- By an event that adds no entry the disk hasn't failed; where it did in the entry that is added, the event was answered so.
+abbrev pub FailsRightly : Core → Made → Machine → Type 0
+FailsRightly c e m =
+    MatchOption (entry_added c e m) (m.roll.failed ≡ c.machine.roll.failed)
+    (λ (x : Entry). MatchBool (is_fault x.what) (e.said.answer ≡ answers.Reply replies.DiskFault) (m.roll.failed ≡ c.machine.roll.failed))

@@ -43,8 +43,8 @@ noted g c =
     (sym (noted_said (noted_in g c) c.args.event.now c.in_ok-draft.draft.event c.moves.result.now c.shown.result.now s.for c.in_ok-draft.ensures.event_is
     (λ called. let stands = s.stood (s.tells.sound called) in
     (c.moves.ensures s.for (subst (λ b. ghosts.stands b s.for) (sym c.base-2.ensures) stands), c.shown.ensures s.for (subst (λ b. ghosts.stands b s.for) (sym c.base-3.ensures) stands))))) (
-      step_fits c.in_ok-draft.draft c.room_for.result c.in_ok-draft.ensures.moves c.in_ok-draft.ensures.bytes m e m'
-          (λ none. c.room_for.ensures v (subst (λ b. ghosts.stands b v) (sym c.base.ensures) (c.requires.stands.stood none))) (s.tells.step c.args.line),
+      step_fits c.in_ok-draft.draft c.in_ok-room.room c.in_ok-draft.ensures.moves c.in_ok-draft.ensures.bytes m e m'
+          (λ none. c.in_ok-room.ensures v (subst (λ b. ghosts.stands b v) (sym c.base.ensures) (c.requires.stands.stood none))) (s.tells.step c.args.line),
       step_closes m e m' (s.tells.step c.args.line),
     )
 
@@ -72,3 +72,6 @@ returns-clause-step g c =
       left = (c.leaves_now-left.ensures ∙ ap (λ r. has_left r d.id && not d.left) c.roll-2.ensures) i;
     }) (c.in_ok-reserve.ensures.same i)
     (made_with c.args.daemon (c.in_ok-draft.ensures.event_is i) came (c.moment-begun.ensures i) (c.moment-done.ensures i) c.args.line c.moves.result.now c.shown.result.now)))
+
+pub returns-clause-called : goal.returns-clause-called
+returns-clause-called g c = (c.in_ok-came.ensures.step.leads.each c.requires.stands.for c.requires.stands.stood).tells.sound

@@ -1,11 +1,8 @@
-use Rattle.std.proofs.Common.{subst, sym}
-use Rattle.sdr_lock.specs.Legal.{IsLegal}
-use Rattle.sdr_core.proofs.RunLemmas.{keeps_legal}
+use Rattle.sdr_core.proofs.SafeLemmas.{run_ends}
 use Rattle.sdr_core.specs.Logging.{log_of}
 use Rattle.sdr_core.proofs.core_run.Core.finish.Goals as goal
 
-pub returns-clause-legal : goal.returns-clause-legal
-returns-clause-legal g c =
-    let b = g.J.Origin.begins in
-    subst (IsLegal b.told b.daemons b.first) (sym c.into_journal.ensures)
-    (keeps_legal g.T.HasGround b (record { lock = c.self.inside.lock; log = log_of c.self.inside.keeper }) c.self.invariant.run)
+pub returns-clause-run : goal.returns-clause-run
+returns-clause-run g c =
+    run_ends g.T.HasGround g.J.Origin.begins (record { lock = c.self.inside.lock; log = log_of c.self.inside.keeper }) c.into_journal.result c.into_base.result
+    c.into_journal.ensures c.into_base.ensures c.self.invariant.run c.self.invariant.safe
