@@ -2,6 +2,7 @@ pub mod AddedLemmas
 pub mod CrashLemmas
 pub mod EndLemmas
 pub mod KeeperLemmas
+pub mod LeaveLemmas
 pub mod OpeningLemmas
 pub mod PlaceLemmas
 pub mod RunLemmas

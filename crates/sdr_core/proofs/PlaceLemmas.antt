@@ -6,7 +6,7 @@ use Rattle.std.proofs.lemmas.Iterator.Adapters.{position_from-zero}
 use Rattle.sdr_model.specs.declared.journal.Said.{Said}
 use Rattle.sdr_lock.specs.Core.{Work, said_by, with_said, without_work}
 use Rattle.sdr_core.proofs.SpokenLemmas.{said_by-none, without_work-none}
-use Rattle.sdr_core.specs.Keeping.{AreApart, HasSpace, MaySay, StandsAt, is_of, spoken_of, work_of, works_of}
+use Rattle.sdr_core.specs.Keeping.{AreApart, AreSpacious, HasSpace, MaySay, StandsAt, is_of, spoken_of, work_of, works_of}
 use Rattle.std.proofs.Math.Seq.{get_or-append_seam, set-append_seam}
 use Rattle.sdr_core.specs.declared.spoken.Spoken.{Spoken}
 use Rattle.sdr_runs.proofs.RollLemmas.{same_number}
@@ -142,6 +142,23 @@ own_at spoken daemon place x at is =
 set_at : (spoken : List Spoken) (daemon place : ℕ) (x : Spoken) (at : StandsAt spoken daemon place) → slice_set spoken place x ≡ at.front ++ x ∷ at.rest
 set_at spoken daemon place x at = (λ i. slice_set (at.whole i) (at.place_is i) x) ∙ set-append_seam at.front at.own at.rest x
 
+-- what has room among these
+all_with : (front : List Spoken) (own own' : Spoken) (rest : List Spoken) → AreSpacious (front ++ own ∷ rest) → HasSpace 1 own' → AreSpacious (front ++ own' ∷ rest)
+all_with [] own own' rest all has = (has, all.1)
+all_with (s ∷ front) own own' rest all has = (all.0, all_with front own own' rest all.1 has)
+
+all_without : (front : List Spoken) (own : Spoken) (rest : List Spoken) → AreSpacious (front ++ own ∷ rest) → HasSpace 1 own × AreSpacious (front ++ rest)
+all_without [] own rest all = all
+all_without (s ∷ front) own rest all = let more = all_without front own rest all.1 in (more.0, (all.0, more.1))
+
+pub push_spacious : (spoken : List Spoken) (s : Spoken) → AreSpacious spoken → HasSpace 1 s → AreSpacious (spoken ++ s ∷ [])
+push_spacious [] s all has = (has, tt)
+push_spacious (x ∷ spoken) s all has = (all.0, push_spacious spoken s all.1 has)
+
+removed : (front : List Spoken) (own : Spoken) (rest : List Spoken) → remove (front ++ own ∷ rest) (length front) ≡ front ++ rest
+removed [] own rest = refl
+removed (s ∷ front) own rest = ap (λ xs. s ∷ xs) (removed front own rest)
+
 module _ (spoken : List Spoken) (daemon place : ℕ) (x : Spoken) (at : StandsAt spoken daemon place) (is : x ≡ slice_index_or spoken place x) where
   -- a transaction for which memory was taken looks the same
   pub reserved_same : (x' : Spoken) → work_of x' ≡ work_of x → works_of (slice_set spoken place x') ≡ works_of spoken
@@ -150,18 +167,18 @@ module _ (spoken : List Spoken) (daemon place : ℕ) (x : Spoken) (at : StandsAt
       ∙ works_same at.front at.own x' at.rest (same ∙ ap work_of (own_at spoken daemon place x at is)) ∙ ap works_of (sym at.whole)
 
   -- it has room
-  pub reserved_has : (x' : Spoken) → x'.daemon ≡ x.daemon → HasSpace x' → MaySay (slice_set spoken place x') daemon
-  reserved_has x' same has =
-      subst (λ o. MatchOption o ⊤ HasSpace)
+  pub reserved_has : (n : ℕ) (x' : Spoken) → x'.daemon ≡ x.daemon → HasSpace n x' → MaySay n (slice_set spoken place x') daemon
+  reserved_has n x' same has =
+      subst (λ o. MatchOption o ⊤ (HasSpace n))
       (sym (ap (λ xs. spoken_of xs daemon) (set_at spoken daemon place x' at)
       ∙ found_own at.front x' at.rest daemon at.none
       (ap (λ n. n == daemon) (same ∙ ap (λ (s : Spoken). s.daemon) (own_at spoken daemon place x at is)) ∙ at.here))) has
 
   -- it has room to say more
-  pub has_space : MaySay spoken daemon → HasSpace x
-  has_space may =
-      subst HasSpace (sym (own_at spoken daemon place x at is))
-      (subst (λ o. MatchOption o ⊤ HasSpace) (ap (λ xs. spoken_of xs daemon) at.whole ∙ found_own at.front at.own at.rest daemon at.none at.here) may)
+  pub has_space : (n : ℕ) → MaySay n spoken daemon → HasSpace n x
+  has_space n may =
+      subst (HasSpace n) (sym (own_at spoken daemon place x at is))
+      (subst (λ o. MatchOption o ⊤ (HasSpace n)) (ap (λ xs. spoken_of xs daemon) at.whole ∙ found_own at.front at.own at.rest daemon at.none at.here) may)
 
   -- the daemon has said more in it
   pub said_at : (x' : Spoken) (said : Said) → work_of x' ≡ record { daemon = x.daemon; said = x.said.items ++ said ∷ [] } → works_of (slice_set spoken place x') ≡ with_said (works_of spoken) daemon said
@@ -170,6 +187,14 @@ module _ (spoken : List Spoken) (daemon place : ℕ) (x : Spoken) (at : StandsAt
       ∙ works_said at.front at.own x' at.rest daemon said at.none at.here
       (same ∙ ap (λ (s : Spoken). record { daemon = s.daemon; said = s.said.items ++ said ∷ [] }) (own_at spoken daemon place x at is))
       ∙ ap (λ xs. with_said (works_of xs) daemon said) (sym at.whole)
+
+  -- it has room for one more where all have, and so have all where another with room is in its place
+  pub own_spacious : AreSpacious spoken → HasSpace 1 x
+  own_spacious all = subst (HasSpace 1) (sym (own_at spoken daemon place x at is)) (all_without at.front at.own at.rest (subst AreSpacious at.whole all)).0
+
+  pub set_spacious : (x' : Spoken) → AreSpacious spoken → HasSpace 1 x' → AreSpacious (slice_set spoken place x')
+  set_spacious x' all has =
+      subst AreSpacious (sym (set_at spoken daemon place x' at)) (all_with at.front at.own x' at.rest (subst AreSpacious at.whole all) has)
 
   pub own_said : AreApart (works_of spoken) → x.said.items ≡ said_by (works_of spoken) daemon
   own_said apart =
@@ -183,10 +208,12 @@ without_at spoken daemon place at apart =
     ap works_of ((λ i. remove (at.whole i) (at.place_is i)) ∙ removed at.front at.own at.rest)
     ∙ works_without at.front at.own at.rest daemon at.none at.here (subst (λ xs. AreApart (works_of xs)) at.whole apart)
     ∙ ap (λ xs. without_work (works_of xs) daemon) (sym at.whole)
-  where
-    removed : (front : List Spoken) (own : Spoken) (rest : List Spoken) → remove (front ++ own ∷ rest) (length front) ≡ front ++ rest
-    removed [] own rest = refl
-    removed (s ∷ front) own rest = ap (λ xs. s ∷ xs) (removed front own rest)
+
+-- and the others have room still
+pub without_spacious : (spoken : List Spoken) (daemon place : ℕ) → StandsAt spoken daemon place → AreSpacious spoken → AreSpacious (remove spoken place)
+without_spacious spoken daemon place at all =
+    subst AreSpacious (sym ((λ i. remove (at.whole i) (at.place_is i)) ∙ removed at.front at.own at.rest))
+    (all_without at.front at.own at.rest (subst AreSpacious at.whole all)).1
 
 -- a place lies within
 pub place_within : (spoken : List Spoken) (daemon place : ℕ) → StandsAt spoken daemon place → place < length spoken
@@ -198,5 +225,5 @@ on_ok (Ok a) P Q is follows = follows is
 on_ok (Err e) P Q is follows = tt
 
 -- a daemon that has said nothing may begin to
-pub may_begin : (spoken : List Spoken) (daemon : ℕ) → spoken_of spoken daemon ≡ None → MaySay spoken daemon
-may_begin spoken daemon none = subst (λ o. MatchOption o ⊤ HasSpace) (sym none) tt
+pub may_begin : (n : ℕ) (spoken : List Spoken) (daemon : ℕ) → spoken_of spoken daemon ≡ None → MaySay n spoken daemon
+may_begin n spoken daemon none = subst (λ o. MatchOption o ⊤ (HasSpace n)) (sym none) tt

@@ -1,16 +1,16 @@
 -- The draft of an event, and what there is room for in it.
-use Rattle.std.specs.Prelude.{◌≡◌, ◌≤◌, ◌<◌, [], length, vec_capacity}
+use Rattle.std.specs.Prelude.{◌≡◌, ◌≤◌, [], length, vec_capacity}
 use Rattle.sdr_model.specs.declared.event.Event.{Event}
 use Rattle.sdr_model.specs.declared.journal.Said.{Said}
 use Rattle.sdr_core.specs.declared.draft.Draft.{Draft}
 use Rattle.sdr_lock.specs.declared.tells.Room.{Room}
 
--- Nothing stands in the draft yet, and there is room for the first that is said in a transaction.
+-- Nothing stands in the draft yet, and there is room for the first two that are said in a transaction.
 pub record IsBlank (draft : Draft) : Type 0 where
   pub moves : draft.moves.items ≡ []
   pub bytes : draft.bytes.items ≡ []
   pub first : draft.first.items ≡ []
-  pub begins : 0 < vec_capacity draft.first
+  pub begins : 2 ≤ vec_capacity draft.first
 
 -- There is room in the draft for the moves and the bytes of what was said.
 pub record FitsIn (draft : Draft) (said : Said) : Type 0 where

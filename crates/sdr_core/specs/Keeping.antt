@@ -1,5 +1,6 @@
 -- What the keeper of a log keeps.
-use Rattle.std.specs.Prelude.{◌≡◌, ◌<◌, ◌==◌, ℕ, Bool, true, List, [], ◌∷◌, ◌++◌, Option, None, MatchOption, find, length, map, vec_capacity, vec_len, ⊤}
+use Rattle.std.specs.Prelude.{◌≡◌, ◌≤◌, ◌+◌, ◌==◌, ℕ, Bool, true, List, [], ◌∷◌, ◌++◌, Option, None, MatchOption, find, length, map, vec_capacity, vec_len, ⊤}
+use Rattle.std.specs.List.{AllByRecursion}
 use Rattle.sdr_lock.specs.Core.{Work}
 use Rattle.sdr_core.specs.declared.spoken.Spoken.{Spoken}
 
@@ -20,17 +21,21 @@ abbrev pub AreApart : List Work → Type 0
 AreApart [] = ⊤
 AreApart (w ∷ works) = (find (is_of w.daemon) works ≡ None) × AreApart works
 
--- there is room for one more that is said
-abbrev pub HasSpace : Spoken → Type 0
-HasSpace s = vec_len s.said < vec_capacity s.said
+-- there is room for so many more that are said
+abbrev pub HasSpace : ℕ → Spoken → Type 0
+HasSpace n s = vec_len s.said + n ≤ vec_capacity s.said
+
+-- in each open transaction there is room for one more that is said
+abbrev pub AreSpacious : List Spoken → Type 0
+AreSpacious spoken = AllByRecursion (HasSpace 1) spoken
 
 -- what the daemon has said, if it is in a transaction
 abbrev pub spoken_of : List Spoken → ℕ → Option Spoken
 spoken_of spoken daemon = find (λ (s : Spoken). s.daemon == daemon) spoken
 
--- there is room for one more that the daemon says in its transaction
-abbrev pub MaySay : List Spoken → ℕ → Type 0
-MaySay spoken daemon = MatchOption (spoken_of spoken daemon) ⊤ HasSpace
+-- there is room for so many more that the daemon says in its transaction
+abbrev pub MaySay : ℕ → List Spoken → ℕ → Type 0
+MaySay n spoken daemon = MatchOption (spoken_of spoken daemon) ⊤ (HasSpace n)
 
 -- At this place stands the first that is the daemon's.
 pub record StandsAt (spoken : List Spoken) (daemon place : ℕ) : Type 0 where

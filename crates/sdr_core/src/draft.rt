@@ -19,7 +19,7 @@ pub struct Draft {
     pub moves: Vec<Move>,
     /// Room for the bytes that its call gives.
     pub bytes: Vec<u8>,
-    /// Room for the first that is said in a transaction.
+    /// Room for the first that is said in a transaction, and for a leave behind it.
     pub first: Vec<Said>,
 }
 
@@ -71,7 +71,7 @@ impl Draft {
             event: copy_of(alloc, event)?,
             moves: Vec::with_capacity(alloc, room.moves)?,
             bytes: Vec::with_capacity(alloc, room.bytes)?,
-            first: Vec::with_capacity(alloc, 1)?,
+            first: Vec::with_capacity(alloc, 2)?,
         })
     }
 

@@ -1,17 +1,17 @@
 // The keeper of a log.
-ghost use Rattle.std.specs.Prelude.{◌≡◌, ◌<◌, ◌≤◌, ◌++◌, ◌∷◌, [], ℕ, IfOk, OnOk, vec_capacity, vec_len};
-ghost use Rattle.sdr_lock.specs.Core.{log_after, said_by, with_said, without_work, closed_by};
+ghost use Rattle.std.specs.Prelude.{◌≡◌, ◌<◌, ◌≤◌, ◌+◌, ◌*◌, ◌++◌, ◌∷◌, [], ℕ, IfOk, IsSome, OnOk, vec_capacity, vec_len};
+ghost use Rattle.sdr_lock.specs.Core.{log_after, said_by, what_of, with_said, without_work, closed_by};
 ghost use Rattle.sdr_model.specs.declared.journal.What.TheVariants as whats;
 ghost use Rattle.sdr_core.specs.Drafting.{FitsIn, IsBlank};
-ghost use Rattle.sdr_core.specs.Keeping.{AreApart, works_of};
-ghost use Rattle.sdr_core.specs.Logging.{ClosesWithin, GoesOn, HasRoom, log_of};
+ghost use Rattle.sdr_core.specs.Keeping.{AreApart, AreSpacious, spoken_of, works_of};
+ghost use Rattle.sdr_core.specs.Logging.{AddsEntries, AddsOne, AddsSome, ClosesKept, ClosesWithin, GoesOn, HasRoom, HasRoomFor, PassesUnlessClosing, log_of};
 ghost use Rattle.sdr_core.specs.Noting.{entry_noted, made_noted, said_noted, under_of};
 
 use crate::noted::{closed_by, was_outside, what_else};
 use crate::spoken::{reserve_said, say, take_spoken};
 use crate::{Draft, Noted, Spoken};
-use sdr_base::{Items, Move, NoMemory};
-use sdr_model::{Close, Entry, Journal, Said, What};
+use sdr_base::{Bytes, Items, Move, NoMemory};
+use sdr_model::{Close, Entry, Event, Journal, Leave, Said, What};
 use std::alloc::Global;
 
 /// What each daemon has said in its open transaction, and the journal so far.
@@ -22,11 +22,25 @@ pub struct Keeper {
     alloc: Global,
 }
 
+// What is said by a leave.
+fn said_of_leave(alloc: Global, noted: &Noted, leave: Leave) -> Said
+    ensures { result ≡ said_noted noted.now (Event.Leaves leave) [] [] }
+{
+    Said {
+        line: noted.line,
+        event: Event::Leaves(leave),
+        answer: noted.came.answer,
+        bytes: Bytes::of(Vec::new(alloc)),
+        moves: Items::of(Vec::new(alloc)),
+    }
+}
+
 impl Keeper {
     /// Nothing said, and no entry. There is room for two entries a daemon.
     pub fn new(alloc: Global, daemons: usize) -> Result<Keeper, NoMemory>
         requires { daemons ≤ 256 }
-        ensures { IfOk result (λ keeper. log_of keeper ≡ record { works = []; journal = [] }) }
+        ensures log { IfOk result (λ keeper. log_of keeper ≡ record { works = []; journal = [] }) }
+        ensures room { IfOk result (λ keeper. HasRoomFor (2 * daemons) keeper) }
     {
         Ok(Keeper {
             works: Vec::with_capacity(alloc, daemons)?,
@@ -35,13 +49,16 @@ impl Keeper {
         })
     }
 
-    /// Takes the memory for an event of the daemon.
-    pub fn reserve(&mut self, daemon: u8) -> Result<(), NoMemory>
+    /// Takes the memory for an event of one of so many daemons, and behind it for two leaves of each.
+    pub fn reserve(&mut self, daemon: u8, daemons: usize) -> Result<(), NoMemory>
+        requires { daemons ≤ 256 }
         ensures same { log_of self.new ≡ log_of self.old }
         ensures ok { OnOk result (HasRoom self.new daemon) }
+        ensures leaves { OnOk result (vec_len self.new.journal + (1 + 2 * daemons) ≤ vec_capacity self.new.journal) }
+        ensures stays { (n : ℕ) → HasRoomFor n self.old → HasRoomFor n self.new }
     {
         self.works.reserve(1)?;
-        self.journal.reserve(1)?;
+        self.journal.reserve(1 + 2 * daemons)?;
         reserve_said(&mut self.works, daemon)
     }
 
@@ -49,9 +66,10 @@ impl Keeper {
     fn keep(&mut self, daemon: u8, said: Said, mut first: Vec<Said>)
         requires room { HasRoom self.old daemon }
         requires blank { first.items ≡ [] }
-        requires begins { 0 < vec_capacity first }
+        requires begins { 2 ≤ vec_capacity first }
         ensures works { works_of self.new.works.items ≡ with_said (works_of self.old.works.items) daemon said }
         ensures journal { self.new.journal ≡ self.old.journal }
+        ensures spacious { AreSpacious self.old.works.items → AreSpacious self.new.works.items }
     {
         if let Some(said) = say(&mut self.works, daemon, said) {
             first.push_reserved(said);
@@ -67,6 +85,7 @@ impl Keeper {
         requires room { vec_len self.old.journal < vec_capacity self.old.journal }
         ensures works { self.new.works ≡ self.old.works }
         ensures journal { self.new.journal.items ≡ self.old.journal.items ++ entry_noted noted.now what ∷ [] }
+        ensures room { AddsOne self.old.journal self.new.journal }
     {
         self.journal.push_reserved(noted.entry(what));
     }
@@ -77,6 +96,7 @@ impl Keeper {
         ensures said { result.items ≡ said_by (works_of self.old.works.items) daemon }
         ensures works { works_of self.new.works.items ≡ without_work (works_of self.old.works.items) daemon }
         ensures journal { self.new.journal ≡ self.old.journal }
+        ensures spacious { AreSpacious self.old.works.items → AreSpacious self.new.works.items }
     {
         match take_spoken(&mut self.works, daemon) {
             None => Vec::new(self.alloc),
@@ -91,6 +111,8 @@ impl Keeper {
         ensures works { works_of self.new.works.items ≡ without_work (works_of self.old.works.items) noted.now.daemon }
         ensures journal { self.new.journal.items ≡ self.old.journal.items
             ++ entry_noted noted.now (whats.Work (said_by (works_of self.old.works.items) noted.now.daemon) close) ∷ [] }
+        ensures room { AddsOne self.old.journal self.new.journal }
+        ensures spacious { AreSpacious self.old.works.items → AreSpacious self.new.works.items }
     {
         let said = Items::of(self.take_said(noted.daemon));
         self.add(noted, What::Work { said, close });
@@ -100,9 +122,11 @@ impl Keeper {
     fn go_on(&mut self, noted: &Noted, said: Said, first: Vec<Said>)
         requires room { HasRoom self.old noted.now.daemon }
         requires blank { first.items ≡ [] }
-        requires begins { 0 < vec_capacity first }
+        requires begins { 2 ≤ vec_capacity first }
         requires answer { said.answer ≡ noted.now.came.answer }
-        ensures { GoesOn noted.now said (log_of self.old) (log_of self.new) }
+        ensures goes_on { GoesOn noted.now said (log_of self.old) (log_of self.new) }
+        ensures room { AddsSome self.old.journal self.new.journal }
+        ensures spacious { AreSpacious self.old.works.items → AreSpacious self.new.works.items }
     {
         let what = what_else(&noted.under, &said.event, noted.came.answer);
         if !was_outside(&said.event, noted.came.answer) {
@@ -123,6 +147,8 @@ impl Keeper {
         ensures log { log_of self.new ≡ log_after (under_of noted.now.under) (log_of self.old)
             (made_noted noted.now draft.event moves.now shown.now) }
         ensures apart { AreApart (works_of self.new.works.items) }
+        ensures room { AddsSome self.old.journal self.new.journal }
+        ensures spacious { AreSpacious self.old.works.items → AreSpacious self.new.works.items }
     {
         let (said, first) = draft.said(noted, moves, shown);
         match closed_by(noted.came.answer) {
@@ -130,6 +156,51 @@ impl Keeper {
             Some(close) => {
                 self.keep(noted.daemon, said, first);
                 self.close(noted, close);
+            }
+        }
+    }
+
+    // Closes the transaction of a daemon by its leave, and adds its entry.
+    fn close_left(&mut self, noted: &Noted, close: Close, said: Said)
+        requires apart { AreApart (works_of self.old.works.items) }
+        requires room { HasRoomFor 1 self.old }
+        requires kept { IsSome (spoken_of self.old.works.items noted.now.daemon) }
+        ensures works { works_of self.new.works.items ≡ without_work (works_of self.old.works.items) noted.now.daemon }
+        ensures journal { self.new.journal.items ≡ self.old.journal.items
+            ++ entry_noted noted.now (whats.Work (said_by (works_of self.old.works.items) noted.now.daemon ++ said ∷ []) close) ∷ [] }
+        ensures room { AddsOne self.old.journal self.new.journal }
+        ensures spacious { AreSpacious self.new.works.items }
+    {
+        let Some(spoken) = take_spoken(&mut self.works, noted.daemon) else {
+            unreachable!();
+        };
+        let mut all = spoken.said;
+        all.push_reserved(said);
+        let said = Items::of(all);
+        self.add(noted, What::Work { said, close });
+    }
+
+    /// Notes a leave that was made. It takes no memory.
+    pub fn note_leave(&mut self, noted: &Noted, event: &Event, leave: Leave)
+        requires leaves { event.now ≡ Event.Leaves leave }
+        requires room { HasRoomFor 1 self.old }
+        requires kept { ClosesKept self.old noted.now.daemon noted.now.came.answer }
+        requires apart { AreApart (works_of self.old.works.items) }
+        requires outside { PassesUnlessClosing event.now noted.now.came.answer }
+        ensures log { log_of self.new ≡ log_after (under_of noted.now.under) (log_of self.old) (made_noted noted.now event.now [] []) }
+        ensures apart { AreApart (works_of self.new.works.items) }
+        ensures room { AddsEntries (what_of (under_of noted.now.under) (works_of self.old.works.items) (made_noted noted.now event.now [] [])) self.old.journal self.new.journal }
+        ensures spacious { AreSpacious self.new.works.items }
+    {
+        match closed_by(noted.came.answer) {
+            None => {
+                if let Some(what) = what_else(&noted.under, event, noted.came.answer) {
+                    self.add(noted, what);
+                }
+            }
+            Some(close) => {
+                let said = said_of_leave(self.alloc, noted, leave);
+                self.close_left(noted, close, said);
             }
         }
     }

@@ -164,7 +164,7 @@ module _ {told : Option Told} {daemons : List ℕ} {first : State} {c : Core} {e
         (entry_roll p.keeps.roll (found_there p found) d.left None (Some e.done)
         (entry_of (number_of c.machine.roll d) e (whats.Work (all_said c.log.works d.id e.said) closes.Faulted)) turn refl (number_is p found) (record { left = stays; waits = refl }))
         (finished closes.Faulted c.machine.before (Finishes.faulted asks (record { heap = heap; how = refl; told = given; left = refl }))) turn.higher (inl sound)
-        (λ none. absurd cc) (λ none. absurd cc)
+        (λ none. absurd cc) given.answer (λ none. absurd cc)
       where
         turn : IsTurn c.log.journal c.machine.roll d c.machine.roll.drawn
         turn = turn_mine p.keeps.roll (found_there p found) holds served

@@ -1,8 +1,8 @@
-use Rattle.std.proofs.Common.{ap, sym, ◌∙◌, ◌==◌, None, Some}
+use Rattle.std.proofs.Common.{ap, subst, sym, ◌∙◌, ◌==◌, None, Some}
 use Rattle.std.specs.Prelude.{position}
-use Rattle.sdr_core.specs.Keeping.{StandsAt, works_of}
+use Rattle.sdr_core.specs.Keeping.{AreSpacious, StandsAt, works_of}
 use Rattle.sdr_core.specs.declared.spoken.Spoken.{Spoken}
-use Rattle.sdr_core.proofs.PlaceLemmas.{found_place, none_works, own_said, without_at}
+use Rattle.sdr_core.proofs.PlaceLemmas.{found_place, none_works, own_said, own_spacious, without_at, without_spacious}
 use Rattle.sdr_core.proofs.SpokenLemmas.{without_work-none}
 use Rattle.sdr_core.proofs.spoken.take_spoken.Goals as goal
 
@@ -28,3 +28,13 @@ returns-in-Some-clause-own c =
     let at : StandsAt items c.args.daemon c.in-Some.place = found_place items c.args.daemon (Some c.in-Some.place)
     (sym c.in-Some.is ∙ c.place_of.ensures.value ∙ ap (position (λ (s : Spoken). s.daemon == c.args.daemon)) c.as_slice.ensures.value) in
     own_said items c.args.daemon c.in-Some.place c.remove.result at c.remove.ensures.value c.requires
+
+pub returns-in-Some-clause-spacious : goal.returns-in-Some-clause-spacious
+returns-in-Some-clause-spacious c =
+    let items = c.args.spoken.now.items in
+    let at : StandsAt items c.args.daemon c.in-Some.place = found_place items c.args.daemon (Some c.in-Some.place)
+    (sym c.in-Some.is ∙ c.place_of.ensures.value ∙ ap (position (λ (s : Spoken). s.daemon == c.args.daemon)) c.as_slice.ensures.value) in
+    λ all. (
+        subst AreSpacious (sym c.remove.ensures.items) (without_spacious items c.args.daemon c.in-Some.place at all),
+        own_spacious items c.args.daemon c.in-Some.place c.remove.result at c.remove.ensures.value all,
+    )
