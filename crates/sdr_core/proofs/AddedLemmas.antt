@@ -1,5 +1,5 @@
 -- The entry that an event adds.
-use Rattle.std.proofs.Common.{◌≡◌, ◌∙◌, ◌++◌, List, [], ◌∷◌, Bool, true, false, true≢false, Option, None, Some, refl, sym, ap, subst}
+use Rattle.std.proofs.Common.{if◌then◌else◌, ◌≡◌, ◌∙◌, ◌+◌, ◌++◌, List, [], ◌∷◌, Bool, true, false, true≢false, Option, None, Some, refl, sym, ap, subst}
 use Rattle.std.specs.Option.{option_map, option_map_or}
 use Rattle.sdr_base.specs.Media.{Told}
 use Rattle.sdr_model.specs.declared.answer.Answer.{Answer}

@@ -114,7 +114,7 @@ module _ (m : Machine) (e : Made) (m' : Machine) (d : Daemon) (h : Holding) wher
       (λ unserved _. absurd (true≢false (sym served ∙ unserved))))
     where
       proceeds : Serves m d h events.End e m' → EndsOrFaults m e m'
-      proceeds (inr faults) = end_faults faults
+      proceeds (inr broken) = end_faults broken
       proceeds (inl rest) =
           from_test (nat_le h.nesting.depth 1) rest (λ _ c. end_closes is none c) (λ deep _. absurd (true≢false (sym outer ∙ deep)))
 

@@ -8,7 +8,8 @@ use Rattle.sdr_model.specs.declared.answer.Close.{Close}
 use Rattle.sdr_model.specs.declared.journal.Said.{Said}
 use Rattle.sdr_model.specs.declared.journal.What.TheVariants as whats
 use Rattle.sdr_core.proofs.PlaceLemmas.{none_works}
-use Rattle.sdr_core.proofs.SpokenLemmas.{apart-said, with_said-none, without_work-with_said}
+use Rattle.sdr_core.proofs.SpokenLemmas.{apart-said, said_by-none, with_said-none, without_work-with_said}
+use Rattle.sdr_runs.proofs.WorkLemmas as runs
 use Rattle.sdr_core.specs.Keeping.{AreApart, spoken_of, work_of, works_of}
 use Rattle.sdr_core.specs.Logging.{ClosesWithin}
 use Rattle.sdr_core.specs.declared.spoken.Spoken.{Spoken}
@@ -43,3 +44,8 @@ closed_log u log log' e close closes within works journal =
     ∙ sym (ap (λ o. log.journal ++ option_to_list (option_map (entry_of u.number e)
     (option_map_or (λ (c : Close). Some (whats.Work (all_said log.works e.daemon e.said) c)) o (what_else u e.said.event e.said.answer)))) closes) in
     λ i. record { works = kept i; journal = added i }
+
+-- open transactions that are each another daemon's, as core runs see it
+pub runs_apart : (works : List Work) → AreApart works → runs.AreApart works
+runs_apart [] apart = tt
+runs_apart (w ∷ works) apart = (said_by-none works w.daemon apart.0, runs_apart works apart.1)

@@ -12,8 +12,9 @@ use Rattle.sdr_model.specs.declared.answer.Reply.TheVariants as replies
 use Rattle.sdr_model.specs.declared.event.Event.{Event}
 use Rattle.sdr_model.specs.declared.event.Event.TheVariants as events
 use Rattle.sdr_model.specs.declared.event.Leave.{Leave}
-use Rattle.sdr_model.specs.declared.journal.Said.{Said}
-use Rattle.sdr_lock.specs.Core.{Work, closed_by, has_left, is_failed, is_passed_over, said_by, was_outside, what_of, under}
+use Rattle.sdr_model.specs.declared.journal.What.{What}
+use Rattle.sdr_model.specs.declared.journal.What.TheVariants as whats
+use Rattle.sdr_lock.specs.Core.{Under, Work, all_said, closed_by, has_left, is_failed, is_passed_over, under, what_else, what_of}
 use Rattle.sdr_lock.specs.Machine.{Closes, Comes, Departs, FaultsWithin, Goes, Holds, Machine, Made, MachineStep, roll_acting, roll_coming, roll_failed, roll_holding, with_roll}
 use Rattle.sdr_lock.specs.Roll.{Roll, after_entry, after_leave, daemon_of, newcomer, put_daemon, served_number, with_daemon, with_drawn, with_number}
 use Rattle.sdr_lock.specs.Nesting.{nested}
@@ -22,7 +23,7 @@ use Rattle.sdr_lock.specs.declared.daemon.Daemon.{Daemon}
 use Rattle.sdr_lock.specs.declared.daemon.Holding.{Holding}
 use Rattle.sdr_lock.proofs.StepLemmas.{IsQuiet, Kind, from_option, from_test, step_is}
 use Rattle.sdr_runs.proofs.RollLemmas.{among, found_number, found_put, put_here, put_later, same_number}
-use Rattle.sdr_core.specs.Logging.{PassesUnlessClosing, leaves_ahead, leaves_of}
+use Rattle.sdr_core.specs.Logging.{PassesUnlessClosing, entries_of, leaves_ahead, leaves_of}
 
 -- how many may still be added where a daemon is put in its place
 pub ahead_put : (ds : List Daemon) (d x : Daemon) → among d.id ds ≡ Some x → leaves_ahead (put_daemon ds d) + leaves_of x ≡ leaves_ahead ds + leaves_of d
@@ -107,6 +108,17 @@ or_true : (b : Bool) → (b || true) ≡ true
 or_true true = refl
 or_true false = refl
 
+-- a leave is answered with no call
+pub leave_quiet : (m : Machine) (e : Made) (m' : Machine) (leave : Leave) → e.said.event ≡ events.Leaves leave → MachineStep m e m'
+    → (e.said.moves ≡ []) × (e.said.bytes ≡ [])
+leave_quiet m e m' leave is step = by (step_is m e m' step).kind
+  where
+    by : Kind m e m' → (e.said.moves ≡ []) × (e.said.bytes ≡ [])
+    by (Kind.stays quiet before now) = (quiet.moves, quiet.bytes)
+    by (Kind.called called) = let no : events.Leaves leave ≡ events.Say called.call = sym is ∙ called.event in absurd cc
+    by (Kind.closed close quiet before now) = (quiet.moves, quiet.bytes)
+    by (Kind.failed quiet heap before now) = (quiet.moves, quiet.bytes)
+
 module _ (m : Machine) (e : Made) (m' : Machine) (leave : Leave) (is : e.said.event ≡ events.Leaves leave) {d : Daemon} (found : daemon_of m.roll e.daemon ≡ Some d) where
   here : among d.id m.roll.daemons ≡ Some d
   here = ap (λ n. among n m.roll.daemons) (same_number d.id e.daemon (found_number m.roll.daemons e.daemon d found)) ∙ found
@@ -142,8 +154,10 @@ module _ (m : Machine) (e : Made) (m' : Machine) (leave : Leave) (is : e.said.ev
       → Closes m d h e m' ⊎ FaultsWithin m d h (events.Leaves leave) e m' → LeaveIs m e m' d
   ended {h = h} stays holds inside sound ends = by ends
     where
+      two : leaves_of d ≡ 2
       two = leaves_inside d h stays holds inside
 
+      one : leaves_of (after_entry d) ≡ 1
       one = entered_less stays
 
       closed : m'.roll.daemons ≡ put_daemon m.roll.daemons (after_entry d) → (closed_by e.said.answer ≡ None → ⊥) → LeaveIs m e m' d
@@ -227,12 +241,51 @@ module _ (m : Machine) (e : Made) (m' : Machine) (leave : Leave) (is : e.said.ev
       (subst (λ (y : Daemon). MatchOption y.holds (Comes m y e.said.event e m') (λ h. Holds m y h e.said.event e m')) same rest)))))
       (λ moment _ goes. failed moment goes)
 
-  -- it is answered with no call
-  pub leave_quiet : MachineStep m e m' → (e.said.moves ≡ []) × (e.said.bytes ≡ [])
-  leave_quiet step = by (step_is m e m' step).kind
-    where
-      by : Kind m e m' → (e.said.moves ≡ []) × (e.said.bytes ≡ [])
-      by (Kind.stays quiet before now) = (quiet.moves, quiet.bytes)
-      by (Kind.called called) = let no : events.Leaves leave ≡ events.Say called.call = sym is ∙ called.event in absurd cc
-      by (Kind.closed close quiet before now) = (quiet.moves, quiet.bytes)
-      by (Kind.failed quiet heap before now) = (quiet.moves, quiet.bytes)
+-- how many entries a leave adds, and how many may then still be added
+pub leave_entries : (m : Machine) (e : Made) (m' : Machine) (leave : Leave) (d : Daemon) (works : List Work) → e.said.event ≡ events.Leaves leave
+    → daemon_of m.roll e.daemon ≡ Some d → LeaveIs m e m' d
+    → entries_of (what_of (under m.roll d m'.roll e.said.event) works e) + leaves_ahead m'.roll.daemons ≤ leaves_ahead m.roll.daemons
+leave_entries m e m' leave d works is found l = by (closed_by e.said.answer) refl
+  where
+    u : Under
+    u = under m.roll d m'.roll e.said.event
+
+    there : among l.after.id m.roll.daemons ≡ Some d
+    there =
+        ap (λ n. among n m.roll.daemons) (l.id ∙ same_number d.id e.daemon (found_number m.roll.daemons e.daemon d found)) ∙ found
+
+    ahead : leaves_ahead m'.roll.daemons + leaves_of d ≡ leaves_ahead m.roll.daemons + leaves_of l.after
+    ahead = ap (λ ds. leaves_ahead ds + leaves_of d) l.roll ∙ ahead_put m.roll.daemons l.after d there
+
+    Fits : Option What → Type 0
+    Fits o = entries_of o + leaves_ahead m'.roll.daemons ≤ leaves_ahead m.roll.daemons
+
+    left_is : has_left m'.roll d.id ≡ l.after.left
+    left_is =
+        ap (λ ds. option_map_or (λ (x : Daemon). x.left) (among d.id ds) false) l.roll
+        ∙ ap (λ n. option_map_or (λ (x : Daemon). x.left) (among n (put_daemon m.roll.daemons l.after)) false) (sym l.id)
+        ∙ ap (λ o. option_map_or (λ (x : Daemon). x.left) o false) (found_put m.roll.daemons l.after d there)
+
+    left : (a b : Bool) → l.after.left ≡ a → d.left ≡ b → Fits (if a && not b then Some (whats.Leaves leave) else None)
+    left true true is_left was = let less = l.less in omega (arith, ahead)
+    left false b is_left was = let less = l.less in omega (arith, ahead)
+    left true false is_left was =
+        let none = ap {B = ℕ} (λ b. if b then 0 else option_map_or (λ (h : Holding). if h.nesting.depth == 0 then 1 else 2) l.after.holds 1) is_left in
+        let one = leaves_staying d was in
+        omega (arith, ahead, none)
+
+    by : (o : Option Close) → closed_by e.said.answer ≡ o
+        → Fits (option_map_or (λ (close : Close). Some (whats.Work (all_said works e.daemon e.said) close)) o (what_else u e.said.event e.said.answer))
+    by (Some close) closed = let c = l.closes close closed in let less = c.4 in omega (arith, ahead)
+    by None unclosed =
+        subst (λ ev. Fits (what_else u ev e.said.answer)) (sym is)
+        (subst (λ b. Fits (if b && not d.left then Some (whats.Leaves leave) else None)) (sym left_is) (left l.after.left d.left refl refl))
+
+-- an event of no daemon of the machine's leaves the roll
+pub unknown_same : (m : Machine) (e : Made) (m' : Machine) → daemon_of m.roll e.daemon ≡ None → MachineStep m e m' → m'.roll.daemons ≡ m.roll.daemons
+unknown_same m e m' none step =
+    from_option m.roll.failed step
+    (λ _ answered. from_option (daemon_of m.roll e.daemon) answered (λ _ goes. ap (λ (n : Machine). n.roll.daemons) goes.after)
+    (λ d some _. let no : None ≡ Some d = sym none ∙ some in absurd cc))
+    (λ moment _ goes. ap (λ (n : Machine). n.roll.daemons) goes.after
+    ∙ ap (λ o. (option_map_or (λ (x : Daemon). roll_acting m.roll x e.said.event) o m.roll).daemons) none)

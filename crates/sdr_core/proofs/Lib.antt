@@ -1,8 +1,11 @@
 pub mod AddedLemmas
+pub mod CoreLemmas
 pub mod CrashLemmas
 pub mod EndLemmas
+pub mod HoldingLemmas
 pub mod KeeperLemmas
 pub mod LeaveLemmas
+pub mod LeaveNotes
 pub mod OpeningLemmas
 pub mod PlaceLemmas
 pub mod RunLemmas

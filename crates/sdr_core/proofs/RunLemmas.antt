@@ -2,21 +2,30 @@
 use Rattle.std.proofs.Common.{◌≡◌, ◌∙◌, ◌≤◌, ℕ, List, [], ◌∷◌, ◌++◌, Bool, true, false, Option, None, Some, refl, sym, ap, subst, arith, IsSome, Result, Ok, Err, IfOk, OnErr}
 use Rattle.std.specs.declared.alloc.AllocError.{AllocError}
 use Rattle.std.specs.Option.{option_map_or}
+use Rattle.std.specs.Prelude.{if◌then◌else◌}
 use Rattle.sdr_base.specs.Media.{Told}
 use Rattle.sdr_base.specs.declared.moves.Move.{Move}
 use Rattle.sdr_model.specs.declared.event.Event.{Event}
 use Rattle.sdr_lock.specs.Core.{AreInTime, Core, CoreStep, Log, RunsCore, first_core, log_after, under}
-use Rattle.sdr_lock.specs.Crash.{LeavesOr}
+use Rattle.sdr_lock.specs.Crash.{LeavesOr, keeps_by}
+use Rattle.sdr_lock.specs.Transaction.{bytes_given}
+use Rattle.sdr_lock.proofs.StepLemmas.{step_is}
+use Rattle.sdr_core.proofs.LeaveLemmas.{leave_quiet}
+use Rattle.sdr_model.specs.declared.answer.Answer.{Answer}
+use Rattle.sdr_model.specs.declared.answer.Answer.TheVariants as answers
+use Rattle.sdr_model.specs.declared.answer.Reply.TheVariants as replies
+use Rattle.sdr_model.specs.declared.event.Event.TheVariants as events
+use Rattle.sdr_model.specs.declared.event.Leave.{Leave}
 use Rattle.sdr_lock.specs.Machine.{Made, MachineStep}
 use Rattle.sdr_lock.specs.Legal.{IsLegal}
 use Rattle.sdr_lock.specs.Roll.{daemon_of, first_roll}
-use Rattle.sdr_lock.specs.Serving.{Acts, Asks, Locked, machine_at, made_by, made_with}
+use Rattle.sdr_lock.specs.Serving.{Acts, Asks, Locked, Stood, machine_at, made_by, made_with}
 use Rattle.sdr_lock.specs.Standing.{Standing, standing_at}
 use Rattle.sdr_runs.proofs.RunLemmas.{run_is_legal}
 use Rattle.sdr_lock.specs.declared.came.Came.{Came}
 use Rattle.sdr_lock.specs.declared.daemon.Daemon.{Daemon}
 use Rattle.sdr_lock.specs.declared.has_ground.HasGround.{Ghosts}
-use Rattle.sdr_core.specs.CoreKept.{Begins, BeginsOn, Kept, KeepsRun, StepsCore, core_at, last_done}
+use Rattle.sdr_core.specs.CoreKept.{Begins, BeginsOn, Kept, KeepsRun, Makes, StandsStill, StepsCore, core_at, last_done}
 
 -- a run and one event more
 runs_more : (told : Option Told) (c mid c' : Core) (made : List Made) (e : Made) → RunsCore told c made mid → CoreStep told mid e c' → RunsCore told c (made ++ e ∷ []) c'
@@ -41,14 +50,42 @@ made_known daemon event a begun done line moves shown v known = by a.called know
     by true known = λ i. made_with daemon event (record { answer = a.answer; called = true }) begun done line ((known refl).0 i) ((known refl).1 i)
     by false known = refl
 
+-- where no moves and no bytes were made, nothing is the ground's
+pub made_quiet : (daemon : ℕ) (event : Event) (a : Came) (begun done line : ℕ) (v : Standing)
+    → (made_by daemon event a begun done line v).said.moves ≡ [] → (made_by daemon event a begun done line v).said.bytes ≡ []
+    → made_with daemon event a begun done line [] [] ≡ made_by daemon event a begun done line v
+made_quiet daemon event a begun done line v moves bytes =
+    λ i. record {
+      daemon = daemon;
+      said = record { line = line; event = event; answer = a.answer; bytes = (no_bytes a.called ∙ sym bytes) i; moves = (no_moves a.called ∙ sym moves) i };
+      begun = begun;
+      done = done;
+    }
+  where
+    none : List Move
+    none = []
+
+    no_moves : (b : Bool) → (if b then none else none) ≡ none
+    no_moves true = refl
+    no_moves false = refl
+
+    given : (answer : Answer) → bytes_given answer [] ≡ []
+    given (answers.Reply (replies.Refused refusal)) = refl
+    given (answers.Reply replies.MediaFault) = refl
+    given answer = refl
+
+    no_bytes : (b : Bool) → (if b then bytes_given a.answer [] else []) ≡ []
+    no_bytes true = given a.answer
+    no_bytes false = refl
+
 module _ {T : Type 0} (g : Ghosts T) (keeps : Bool) (daemon : ℕ) (event : Event) (a : Came) (line : ℕ) (old new : Locked T) (log log' : Log) (acts : Acts g keeps MachineStep daemon event a old new) where
   -- the event as the ground tells of it
   abbrev told_by : Standing → Made
   told_by v = made_by daemon event a (g.moment old.base) (g.moment new.base) line v
 
   -- an event that the lock has made is a step of the core
-  steps_core : ((v : Standing) → (a.called ≡ true → g.stands new.base v)
-      → log' ≡ option_map_or (λ (d : Daemon). log_after (under old.roll d new.roll event) log (told_by v)) (daemon_of old.roll daemon) log)
+  steps_core : ((v : Standing) (stood : Stood g.stands old v) → let s = acts.leads.each v stood in
+      log' ≡ option_map_or (λ (d : Daemon). log_after (under old.roll d new.roll event) log (told_by s.for)) (daemon_of old.roll daemon) log)
       → StepsCore g daemon line event a (record { lock = old; log = log }) (record { lock = new; log = log' })
   steps_core kept = record {
     each = λ v stood.
@@ -59,15 +96,27 @@ module _ {T : Type 0} (g : Ghosts T) (keeps : Bool) (daemon : ℕ) (event : Even
             next = machine_at new.roll s.for;
             step = s.tells.step line;
             media = s.tells.media;
-            history = ap (λ (l : Log). let k : Kept T = record { lock = new; log = l } in core_at k s.for) (kept s.for (λ called. s.stood (s.tells.sound called)));
+            history = ap (λ (l : Log). let k : Kept T = record { lock = new; log = l } in core_at k s.for) (kept v stood);
           };
         };
   }
 
+  -- it is made of a lock that stands for something
+  pub makes : StandsStill g.stands old → StepsCore g daemon line event a (record { lock = old; log = log }) (record { lock = new; log = log' }) → (keeps ≡ keeps_by old.roll daemon event)
+      → Makes g daemon line event a old log new log'
+  makes stands step same =
+      let s = acts.leads.each stands.for stands.stood in
+      record {
+        step = step;
+        asks = subst (λ k. Asks g k a old new) same acts.asks;
+        called = s.tells.sound;
+        drawn = (step_is (machine_at old.roll stands.for) (told_by s.for) (machine_at new.roll s.for) (s.tells.step line)).drawn;
+      }
+
   -- of a daemon that isn't the lock's nothing is kept
   pub steps_unknown : daemon_of old.roll daemon ≡ None → log' ≡ log → StepsCore g daemon line event a (record { lock = old; log = log }) (record { lock = new; log = log' })
   steps_unknown none same =
-      steps_core (λ v stands. same ∙ sym (ap (λ o. option_map_or (λ (d : Daemon). log_after (under old.roll d new.roll event) log (told_by v)) o log) none))
+      steps_core (λ v stood. same ∙ sym (ap (λ o. option_map_or (λ (d : Daemon). log_after (under old.roll d new.roll event) log (told_by (acts.leads.each v stood).for)) o log) none))
 
   -- of another what is noted
   pub steps_known : (d : Daemon) (moves : List Move) (shown : List ℕ) → daemon_of old.roll daemon ≡ Some d
@@ -75,10 +124,24 @@ module _ {T : Type 0} (g : Ghosts T) (keeps : Bool) (daemon : ℕ) (event : Even
       → log' ≡ log_after (under old.roll d new.roll event) log (made_with daemon event a (g.moment old.base) (g.moment new.base) line moves shown)
       → StepsCore g daemon line event a (record { lock = old; log = log }) (record { lock = new; log = log' })
   steps_known d moves shown found known is =
-      steps_core (λ v stands. is
+      steps_core (λ v stood. let s = acts.leads.each v stood in
+      is
       ∙ ap (log_after (under old.roll d new.roll event) log)
-      (made_known daemon event a (g.moment old.base) (g.moment new.base) line moves shown v (λ called. known called v (stands called)))
-      ∙ sym (ap (λ o. option_map_or (λ (d : Daemon). log_after (under old.roll d new.roll event) log (told_by v)) o log) found))
+      (made_known daemon event a (g.moment old.base) (g.moment new.base) line moves shown s.for (λ called. known called s.for (s.stood (s.tells.sound called))))
+      ∙ sym (ap (λ o. option_map_or (λ (d : Daemon). log_after (under old.roll d new.roll event) log (told_by s.for)) o log) found))
+
+  -- of a leave that it was made with no call
+  pub steps_leave : (leave : Leave) (d : Daemon) → event ≡ events.Leaves leave → daemon_of old.roll daemon ≡ Some d
+      → log' ≡ log_after (under old.roll d new.roll event) log (made_with daemon event a (g.moment old.base) (g.moment new.base) line [] [])
+      → StepsCore g daemon line event a (record { lock = old; log = log }) (record { lock = new; log = log' })
+  steps_leave leave d leaves found is =
+      steps_core (λ v stood.
+      let s = acts.leads.each v stood in
+      let quiet = leave_quiet (machine_at old.roll v) (told_by s.for) (machine_at new.roll s.for) leave leaves (s.tells.step line) in
+      is
+      ∙ ap (log_after (under old.roll d new.roll event) log)
+      (made_quiet daemon event a (g.moment old.base) (g.moment new.base) line s.for quiet.0 quiet.1)
+      ∙ sym (ap (λ o. option_map_or (λ (d : Daemon). log_after (under old.roll d new.roll event) log (told_by s.for)) o log) found))
 
 -- the disk's moment doesn't fall
 later_either : {T : Type 0} (g : Ghosts T) (keeps : Bool) (old new : T) (v : Standing) → g.stands old v → LeavesOr keeps g old new → g.moment old ≤ g.moment new
@@ -136,11 +199,3 @@ keeps_new g b daemons base lock log made none begins =
 -- the journal that is kept is legal
 pub keeps_legal : {T : Type 0} (g : Ghosts T) (b : Begins) (k : Kept T) → KeepsRun g b k → IsLegal b.told b.daemons b.first k.log.journal
 keeps_legal g b k run = run_is_legal b.told b.daemons b.first b.start run.made (core_at k run.for) run.rests run.in_time run.runs
-
--- where the event found no memory, all is as before
-pub keeps_either : {T : Type 0} (g : Ghosts T) (b : Begins) (keeps : Bool) (daemon line : ℕ) (event : Event) (old new : Kept T) (r : Result Came AllocError)
-    → IfOk r (λ a. StepsCore g daemon line event a old new) → IfOk r (λ a. Asks g keeps a old.lock new.lock) → OnErr r ((new.lock ≡ old.lock) × (new.log ≡ old.log))
-    → KeepsRun g b old → KeepsRun g b new
-keeps_either g b keeps daemon line event old new (Ok a) steps asks same run = keeps_after g b keeps daemon line event a old new steps asks run
-keeps_either g b keeps daemon line event old new (Err why) steps asks same run =
-    let kept : old ≡ new = λ i. record { lock = sym same.0 i; log = sym same.1 i } in subst (KeepsRun g b) kept run

@@ -6,7 +6,7 @@ use Rattle.std.specs.declared.alloc.AllocError.{AllocError}
 use Rattle.sdr_base.proofs.WrittenLemmas.{rose_later}
 use Rattle.sdr_base.specs.Causes.{Rose}
 use Rattle.sdr_lock.specs.Core.{Core, CoreStep, all_said, closed_by}
-use Rattle.sdr_lock.specs.Crash.{LeavesBefore, LeavesOr, as_ended, done_by, end_told, is_sound, is_whole, keeps_by}
+use Rattle.sdr_lock.specs.Crash.{LeavesBefore, LeavesOr, OpensAfter, as_ended, done_by, end_told, is_sound, is_whole, keeps_by}
 use Rattle.sdr_lock.specs.Ground.{kept}
 use Rattle.sdr_lock.specs.Legal.{IsAfter, MayStand, is_fault}
 use Rattle.sdr_lock.specs.Machine.{Machine, Made, MachineStep}
@@ -30,7 +30,7 @@ use Rattle.sdr_runs.proofs.RunLemmas.{core_step_keeps, run_is_after, run_keeps, 
 use Rattle.sdr_runs.specs.Adding.{AddsRightly, FailsRightly, entry_added}
 use Rattle.sdr_core.proofs.AddedLemmas.{IsAdded, added_is, answered_fault, closing_adds, ends_in_vain, fault_said}
 use Rattle.sdr_core.proofs.CrashLemmas.{done_by-done, done_by-open, done_by-unsound}
-use Rattle.sdr_core.proofs.EndLemmas.{EndsOrFaults, end_keeps, outer_end}
+use Rattle.sdr_core.proofs.EndLemmas.{EndsOrFaults, IsOuterEnd, end_keeps, outer_end}
 use Rattle.sdr_core.proofs.OpeningLemmas.{WouldStand, failed_safe, faulted_safe, still_safe, whole_safe}
 use Rattle.sdr_core.proofs.RunLemmas.{keeps_legal, later}
 use Rattle.sdr_core.specs.CoreKept.{Begins, BeginsOn, IsRunOf, Kept, KeepsRun, KeepsSafe, StepsCore, core_at}
@@ -55,11 +55,11 @@ sound_broken (first ∷ journal) x broken = ap (λ b. is_whole first && b) (soun
 
 sound_unsound : (journal : List Entry) (x : Entry) → is_sound journal ≡ false → is_sound (journal ++ x ∷ []) ≡ false
 sound_unsound [] x unsound = absurd (true≢false unsound)
-sound_unsound (first ∷ journal) x unsound = by (is_whole first) unsound
+sound_unsound (first ∷ journal) x unsound = by (is_whole first) unsound (sound_unsound journal x)
   where
-    by : (b : Bool) → (b && is_sound journal) ≡ false → (b && is_sound (journal ++ x ∷ [])) ≡ false
-    by true unsound = sound_unsound journal x unsound
-    by false unsound = refl
+    by : (b : Bool) → (b && is_sound journal) ≡ false → (is_sound journal ≡ false → is_sound (journal ++ x ∷ []) ≡ false) → (b && is_sound (journal ++ x ∷ [])) ≡ false
+    by true unsound rest = rest unsound
+    by false unsound rest = refl
 
 -- where no disk fault is met in any, none is met in all, nor in the last
 are_sound : (journal : List Entry) → AreSound journal → is_sound journal ≡ true
@@ -92,21 +92,23 @@ module _ {T : Type 0} (g : Ghosts T) (b : Begins) (old new : Kept T) (daemon lin
     (run : KeepsRun g b old) (safe : KeepsSafe g b old.log.journal old.lock.roll.failed old.lock.base)
     (steps : StepsCore g daemon line event a old new) (asks : Asks g (keeps_by old.lock.roll daemon event) a old.lock new.lock)
     (called : a.called ≡ true → new.lock.roll.failed ≡ None) where
-  stood : StoodFor g.stands new.lock (λ v. CoreStep (g.told old.lock.base) (core_at old run.for)
+  abbrev pub stood : StoodFor g.stands new.lock (λ v. CoreStep (g.told old.lock.base) (core_at old run.for)
       (made_by daemon event a (g.moment old.lock.base) (g.moment new.lock.base) line v) (core_at new v))
   stood = steps.each run.for run.stood
 
-  made : Made
+  abbrev pub made : Made
   made = made_by daemon event a (g.moment old.lock.base) (g.moment new.lock.base) line stood.for
 
-  before after : Core
+  abbrev pub before : Core
   before = core_at old run.for
+
+  abbrev pub after : Core
   after = core_at new stood.for
 
   step : CoreStep b.told before made after
   step = subst (λ told. CoreStep told before made after) run.media stood.tells
 
-  machine_step : MachineStep before.machine made after.machine
+  pub machine_step : MachineStep before.machine made after.machine
   machine_step = subst (MachineStep before.machine made) (sym (ap (λ (x : Core). x.machine) step.history)) step.step
 
   keeps : KeepsCore b.told b.daemons b.first before
@@ -115,7 +117,7 @@ module _ {T : Type 0} (g : Ghosts T) (b : Begins) (old new : Kept T) (daemon lin
   next : KeepsCore b.told b.daemons b.first after × AddsRightly b.told b.daemons before made after.machine × FailsRightly before made after.machine
   next = core_step_keeps b.told b.daemons b.first before made after keeps step
 
-  journal : List Entry
+  abbrev pub journal : List Entry
   journal = old.log.journal
 
   grows : new.log.journal ≡ journal ++ option_to_list (entry_added before made after.machine)
@@ -251,6 +253,7 @@ module _ {T : Type 0} (g : Ghosts T) (b : Begins) (old new : Kept T) (daemon lin
             (ends_in_vain b.told b.daemons b.first before made keeps sound end (given (end_keeps before.machine made after.machine sound end machine_step)));
       }
         where
+          end : IsOuterEnd old.lock.roll daemon event
           end = outer_end old.lock.roll daemon event keeping
 
           given : EndsOrFaults before.machine made after.machine → IsAnswered made.said (answers.Reply replies.DiskFault)
@@ -321,13 +324,19 @@ module _ {T : Type 0} (g : Ghosts T) (b : Begins) (old new : Kept T) (daemon lin
           of true fault = safe_fault x some sound fault
           of false whole = safe_whole x some sound whole
 
+done_none : (m : ℕ) → done_by m [] ≡ 0
+unfolding done_by
+done_none m = refl
+
 -- as the run begins
 pub safe_first : {T : Type 0} (g : Ghosts T) (b : Begins) (daemons : List ℕ) (base : T) → BeginsOn g b daemons base → KeepsSafe g b [] None base
 safe_first g b daemons base begins = record {
   sound = refl;
-  all = λ _ m ge. refl;
-  early = λ m lt. refl;
-  crash = λ m image ge le left. inl (record { state = b.first; opened = begins.opening m image ge le left; tells = inl refl });
+  all = λ _ m ge. done_none m;
+  early = λ m lt. done_none m;
+  crash = λ m image ge le left.
+      inl (subst (λ k. OpensAfter g.opens b.told b.daemons b.first [] k image) (sym (done_none m))
+      (record { state = b.first; opened = begins.opening m image ge le left; tells = inl refl }));
   later = begins.later;
   counted = begins.faults;
   cause = λ broken. absurd (true≢false broken);
@@ -339,17 +348,6 @@ pub safe_new : {T : Type 0} (g : Ghosts T) (b : Begins) (daemons : List ℕ) (ba
 safe_new {T} g b daemons base lock entries made none begins =
     subst (λ (l : Locked T). KeepsSafe g b entries l.roll.failed l.base) (sym made)
     (subst (λ es. KeepsSafe g b es None base) (sym none) (safe_first g b daemons base begins))
-
--- where the event found no memory, all is as before
-pub safe_either : {T : Type 0} (g : Ghosts T) (b : Begins) (daemon line : ℕ) (event : Event) (old new : Kept T) (r : Result Came AllocError)
-    → IfOk r (λ a. StepsCore g daemon line event a old new) → IfOk r (λ a. a.called ≡ true → new.lock.roll.failed ≡ None)
-    → IfOk r (λ a. Asks g (keeps_by old.lock.roll daemon event) a old.lock new.lock) → OnErr r ((new.lock ≡ old.lock) × (new.log ≡ old.log))
-    → KeepsRun g b old → KeepsSafe g b old.log.journal old.lock.roll.failed old.lock.base
-    → KeepsSafe g b new.log.journal new.lock.roll.failed new.lock.base
-safe_either g b daemon line event old new (Ok a) steps called asks same run safe = safe_after g b old new daemon line event a run safe steps asks called
-safe_either {T} g b daemon line event old new (Err why) steps called asks same run safe =
-    let kept : old ≡ new = λ i. record { lock = sym same.0 i; log = sym same.1 i } in
-    subst (λ (k : Kept T). KeepsSafe g b k.log.journal k.lock.roll.failed k.lock.base) kept safe
 
 none_of : (failed : Option ℕ) → is_none failed ≡ true → failed ≡ None
 none_of None is = refl

@@ -64,7 +64,7 @@ passes_no_fault : (event : Event) → is_request event ≡ false → (is_passed_
 passes_no_fault events.Request other = absurd (true≢false other)
 passes_no_fault event other = refl
 
-closes_other : (event : Event) (answer : Answer) → is_request event ≡ false → MatchOption (closed_by answer) ⊤ (λ (close : Close). (is_passed_over event answer || is_failed answer) ≡ false)
+pub closes_other : (event : Event) (answer : Answer) → is_request event ≡ false → MatchOption (closed_by answer) ⊤ (λ (close : Close). (is_passed_over event answer || is_failed answer) ≡ false)
 closes_other event (answers.Closed close) other = passes_no_close event close other
 closes_other event (answers.Reply replies.DiskFault) other = passes_no_fault event other
 closes_other event answer other = tt

@@ -1,13 +1,13 @@
 -- What the type of a core keeps.
-use Rattle.std.specs.Prelude.{◌≡◌, ◌≤◌, ◌<◌, ℕ, List, [], ◌∷◌, Option, None, false, true, is_none, length, ⊤}
+use Rattle.std.specs.Prelude.{◌≡◌, ◌≤◌, ◌<◌, ◌+◌, ℕ, List, [], ◌∷◌, Option, None, false, true, is_none, length, ⊤}
 use Rattle.sdr_base.specs.Causes.{Rose}
 use Rattle.sdr_base.specs.Media.{Told}
 use Rattle.sdr_lock.specs.Core.{AreInTime, Core, CoreStep, Log, RunsCore, first_core}
-use Rattle.sdr_lock.specs.Crash.{IsCrashSafe, OpensAfter, done_by, is_sound}
+use Rattle.sdr_lock.specs.Crash.{IsCrashSafe, OpensAfter, done_by, is_sound, keeps_by}
 use Rattle.sdr_lock.specs.Ground.{State, resting}
 use Rattle.sdr_lock.specs.Machine.{Made}
 use Rattle.sdr_lock.specs.Legal.{IsAfter, IsLegal}
-use Rattle.sdr_lock.specs.Serving.{Leads, Locked, StandsFor, Stood, StoodFor, machine_at, made_by}
+use Rattle.sdr_lock.specs.Serving.{Asks, Leads, Locked, StandsFor, Stood, StoodFor, machine_at, made_by}
 use Rattle.sdr_lock.specs.Standing.{Standing}
 use Rattle.sdr_lock.specs.declared.came.Came.{Came}
 use Rattle.sdr_lock.specs.declared.has_ground.HasGround.{Ghosts}
@@ -86,6 +86,13 @@ abbrev pub StepsCore : {T : Type 0} → Ghosts T → (daemon line : ℕ) → Eve
 StepsCore g daemon line event a old new =
     Leads g.stands old.lock new.lock (λ v v'. CoreStep (g.told old.lock.base) (core_at old v)
     (made_by daemon event a (g.moment old.lock.base) (g.moment new.lock.base) line v') (core_at new v'))
+
+-- an event was made of a lock with this log: a step of the core, for which the ground was asked, and at most one number was drawn
+pub record Makes {T : Type 0} (g : Ghosts T) (daemon line : ℕ) (event : Event) (a : Came) (old : Locked T) (was : Log) (new : Locked T) (log : Log) : Type 0 where
+  pub step : StepsCore g daemon line event a (record { lock = old; log = was }) (record { lock = new; log = log })
+  pub asks : Asks g (keeps_by old.roll daemon event) a old new
+  pub called : a.called ≡ true → new.roll.failed ≡ None
+  pub drawn : new.roll.drawn ≤ old.roll.drawn + 1
 
 -- What the ground and the journal are as a run ends: the journal is legal, and a crash leaves the state after some first entries
 -- of it. Unless the disk failed, the ground stands for the state after all of them.

@@ -1,12 +1,15 @@
 -- The log that a keeper keeps, and what it has room for.
-use Rattle.std.specs.Prelude.{◌≡◌, ◌<◌, ◌≤◌, ◌+◌, ◌==◌, ◌++◌, ℕ, List, [], ◌∷◌, ◌||◌, Vec, Option, None, true, false, IsSome, MatchOption, if◌then◌else◌, vec_capacity, vec_len, ⊤}
+use Rattle.std.specs.Prelude.{◌≡◌, ◌<◌, ◌≤◌, ◌+◌, ◌*◌, ◌⊎◌, ◌==◌, ◌++◌, length, ℕ, List, [], ◌∷◌, ◌||◌, Vec, Bool, Option, None, Some, true, false, IsSome, MatchOption, if◌then◌else◌, vec_capacity, vec_len, ⊤}
 use Rattle.std.specs.Option.{option_map, option_map_or, option_to_list}
 use Rattle.std.specs.declared.alloc.Global.{Global}
 use Rattle.sdr_lock.specs.Core.{Log, closed_by, is_failed, is_passed_over, was_outside, what_else, with_said}
+use Rattle.sdr_lock.specs.Roll.{Roll, daemon_of}
+use Rattle.sdr_lock.specs.Serving.{Locked}
 use Rattle.sdr_lock.specs.declared.daemon.Daemon.{Daemon}
 use Rattle.sdr_lock.specs.declared.daemon.Holding.{Holding}
 use Rattle.sdr_model.specs.declared.answer.Answer.{Answer}
 use Rattle.sdr_model.specs.declared.event.Event.{Event}
+use Rattle.sdr_model.specs.declared.event.Event.TheVariants as events
 use Rattle.sdr_model.specs.declared.journal.Entry.{Entry}
 use Rattle.sdr_model.specs.declared.journal.Said.{Said}
 use Rattle.sdr_model.specs.declared.journal.What.{What}
@@ -63,11 +66,37 @@ pub record AddsSome (old new : Vec Entry Global) : Type 0 where
   pub len : vec_len new ≤ vec_len old + 1
   pub capacity : vec_capacity new ≡ vec_capacity old
 
--- one is where this is some
+-- how many entries are added: one where this is some
+abbrev pub entries_of : Option What → ℕ
+entries_of None = 0
+entries_of (Some what) = 1
+
+-- so many are
 pub record AddsEntries (what : Option What) (old new : Vec Entry Global) : Type 0 where
-  pub len : vec_len new ≡ vec_len old + option_map_or (λ _. 1) what 0
+  pub len : vec_len new ≡ vec_len old + entries_of what
   pub capacity : vec_capacity new ≡ vec_capacity old
 
 -- an event that was answered so stands in no transaction, unless it closes one
 abbrev pub PassesUnlessClosing : Event → Answer → Type 0
 PassesUnlessClosing event answer = closed_by answer ≡ None → (is_passed_over event answer || is_failed answer) ≡ true
+
+-- what a daemon has said in its open transaction is kept, unless the disk has failed
+abbrev pub HaveSpoken : Roll → Keeper → Type 0
+HaveSpoken r k =
+    r.failed ≡ None → (id : ℕ) (d : Daemon) (h : Holding) → daemon_of r id ≡ Some d → d.holds ≡ Some h → (h.nesting.depth == 0) ≡ false
+    → IsSome (spoken_of k.works.items id)
+
+-- there is room for all leaves of these daemons, or for two of each of those
+abbrev pub HasRoomOr : List Daemon → List Daemon → Keeper → Type 0
+HasRoomOr old new k = HasRoomFor (leaves_ahead new) k ⊎ HasRoomFor (2 * length old) k
+
+-- lock and log are as before, and there is as much room
+pub record IsSame {T : Type 0} (lock : Locked T) (keeper : Keeper) (lock' : Locked T) (keeper' : Keeper) : Type 0 where
+  pub lock_same : lock' ≡ lock
+  pub log_same : log_of keeper' ≡ log_of keeper
+  pub room : (n : ℕ) → HasRoomFor n keeper → HasRoomFor n keeper'
+
+-- whether the event is a leave
+abbrev pub is_leave : Event → Bool
+is_leave (events.Leaves leave) = true
+is_leave event = false

@@ -1,12 +1,11 @@
 // A lock, and the journal of its run.
-ghost use Rattle.std.specs.Prelude.{◌≡◌, ◌≤◌, [], IfErr, IfOk, OnErr, length};
-ghost use Rattle.sdr_lock.specs.Crash.{keeps_by};
+ghost use Rattle.std.specs.Prelude.{◌≡◌, ◌≤◌, [], false, IfErr, IfOk, OnErr, length};
 ghost use Rattle.sdr_lock.specs.Legal.{IsLegal};
 ghost use Rattle.sdr_lock.specs.Roll.{MayDraw, first_roll, held_by};
-ghost use Rattle.sdr_lock.specs.Serving.{Asks};
-ghost use Rattle.sdr_core.specs.CoreKept.{BeginsOn, IsRunOf, StepsCore};
+ghost use Rattle.sdr_core.specs.CoreKept.{BeginsOn, IsRunOf, Makes};
+ghost use Rattle.sdr_core.specs.Logging.{is_leave};
 
-use crate::making::make;
+use crate::making::{leave, make};
 use crate::{Keeper, Origin};
 use sdr_base::NoMemory;
 use sdr_lock::{Came, Lock, Roll, Tells};
@@ -62,23 +61,33 @@ impl<T: Tells, J: Origin> Core<T, J> {
         }
     }
 
-    /// Makes an event of a daemon, of the statement on a line. Want of memory leaves all as before.
+    /// Makes an event of a daemon, of the statement on a line. Want of memory leaves all as before; a leave takes none.
     pub fn event(&mut self, daemon: u8, line: u64, event: &Event) -> Result<Came, NoMemory>
         requires drawn { MayDraw self.old.lock.roll (held_by self.old.lock.roll daemon) }
         requires lasts { T.lasts self.old.lock.base 1 }
-        ensures step { IfOk result (λ came. StepsCore T.HasGround daemon line event.now came self.old self.new) }
-        ensures asks { IfOk result (λ came. Asks T.HasGround (keeps_by self.old.lock.roll daemon event.now) came
-            self.old.lock self.new.lock) }
+        ensures makes { IfOk result (λ came. Makes T.HasGround daemon line event.now came
+            self.old.lock self.old.log self.new.lock self.new.log) }
         ensures err { OnErr result (self.new ≡ self.old) }
+        ensures leave { OnErr result (is_leave event.now ≡ false) }
     {
-        make(
-            &mut self.lock,
-            &mut self.keeper,
-            self.alloc,
-            daemon,
-            line,
-            event,
-        )
+        match event {
+            Event::Leaves(by) => Ok(leave(
+                &mut self.lock,
+                &mut self.keeper,
+                daemon,
+                line,
+                event,
+                *by,
+            )),
+            _ => make(
+                &mut self.lock,
+                &mut self.keeper,
+                self.alloc,
+                daemon,
+                line,
+                event,
+            ),
+        }
     }
 
     /// The entries so far.

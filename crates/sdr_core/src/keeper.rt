@@ -4,7 +4,7 @@ ghost use Rattle.sdr_lock.specs.Core.{log_after, said_by, what_of, with_said, wi
 ghost use Rattle.sdr_model.specs.declared.journal.What.TheVariants as whats;
 ghost use Rattle.sdr_core.specs.Drafting.{FitsIn, IsBlank};
 ghost use Rattle.sdr_core.specs.Keeping.{AreApart, AreSpacious, spoken_of, works_of};
-ghost use Rattle.sdr_core.specs.Logging.{AddsEntries, AddsOne, AddsSome, ClosesKept, ClosesWithin, GoesOn, HasRoom, HasRoomFor, PassesUnlessClosing, log_of};
+ghost use Rattle.sdr_core.specs.Logging.{AddsEntries, AddsOne, AddsSome, ClosesKept, ClosesWithin, GoesOn, HasRoom, HasRoomFor, PassesUnlessClosing, entries_of, log_of};
 ghost use Rattle.sdr_core.specs.Noting.{entry_noted, made_noted, said_noted, under_of};
 
 use crate::noted::{closed_by, was_outside, what_else};
@@ -183,7 +183,7 @@ impl Keeper {
     /// Notes a leave that was made. It takes no memory.
     pub fn note_leave(&mut self, noted: &Noted, event: &Event, leave: Leave)
         requires leaves { event.now ≡ Event.Leaves leave }
-        requires room { HasRoomFor 1 self.old }
+        requires room { HasRoomFor (entries_of (what_of (under_of noted.now.under) (works_of self.old.works.items) (made_noted noted.now event.now [] []))) self.old }
         requires kept { ClosesKept self.old noted.now.daemon noted.now.came.answer }
         requires apart { AreApart (works_of self.old.works.items) }
         requires outside { PassesUnlessClosing event.now noted.now.came.answer }

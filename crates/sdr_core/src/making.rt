@@ -1,19 +1,17 @@
 // How an event is made and noted.
-ghost use Rattle.std.specs.Prelude.{◌≡◌, ◌&&◌, not, true, None, Some, IfOk, OnErr};
+ghost use Rattle.std.specs.Prelude.{◌≡◌, ◌≤◌, ◌*◌, ◌&&◌, not, Some, IfOk, OnErr, length};
 ghost use Rattle.sdr_lock.specs.Core.{has_left, looks_again};
-ghost use Rattle.sdr_lock.specs.Crash.{keeps_by};
 ghost use Rattle.sdr_lock.specs.Roll.{MayDraw, daemon_of, held_by, number_of};
-ghost use Rattle.sdr_lock.specs.Serving.{Asks};
 ghost use Rattle.sdr_lock.specs.Standing.{Standing};
-ghost use Rattle.sdr_core.specs.CoreKept.{StandsStill, StepsCore};
+ghost use Rattle.sdr_core.specs.CoreKept.{Makes, StandsStill};
 ghost use Rattle.sdr_core.specs.Keeping.{AreApart, works_of};
-ghost use Rattle.sdr_core.specs.Logging.{log_of};
+ghost use Rattle.sdr_core.specs.Logging.{HasRoomFor, HasRoomOr, HaveSpoken, IsSame, leaves_ahead, log_of};
 ghost use Rattle.sdr_lock.specs.Room.{HoldsEvent};
 
 use crate::{Draft, Keeper, Noted, Under};
 use sdr_base::NoMemory;
 use sdr_lock::{Came, Daemon, Lock, Roll, Room, Tells};
-use sdr_model::Event;
+use sdr_model::{Event, Leave};
 use std::alloc::Global;
 
 // The lock number that an event of the daemon is made under.
@@ -68,19 +66,20 @@ fn make_known<T: Tells>(
     requires lasts { T.lasts lock.old.base 1 }
     requires stands { StandsStill T.stands lock.old }
     requires apart { AreApart (works_of keeper.old.works.items) }
+    requires few { length lock.old.roll.daemons ≤ 256 }
+    requires room { HasRoomFor (leaves_ahead lock.old.roll.daemons) keeper.old }
     requires found { daemon_of lock.old.roll daemon ≡ Some known.now }
-    ensures step { IfOk result (λ came. StepsCore T.HasGround daemon line event.now came
-        (record { lock = lock.old; log = log_of keeper.old }) (record { lock = lock.new; log = log_of keeper.new })) }
-    ensures called { IfOk result (λ came. came.called ≡ true → lock.new.roll.failed ≡ None) }
-    ensures asks { IfOk result (λ came. Asks T.HasGround (keeps_by lock.old.roll daemon event.now) came lock.old lock.new) }
-    ensures err { OnErr result ((lock.new ≡ lock.old) × (log_of keeper.new ≡ log_of keeper.old)) }
+    ensures makes { IfOk result (λ came. Makes T.HasGround daemon line event.now came
+        lock.old (log_of keeper.old) lock.new (log_of keeper.new)) }
+    ensures room { IfOk result (λ came. HasRoomFor (2 * length lock.old.roll.daemons) keeper.new) }
+    ensures err { OnErr result (IsSame lock.old keeper.old lock.new keeper.new) }
     ensures apart { AreApart (works_of keeper.new.works.items) }
 {
     let number = number_of(lock.roll(), known);
     let waited = looks_again(known, event);
     let room = room_for(lock.base(), event)?;
     let draft = Draft::new(alloc, event, room)?;
-    keeper.reserve(daemon)?;
+    keeper.reserve(daemon, lock.roll().daemons().len())?;
     let begun = lock.moment();
     let came = lock.event(daemon, event)?;
     let left = leaves_now(lock.roll(), known);
@@ -102,6 +101,53 @@ fn make_known<T: Tells>(
     Ok(came)
 }
 
+// Makes a leave of one of the lock's daemons, and notes it. It takes no memory.
+fn leave_known<T: Tells>(
+    lock: &mut Lock<T>,
+    keeper: &mut Keeper,
+    known: &Daemon,
+    daemon: u8,
+    line: u64,
+    event: &Event,
+    leave: Leave,
+) -> Came
+    requires leaves { event.now ≡ Event.Leaves leave }
+    requires drawn { MayDraw lock.old.roll (held_by lock.old.roll daemon) }
+    requires lasts { T.lasts lock.old.base 1 }
+    requires stands { StandsStill T.stands lock.old }
+    requires apart { AreApart (works_of keeper.old.works.items) }
+    requires room { HasRoomFor (leaves_ahead lock.old.roll.daemons) keeper.old }
+    requires spoken { HaveSpoken lock.old.roll keeper.old }
+    requires found { daemon_of lock.old.roll daemon ≡ Some known.now }
+    ensures makes { Makes T.HasGround daemon line event.now result
+        lock.old (log_of keeper.old) lock.new (log_of keeper.new) }
+    ensures room { HasRoomFor (leaves_ahead lock.new.roll.daemons) keeper.new }
+    ensures apart { AreApart (works_of keeper.new.works.items) }
+{
+    let number = number_of(lock.roll(), known);
+    let begun = lock.moment();
+    let Ok(came) = lock.event(daemon, event) else {
+        unreachable!();
+    };
+    let left = leaves_now(lock.roll(), known);
+    let done = lock.moment();
+    let under = Under {
+        number,
+        waited: false,
+        left,
+    };
+    let noted = Noted {
+        line,
+        daemon,
+        came,
+        begun,
+        done,
+        under,
+    };
+    keeper.note_leave(&noted, event, leave);
+    came
+}
+
 /// Makes an event of a daemon, and notes it. Want of memory leaves all as before.
 pub fn make<T: Tells>(
     lock: &mut Lock<T>,
@@ -115,15 +161,48 @@ pub fn make<T: Tells>(
     requires lasts { T.lasts lock.old.base 1 }
     requires stands { StandsStill T.stands lock.old }
     requires apart { AreApart (works_of keeper.old.works.items) }
-    ensures step { IfOk result (λ came. StepsCore T.HasGround daemon line event.now came
-        (record { lock = lock.old; log = log_of keeper.old }) (record { lock = lock.new; log = log_of keeper.new })) }
-    ensures called { IfOk result (λ came. came.called ≡ true → lock.new.roll.failed ≡ None) }
-    ensures asks { IfOk result (λ came. Asks T.HasGround (keeps_by lock.old.roll daemon event.now) came lock.old lock.new) }
-    ensures err { OnErr result ((lock.new ≡ lock.old) × (log_of keeper.new ≡ log_of keeper.old)) }
+    requires few { length lock.old.roll.daemons ≤ 256 }
+    requires room { HasRoomFor (leaves_ahead lock.old.roll.daemons) keeper.old }
+    ensures makes { IfOk result (λ came. Makes T.HasGround daemon line event.now came
+        lock.old (log_of keeper.old) lock.new (log_of keeper.new)) }
+    ensures room { IfOk result (λ came. HasRoomOr lock.old.roll.daemons lock.new.roll.daemons keeper.new) }
+    ensures err { OnErr result (IsSame lock.old keeper.old lock.new keeper.new) }
     ensures apart { AreApart (works_of keeper.new.works.items) }
 {
     match lock.roll().daemon(daemon) {
         None => Ok(lock.event(daemon, event)?),
         Some(known) => make_known(lock, keeper, alloc, &known, daemon, line, event),
+    }
+}
+
+/// Makes a leave of a daemon, and notes it. It takes no memory.
+pub fn leave<T: Tells>(
+    lock: &mut Lock<T>,
+    keeper: &mut Keeper,
+    daemon: u8,
+    line: u64,
+    event: &Event,
+    leave: Leave,
+) -> Came
+    requires leaves { event.now ≡ Event.Leaves leave }
+    requires drawn { MayDraw lock.old.roll (held_by lock.old.roll daemon) }
+    requires lasts { T.lasts lock.old.base 1 }
+    requires stands { StandsStill T.stands lock.old }
+    requires apart { AreApart (works_of keeper.old.works.items) }
+    requires room { HasRoomFor (leaves_ahead lock.old.roll.daemons) keeper.old }
+    requires spoken { HaveSpoken lock.old.roll keeper.old }
+    ensures makes { Makes T.HasGround daemon line event.now result
+        lock.old (log_of keeper.old) lock.new (log_of keeper.new) }
+    ensures room { HasRoomFor (leaves_ahead lock.new.roll.daemons) keeper.new }
+    ensures apart { AreApart (works_of keeper.new.works.items) }
+{
+    match lock.roll().daemon(daemon) {
+        None => {
+            let Ok(came) = lock.event(daemon, event) else {
+                unreachable!();
+            };
+            came
+        }
+        Some(known) => leave_known(lock, keeper, &known, daemon, line, event, leave),
     }
 }

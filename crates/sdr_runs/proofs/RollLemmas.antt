@@ -9,12 +9,12 @@ use Rattle.sdr_lock.specs.declared.daemon.Daemon.{Daemon}
 use Rattle.sdr_lock.specs.declared.daemon.Holding.{Holding}
 
 -- what a daemon is put in the place of
-put_here : (x : Daemon) (ds : List Daemon) (d : Daemon) → (x.id == d.id) ≡ true → put_daemon (x ∷ ds) d ≡ d ∷ ds
+pub put_here : (x : Daemon) (ds : List Daemon) (d : Daemon) → (x.id == d.id) ≡ true → put_daemon (x ∷ ds) d ≡ d ∷ ds
 put_here x ds d here =
     let within : nat_lt 0 (suc (length ds)) ≡ true = grind (arith, nat_tests) in
     rw (here, within) refl
 
-put_later : (x : Daemon) (ds : List Daemon) (d : Daemon) → (x.id == d.id) ≡ false → put_daemon (x ∷ ds) d ≡ x ∷ put_daemon ds d
+pub put_later : (x : Daemon) (ds : List Daemon) (d : Daemon) → (x.id == d.id) ≡ false → put_daemon (x ∷ ds) d ≡ x ∷ put_daemon ds d
 put_later x ds d there =
     rw there (by (prefix_len (λ (y : Daemon). not (y.id == d.id)) ds) (1 + prefix_len (λ (y : Daemon). not (y.id == d.id)) ds)
     (nat_lt (prefix_len (λ (y : Daemon). not (y.id == d.id)) ds) (length ds)) (omega arith) refl)

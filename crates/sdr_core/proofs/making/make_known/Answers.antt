@@ -1,9 +1,9 @@
-use Rattle.std.proofs.Common.{◌∙◌, ◌&&◌, not, ap, subst, sym}
+use Rattle.std.proofs.Common.{◌∙◌, ◌&&◌, not, ap, refl, subst, sym}
 use Rattle.sdr_lock.specs.Core.{has_left, log_after}
 use Rattle.sdr_lock.specs.Machine.{Made}
 use Rattle.sdr_lock.specs.Roll.{number_of}
 use Rattle.sdr_lock.specs.Serving.{machine_at, made_by, made_with}
-use Rattle.sdr_core.proofs.RunLemmas.{steps_known}
+use Rattle.sdr_core.proofs.RunLemmas.{makes, steps_known}
 use Rattle.sdr_core.proofs.StepLemmas.{noted_said, step_closes, step_fits}
 use Rattle.sdr_core.specs.Drafting.{FitsIn}
 use Rattle.sdr_core.specs.Logging.{ClosesWithin, log_of}
@@ -54,14 +54,15 @@ note-requires-clause-fit g c = (noted g c).0
 pub note-requires-clause-within : goal.note-requires-clause-within
 note-requires-clause-within g c = (noted g c).1
 
-pub returns-clause-step : goal.returns-clause-step
-returns-clause-step g c =
+pub returns-clause-makes : goal.returns-clause-makes
+returns-clause-makes g c =
     let ghosts = g.T.HasGround in
     let came = c.in_ok-came.came in
     let old = c.args.lock.now in
     let new = c.event.new.self in
     let d = c.args.known.now in
-    steps_known ghosts _ c.args.daemon c.args.event.now came c.args.line old new (log_of c.args.keeper.now) (log_of c.note.new.self) c.in_ok-came.ensures.step
+    makes ghosts _ c.args.daemon c.args.event.now came c.args.line old new (log_of c.args.keeper.now) (log_of c.note.new.self) c.in_ok-came.ensures.step c.requires.stands
+    (steps_known ghosts _ c.args.daemon c.args.event.now came c.args.line old new (log_of c.args.keeper.now) (log_of c.note.new.self) c.in_ok-came.ensures.step
     d c.moves.result.now c.shown.result.now c.requires.found
     (λ called v stands.
     (c.moves.ensures v (subst (λ b. ghosts.stands b v) (sym c.base-2.ensures) stands), c.shown.ensures v (subst (λ b. ghosts.stands b v) (sym c.base-3.ensures) stands)))
@@ -69,9 +70,6 @@ returns-clause-step g c =
     ∙ (λ i. log_after (record {
       number = (c.number_of-number.ensures ∙ ap (λ r. number_of r d) c.roll.ensures) i;
       waited = c.looks_again-waited.ensures i;
-      left = (c.leaves_now-left.ensures ∙ ap (λ r. has_left r d.id && not d.left) c.roll-2.ensures) i;
+      left = (c.leaves_now-left.ensures ∙ ap (λ r. has_left r d.id && not d.left) c.roll-3.ensures) i;
     }) (c.in_ok-reserve.ensures.same i)
-    (made_with c.args.daemon (c.in_ok-draft.ensures.event_is i) came (c.moment-begun.ensures i) (c.moment-done.ensures i) c.args.line c.moves.result.now c.shown.result.now)))
-
-pub returns-clause-called : goal.returns-clause-called
-returns-clause-called g c = (c.in_ok-came.ensures.step.leads.each c.requires.stands.for c.requires.stands.stood).tells.sound
+    (made_with c.args.daemon (c.in_ok-draft.ensures.event_is i) came (c.moment-begun.ensures i) (c.moment-done.ensures i) c.args.line c.moves.result.now c.shown.result.now)))) refl

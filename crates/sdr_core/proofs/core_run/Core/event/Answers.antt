@@ -1,19 +1,29 @@
-use Rattle.sdr_core.proofs.RunLemmas.{keeps_either}
-use Rattle.sdr_core.proofs.SafeLemmas.{safe_either}
+use Rattle.std.proofs.Common.{inl, subst, sym}
+use Rattle.sdr_lock.specs.Roll.{MayDraw, held_by}
 use Rattle.sdr_core.specs.CoreKept.{Kept}
-use Rattle.sdr_core.specs.Logging.{log_of}
+use Rattle.sdr_core.proofs.CoreLemmas.{core_after, core_either, core_spoken, core_stands}
 use Rattle.sdr_core.proofs.core_run.Core.event.Goals as goal
+
+pub leave-requires-clause-spoken : goal.leave-requires-clause-spoken
+leave-requires-clause-spoken g c =
+    core_spoken g.T.HasGround g.J.Origin.begins c.self.inside.lock c.self.inside.keeper c.self.invariant
+
+pub make-requires : goal.make-requires
+make-requires g c = record {
+  drawn = subst (λ (k : Kept g.row.T.Denot). MayDraw k.lock.roll (held_by k.lock.roll c.args.daemon)) (sym c.self.view_is) c.requires.drawn;
+  lasts = subst (λ (k : Kept g.row.T.Denot). g.T.HasGround.lasts k.lock.base 1) (sym c.self.view_is) c.requires.lasts;
+  stands = core_stands g.T.HasGround g.J.Origin.begins c.self.inside.lock c.self.inside.keeper c.self.invariant;
+  apart = c.self.invariant.apart;
+  few = c.self.invariant.few;
+  room = c.self.invariant.room;
+}
 
 pub invariant_of-self : goal.invariant_of-self
 invariant_of-self g c =
-    let T = g.row.T.Denot in
-    let b = g.J.Origin.begins in
-    let old : Kept T = record { lock = c.self.inside.lock; log = log_of c.self.inside.keeper } in
-    let new : Kept T = record { lock = c.make.new.lock; log = log_of c.make.new.keeper } in
-    record {
-      run = keeps_either g.T.HasGround b _ c.args.daemon c.args.line c.args.event.now old new c.make.result
-          c.make.ensures.step c.make.ensures.asks c.make.ensures.err c.self.invariant.run;
-      safe = safe_either g.T.HasGround b c.args.daemon c.args.line c.args.event.now old new c.make.result
-          c.make.ensures.step c.make.ensures.called c.make.ensures.asks c.make.ensures.err c.self.invariant.run c.self.invariant.safe;
-      apart = c.make.ensures.apart;
-    }
+    core_after g.T.HasGround g.J.Origin.begins c.self.inside.lock c.self.inside.keeper c.self.invariant c.leave.new.lock c.leave.new.keeper
+    c.args.daemon c.args.line c.args.event.now c.leave.result c.leave.ensures.makes (inl c.leave.ensures.room) c.leave.ensures.apart
+
+pub invariant_of-self-in_default : goal.invariant_of-self-in_default
+invariant_of-self-in_default g c =
+    core_either g.T.HasGround g.J.Origin.begins c.self.inside.lock c.self.inside.keeper c.self.invariant c.make.new.lock c.make.new.keeper
+    c.args.daemon c.args.line c.args.event.now c.make.result c.make.ensures.makes c.make.ensures.room c.make.ensures.err c.make.ensures.apart

@@ -14,7 +14,7 @@ close-requires-clause-apart c =
 
 pub returns-in-None-clause-apart : goal.returns-in-None-clause-apart
 returns-in-None-clause-apart c =
-    subst AreApart (sym c.go_on.ensures.works)
+    subst AreApart (sym c.go_on.ensures.goes_on.works)
     (apart_either (was_outside c.said-said.result.0) (works_of c.args.self.now.works.items) c.args.noted.now.daemon c.said-said.result.0 c.requires.apart)
 
 pub returns-in-Some-clause-apart : goal.returns-in-Some-clause-apart
