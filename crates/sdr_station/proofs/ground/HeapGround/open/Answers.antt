@@ -21,9 +21,14 @@ returns-in-Ok-new-clause-opened g c =
     let m = g.D.Disk.moment in
     let l = g.D.Disk.may_leave in
     let made = c.in-Ok-new.ensures.made in
-    let new : Grounded D = record { heap = c.in-Ok-new.heap; shown = c.new-in-Ok-new.result; stopped = false; moment = c.now-moment.result } in
     subst (λ (n : Grounded D). IsOpen b m l c.args.disk n)
-    (λ i. record { heap = sym made i; shown = sym c.new-in-Ok-new.ensures i; stopped = false; moment = sym c.now-moment.ensures.moment i })
+    (λ i. record {
+      heap = sym made i;
+      shown = sym c.new-in-Ok-new.ensures i;
+      stopped = false;
+      moment = sym c.now-moment.ensures.moment i;
+      restored = sym c.restored.ensures i;
+    })
     (open_stands b m l c.args.disk c.in-Ok.image c.check.new.c _ _ c.in-Ok.ensures.opened c.check.ensures.quiet c.check.ensures.bytes c.check.ensures.touched c.in_default.ensures.fresh)
 
 pub returns-in-Ok-new-clause-any_moment : goal.returns-in-Ok-new-clause-any_moment
