@@ -1,5 +1,5 @@
 -- What a call comes to on a ground.
-use Rattle.std.proofs.Common.{◌≡◌, ◌∙◌, ◌≤◌, ◌⊎◌, ℕ, List, [], Bool, true, false, not, Option, None, Ok, Err, inl, refl, sym, ap, subst}
+use Rattle.std.proofs.Common.{◌≡◌, ◌∙◌, ◌≤◌, ◌⊎◌, ℕ, List, [], Bool, true, false, not, Option, None, Ok, Err, refl, sym, ap, subst}
 use Rattle.sdr_base.specs.KeptHeap.{KeepsRegion, block_in}
 use Rattle.sdr_base.specs.Moves.{KeepsSome}
 use Rattle.sdr_base.specs.Works.{Works}

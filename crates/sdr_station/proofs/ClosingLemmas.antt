@@ -3,6 +3,7 @@ use Rattle.std.proofs.Common.{◌≡◌, ◌∙◌, ◌≤◌, ◌⊎◌, ℕ, L
 use Rattle.std.specs.Prelude.{replicate, is_some, max}
 use Rattle.sdr_audit.proofs.RestLemmas.{begins, ends}
 use Rattle.sdr_base.specs.KeptHeap.{block_in}
+use Rattle.sdr_base.specs.Causes.{Rose}
 use Rattle.sdr_base.specs.Entries.{Few}
 use Rattle.sdr_base.specs.Transaction.{Explains, IfRefused, Transaction}
 use Rattle.sdr_base.specs.declared.stop.Stop.{Stop}
@@ -12,11 +13,11 @@ use Rattle.sdr_disk.specs.Told.{IfTold}
 use Rattle.sdr_heap.proofs.FewLemmas.{block_in-few}
 use Rattle.sdr_heap.specs.Noted.{Held, marked_in}
 use Rattle.sdr_image.specs.Changed.{GivesEither}
-use Rattle.sdr_image.specs.Opened.{Opened, Rests}
+use Rattle.sdr_image.specs.Opened.{Opened, Rests, transaction_of}
 use Rattle.sdr_lock.specs.Crash.{LeavesBefore, LeavesEither, LeavesOr}
 use Rattle.sdr_lock.specs.Demand.{most_lines}
-use Rattle.sdr_lock.specs.Ground.{State, kept, put_back}
-use Rattle.sdr_lock.specs.Serving.{Brings, Keeps, KeepsGround, PutsBack, shown_in}
+use Rattle.sdr_lock.specs.Ground.{Ground, HasHeap, State, kept, put_back}
+use Rattle.sdr_lock.specs.Serving.{Brings, Keeps, KeepsGround, MeetsFault, PutsBack, shown_in}
 use Rattle.sdr_lock.specs.Standing.{Standing}
 use Rattle.sdr_log.specs.Frame.{room_of}
 use Rattle.sdr_log.specs.Logged.{Gives}
@@ -140,13 +141,13 @@ memory_back old disk now = record {
 }
 
 -- what a close that was answered leaves of a ground
-pub record ClosesTo {D : Type 0} (told : D → Option (List ℕ)) (moment faults : D → ℕ) (may_leave : D → ℕ → List ℕ → Type 0) (keeps : Bool)
+pub record ClosesTo {D : Type 0} (told : D → Option (List ℕ)) (moment faults : D → ℕ) (may_leave : D → ℕ → List ℕ → Type 0) (may_keep : Bool)
     (P : Standing → Standing → Type 0) (old new : Grounded D) : Type 0 where
   pub memory : Brings StandsInMemory old new P
   pub brings : Brings (λ g v. StandsForBoth told moment may_leave g v) old new P
   pub sound : new.heap.cells.failed ≡ false
   pub keeps : KeepsGround (heap_ground told moment faults may_leave) false old new
-  pub any_moment : LeavesOr keeps (heap_ground told moment faults may_leave) old new
+  pub any_moment : LeavesOr may_keep (heap_ground told moment faults may_leave) old new
   pub is_ground : IsGround new
 
 some_of : (o : Option (List ℕ)) → is_some o ≡ true → (x : List ℕ) × (o ≡ Some x)
@@ -281,3 +282,29 @@ stop_fails old new (stops.Refused refusal) explained none = absurd none
 stop_fails old new stops.DiskFault explained none = explained.1
 stop_fails old new stops.MediaFault explained none = absurd explained
 stop_fails old new stops.Failed explained none = explained.1
+
+-- where a close is stopped on a disk that hasn't failed, the disk fails in it
+pub meets_fault : {D : Type 0} (told : D → Option (List ℕ)) (moment faults : D → ℕ) (may_leave : D → ℕ → List ℕ → Type 0) (old new : Grounded D)
+    (cells : Opened D) (s : Stop) → new.heap.cells.disk ≡ cells.disk → old.heap.cells.failed ≡ false
+    → Explains {T = Unit {0}} (transaction_of faults old.heap.cells) (transaction_of faults cells) (Err s)
+    → IfRefused {T = Unit {0}} (Err s) (λ _. ⊥) → MeetsFault (heap_ground told moment faults may_leave) old new
+meets_fault {D} told moment faults may_leave old new cells s same sound explained none = record {
+  heap = λ v at. subst (λ (b : Ground). HasHeap b) (sym at.memory.before.base) tt;
+  cause = subst (λ (d : D). Rose (faults old.heap.cells.disk) (faults d)) (sym same) (rose s explained none);
+}
+  where
+    rose : (s : Stop) → Explains {T = Unit {0}} (transaction_of faults old.heap.cells) (transaction_of faults cells) (Err s)
+        → IfRefused {T = Unit {0}} (Err s) (λ _. ⊥) → Rose (faults old.heap.cells.disk) (faults cells.disk)
+    rose (stops.Refused refusal) explained none = absurd none
+    rose stops.DiskFault explained none = explained.2
+    rose stops.MediaFault explained none = absurd explained
+    rose stops.Failed explained none = absurd (true≢false (sym explained.0 ∙ sound))
+
+-- a ground whose disk has failed stands for nothing in memory, and so anything is brought and left
+pub brings_failed : {D : Type 0} {P : Standing → Standing → Type 0} (old new : Grounded D) → old.heap.cells.failed ≡ true
+    → Brings StandsInMemory old new P
+brings_failed old new failed = record { each = λ v at. absurd (true≢false (sym failed ∙ at.sound)) }
+
+pub leaves_failed : {D : Type 0} (told : D → Option (List ℕ)) (moment faults : D → ℕ) (may_leave : D → ℕ → List ℕ → Type 0) (old new : Grounded D)
+    → old.heap.cells.failed ≡ true → LeavesBefore (heap_ground told moment faults may_leave) old new
+leaves_failed told moment faults may_leave old new failed = record { each = λ v at. absurd (true≢false (sym failed ∙ at.memory.sound)) }

@@ -20,7 +20,7 @@ use Rattle.sdr_model.specs.World.{fresh_world}
 use Rattle.sdr_station.proofs.ClosingLemmas.{within_of}
 use Rattle.sdr_station.proofs.EntryLemmas.{none_named}
 use Rattle.sdr_station.specs.Answering.{IsPlain}
-use Rattle.sdr_station.specs.Grounded.{Grounded, StandsAtRest, StandsInMemory}
+use Rattle.sdr_station.specs.Grounded.{Grounded, IsGround, StandsAtRest, StandsInMemory}
 use Rattle.sdr_station.specs.Opening.{IsOpen}
 
 -- a world without things has no ticket and no source
@@ -88,3 +88,8 @@ open_stands {D} told moment may_leave disk i j count spare o q bytes touched f =
         memory = memory;
       };
     }
+
+-- what was opened is a ground
+pub open_ground : {D : Type 0} (told : D → Option (List ℕ)) (moment : D → ℕ) (may_leave : D → ℕ → List ℕ → Type 0) (disk : D) (g : Grounded D)
+    → IsOpen told moment may_leave disk g → IsGround g
+open_ground told moment may_leave disk g o = record { sound = λ _. o.sound; stands = λ _. record { for = _; holds = o.memory } }

@@ -1,5 +1,5 @@
 -- A station: what its calls and events do.
-use Rattle.std.specs.Prelude.{◌≡◌, ◌==◌, ℕ, Bool, false, ⊤, Option, None, Some, Result, Ok, Err, nat_le, MatchBool, MatchOption}
+use Rattle.std.specs.Prelude.{◌≡◌, ◌==◌, ℕ, Bool, true, false, ⊤, Option, None, Some, Result, Ok, Err, nat_le, MatchBool, MatchOption}
 use Rattle.sdr_base.specs.declared.refusal.Refusal.TheVariants as refusals
 use Rattle.sdr_base.specs.declared.stop.Stop.{Stop}
 use Rattle.sdr_base.specs.declared.stop.Stop.TheVariants as stops

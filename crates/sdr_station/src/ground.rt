@@ -4,6 +4,7 @@ ghost use Rattle.sdr_disk.specs.Moments.{AtEach};
 ghost use Rattle.sdr_disk.specs.Told.{IfTold};
 ghost use Rattle.sdr_image.specs.Opening.{MayBeOpened};
 ghost use Rattle.sdr_lock.specs.Crash.{LeavesBefore, LeavesEither};
+ghost use Rattle.sdr_lock.specs.Gaps.{HasGapCause, no_gaps};
 ghost use Rattle.sdr_lock.specs.Serving.{Brings, Calls, Keeps, KeepsGround, MeetsFault, PutsBack};
 ghost use Rattle.sdr_lock.specs.Standing.{Standing};
 ghost use Rattle.sdr_log.specs.Calls.{KeepsDisk};
@@ -23,7 +24,7 @@ use sdr_disk::Disk;
 use sdr_heap::Heap;
 use sdr_image::{Image, ImageError};
 use sdr_lock::{Fault, Halt, HasGround, Serves};
-use sdr_model::{Call, Reply};
+use sdr_model::{Answer, Call, Reply};
 use std::alloc::Global;
 use std::marker::Model;
 
@@ -235,7 +236,9 @@ impl<D: Disk> HeapGround<D> {
                 self.stopped = true;
                 Err(Fault)
             }
-            Err(_) => Ok(()),
+            Err(Stop::Failed) => Ok(()),
+            Err(Stop::MediaFault) => unreachable!(),
+            Err(Stop::Refused(_)) => unreachable!(),
         }
     }
 
@@ -284,14 +287,33 @@ impl<D: Disk> Serves for HeapGround<D> {
         self.moment
     }
 
-    fn call(&mut self, call: &Call) -> Result<Reply, Halt> {
+    // Want of memory comes just where a call was stopped, or where it isn't served yet.
+    fn call(&mut self, call: &Call) -> Result<Reply, Halt>
+        ensures answered { IfOk result (λ reply.
+            Brings ⟦<HeapGround<D> as HasGround>⟧.stands self.old self.new (Calls None call.now reply)) }
+        ensures gap { IfOk result (λ reply. HasGapCause (Answer.Reply reply) no_gaps no_gaps) }
+        ensures memory { IsErrOf result Halt.Memory → self.new ≡ self.old }
+        ensures stopped { IsErrOf result Halt.Memory
+            ↔ ((self.old.stopped ≡ true) ⊎ (built call.now ≡ false)) }
+        ensures fault { IsErrOf result Halt.Fault → MeetsFault ⟦<HeapGround<D> as HasGround>⟧ self.old self.new }
+        ensures keeps { KeepsGround ⟦<HeapGround<D> as HasGround>⟧ true self.old self.new }
+        ensures any_moment { LeavesBefore ⟦<HeapGround<D> as HasGround>⟧ self.old self.new }
+    {
         if self.stopped || !built(call) {
             return Err(Halt::Memory);
         }
         Ok(self.serve(call))
     }
 
-    fn keep(&mut self) -> Result<(), Halt> {
+    // Want of memory comes just where a call was stopped.
+    fn keep(&mut self) -> Result<(), Halt>
+        ensures kept { OnOk result (Brings ⟦<HeapGround<D> as HasGround>⟧.stands self.old self.new Keeps) }
+        ensures memory { IsErrOf result Halt.Memory → self.new ≡ self.old }
+        ensures stopped { IsErrOf result Halt.Memory ↔ (self.old.stopped ≡ true) }
+        ensures fault { IsErrOf result Halt.Fault → MeetsFault ⟦<HeapGround<D> as HasGround>⟧ self.old self.new }
+        ensures keeps { KeepsGround ⟦<HeapGround<D> as HasGround>⟧ false self.old self.new }
+        ensures any_moment { LeavesEither ⟦<HeapGround<D> as HasGround>⟧ self.old self.new }
+    {
         if self.stopped {
             return Err(Halt::Memory);
         }

@@ -46,7 +46,8 @@ pub struct Station<D: Disk> {
 // How many moves a call that is served has at most.
 fn most_moves(call: &Call) -> u64
     requires { built call.now ≡ true }
-    ensures { MovesAtMost call.now result }
+    ensures most { MovesAtMost call.now result }
+    ensures few { result ≤ 1 }
 {
     match call {
         Call::Malloc(_) | Call::Free(_) => 1,
@@ -75,12 +76,14 @@ impl<D: Disk> Station<D> {
         ensures any_moment { IfTold (D.bytes disk) (λ x. MayBeOpened x (D.may_leave disk (D.moment disk))
             → AtEach D.moment D.may_leave disk (disk_under result) (GivesSame x)) }
     {
-        let ground = HeapGround::open(alloc, disk)?;
-        Ok(Station {
-            ground,
-            nesting: Nesting::none(),
-            failed: None,
-        })
+        match HeapGround::open(alloc, disk) {
+            Ok(ground) => Ok(Station {
+                ground,
+                nesting: Nesting::none(),
+                failed: None,
+            }),
+            Err(shut) => Err(shut),
+        }
     }
 
     /// Whether a ticket is granted. So far no world has one.
@@ -137,7 +140,7 @@ impl<D: Disk> Station<D> {
         ensures room { TellsRoom ⟦<HeapGround<D> as HasGround>⟧ call.now self.old result }
         ensures same { self.new ≡ self.old }
     {
-        if self.failed.is_some() {
+        if let Some(_) = self.failed {
             return Err(Stop::Failed);
         }
         Ok(most_moves(call))

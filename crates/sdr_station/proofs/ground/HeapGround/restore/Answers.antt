@@ -83,3 +83,36 @@ returns-in-Err-DiskFault-clause-any_moment g c =
     subst (λ (o : Grounded D). LeavesBefore (heap_ground b m f l) o new) c.self.view_is
     (leaves_back b m f l old disk at.result at_now sound e.disk.tells _ (e.any_moment sound) new
     (ap (λ (h : Held (Opened D)). h.cells.disk) at.ensures.same) refl (λ image p. p))
+
+pub invariant_of-self : goal.invariant_of-self
+invariant_of-self g c =
+    let D = g.row.D.Denot in
+    let b = g.D.Disk.bytes in
+    let m = g.D.Disk.moment in
+    let l = g.D.Disk.may_leave in
+    let f = g.D.Disk.faults in
+    let at = c.moment_since-self-inside in
+    let e = c.in-Ok.ensures in
+    let old : Grounded D = record {
+      heap = c.self.inside.heap;
+      shown = c.self.inside.shown;
+      stopped = c.self.inside.stopped;
+      moment = c.self.inside.moment;
+      restored = c.self.inside.restored;
+    } in
+    let disk = c.cancel.new.heap.cells.disk in
+    let new : Grounded D = record {
+      heap = at.new.heap;
+      shown = c.clear.new.self;
+      stopped = false;
+      moment = at.result;
+      restored = c.self.inside.restored;
+    } in
+    let heap : at.new.heap ≡ (back_ground old disk at.result).heap = at.ensures.same ∙ e.ended in
+    let is : new ≡ back_ground old disk at.result =
+    λ i. record { heap = heap i; shown = c.clear.ensures i; stopped = false; moment = at.result; restored = old.restored } in
+    let at_now = at.ensures.moment ∙ ap (λ (h : Held (Opened D)). max old.moment (m h.cells.disk)) at.ensures.same in
+    let sound : old.heap.cells.failed ≡ false = e.cause.explained.0 in
+    let closed = closes_back b m f l old disk at.result at_now sound e.disk.tells _ (e.any_moment sound) new is c.self.invariant
+        e.cause.later (λ rests. subst (λ (h : Held (Opened D)). Rests b m l h.cells) e.ended (e.rests rests)) (λ image p. p) in
+    closed.is_ground

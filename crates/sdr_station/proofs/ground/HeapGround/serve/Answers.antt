@@ -1,5 +1,4 @@
-use Rattle.std.proofs.Common.{◌≡◌, ◌∙◌, ap, false, inl, inr, not, subst}
-use Rattle.sdr_model.specs.declared.answer.Reply.{Reply}
+use Rattle.std.proofs.Common.{◌∙◌, ap, inl, inr, not, subst}
 use Rattle.sdr_model.specs.declared.answer.Reply.TheVariants as replies
 use Rattle.sdr_station.proofs.CameLemmas.{CameTo, came_answered, came_refused, faults_never, good_before, keeps_before}
 use Rattle.sdr_station.specs.Answering.{most_lines}
@@ -95,3 +94,29 @@ returns-in-Err-Refused g c =
       keeps = at.keeps;
       any_moment = at.any_moment;
     }
+
+pub invariant_of-self : goal.invariant_of-self
+invariant_of-self g c =
+    let D = g.row.D.Denot in
+    let b = g.D.Disk.bytes in
+    let m = g.D.Disk.moment in
+    let l = g.D.Disk.may_leave in
+    let f = g.D.Disk.faults in
+    let going = ap (λ (o : Grounded D). o.stopped) c.self.view_is ∙ c.requires.going in
+    let came = came_answered b m f l _ c.self.invariant going c.args.call.now c.requires.built c.in-Ok.ensures.fits c.fresh.new.self
+        c.fresh.ensures.none c.answer.new.o c.answer.new.page c.in-Ok.reply c.in-Ok.ensures.comes c.in-Ok.ensures.works in
+    came.is_ground
+
+pub invariant_of-self-in-Err-Refused : goal.invariant_of-self-in-Err-Refused
+invariant_of-self-in-Err-Refused g c =
+    let D = g.row.D.Denot in
+    let b = g.D.Disk.bytes in
+    let m = g.D.Disk.moment in
+    let l = g.D.Disk.may_leave in
+    let f = g.D.Disk.faults in
+    let going = ap (λ (o : Grounded D). o.stopped) c.self.view_is ∙ c.requires.going in
+    let e = c.in-Err-Refused in
+    let came = came_refused b m f l _ c.self.invariant going c.args.call.now c.requires.built e.ensures.fits c.fresh.new.self
+        c.fresh.ensures.none c.answer.new.o c.answer.new.page e.refusal e.field-0 e.field-0-is c.forget_moves.new.heap
+        c.forget_moves.ensures c.is_reading.result c.is_reading.ensures e.ensures.comes e.ensures.works in
+    came.is_ground

@@ -1,5 +1,7 @@
 use Rattle.std.proofs.Common.{◌≡◌, ◌∙◌, ap, arith, sym, subst}
+use Rattle.sdr_lock.proofs.GroundLemmas.{leaves_same}
 use Rattle.sdr_lock.proofs.WorkLemmas.{on_none}
+use Rattle.sdr_lock.specs.Crash.{LeavesBefore}
 use Rattle.sdr_lock.specs.declared.nesting.Nesting.{Nesting}
 use Rattle.sdr_station.proofs.GroundLemmas.{heap_ground}
 use Rattle.sdr_station.proofs.StationLemmas.{noted_depth, undoomed_noted}
@@ -36,3 +38,18 @@ invariant_of-self g c =
           absurd (omega (arith, same, here, zero, c.requires.begun));
       sound = λ sound. c.serve-reply.ensures.sound;
     }
+
+pub returns-in-Some-clause-any_moment : goal.returns-in-Some-clause-any_moment
+returns-in-Some-clause-any_moment g c =
+    let h = heap_ground g.D.Disk.bytes g.D.Disk.moment g.D.Disk.faults g.D.Disk.may_leave in
+    leaves_same h c.args.self.now.ground
+
+pub returns-in-Some-doom-clause-any_moment : goal.returns-in-Some-doom-clause-any_moment
+returns-in-Some-doom-clause-any_moment g c =
+    let h = heap_ground g.D.Disk.bytes g.D.Disk.moment g.D.Disk.faults g.D.Disk.may_leave in
+    leaves_same h c.args.self.now.ground
+
+pub returns-clause-any_moment : goal.returns-clause-any_moment
+returns-clause-any_moment g c =
+    let h = heap_ground g.D.Disk.bytes g.D.Disk.moment g.D.Disk.faults g.D.Disk.may_leave in
+    subst (λ (s : Stationed g.row.D.Denot). LeavesBefore h s.ground c.serve-reply.new.self) c.self.view_is c.serve-reply.ensures.any_moment
