@@ -3,7 +3,8 @@ use Rattle.std.proofs.Common.{◌≡◌, ◌≤◌, ◌+◌, ℕ, List, true, tr
 use Rattle.std.specs.Prelude.{slice_index}
 use Rattle.sdr_base.specs.declared.moves.Move.{Move}
 use Rattle.sdr_laws.proofs.StepLemmas.{moves_are_the_rows}
-use Rattle.sdr_lock.specs.Demand.{Demand, bytes_taken, demand_after, most_lines}
+use Rattle.sdr_lock.specs.Demand as demands
+use Rattle.sdr_lock.specs.Demand.{Demand, bytes_taken, demand_after}
 use Rattle.sdr_model.specs.Reading.{is_reading}
 use Rattle.sdr_model.specs.RowMoves.{row_moves}
 use Rattle.sdr_model.specs.Rows.{ByRow}
@@ -16,13 +17,13 @@ use Rattle.sdr_station.specs.Answering.{built, most_lines}
 
 -- a call that is answered by its row asks for as many lines as it touches
 pub enough : (d : Demand) (w : World) (call : Call) (o : Outcome) → built call ≡ true → ByRow w o call → is_answer o.reply ≡ true
-    → most_lines d + most_lines call ≤ most_lines (demand_after d w call o)
+    → demands.most_lines d + most_lines call ≤ demands.most_lines (demand_after d w call o)
 enough d w call o is row answered = by call is (moves_are_the_rows w o.after call o.moves o.reply (inl row) answered)
   where
     at : ℕ → ℕ
     at = slice_index (taken_addresses o.moves)
 
-    by : (c : Call) → built c ≡ true → o.moves ≡ row_moves w c at → most_lines d + most_lines c ≤ most_lines (demand_after d w c o)
+    by : (c : Call) → built c ≡ true → o.moves ≡ row_moves w c at → demands.most_lines d + most_lines c ≤ demands.most_lines (demand_after d w c o)
     by (calls.Malloc bytes) is moves =
         let one : length o.moves ≡ 1 = ap (λ (ms : List Move). length ms) moves in
         let need : bytes_taken o.moves ≡ 8 + bytes + 0 = ap bytes_taken moves in
@@ -47,5 +48,5 @@ reading_lines (calls.Stage addr count) is reads = refl
 reading_lines call is reads = absurd (true≢false (sym is))
 
 -- no call takes back what was asked
-pub asks_more : (d : Demand) (w : World) (call : Call) (o : Outcome) → most_lines d ≤ most_lines (demand_after d w call o)
+pub asks_more : (d : Demand) (w : World) (call : Call) (o : Outcome) → demands.most_lines d ≤ demands.most_lines (demand_after d w call o)
 asks_more d w call o = omega arith

@@ -13,4 +13,7 @@ pub mod FreeLemmas
 pub mod DemandLemmas
 pub mod ServingLemmas
 pub mod OpeningLemmas
+pub mod GivingLemmas
+pub mod CameLemmas
+pub mod RoomLemmas
 pub mod StationLemmas

@@ -1,0 +1,28 @@
+-- How many moves a call may have.
+use Rattle.std.specs.Prelude.{◌≡◌, ◌≤◌, ◌+◌, ◌/◌, ℕ, length, Result, Ok, Err, MatchOption}
+use Rattle.sdr_base.specs.declared.stop.Stop.{Stop}
+use Rattle.sdr_base.specs.declared.stop.Stop.TheVariants as stops
+use Rattle.sdr_lock.specs.Ground.{Replied, Steps}
+use Rattle.sdr_lock.specs.Standing.{Standing}
+use Rattle.sdr_lock.specs.declared.has_ground.HasGround.{Ghosts}
+use Rattle.sdr_model.specs.Step.{StepTo}
+use Rattle.sdr_model.specs.Steps.{Outcome}
+use Rattle.sdr_model.specs.World.{World}
+use Rattle.sdr_model.specs.declared.call.Call.{Call}
+use Rattle.sdr_station.specs.Grounded.{Grounded}
+use Rattle.sdr_station.specs.Stationed.{Stationed}
+
+-- no outcome to which the call may come has more moves
+abbrev pub MovesAtMost : Call → ℕ → Type 0
+MovesAtMost call most = (w : World) (o : Outcome) → StepTo w o call → length o.moves ≤ most
+
+-- A room for moves is told: whatever the call that follows comes to, it has no more, and the heap has room for them.
+pub record IsRoom {D : Type 0} (g : Ghosts (Grounded D)) (call : Call) (s : Stationed D) (result : Result ℕ Stop) : Type 0 where
+  pub room : ℕ
+  pub told : result ≡ Ok room
+  pub most : room ≤ s.ground.heap.size / 4 + 4
+  pub enough : (v : Standing) → g.stands s.ground v → (o : Replied) → Steps v.now call o → length o.moves ≤ room
+
+-- such a room is told, or after a disk fault it fails
+abbrev pub TellsRoom : {D : Type 0} → Ghosts (Grounded D) → Call → Stationed D → Result ℕ Stop → Type 0
+TellsRoom g call s result = MatchOption s.failed (IsRoom g call s result) (λ moment. result ≡ Err stops.Failed)
