@@ -111,6 +111,7 @@ memory_kept old disk now going = record {
           size = w.keeps.size;
           before = after;
           taken = at.taken;
+          gave = refl;
           now = λ _. within_of (kept_ground old disk now).heap (length old.heap.marks) (kept v.now) refl refl w.keeps.size after;
           moves = at.moves;
         };
@@ -133,6 +134,7 @@ memory_back old disk now = record {
           size = at.size;
           before = after;
           taken = at.taken;
+          gave = at.before.stands.stands.shown;
           now = λ _. within_of (back_ground old disk now).heap (length old.heap.marks) next refl refl at.size after;
           moves = at.moves;
         };

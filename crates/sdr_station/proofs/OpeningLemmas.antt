@@ -69,6 +69,7 @@ open_stands {D} told moment may_leave disk i j count spare o q bytes touched f =
       size = ap (λ (b : List ℕ). length b) begun;
       before = subst (λ (b : List ℕ). StandsAtRest room b s) (sym begun) rest;
       taken = refl;
+      gave = refl;
       now = λ _. within_of g.heap count s refl (touched ∙ o.touched) refl rest;
       moves = refl;
     } in

@@ -106,15 +106,16 @@ module _ {D : Type 0} (faults : D → ℕ) (old : Grounded D) (going : old.stopp
 
   -- what stands still of a standing
   stands_on : (new : Grounded D) (v : Standing) → StandsInMemory old v → IsQuiet old.heap.cells new.heap.cells → new.heap.size ≡ old.heap.size → (now : State) → now.world.taken ≡ 0
-      → (new.stopped ≡ false → StandsWithin new.heap new.shown now)
+      → now.world.shown ≡ new.shown → (new.stopped ≡ false → StandsWithin new.heap new.shown now)
       → StandsInMemory new (record { before = v.before; now = now; moves = new.heap.moves })
-  stands_on new v at q size now taken within = record {
+  stands_on new v at q size now taken gave within = record {
     sound = q.failed ∙ at.sound;
     size = ap (λ (bytes : List ℕ). length bytes) q.begun ∙ at.size ∙ sym size;
     before =
         subst (λ (f : Frame). StandsAtRest (room_of f) new.heap.cells.begun v.before) (sym q.frame)
         (subst (λ (bytes : List ℕ). StandsAtRest (room_of old.heap.cells.frame) bytes v.before) (sym q.begun) at.before);
     taken = taken;
+    gave = gave;
     now = within;
     moves = refl;
   }
@@ -214,7 +215,7 @@ module _ {D : Type 0} (faults : D → ℕ) (old : Grounded D) (going : old.stopp
         let after = next v at moves ans.after reply in
         record {
           for = record { before = v.before; now = after; moves = heap.moves };
-          holds = stands_on (record { heap = heap; shown = page; stopped = old.stopped; moment = old.moment; restored = old.restored }) v at q.0 q.1 after (ans.taken ∙ at.taken)
+          holds = stands_on (record { heap = heap; shown = page; stopped = old.stopped; moment = old.moment; restored = old.restored }) v at q.0 q.1 after (ans.taken ∙ at.taken) ans.gave
               (λ _. within_answered v at moves reply q.0.frame works.room.most ans);
           tells = record {
             steps = steps_to v at moves ans.after reply q.0.frame (inl ans.row)
@@ -255,7 +256,7 @@ module _ {D : Type 0} (faults : D → ℕ) (old : Grounded D) (going : old.stopp
         let after = next v at moves v.now.world (replies.Refused refusal) in
         record {
           for = record { before = v.before; now = after; moves = moves_left refusal heap.moves };
-          holds = stands_on (refused_ground refusal n) v at q.0 q.1 after at.taken
+          holds = stands_on (refused_ground refusal n) v at q.0 q.1 after at.taken (at.gave ∙ sym s.2)
               (λ going_on.
               let reads = reads_only (is_reading call) going_on in
               let none = reading_lines call is reads in
@@ -279,7 +280,7 @@ module _ {D : Type 0} (faults : D → ℕ) (old : Grounded D) (going : old.stopp
 
   -- a refused call for which there was none
   brings_full : (lines room n : ℕ)
-      → ((w : World) → HeapStandsFor (heap_in fresh_heap) w → IsWhole w → IsPlain w → Aim w call × (is_reading call ≡ false))
+      → ((w : World) → HeapStandsFor (heap_in fresh_heap) w → IsWhole w → IsPlain w → Aim w call × (is_reading call ≡ false) × (page ≡ old.shown))
       → Works {T = Reply} (image_heap faults) (most_lines call) fresh_heap heap (Err (stops.Refused (refusals.LogFull lines room)))
       → Brings StandsInMemory old (refused_ground (refusals.LogFull lines room) n)
       (Calls None call (replies.Refused (refusals.LogFull lines room)))
@@ -294,7 +295,7 @@ module _ {D : Type 0} (faults : D → ℕ) (old : Grounded D) (going : old.stopp
         let more = enough v.now.demand v.now.world call aim.0.to is aim.0.row aim.0.answered in
         record {
           for = record { before = v.before; now = after; moves = [] };
-          holds = stands_on (refused_ground (refusals.LogFull lines room) n) v at q.0 q.1 after at.taken
+          holds = stands_on (refused_ground (refusals.LogFull lines room) n) v at q.0 q.1 after at.taken (at.gave ∙ sym aim.2)
               (λ going_on. absurd (true≢false (ap not (sym aim.1) ∙ going_on)));
           tells = record {
             steps = subst (λ (b : Ground). StepsOn b v.now call (record { reply = reply; moves = []; after = after })) (sym w.base) (record {
@@ -330,7 +331,7 @@ module _ {D : Type 0} (faults : D → ℕ) (old : Grounded D) (going : old.stopp
       → Works {T = Reply} (image_heap faults) (most_lines call) fresh_heap heap (Err (stops.Refused refusal))
       → Brings StandsInMemory old (refused_ground refusal n) (Calls None call (replies.Refused refusal))
   brings_refused (refusals.LogFull lines room) n comes works =
-      brings_full lines room n (λ w stands whole plain. (comes.each w stands whole plain).step) works
+      brings_full lines room n (λ w stands whole plain. let r = comes.each w stands whole plain in (r.step.0, r.step.1, r.gave)) works
   brings_refused refusal n comes works =
       brings_stopped refusal n refl (λ room d w. tt)
       (λ w stands whole plain. let r = comes.each w stands whole plain in (r.step, r.left, r.gave))

@@ -59,12 +59,14 @@ pub record StandsWithin {D : Type 0} (h : Held (Opened D)) (shown : List ℕ) (s
   pub lines : length h.cells.touched ≤ most_lines s.demand
 
 -- The heap in memory, whose disk hasn't failed, stands for the states before the transaction and now: the bytes at begin stand
--- for the one, and for the other the heap does, unless a call was stopped on its way. The moves are the heap's.
+-- for the one, and for the other the heap does, unless a call was stopped on its way. The moves are the heap's, and the bytes
+-- that are shown are those that stand here.
 pub record StandsInMemory {D : Type 0} (g : Grounded D) (v : Standing) : Type 0 where
   pub sound : g.heap.cells.failed ≡ false
   pub size : length g.heap.cells.begun ≡ g.heap.size
   pub before : StandsAtRest (room_of g.heap.cells.frame) g.heap.cells.begun v.before
   pub taken : v.now.world.taken ≡ 0
+  pub gave : v.now.world.shown ≡ g.shown
   pub now : g.stopped ≡ false → StandsWithin g.heap g.shown v.now
   pub moves : v.moves ≡ g.heap.moves
 

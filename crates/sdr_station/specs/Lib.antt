@@ -6,3 +6,4 @@ pub mod Grounded
 pub mod Opening
 pub mod Rooming
 pub mod Stationed
+pub mod Telling

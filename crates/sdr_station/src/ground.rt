@@ -264,12 +264,11 @@ impl<D: Disk> HeapGround<D> {
         self.heap.moves()
     }
 
-    /// The bytes that the last answered call of the open transaction gave, unless a call was stopped since.
+    /// The bytes that the last answered call of the open transaction gave.
     pub fn shown(&self) -> &[u8]
         ensures shown { result.now ≡ self.now.shown }
         ensures few { length result.now ≤ 4096 }
-        ensures told { (v : Standing) → StandsInMemory self.now v → self.now.stopped ≡ false
-            → result.now ≡ v.now.world.shown }
+        ensures told { (v : Standing) → StandsInMemory self.now v → result.now ≡ v.now.world.shown }
     {
         self.shown.as_slice()
     }

@@ -5,6 +5,7 @@
 //!    steps of the machine; any other isn't served yet.
 //! 2. Where a changing call is refused, the transaction can only be put back: `HeapGround` keeps nothing of it, and answers
 //!    want of memory where it is asked to.
+//!    It tells the moves of its last call and the bytes that it shows, and how many there may be (`Tells`).
 //! 3. `Station` nests transactions on such a ground: an end is all or nothing, a doomed call is refused, and after a disk
 //!    fault everything fails.
 #![tactic(auto)]
@@ -15,6 +16,7 @@ mod error;
 mod ground;
 mod page;
 mod station;
+mod tells;
 
 pub use error::{OpenError, Shut};
 pub use ground::HeapGround;

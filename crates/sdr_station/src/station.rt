@@ -43,8 +43,8 @@ pub struct Station<D: Disk> {
     failed: Option<u64>,
 }
 
-// How many moves a call that is served has at most.
-fn most_moves(call: &Call) -> u64
+/// How many moves a call that is served has at most.
+pub fn most_moves(call: &Call) -> u64
     requires { built call.now ≡ true }
     ensures most { MovesAtMost call.now result }
     ensures few { result ≤ 1 }

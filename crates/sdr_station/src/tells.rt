@@ -1,0 +1,45 @@
+// What a heap on an image tells of its calls.
+ghost use Rattle.std.specs.Prelude.{◌≡◌, true};
+ghost use Rattle.sdr_station.specs.Answering.{built};
+ghost use Rattle.sdr_station.specs.Telling.{BytesAtMost};
+
+use crate::HeapGround;
+use crate::calls::built;
+use crate::page::PAGE;
+use crate::station::most_moves;
+use sdr_base::{Move, NoMemory};
+use sdr_disk::Disk;
+use sdr_lock::{Room, Tells};
+use sdr_model::Call;
+use std::alloc::AllocError;
+
+// How many bytes a call that is served gives at most.
+fn most_bytes(call: &Call) -> usize
+    requires { built call.now ≡ true }
+    ensures { BytesAtMost call.now result }
+{
+    match call {
+        Call::Read(_, _, count) | Call::Stage(_, count) => (*count).min(PAGE as u64) as usize,
+        _ => 0,
+    }
+}
+
+impl<D: Disk> Tells for HeapGround<D> {
+    fn moves(&self) -> &[Move] {
+        HeapGround::moves(self)
+    }
+
+    fn shown(&self) -> &[u8] {
+        HeapGround::shown(self)
+    }
+
+    fn room_for(&self, call: &Call) -> Result<Room, NoMemory> {
+        if !built(call) {
+            return Err(AllocError);
+        }
+        Ok(Room {
+            moves: most_moves(call) as usize,
+            bytes: most_bytes(call),
+        })
+    }
+}
