@@ -94,6 +94,10 @@ put_same (y ∷ ds) d found = by (y.id == d.id) refl found (put_same ds d)
     by true e found rest = let s : d ≡ y = cc in put_here y ds d e ∙ ap (λ z. z ∷ ds) s
     by false e found rest = put_later y ds d e ∙ ap (λ xs. y ∷ xs) (rest found)
 
+-- where the daemon was served, it holds no number then
+abbrev pub LetsGo : Machine → Daemon → Daemon → Type 0
+LetsGo m d after = (h : Holding) → d.left ≡ false → d.holds ≡ Some h → (served_number m.roll == h.number) ≡ true → after.holds ≡ None
+
 -- What a leave of a daemon does: it closes the transaction, or stands in none.
 pub record LeaveIs (m : Machine) (e : Made) (m' : Machine) (d : Daemon) : Type 0 where
   pub after : Daemon
@@ -103,6 +107,7 @@ pub record LeaveIs (m : Machine) (e : Made) (m' : Machine) (d : Daemon) : Type 0
   pub closes : (close : Close) → closed_by e.said.answer ≡ Some close
       → (m.roll.failed ≡ None) × (h : Holding) × (d.holds ≡ Some h) × ((h.nesting.depth == 0) ≡ false) × (leaves_of after + 1 ≤ leaves_of d)
   pub outside : PassesUnlessClosing e.said.event e.said.answer
+  pub lets_go : LetsGo m d after
 
 or_true : (b : Bool) → (b || true) ≡ true
 or_true true = refl
@@ -125,20 +130,31 @@ module _ (m : Machine) (e : Made) (m' : Machine) (leave : Leave) (is : e.said.ev
 
   -- a leave that stands in no transaction
   passed : (after : Daemon) (answer : Answer) → e.said.answer ≡ answer → after.id ≡ d.id → m'.roll.daemons ≡ put_daemon m.roll.daemons after
-      → leaves_of after ≤ leaves_of d → closed_by answer ≡ None → (is_passed_over (events.Leaves leave) answer || is_failed answer) ≡ true → LeaveIs m e m' d
-  passed after answer told id roll less unclosed outside = record {
+      → leaves_of after ≤ leaves_of d → closed_by answer ≡ None → (is_passed_over (events.Leaves leave) answer || is_failed answer) ≡ true → LetsGo m d after → LeaveIs m e m' d
+  passed after answer told id roll less unclosed outside go = record {
     after = after;
     id = id;
     roll = roll;
     less = less;
     closes = λ close some. let no : None ≡ Some close = sym unclosed ∙ sym (ap closed_by told) ∙ some in absurd cc;
     outside = λ _. (λ i. is_passed_over (is i) (told i) || is_failed (told i)) ∙ outside;
+    lets_go = go;
   }
 
   still : (answer : Answer) → e.said.answer ≡ answer → m'.roll.daemons ≡ m.roll.daemons → closed_by answer ≡ None
-      → (is_passed_over (events.Leaves leave) answer || is_failed answer) ≡ true → LeaveIs m e m' d
-  still answer told roll unclosed outside =
-      passed d answer told refl (roll ∙ sym (put_same m.roll.daemons d here)) (omega arith) unclosed outside
+      → (is_passed_over (events.Leaves leave) answer || is_failed answer) ≡ true → LetsGo m d d → LeaveIs m e m' d
+  still answer told roll unclosed outside go =
+      passed d answer told refl (roll ∙ sym (put_same m.roll.daemons d here)) (omega arith) unclosed outside go
+
+  -- one without a number is not served
+  unheld : (after : Daemon) → d.holds ≡ None → LetsGo m d after
+  unheld after none = λ h _ some _. let no : None ≡ Some h = sym none ∙ some in absurd cc
+
+  unserved : {h : Holding} → d.holds ≡ Some h → (served_number m.roll == h.number) ≡ false → LetsGo m d d
+  unserved {h = h} holds other = λ k _ some served.
+      let one : Some h ≡ Some k = sym holds ∙ some in
+      let same : h ≡ k = cc in
+      absurd (true≢false (sym served ∙ sym (ap (λ (z : Holding). served_number m.roll == z.number) same) ∙ other))
 
   -- it draws a number
   abbrev drawn : Daemon
@@ -168,6 +184,7 @@ module _ (m : Machine) (e : Made) (m' : Machine) (leave : Leave) (is : e.said.ev
         less = omega (arith, one, two);
         closes = λ close some. (sound, h, holds, inside, omega (arith, one, two));
         outside = λ none. absurd (never none);
+        lets_go = λ _ _ _ _. refl;
       }
 
       by : Closes m d h e m' ⊎ FaultsWithin m d h (events.Leaves leave) e m' → LeaveIs m e m' d
@@ -180,15 +197,20 @@ module _ (m : Machine) (e : Made) (m' : Machine) (leave : Leave) (is : e.said.ev
       → MatchOption o (Comes m d (events.Leaves leave) e m') (λ h. Holds m d h (events.Leaves leave) e m') → LeaveIs m e m' d
   performs sound stays None none comes =
       from_test (served_number m.roll == 0) comes
-      (λ _ goes. passed (after_leave d) (answers.Reply replies.Done) goes.told.answer refl (ap (λ (n : Machine). n.roll.daemons) goes.after) (omega arith) refl refl)
+      (λ _ goes. passed (after_leave d) (answers.Reply replies.Done) goes.told.answer refl (ap (λ (n : Machine). n.roll.daemons) goes.after) (omega arith) refl refl (λ _ _ _ _. refl))
       (λ _ goes. passed drawn (refused (refusals.Suspended (served_number m.roll) (m.roll.drawn + 1))) goes.told.answer refl (ap (λ (n : Machine). n.roll.daemons) goes.after)
-      (drawn_less stays) refl refl)
+      (drawn_less stays) refl refl (unheld drawn none))
   performs sound stays (Some h) holds holding =
       from_test (served_number m.roll == h.number) holding
       (λ _ departs. from_test (h.nesting.depth == 0) departs
-      (λ _ goes. passed (after_leave d) (answers.Reply replies.Done) goes.told.answer refl (ap (λ (n : Machine). n.roll.daemons) goes.after) (omega arith) refl refl)
+      (λ _ goes. passed (after_leave d) (answers.Reply replies.Done) goes.told.answer refl (ap (λ (n : Machine). n.roll.daemons) goes.after) (omega arith) refl refl (λ _ _ _ _. refl))
       (λ inside ends. ended stays holds inside sound ends))
-      (λ _ goes. still (refused (refusals.Suspended (served_number m.roll) h.number)) goes.told.answer (ap (λ (n : Machine). n.roll.daemons) goes.after) refl refl)
+      (λ other goes. still (refused (refusals.Suspended (served_number m.roll) h.number)) goes.told.answer (ap (λ (n : Machine). n.roll.daemons) goes.after) refl refl
+      (unserved holds other))
+
+  -- one that has left is not asked
+  gone_free : d.left ≡ true → LetsGo m d d
+  gone_free gone = λ _ stays _ _. absurd (true≢false (sym gone ∙ stays))
 
   -- a leave where the disk had failed
   failed : (moment : ℕ) → Goes e m' (answers.Reply (replies.Failed moment)) (with_roll m (roll_failed m.roll e.daemon e.said.event)) → LeaveIs m e m' d
@@ -204,27 +226,28 @@ module _ (m : Machine) (e : Made) (m' : Machine) (leave : Leave) (is : e.said.ev
       quiet = or_true (is_passed_over (events.Leaves leave) (answers.Reply (replies.Failed moment)))
 
       left : m'.roll.daemons ≡ put_daemon m.roll.daemons (after_leave d) → LeaveIs m e m' d
-      left roll = passed (after_leave d) (answers.Reply (replies.Failed moment)) told refl roll (omega arith) refl quiet
+      left roll = passed (after_leave d) (answers.Reply (replies.Failed moment)) told refl roll (omega arith) refl quiet (λ _ _ _ _. refl)
 
-      coming : d.left ≡ false → (b : Bool)
+      coming : d.left ≡ false → d.holds ≡ None → (b : Bool)
           → m'.roll.daemons ≡ (if b then with_daemon (with_drawn m.roll) (after_leave d) else with_number m.roll d 0).daemons → LeaveIs m e m' d
-      coming stays true roll = left roll
-      coming stays false roll = passed drawn (answers.Reply (replies.Failed moment)) told refl roll (drawn_less stays) refl quiet
+      coming stays none true roll = left roll
+      coming stays none false roll = passed drawn (answers.Reply (replies.Failed moment)) told refl roll (drawn_less stays) refl quiet (unheld drawn none)
 
-      holding : (b : Bool) → m'.roll.daemons ≡ (if b then with_daemon m.roll (after_leave d) else m.roll).daemons → LeaveIs m e m' d
-      holding true roll = left roll
-      holding false roll = still (answers.Reply (replies.Failed moment)) told roll refl quiet
+      holding : {h : Holding} → d.holds ≡ Some h → (b : Bool) → (served_number m.roll == h.number) ≡ b
+          → m'.roll.daemons ≡ (if b then with_daemon m.roll (after_leave d) else m.roll).daemons → LeaveIs m e m' d
+      holding holds true served roll = left roll
+      holding holds false other roll = still (answers.Reply (replies.Failed moment)) told roll refl quiet (unserved holds other)
 
-      of : (o : Option Holding) → d.left ≡ false
+      of : (o : Option Holding) → d.holds ≡ o → d.left ≡ false
           → m'.roll.daemons ≡ (option_map_or (λ (h : Holding). roll_holding m.roll d h (events.Leaves leave)) o (roll_coming m.roll d (events.Leaves leave))).daemons → LeaveIs m e m' d
-      of None stays roll = coming stays (served_number m.roll == 0) roll
-      of (Some h) stays roll = holding (served_number m.roll == h.number) roll
+      of None none stays roll = coming stays none (served_number m.roll == 0) roll
+      of (Some h) holds stays roll = holding holds (served_number m.roll == h.number) refl roll
 
       by : (b : Bool) → d.left ≡ b
           → m'.roll.daemons ≡ (if b then m.roll else option_map_or (λ (h : Holding). roll_holding m.roll d h (events.Leaves leave)) d.holds (roll_coming m.roll d (events.Leaves leave))).daemons
           → LeaveIs m e m' d
-      by true gone roll = still (answers.Reply (replies.Failed moment)) told roll refl quiet
-      by false stays roll = of d.holds stays roll
+      by true gone roll = still (answers.Reply (replies.Failed moment)) told roll refl quiet (gone_free gone)
+      by false stays roll = of d.holds refl stays roll
 
   pub leave_is : MachineStep m e m' → LeaveIs m e m' d
   leave_is step =
@@ -235,7 +258,8 @@ module _ (m : Machine) (e : Made) (m' : Machine) (leave : Leave) (is : e.said.ev
       let one : Some x ≡ Some d = sym there ∙ found in
       let same : x ≡ d = cc in
       from_test x.left acts
-      (λ _ goes. still (refused refusals.NotBegun) goes.told.answer (ap (λ (n : Machine). n.roll.daemons) goes.after) refl refl)
+      (λ gone goes. still (refused refusals.NotBegun) goes.told.answer (ap (λ (n : Machine). n.roll.daemons) goes.after) refl refl
+      (gone_free (ap (λ (y : Daemon). y.left) (sym same) ∙ gone)))
       (λ stays rest. performs sound (ap (λ (y : Daemon). y.left) (sym same) ∙ stays) d.holds refl
       (subst (λ ev. MatchOption d.holds (Comes m d ev e m') (λ h. Holds m d h ev e m')) is
       (subst (λ (y : Daemon). MatchOption y.holds (Comes m y e.said.event e m') (λ h. Holds m y h e.said.event e m')) same rest)))))

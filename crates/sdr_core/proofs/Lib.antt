@@ -6,6 +6,7 @@ pub mod HoldingLemmas
 pub mod KeeperLemmas
 pub mod LeaveLemmas
 pub mod LeaveNotes
+pub mod LeavingLemmas
 pub mod OpeningLemmas
 pub mod PlaceLemmas
 pub mod RunLemmas

@@ -1,8 +1,9 @@
 // A lock, and the journal of its run.
 ghost use Rattle.std.specs.Prelude.{◌≡◌, ◌≤◌, [], false, IfErr, IfOk, OnErr, length};
+ghost use Rattle.sdr_lock.specs.Holders.{HoldFirst};
 ghost use Rattle.sdr_lock.specs.Legal.{IsLegal};
 ghost use Rattle.sdr_lock.specs.Roll.{MayDraw, first_roll, held_by};
-ghost use Rattle.sdr_core.specs.CoreKept.{BeginsOn, IsRunOf, Makes};
+ghost use Rattle.sdr_core.specs.CoreKept.{BeginsOn, IsRunOf, Makes, StandsStill};
 ghost use Rattle.sdr_core.specs.Logging.{is_leave};
 
 use crate::making::{leave, make};
@@ -98,9 +99,12 @@ impl<T: Tells, J: Origin> Core<T, J> {
         self.keeper.journal()
     }
 
-    /// The roll of its daemons.
+    /// The roll of its daemons. Only those hold a number that may; and unless the disk has failed, the lock stands for something.
     pub fn roll(&self) -> &Roll
-        ensures { result.now ≡ self.now.lock.roll }
+        ensures roll { result.now ≡ self.now.lock.roll }
+        ensures few { length self.now.lock.roll.daemons ≤ 256 }
+        ensures first { HoldFirst [] self.now.lock.roll.daemons }
+        ensures stands { StandsStill T.stands self.now.lock }
     {
         self.lock.roll()
     }

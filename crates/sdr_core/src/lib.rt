@@ -17,6 +17,7 @@ mod copying;
 mod core_run;
 mod draft;
 mod keeper;
+mod leaving;
 mod making;
 mod noted;
 mod origin;

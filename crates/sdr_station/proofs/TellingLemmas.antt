@@ -1,5 +1,5 @@
 -- How many bytes a served call gives.
-use Rattle.std.proofs.Common.{◌≡◌, ◌∙◌, ◌≤◌, ◌<◌, ◌+◌, ◌++◌, ◌⊎◌, drop, ℕ, List, [], ◌∷◌, Bool, true, false, true≢false, Option, None, Some, MatchBool, MatchOption, inl, inr, length, min, nat_lt, refl, sym, ap, subst, arith, take}
+use Rattle.std.proofs.Common.{◌≡◌, ◌∙◌, ◌≤◌, ◌<◌, ◌+◌, ◌++◌, ◌⊎◌, drop, ℕ, List, [], ◌∷◌, Bool, true, false, true≢false, Option, None, Some, MatchBool, MatchOption, inl, inr, length, min, nat_lt, refl, sym, ap, subst, arith, replicate, take}
 use Rattle.std.proofs.lemmas.Bool.Decides.{nat_tests}
 use Rattle.std.proofs.lemmas.List.{length-take}
 use Rattle.sdr_base.specs.Parts.{part}
@@ -16,7 +16,9 @@ use Rattle.sdr_model.specs.Limits.{longest_raw, longest_read}
 use Rattle.sdr_model.specs.RawSteps.{FreesThing}
 use Rattle.sdr_model.specs.Rows.{ByRow}
 use Rattle.sdr_model.specs.Step.{StopsWith}
-use Rattle.sdr_model.specs.Steps.{Does, Outcome, Reads, Refuses, Takes, TakesOne}
+use Rattle.sdr_model.specs.Steps.{Outcome, Reads, Refuses, Takes, TakesOne, with_thing}
+use Rattle.sdr_model.specs.Things.{raw_need}
+use Rattle.sdr_model.specs.declared.things.Thing.TheVariants as things
 use Rattle.sdr_model.specs.World.{World, as_raw, as_text, block_at, is_marked, thing_at}
 use Rattle.sdr_model.specs.Zco.{source_on}
 use Rattle.sdr_model.specs.declared.answer.Answer.TheVariants as answers
@@ -70,11 +72,8 @@ few_taken : (o : Outcome) (w : World) (need : ℕ) (next : ℕ → World) (reply
 few_taken o w need next reply most takes = by o.moves takes
   where
     by : (moves : List Move) → TakesOne moves need (λ addr. (o.after ≡ record (next addr) { marks = w.marks ++ addr ∷ []; shown = [] }) × (o.reply ≡ reply addr)) → Few o most
-    by (Took n addr ∷ []) t = few_none o most (ap (λ (x : World). x.shown) t.1)
+    by (Took n addr ∷ []) t = few_none o most (ap (λ (x : World). x.shown) t.1.0)
     by moves t = absurd t
-
-few_done : (o : Outcome) (moves : List Move) (next : World) (reply : Reply) (most : ℕ) → Does o moves next reply → Few o most
-few_done o moves next reply most does = few_none o most (ap (λ (x : World). x.shown) does.1)
 
 -- what the row of a served call gives
 module _ (w : World) (o : Outcome) where
@@ -84,11 +83,12 @@ module _ (w : World) (o : Outcome) where
   freed : (addr : ℕ) (raw text : Option (List ℕ)) → FreesThing w o addr raw text → Few o 0
   freed addr None None h = refused 0 _ h
   freed addr (Some bytes) text h =
-      from_option (source_on w addr) h (λ _ does. few_done o _ _ _ 0 does) (λ _ _ h. refused 0 _ h)
-  freed addr None (Some text) h = few_done o _ _ _ 0 h
+      from_option (source_on w addr) h (λ _ does. few_none o 0 (ap (λ (x : World). x.shown) does.1)) (λ _ _ h. refused 0 _ h)
+  freed addr None (Some text) h = few_none o 0 (ap (λ (x : World). x.shown) h.1)
 
   pub malloc_few : (bytes : ℕ) → ByRow w o (calls.Malloc bytes) → Few o 0
-  malloc_few bytes h = from_test (nat_lt longest_raw bytes) h (λ _ h. refused 0 _ h) (λ _ makes. few_taken o w _ _ _ 0 makes)
+  malloc_few bytes h = from_test (nat_lt longest_raw bytes) h (λ _ h. refused 0 _ h) 
+      (λ _ makes. few_taken o w (raw_need bytes) (λ addr. with_thing w addr (things.Raw (replicate bytes 0))) (λ addr. replies.At addr) 0 makes)
 
   pub free_few : (addr : ℕ) → ByRow w o (calls.Free addr) → Few o 0
   free_few addr h = freed addr (as_raw (thing_at w addr)) (as_text (thing_at w addr)) h
@@ -107,7 +107,7 @@ module _ (w : World) (o : Outcome) where
   write_few addr place bytes h =
       from_option (as_raw (thing_at w addr)) h (λ _ h. refused 0 _ h)
       (λ found _ rest. from_test (nat_lt (length found) (place + length bytes)) rest (λ _ h. refused 0 _ h)
-      (λ _ rest. from_test (is_marked w addr) rest (λ _ does. few_done o _ _ _ 0 does) (λ _ h. refused 0 _ h)))
+      (λ _ rest. from_test (is_marked w addr) rest (λ _ does. few_none o 0 (ap (λ (x : World). x.shown) does.1)) (λ _ h. refused 0 _ h)))
 
   pub stage_few : (addr count : ℕ) → ByRow w o (calls.Stage addr count) → Few o (min count 4096)
   stage_few addr count h =

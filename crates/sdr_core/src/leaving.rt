@@ -1,0 +1,85 @@
+// The leaves at the end of a run.
+ghost use Rattle.std.specs.Prelude.{◌≡◌, ◌≤◌, ◌+◌, ◌*◌, ◌^◌, ◌++◌, [], filter, length, map, not, vec_capacity, vec_len};
+ghost use Rattle.sdr_lock.specs.Holders.{holders};
+ghost use Rattle.sdr_lock.specs.Leaving.{AllLeave, HoldersLeave, LeaveInTurn};
+ghost use Rattle.sdr_lock.specs.Roll.{MayDraw, held_by};
+ghost use Rattle.sdr_core.specs.CoreKept.{Makes};
+ghost use Rattle.sdr_core.specs.Leaving.{LastsOn, RunLeads};
+
+use crate::{Core, Origin};
+use sdr_lock::{Came, Daemon, Tells};
+use sdr_model::{Event, Leave};
+
+// Adds those of these daemons that haven't left.
+fn add_staying(daemons: &[Daemon], ids: &mut Vec<u8>)
+    requires room { vec_len ids.old + length daemons.now ≤ vec_capacity ids.old }
+    ensures items { ids.new.items ≡ ids.old.items ++ map (λ d. d.id) (filter (λ d. not d.left) daemons.now) }
+{
+    match daemons {
+        [] => (),
+        [first, others @ ..] => {
+            if !first.left {
+                ids.push_reserved(first.id);
+            }
+            add_staying(others, ids)
+        }
+    }
+}
+
+impl<T: Tells, J: Origin> Core<T, J> {
+    // A daemon makes a leave.
+    fn make_leave(&mut self, daemon: u8, leave: Leave) -> Came
+        requires drawn { MayDraw self.old.lock.roll (held_by self.old.lock.roll daemon) }
+        requires lasts { T.lasts self.old.lock.base 1 }
+        ensures { Makes T.HasGround daemon 0 (Event.Leaves leave) result self.old.lock self.old.log self.new.lock self.new.log }
+    {
+        let Ok(came) = self.event(daemon, 0, &Event::Leaves(leave)) else {
+            unreachable!();
+        };
+        came
+    }
+
+    // The daemon whose number is served makes a leave, until none is.
+    fn holders_leave(&mut self, leave: Leave)
+        requires lasts { LastsOn T.HasGround self.old.lock.base }
+        ensures left { RunLeads T.HasGround (HoldersLeave (T.told self.old.lock.base) leave) self.old self.new }
+        ensures lasts { LastsOn T.HasGround self.new.lock.base }
+        ensures told { T.told self.new.lock.base ≡ T.told self.old.lock.base }
+        ensures daemons { length self.new.lock.roll.daemons ≡ length self.old.lock.roll.daemons }
+        ensures drawn { self.new.lock.roll.drawn ≤ self.old.lock.roll.drawn + holders self.old.lock.roll.daemons }
+    {
+        if let Some(daemon) = self.roll().served() {
+            self.make_leave(daemon.id, leave);
+            self.holders_leave(leave);
+        }
+    }
+
+    // These daemons make a leave each, in this order.
+    fn leave_in_turn(&mut self, daemons: &[u8], leave: Leave)
+        requires lasts { LastsOn T.HasGround self.old.lock.base }
+        requires drawn { self.old.lock.roll.drawn + length daemons.now ≤ 2 ^ 60 }
+        ensures left { RunLeads T.HasGround (LeaveInTurn (T.told self.old.lock.base) leave daemons.now) self.old self.new }
+    {
+        match daemons {
+            [] => (),
+            [first, others @ ..] => {
+                self.make_leave(*first, leave);
+                self.leave_in_turn(others, leave)
+            }
+        }
+    }
+
+    /// Makes the leaves at the end of a schedule: the daemons that hold a number make one, in lock order, and then those that
+    /// haven't left yet do, in their order. It takes no memory but the room that is handed in.
+    pub fn leave_all(&mut self, leave: Leave, mut room: Vec<u8>)
+        requires lasts { LastsOn T.HasGround self.old.lock.base }
+        requires drawn { self.old.lock.roll.drawn + 2 * length self.old.lock.roll.daemons ≤ 2 ^ 60 }
+        requires empty { room.items ≡ [] }
+        requires room { length self.old.lock.roll.daemons ≤ vec_capacity room }
+        ensures left { RunLeads T.HasGround (AllLeave (T.told self.old.lock.base) leave) self.old self.new }
+    {
+        self.holders_leave(leave);
+        add_staying(self.roll().daemons(), &mut room);
+        self.leave_in_turn(&room, leave)
+    }
+}
