@@ -1,6 +1,8 @@
 -- The leaves at the end of a run, one after another.
-use Rattle.std.proofs.Common.{◌≡◌, ◌∙◌, ◌≤◌, ◌<◌, ◌+◌, ◌==◌, ◌++◌, ◌⊎◌, ℕ, suc, List, [], ◌∷◌, Bool, true, false, true≢false, not, filter, map, Option, None, Some, IsSome, is_some, MatchOption, inl, length, refl, sym, ap, subst, arith}
+use Rattle.std.proofs.Common.{◌≡◌, ◌∙◌, ◌≤◌, ◌<◌, ◌+◌, ◌==◌, ◌++◌, ◌⊎◌, ℕ, suc, List, [], ◌∷◌, Bool, true, false, true≢false, not, filter, map, Option, None, Some, IsSome, is_some, MatchOption, inl, length, ◌-◌, drop, slice_index_or, take, refl, sym, ap, subst, arith}
 use Rattle.std.proofs.lemmas.Bool.Decides.{nat_tests}
+use Rattle.std.proofs.lemmas.List.{length-map, take_all}
+use Rattle.std.proofs.lemmas.List.Filters.{length-filter_both}
 use Rattle.std.specs.Option.{option_map_or, option_and_then}
 use Rattle.sdr_base.specs.Media.{Told}
 use Rattle.sdr_model.specs.declared.event.Event.{Event}
@@ -167,3 +169,21 @@ all_leave g told leave old mid new first last = record {
         };
       };
 }
+
+-- a list without an item, and one with a first
+pub none_of : (ds : List ℕ) → length ds < 1 → ds ≡ []
+none_of [] few = refl
+none_of (d ∷ ds) few = absurd (omega arith)
+
+pub first_of : (ds : List ℕ) (d : ℕ) → 1 ≤ length ds → ds ≡ slice_index_or ds 0 d ∷ take (length ds - 1) (drop 1 ds)
+first_of [] d within = absurd (omega arith)
+first_of (x ∷ ds) d within = ap (λ (rest : List ℕ). x ∷ rest) (sym (take_all (length (x ∷ ds) - 1) ds (omega arith)))
+
+-- no more stay than there are
+pub staying_few : (r : Roll) → length (staying r) ≤ length r.daemons
+staying_few r =
+    omega (
+      arith,
+      length-map (filter (λ (d : Daemon). not d.left) r.daemons) (λ (d : Daemon). d.id),
+      length-filter_both (λ (d : Daemon). not d.left) (λ (d : Daemon). not (not d.left)) (λ d. refl) r.daemons,
+    )

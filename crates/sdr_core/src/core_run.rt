@@ -1,5 +1,7 @@
 // A lock, and the journal of its run.
-ghost use Rattle.std.specs.Prelude.{◌≡◌, ◌≤◌, [], false, IfErr, IfOk, OnErr, length};
+ghost use Rattle.std.specs.Prelude.{◌≡◌, ◌≤◌, [], false, IfErr, IfOk, OnErr, if◌then◌else◌, length};
+ghost use Rattle.sdr_lock.specs.Standing.{Standing};
+ghost use Rattle.sdr_lock.specs.Transaction.{bytes_given};
 ghost use Rattle.sdr_lock.specs.Holders.{HoldFirst};
 ghost use Rattle.sdr_lock.specs.Legal.{IsLegal};
 ghost use Rattle.sdr_lock.specs.Roll.{MayDraw, first_roll, held_by};
@@ -10,7 +12,7 @@ use crate::making::{leave, make};
 use crate::{Keeper, Origin};
 use sdr_base::NoMemory;
 use sdr_lock::{Came, Lock, Roll, Tells};
-use sdr_model::{Entry, Event, Journal};
+use sdr_model::{Answer, Entry, Event, Journal, Reply};
 use std::alloc::Global;
 use std::marker::{Model, PhantomData};
 
@@ -107,6 +109,21 @@ impl<T: Tells, J: Origin> Core<T, J> {
         ensures stands { StandsStill T.stands self.now.lock }
     {
         self.lock.roll()
+    }
+
+    /// The bytes that the last event gave, which was answered so.
+    pub fn given(&self, came: &Came) -> &[u8]
+        ensures { (v : Standing) → T.stands self.now.lock.base v →
+            result.now ≡ (if came.now.called then bytes_given came.now.answer v.now.world.shown else []) }
+    {
+        if !came.called {
+            return &[];
+        }
+        match came.answer {
+            Answer::Reply(Reply::Refused(_)) => &[],
+            Answer::Reply(Reply::MediaFault) => &[],
+            _ => self.lock.base().shown(),
+        }
     }
 
     /// Its ground.

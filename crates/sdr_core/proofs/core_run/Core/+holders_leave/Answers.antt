@@ -11,13 +11,13 @@ make_leave-requires-clause-drawn g t c =
     served_may self.lock.roll d c.roll.ensures.first served
 
 pub holders_leave-requires : goal.holders_leave-requires
-holders_leave-requires g t c =
+holders_leave-requires g t c κs within =
     let self = c.args.self.now in
     let next = c.make_leave.new.self in
     let d = c.in-Some.daemon in
     let served : served_daemon self.lock.roll ≡ Some d = subst (λ r. served_daemon r ≡ Some d) c.roll.ensures.roll (sym c.in-Some.ensures) in
     let fewer = leave_fewer g.T.HasGround 0 c.args.leave c.make_leave.result self.lock next.lock self.log next.log d c.make_leave.ensures c.roll.ensures.stands c.roll.ensures.first served in
-    (omega (arith, fewer), lasts_on g.T.HasGround 0 c.args.leave c.make_leave.result self.lock next.lock self.log next.log d.id c.make_leave.ensures c.requires)
+    (omega (arith, fewer), (within.0, (within.1, lasts_on g.T.HasGround 0 c.args.leave c.make_leave.result self.lock next.lock self.log next.log d.id c.make_leave.ensures c.requires.lasts)))
 
 pub returns-in-Some-clause-left : goal.returns-in-Some-clause-left
 returns-in-Some-clause-left g t c =
@@ -51,4 +51,7 @@ returns-in-Some-clause-drawn g t c =
     omega (arith, fewer, one, more)
 
 pub returns-in_default-clause-left : goal.returns-in_default-clause-left
-returns-in_default-clause-left g t c = ?
+returns-in_default-clause-left g t c =
+    let self = c.args.self.now in
+    holders_none g.T.HasGround (g.T.HasGround.told self.lock.base) c.args.leave self
+    (subst (λ r. served_daemon r ≡ None) c.roll.ensures.roll (sym c.served.ensures ∙ c.in_default.is))
