@@ -1,5 +1,5 @@
 // A lock, and the journal of its run.
-ghost use Rattle.std.specs.Prelude.{◌≡◌, ◌≤◌, [], false, IfErr, IfOk, OnErr, if◌then◌else◌, length};
+ghost use Rattle.std.specs.Prelude.{◌≡◌, ◌≤◌, [], false, true, IfErr, IfOk, OnErr, if◌then◌else◌, length};
 ghost use Rattle.sdr_lock.specs.Standing.{Standing};
 ghost use Rattle.sdr_lock.specs.Transaction.{bytes_given};
 ghost use Rattle.sdr_lock.specs.Holders.{HoldFirst};
@@ -113,7 +113,7 @@ impl<T: Tells, J: Origin> Core<T, J> {
 
     /// The bytes that the last event gave, which was answered so.
     pub fn given(&self, came: &Came) -> &[u8]
-        ensures { (v : Standing) → T.stands self.now.lock.base v →
+        ensures { (v : Standing) → (came.now.called ≡ true → T.stands self.now.lock.base v) →
             result.now ≡ (if came.now.called then bytes_given came.now.answer v.now.world.shown else []) }
     {
         if !came.called {

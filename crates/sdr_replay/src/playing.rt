@@ -1,10 +1,10 @@
 // A schedule that runs on a ground.
-ghost use Rattle.std.specs.Prelude.{◌≡◌, ◌≤◌, ◌<◌, ◌^◌, ◌+◌, ◌×◌, [], false, IfErr, IfOk, OnErr, length};
+ghost use Rattle.std.specs.Prelude.{◌≡◌, ◌≤◌, ◌<◌, ◌^◌, ◌+◌, [], false, true, IfErr, IfOk, OnErr, length};
 ghost use Rattle.sdr_core.specs.CoreKept.{BeginsOn, Makes};
 ghost use Rattle.sdr_core.specs.Leaving.{LastsOn};
 ghost use Rattle.sdr_dry.specs.Schedule.{daemons_of};
 ghost use Rattle.sdr_lock.specs.Standing.{Standing};
-ghost use Rattle.sdr_replay.proofs.PlayingLemmas.{Running};
+ghost use Rattle.sdr_replay.specs.Running.{HasRun, Running};
 ghost use Rattle.sdr_replay.specs.Playing.{IsPrinted, PlaysOut, PrintsMore, bytes_by, leave_of, output};
 ghost use Rattle.sdr_text.specs.Text.{line_text};
 
@@ -76,7 +76,7 @@ fn play_on<T: Tells, J: Origin, K: Sink>(
     printing: &mut bool,
 ) -> bool
     requires few { length script.now ≤ 1_048_577 }
-    requires running { (rest : List Step) (bindings : List Binding) → rest ≡ script.now → bindings ≡ [] → Running T.HasGround J.begins script.now rest bindings core.old
+    requires running { Running T.HasGround J.begins script.now script.now [] core.old
         (IsPrinted printing.old (output K.taken K.faults out.old) (output K.taken K.faults out.old)) }
     requires lasts { LastsOn T.HasGround core.old.lock.base }
     requires drawn { core.old.lock.roll.drawn ≡ 0 }
