@@ -91,7 +91,8 @@ closed_as (closes.Cancelled reason) = closed.Cancelled reason
 closed_as closes.Faulted = closed.Exited
 
 -- a transaction that closed so was kept or put back, and is told so
-pub record ClosesWell {D : Type 0} (g : Ghosts (Grounded D)) (close : Close) (old new : Stationed D) (told : Closed) : Type 0 where
+pub record ClosesWell {D : Type 0} (g : Ghosts (Grounded D)) (close : Close) (old new : Stationed D) (told : Closed)
+    : Type 0 where
   pub is_told : told ≡ closed_as close
   pub memory : Brings StandsInMemory old.ground new.ground (Settles close)
   pub settles : Brings g.stands old.ground new.ground (Settles close)
@@ -109,7 +110,8 @@ ClosesWith g close old new (Ok told) = ClosesWell g close old new told
 ClosesWith g close old new (Err stop) = ClosesFailing g old new stop
 
 -- an outermost close, after which no transaction has begun
-pub record Closes {D : Type 0} (g : Ghosts (Grounded D)) (close : Close) (old new : Stationed D) (result : Result Closed Stop) : Type 0 where
+pub record Closes {D : Type 0} (g : Ghosts (Grounded D)) (close : Close) (old new : Stationed D)
+    (result : Result Closed Stop) : Type 0 where
   pub closes : ClosesWith g close old new result
   pub nesting : new.nesting ≡ unbegun
   pub restored : new.ground.restored ≡ old.ground.restored
@@ -124,7 +126,8 @@ pub record Rises {D : Type 0} (inner : Inner) (old new : Stationed D) (result : 
   pub after : new ≡ record old { nesting = inner.after }
 
 -- what an end, a cancel or an exit does
-abbrev pub ClosesBy : {D : Type 0} → Ghosts (Grounded D) → Event → (Nesting → Inner) → Stationed D → Stationed D → Result Closed Stop → Type 0
+abbrev pub ClosesBy : {D : Type 0} → Ghosts (Grounded D) → Event → (Nesting → Inner) → Stationed D → Stationed D
+    → Result Closed Stop → Type 0
 ClosesBy g event inner old new result =
     MatchOption old.failed
     (MatchBool (nat_le old.nesting.depth 1)
@@ -136,5 +139,6 @@ ClosesBy g event inner old new result =
 abbrev pub LooksAt : {D : Type 0} → Ghosts (Grounded D) → ℕ → Stationed D → Result Bool Stop → Type 0
 LooksAt g ticket s result =
     MatchOption s.failed
-    ((result ≡ Err (stops.Refused (refusals.BadTicket ticket))) × ((v : Standing) → g.stands s.ground v → shown_in v.before.world ticket ≡ None))
+    ((result ≡ Err (stops.Refused (refusals.BadTicket ticket)))
+    × ((v : Standing) → g.stands s.ground v → shown_in v.before.world ticket ≡ None))
     (λ moment. result ≡ Err stops.Failed)

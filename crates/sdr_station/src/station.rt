@@ -281,7 +281,8 @@ impl<D: Disk> Station<D> {
     pub fn end(&mut self) -> Result<Closed, Stop>
         requires begun { 0 < self.old.nesting.depth }
         ensures closes { ClosesBy ⟦<HeapGround<D> as HasGround>⟧ Event.End ended self.old self.new result }
-        ensures any_moment { LeavesOr (keeps_in self.old.nesting Event.End) ⟦<HeapGround<D> as HasGround>⟧ self.old.ground self.new.ground }
+        ensures any_moment { LeavesOr (keeps_in self.old.nesting Event.End) ⟦<HeapGround<D> as HasGround>⟧
+            self.old.ground self.new.ground }
     {
         if self.failed.is_some() {
             return Err(Stop::Failed);

@@ -48,7 +48,7 @@ pub enum Said {
     Stopped(Stop),
 }
 
-/// A disk in memory with these regions, formatted, whose calls with these numbers fail from then on.
+/// A disk in memory with these regions, formatted.
 pub fn formatted(alloc: Global, frame: Frame) -> Option<MemoryDisk>
     requires { IsInLimits frame }
 {
@@ -58,9 +58,10 @@ pub fn formatted(alloc: Global, frame: Frame) -> Option<MemoryDisk>
     Some(disk)
 }
 
-/// A station on such a disk.
+/// A station on such a disk, in which no transaction has begun.
 pub fn opened(alloc: Global, frame: Frame) -> Option<Station<MemoryDisk>>
     requires { IsInLimits frame }
+    ensures { IfSome result (λ station. station.nesting.depth ≡ 0) }
 {
     let disk = formatted(alloc, frame)?;
     match Station::open(alloc, disk) {
