@@ -24,7 +24,7 @@ use Rattle.sdr_log.specs.Frame.{room_of}
 use Rattle.sdr_log.specs.Logged.{Gives}
 use Rattle.sdr_model.specs.World.{World}
 use Rattle.sdr_model.specs.declared.accounts.Ticket.{Ticket}
-use Rattle.sdr_station.specs.Answering.{IsPlain}
+use Rattle.sdr_answers.specs.Answering.{IsPlain}
 use Rattle.sdr_station.specs.Closing as closing
 use Rattle.sdr_station.specs.Grounded.{Grounded, Opens, StandsAtRest, StandsForBoth, StandsWithin, heap_in}
 use Rattle.sdr_station.proofs.GroundLemmas.{heap_ground, unmarked}

@@ -1,16 +1,7 @@
-pub mod CallLemmas
 pub mod ClosingLemmas
 pub mod GroundLemmas
 pub mod RestLemmas
-pub mod EntryLemmas
-pub mod RawLemmas
-pub mod KindLemmas
-pub mod MallocLemmas
 pub mod MediaLemmas
-pub mod ReadingLemmas
-pub mod WriteLemmas
-pub mod FreeLemmas
-pub mod DemandLemmas
 pub mod ServingLemmas
 pub mod OpeningLemmas
 pub mod StationLemmas

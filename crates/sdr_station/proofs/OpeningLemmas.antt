@@ -16,8 +16,8 @@ use Rattle.sdr_lock.specs.Ground.{Ground, State, resting}
 use Rattle.sdr_log.specs.Frame.{room_of}
 use Rattle.sdr_model.specs.World.{fresh_world}
 use Rattle.sdr_station.proofs.ClosingLemmas.{within_of}
-use Rattle.sdr_station.proofs.EntryLemmas.{none_named}
-use Rattle.sdr_station.specs.Answering.{IsPlain}
+use Rattle.sdr_answers.proofs.EntryLemmas.{none_named}
+use Rattle.sdr_answers.specs.Answering.{IsPlain}
 use Rattle.sdr_station.specs.Grounded.{Grounded, StandsAtRest}
 use Rattle.sdr_station.specs.Opening.{IsOpen}
 

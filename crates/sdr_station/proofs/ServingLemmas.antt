@@ -47,14 +47,14 @@ use Rattle.sdr_model.specs.World.{World, thing_at}
 use Rattle.sdr_model.specs.Zco.{source_on}
 use Rattle.sdr_model.specs.declared.answer.Answer.TheVariants as answers
 use Rattle.sdr_model.specs.declared.answer.Reply.TheVariants as replies
-use Rattle.sdr_station.proofs.DemandLemmas.{asks_more, enough, reading_lines}
-use Rattle.sdr_station.proofs.EntryLemmas.{source_there}
+use Rattle.sdr_answers.proofs.DemandLemmas.{asks_more, enough, reading_lines}
+use Rattle.sdr_answers.proofs.EntryLemmas.{source_there}
 use Rattle.sdr_station.proofs.GroundLemmas.{heap_ground}
 use Rattle.sdr_station.proofs.MediaLemmas.{gap_none, misses_none}
-use Rattle.sdr_station.proofs.KindLemmas.{IsRawAt, raw_is_at}
-use Rattle.sdr_station.proofs.RawLemmas.{length_of_raw}
+use Rattle.sdr_answers.proofs.KindLemmas.{IsRawAt, raw_is_at}
+use Rattle.sdr_answers.proofs.RawLemmas.{length_of_raw}
 use Rattle.sdr_station.specs.CrashNow.{crash_now}
-use Rattle.sdr_station.specs.Answering.{Aim, Answered, Comes, IsGood, IsPlain, built, dooms, lines_of}
+use Rattle.sdr_answers.specs.Answering.{Aim, Answered, Comes, IsGood, IsPlain, built, dooms, lines_of}
 use Rattle.sdr_station.specs.Closing.{moves_left}
 use Rattle.sdr_station.specs.Grounded.{Grounded, Leaves, StandsAtRest, StandsForBoth, StandsSome, StandsWithin, heap_in}
 

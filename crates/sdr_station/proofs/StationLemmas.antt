@@ -13,7 +13,7 @@ use Rattle.sdr_model.specs.declared.answer.Close.TheVariants as closes
 use Rattle.sdr_model.specs.declared.answer.Reply.{Reply}
 use Rattle.sdr_model.specs.declared.answer.Reply.TheVariants as replies
 use Rattle.sdr_model.specs.declared.call.Call.{Call}
-use Rattle.sdr_station.specs.Answering.{dooms}
+use Rattle.sdr_answers.specs.Answering.{dooms}
 
 -- what isn't kept is put back
 pub settles_back : {T : Type 0} (g : Ghosts T) (close : Close) (old new : T) → is_kept close ≡ false → Brings g.stands old new PutsBack

@@ -14,7 +14,7 @@ use Rattle.sdr_log.specs.Frame.{room_of}
 use Rattle.sdr_log.specs.Log.{put_back_of}
 use Rattle.sdr_model.specs.Fields.{FitsFields}
 use Rattle.sdr_model.specs.Whole.{IsWhole}
-use Rattle.sdr_station.specs.Answering.{IsPlain}
+use Rattle.sdr_answers.specs.Answering.{IsPlain}
 
 -- the heap; the bytes that the last answered call gave; whether the transaction can only be put back; and the disk's moment
 pub record Grounded (D : Type 0) : Type 0 where

@@ -8,14 +8,13 @@ ghost use Rattle.sdr_lock.specs.Serving.{Brings, Calls, Keeps, KeepsGround, Meet
 ghost use Rattle.sdr_lock.specs.Standing.{Standing};
 ghost use Rattle.sdr_log.specs.Calls.{KeepsDisk};
 ghost use Rattle.sdr_log.specs.Logged.{GivesSame};
-ghost use Rattle.sdr_station.specs.Answering.{built, dooms};
+ghost use Rattle.sdr_answers.specs.Answering.{built, dooms};
 ghost use Rattle.sdr_station.specs.Grounded.{Lasts, StandsForBoth};
 ghost use Rattle.sdr_station.specs.Opening.{ExplainsOpen, IsOfAudit, IsOfImage, IsOpen, disk_of};
 
-use crate::calls::{answer, built};
 use crate::closing::{cancel, commit, forget_moves, moment_since};
 use crate::error::{OpenError, Shut};
-use crate::page::Page;
+use sdr_answers::{Page, answer, built};
 use sdr_audit::{AuditError, check};
 use sdr_base::{Move, Stop};
 use sdr_disk::Disk;

@@ -9,11 +9,9 @@
 //!    fault everything fails.
 #![tactic(auto)]
 
-mod calls;
 mod closing;
 mod error;
 mod ground;
-mod page;
 mod station;
 
 pub use error::{OpenError, Shut};

@@ -2,14 +2,14 @@
 ghost use Rattle.std.specs.Prelude.{◌≡◌, ◌<◌, None, true, false, length, take, IfErr, IfOk};
 ghost use Rattle.sdr_lock.specs.Crash.{is_kept};
 ghost use Rattle.sdr_lock.specs.Nesting.{cancelled, closing, ended, unbegun};
-ghost use Rattle.sdr_station.specs.Answering.{built};
+ghost use Rattle.sdr_answers.specs.Answering.{built};
 ghost use Rattle.sdr_station.specs.Grounded.{Lasts};
 ghost use Rattle.sdr_station.specs.Opening.{ExplainsOpen, IsOpen};
 ghost use Rattle.sdr_station.specs.Stationed.{Begins, Closes, ClosesBy, HasRisen, LooksAt, SaysOr, closed_as};
 
 use crate::HeapGround;
 use crate::error::Shut;
-use crate::page::PAGE;
+use sdr_answers::PAGE;
 use sdr_base::{Move, Reason, Refusal, Stop};
 use sdr_disk::Disk;
 use sdr_lock::{Fault, HasGround, Nesting, Serves};

@@ -14,7 +14,7 @@ use Rattle.sdr_model.specs.declared.answer.Reply.TheVariants as replies
 use Rattle.sdr_station.proofs.ClosingLemmas.{keeps_brought}
 use Rattle.sdr_station.proofs.GroundLemmas.{heap_ground}
 use Rattle.sdr_station.proofs.ServingLemmas.{answers_no_doom, brings_answered, brings_refused, good_of, image_heap, leaves_quiet, no_fault, refused_ground}
-use Rattle.sdr_station.specs.Answering.{Comes, IsGood, lines_of}
+use Rattle.sdr_answers.specs.Answering.{Comes, IsGood, lines_of}
 use Rattle.sdr_station.specs.Grounded.{Grounded, Lasts, StandsForBoth, StandsSome, heap_in}
 use Rattle.sdr_station.proofs.ground.HeapGround.serve.Goals as goal
 

@@ -39,9 +39,9 @@ use Rattle.sdr_model.specs.declared.call.Call.TheVariants as calls
 use Rattle.sdr_model.specs.declared.things.Block.{Block}
 use Rattle.sdr_model.specs.declared.things.Thing.{Thing}
 use Rattle.sdr_model.specs.declared.things.Thing.TheVariants as things
-use Rattle.sdr_station.proofs.KindLemmas.{IsRawAt, block_told, raw_is_at, raw_stands}
-use Rattle.sdr_station.proofs.RawLemmas.{length_of_raw, part_of_raw}
-use Rattle.sdr_station.specs.Answering.{Answered, IsRefused}
+use Rattle.sdr_answers.proofs.KindLemmas.{IsRawAt, block_told, raw_is_at, raw_stands}
+use Rattle.sdr_answers.proofs.RawLemmas.{length_of_raw, part_of_raw}
+use Rattle.sdr_answers.specs.Answering.{Answered, IsRefused}
 
 -- the heap still stands where the world shows other bytes
 pub shows : (old new : Heap) (w : World) (bytes : List ℕ) → new ≡ old → HeapStandsFor old w → HeapStandsFor new (record w { shown = bytes })

@@ -3,10 +3,10 @@ use Rattle.sdr_base.specs.declared.stop.Stop.{Stop}
 use Rattle.sdr_heap.specs.Raw.{IsMissing}
 use Rattle.sdr_model.specs.declared.answer.Reply.TheVariants as replies
 use Rattle.sdr_model.specs.declared.call.Call.TheVariants as calls
-use Rattle.sdr_station.proofs.CallLemmas.{comes_stopped}
-use Rattle.sdr_station.proofs.ReadingLemmas.{length_answered, length_refused}
-use Rattle.sdr_station.specs.Answering.{Answered, Comes}
-use Rattle.sdr_station.proofs.calls.length.Goals as goal
+use Rattle.sdr_answers.proofs.CallLemmas.{comes_stopped}
+use Rattle.sdr_answers.proofs.ReadingLemmas.{length_answered, length_refused}
+use Rattle.sdr_answers.specs.Answering.{Answered, Comes}
+use Rattle.sdr_answers.proofs.raws.length.Goals as goal
 
 pub returns-in_err-value-clause-comes : goal.returns-in_err-value-clause-comes
 returns-in_err-value-clause-comes g c =

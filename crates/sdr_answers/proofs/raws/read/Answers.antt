@@ -2,9 +2,9 @@ use Rattle.std.proofs.Common.{subst, IfErr, ℕ}
 use Rattle.sdr_base.specs.declared.stop.Stop.{Stop}
 use Rattle.sdr_heap.specs.Raw.{ReadStops}
 use Rattle.sdr_model.specs.declared.call.Call.TheVariants as calls
-use Rattle.sdr_station.proofs.CallLemmas.{comes_never}
-use Rattle.sdr_station.proofs.ReadingLemmas.{read_refused}
-use Rattle.sdr_station.proofs.calls.read.Goals as goal
+use Rattle.sdr_answers.proofs.CallLemmas.{comes_never}
+use Rattle.sdr_answers.proofs.ReadingLemmas.{read_refused}
+use Rattle.sdr_answers.proofs.raws.read.Goals as goal
 
 pub returns-then-count-gt-LONGEST_READ-clause-comes : goal.returns-then-count-gt-LONGEST_READ-clause-comes
 returns-then-count-gt-LONGEST_READ-clause-comes g c =

@@ -1,33 +1,18 @@
 // The calls on raw objects, as steps of the machine.
-ghost use Rattle.std.specs.Prelude.{◌≡◌, ◌≤◌, ◌<◌, ◌+◌, ◌/◌, [], ℕ, true, length, IfErr, OnOk};
+ghost use Rattle.std.specs.Prelude.{◌≡◌, ◌≤◌, ◌<◌, ◌+◌, ◌/◌, [], ℕ, length, IfErr, OnOk};
 ghost use Rattle.sdr_base.specs.Moves.{KeepsSome};
 ghost use Rattle.sdr_base.specs.Works.{Looks, Works};
 ghost use Rattle.sdr_heap.specs.Raw.{IsUnnamed, IsWhole, ReadStops};
-ghost use Rattle.sdr_model.specs.Fields.{AreBytes, FitsCall};
-ghost use Rattle.sdr_station.specs.Answering.{Comes, IsGood, built, lines_of};
+ghost use Rattle.sdr_model.specs.Fields.{AreBytes};
+ghost use Rattle.sdr_answers.specs.Answering.{Comes};
 
 use crate::page::{PAGE, Page};
 use sdr_base::{Addr, Kind, Objects, Refusal, Stop, expect_kind};
 use sdr_heap::LONGEST_READ;
-use sdr_model::{Call, Reply};
-
-/// Whether the call is served yet.
-pub fn built(call: &Call) -> bool
-    ensures { result ≡ built call.now }
-{
-    matches!(
-        call,
-        Call::Malloc(_)
-            | Call::Free(_)
-            | Call::Length(_)
-            | Call::Read(_, _, _)
-            | Call::Write(_, _, _)
-            | Call::Stage(_, _)
-    )
-}
+use sdr_model::Reply;
 
 // Makes a raw object.
-fn malloc<O: Objects>(o: &mut O, bytes: u64, page: &mut Page) -> Result<Reply, Stop>
+pub fn malloc<O: Objects>(o: &mut O, bytes: u64, page: &mut Page) -> Result<Reply, Stop>
     requires kept { KeepsSome (O.keeps o.old) }
     requires spare { 1 ≤ (O.heap o.old).spare }
     requires unmoved { (O.heap o.old).moves ≡ [] }
@@ -40,7 +25,7 @@ fn malloc<O: Objects>(o: &mut O, bytes: u64, page: &mut Page) -> Result<Reply, S
 }
 
 // Gives a raw object that no source names, or a string, back.
-fn free<O: Objects>(o: &mut O, addr: Addr, page: &mut Page) -> Result<Reply, Stop>
+pub fn free<O: Objects>(o: &mut O, addr: Addr, page: &mut Page) -> Result<Reply, Stop>
     requires kept { KeepsSome (O.keeps o.old) }
     requires spare { 1 ≤ (O.heap o.old).spare }
     requires unnamed { IsUnnamed ((O.heap o.old).blocks addr) }
@@ -54,7 +39,7 @@ fn free<O: Objects>(o: &mut O, addr: Addr, page: &mut Page) -> Result<Reply, Sto
 }
 
 // The length of a thing.
-fn length<O: Objects>(o: &mut O, addr: Addr, page: &mut Page) -> Result<Reply, Stop>
+pub fn length<O: Objects>(o: &mut O, addr: Addr, page: &mut Page) -> Result<Reply, Stop>
     requires kept { KeepsSome (O.keeps o.old) }
     requires unmoved { (O.heap o.old).moves ≡ [] }
     ensures comes { Comes (Call.Length addr) (O.heap o.old) (O.heap o.new) page.old page.new result }
@@ -103,7 +88,7 @@ fn read_into<O: Objects>(
 }
 
 // Reads bytes of a raw object from a place on.
-fn read<O: Objects>(
+pub fn read<O: Objects>(
     o: &mut O,
     addr: Addr,
     place: u64,
@@ -145,7 +130,7 @@ fn stage_into<O: Objects>(
 }
 
 // Reads the first bytes of a raw object, which may be written in this transaction from now on.
-fn stage<O: Objects>(o: &mut O, addr: Addr, count: u64, page: &mut Page) -> Result<Reply, Stop>
+pub fn stage<O: Objects>(o: &mut O, addr: Addr, count: u64, page: &mut Page) -> Result<Reply, Stop>
     requires kept { KeepsSome (O.keeps o.old) }
     requires whole { IsWhole ((O.heap o.old).blocks addr) }
     requires unmoved { (O.heap o.old).moves ≡ [] }
@@ -160,7 +145,7 @@ fn stage<O: Objects>(o: &mut O, addr: Addr, count: u64, page: &mut Page) -> Resu
 }
 
 // Writes bytes into a raw object from a place on.
-fn write<O: Objects>(
+pub fn write<O: Objects>(
     o: &mut O,
     addr: Addr,
     place: u64,
@@ -177,26 +162,4 @@ fn write<O: Objects>(
     sdr_heap::write(o, addr, place, from)?;
     page.clear();
     Ok(Reply::Done)
-}
-
-/// Answers a call that is served.
-pub fn answer<O: Objects>(o: &mut O, call: &Call, page: &mut Page) -> Result<Reply, Stop>
-    requires kept { KeepsSome (O.keeps o.old) }
-    requires spare { 1 ≤ (O.heap o.old).spare }
-    requires good { (addr : ℕ) → IsGood ((O.heap o.old).blocks addr) }
-    requires unmoved { (O.heap o.old).moves ≡ [] }
-    requires built { built call.now ≡ true }
-    ensures comes { Comes call.now (O.heap o.old) (O.heap o.new) page.old page.new result }
-    ensures works { Works O.HasHeap (lines_of call.now) o.old o.new result }
-    ensures fits { FitsCall call.now }
-{
-    match call {
-        Call::Malloc(bytes) => malloc(o, *bytes, page),
-        Call::Free(addr) => free(o, *addr, page),
-        Call::Length(addr) => length(o, *addr, page),
-        Call::Read(addr, place, count) => read(o, *addr, *place, *count, page),
-        Call::Write(addr, place, bytes) => write(o, *addr, *place, bytes.as_slice(), page),
-        Call::Stage(addr, count) => stage(o, *addr, *count, page),
-        _ => unreachable!(),
-    }
 }

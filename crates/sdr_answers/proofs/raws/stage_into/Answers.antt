@@ -3,10 +3,10 @@ use Rattle.sdr_base.specs.declared.stop.Stop.{Stop}
 use Rattle.sdr_heap.specs.Raw.{ReadStops, ReadsRaw}
 use Rattle.sdr_model.specs.declared.answer.Reply.TheVariants as replies
 use Rattle.sdr_model.specs.declared.call.Call.TheVariants as calls
-use Rattle.sdr_station.proofs.CallLemmas.{comes_stopped}
-use Rattle.sdr_station.proofs.ReadingLemmas.{stage_answered, stage_refused}
-use Rattle.sdr_station.specs.Answering.{Answered, Comes}
-use Rattle.sdr_station.proofs.calls.stage_into.Goals as goal
+use Rattle.sdr_answers.proofs.CallLemmas.{comes_stopped}
+use Rattle.sdr_answers.proofs.ReadingLemmas.{stage_answered, stage_refused}
+use Rattle.sdr_answers.specs.Answering.{Answered, Comes}
+use Rattle.sdr_answers.proofs.raws.stage_into.Goals as goal
 
 pub returns-in_err-stage-clause-comes : goal.returns-in_err-stage-clause-comes
 returns-in_err-stage-clause-comes g c =

@@ -27,10 +27,10 @@ use Rattle.sdr_model.specs.World.{World, thing_at}
 use Rattle.sdr_model.specs.declared.answer.Reply.TheVariants as replies
 use Rattle.sdr_model.specs.declared.call.Call.TheVariants as calls
 use Rattle.sdr_model.specs.declared.things.Thing.TheVariants as things
-use Rattle.sdr_station.proofs.KindLemmas.{IsRawAt, raw_is_at}
-use Rattle.sdr_station.proofs.RawLemmas.{overwrite_raw}
-use Rattle.sdr_station.proofs.ReadingLemmas.{misses, no_room_in, on_raw, raw_missed, room_in, row_refused, unmoved_answered}
-use Rattle.sdr_station.specs.Answering.{Answered, IsRefused}
+use Rattle.sdr_answers.proofs.KindLemmas.{IsRawAt, raw_is_at}
+use Rattle.sdr_answers.proofs.RawLemmas.{overwrite_raw}
+use Rattle.sdr_answers.proofs.ReadingLemmas.{misses, no_room_in, on_raw, raw_missed, room_in, row_refused, unmoved_answered}
+use Rattle.sdr_answers.specs.Answering.{Answered, IsRefused}
 
 -- the world after bytes were written into a raw object
 abbrev pub after_write : World → ℕ → ℕ → List ℕ → List ℕ → World

@@ -9,7 +9,7 @@ use Rattle.sdr_model.specs.Whole.{IsWhole}
 use Rattle.sdr_model.specs.World.{World}
 use Rattle.sdr_model.specs.declared.answer.Reply.{Reply}
 use Rattle.sdr_model.specs.declared.call.Call.{Call}
-use Rattle.sdr_station.specs.Answering.{Comes, IsPlain, IsRefused}
+use Rattle.sdr_answers.specs.Answering.{Comes, IsPlain, IsRefused}
 
 -- a call that was stopped is refused, or has met a fault
 pub comes_stopped : (call : Call) (old new : Heap) (page : List ℕ) (stop : Stop)

@@ -12,7 +12,7 @@ use Rattle.sdr_model.specs.Steps.{Outcome, taken_addresses}
 use Rattle.sdr_model.specs.World.{World}
 use Rattle.sdr_model.specs.declared.call.Call.{Call}
 use Rattle.sdr_model.specs.declared.call.Call.TheVariants as calls
-use Rattle.sdr_station.specs.Answering.{built, lines_of}
+use Rattle.sdr_answers.specs.Answering.{built, lines_of}
 
 -- a call that is answered by its row asks for as many lines as it touches
 pub enough : (d : Demand) (w : World) (call : Call) (o : Outcome) → built call ≡ true → ByRow w o call → is_answer o.reply ≡ true

@@ -38,9 +38,9 @@ use Rattle.sdr_model.specs.declared.call.Call.TheVariants as calls
 use Rattle.sdr_model.specs.declared.things.Block.{Block}
 use Rattle.sdr_model.specs.declared.things.Thing.{Thing}
 use Rattle.sdr_model.specs.declared.things.Thing.TheVariants as things
-use Rattle.sdr_station.proofs.KindLemmas.{block_told, raw_is_at, text_is_at}
-use Rattle.sdr_station.proofs.ReadingLemmas.{no_block, row_refused}
-use Rattle.sdr_station.specs.Answering.{Answered, IsPlain, IsRefused}
+use Rattle.sdr_answers.proofs.KindLemmas.{block_told, raw_is_at, text_is_at}
+use Rattle.sdr_answers.proofs.ReadingLemmas.{no_block, row_refused}
+use Rattle.sdr_answers.specs.Answering.{Answered, IsPlain, IsRefused}
 
 -- the world after the thing at an address was given back
 abbrev pub after_free : World → ℕ → World

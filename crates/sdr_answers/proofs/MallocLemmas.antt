@@ -29,9 +29,9 @@ use Rattle.sdr_model.specs.World.{World, thing_at}
 use Rattle.sdr_model.specs.declared.answer.Reply.TheVariants as replies
 use Rattle.sdr_model.specs.declared.call.Call.TheVariants as calls
 use Rattle.sdr_model.specs.declared.things.Thing.TheVariants as things
-use Rattle.sdr_station.proofs.EntryLemmas.{none_named}
-use Rattle.sdr_station.proofs.RawLemmas.{none_of, zeros_made}
-use Rattle.sdr_station.specs.Answering.{Aim, Answered, IsRefused}
+use Rattle.sdr_answers.proofs.EntryLemmas.{none_named}
+use Rattle.sdr_answers.proofs.RawLemmas.{none_of, zeros_made}
+use Rattle.sdr_answers.specs.Answering.{Aim, Answered, IsRefused}
 
 -- the world after a raw object of zeros was made at an address
 abbrev pub after_malloc : World → ℕ → ℕ → World

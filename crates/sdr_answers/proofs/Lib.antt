@@ -1,0 +1,9 @@
+pub mod CallLemmas
+pub mod DemandLemmas
+pub mod EntryLemmas
+pub mod FreeLemmas
+pub mod KindLemmas
+pub mod MallocLemmas
+pub mod RawLemmas
+pub mod ReadingLemmas
+pub mod WriteLemmas

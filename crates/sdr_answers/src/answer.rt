@@ -1,0 +1,48 @@
+// The answer of each call that is served.
+ghost use Rattle.std.specs.Prelude.{◌≡◌, ◌≤◌, [], ℕ, true};
+ghost use Rattle.sdr_base.specs.Moves.{KeepsSome};
+ghost use Rattle.sdr_base.specs.Works.{Works};
+ghost use Rattle.sdr_model.specs.Fields.{FitsCall};
+ghost use Rattle.sdr_answers.specs.Answering.{Comes, IsGood, built, lines_of};
+
+use crate::page::Page;
+use crate::raws::{free, length, malloc, read, stage, write};
+use sdr_base::{Objects, Stop};
+use sdr_model::{Call, Reply};
+
+/// Whether the call is served yet.
+pub fn built(call: &Call) -> bool
+    ensures { result ≡ built call.now }
+{
+    matches!(
+        call,
+        Call::Malloc(_)
+            | Call::Free(_)
+            | Call::Length(_)
+            | Call::Read(_, _, _)
+            | Call::Write(_, _, _)
+            | Call::Stage(_, _)
+    )
+}
+
+/// Answers a call that is served.
+pub fn answer<O: Objects>(o: &mut O, call: &Call, page: &mut Page) -> Result<Reply, Stop>
+    requires kept { KeepsSome (O.keeps o.old) }
+    requires spare { 1 ≤ (O.heap o.old).spare }
+    requires good { (addr : ℕ) → IsGood ((O.heap o.old).blocks addr) }
+    requires unmoved { (O.heap o.old).moves ≡ [] }
+    requires built { built call.now ≡ true }
+    ensures comes { Comes call.now (O.heap o.old) (O.heap o.new) page.old page.new result }
+    ensures works { Works O.HasHeap (lines_of call.now) o.old o.new result }
+    ensures fits { FitsCall call.now }
+{
+    match call {
+        Call::Malloc(bytes) => malloc(o, *bytes, page),
+        Call::Free(addr) => free(o, *addr, page),
+        Call::Length(addr) => length(o, *addr, page),
+        Call::Read(addr, place, count) => read(o, *addr, *place, *count, page),
+        Call::Write(addr, place, bytes) => write(o, *addr, *place, bytes.as_slice(), page),
+        Call::Stage(addr, count) => stage(o, *addr, *count, page),
+        _ => unreachable!(),
+    }
+}
