@@ -12,17 +12,17 @@ use Rattle.sdr_model.specs.Steps.{Outcome, taken_addresses}
 use Rattle.sdr_model.specs.World.{World}
 use Rattle.sdr_model.specs.declared.call.Call.{Call}
 use Rattle.sdr_model.specs.declared.call.Call.TheVariants as calls
-use Rattle.sdr_answers.specs.Answering.{built, lines_of}
+use Rattle.sdr_answers.specs.Answering.{built, call_lines}
 
 -- a call that is answered by its row asks for as many lines as it touches
 pub enough : (d : Demand) (w : World) (call : Call) (o : Outcome) → built call ≡ true → ByRow w o call → is_answer o.reply ≡ true
-    → most_lines d + lines_of call ≤ most_lines (demand_after d w call o)
+    → most_lines d + call_lines call ≤ most_lines (demand_after d w call o)
 enough d w call o is row answered = by call is (moves_are_the_rows w o.after call o.moves o.reply (inl row) answered)
   where
     at : ℕ → ℕ
     at = slice_index (taken_addresses o.moves)
 
-    by : (c : Call) → built c ≡ true → o.moves ≡ row_moves w c at → most_lines d + lines_of c ≤ most_lines (demand_after d w c o)
+    by : (c : Call) → built c ≡ true → o.moves ≡ row_moves w c at → most_lines d + call_lines c ≤ most_lines (demand_after d w c o)
     by (calls.Malloc bytes) is moves =
         let one : length o.moves ≡ 1 = ap (λ (ms : List Move). length ms) moves in
         let need : bytes_taken o.moves ≡ 8 + bytes + 0 = ap bytes_taken moves in
@@ -37,7 +37,7 @@ enough d w call o is row answered = by call is (moves_are_the_rows w o.after cal
     by c is moves = absurd (true≢false (sym is))
 
 -- a call that reads touches none
-pub reading_lines : (call : Call) → built call ≡ true → is_reading call ≡ true → lines_of call ≡ 0
+pub reading_lines : (call : Call) → built call ≡ true → is_reading call ≡ true → call_lines call ≡ 0
 reading_lines (calls.Malloc bytes) is reads = absurd (true≢false (sym reads))
 reading_lines (calls.Free addr) is reads = absurd (true≢false (sym reads))
 reading_lines (calls.Length addr) is reads = refl

@@ -52,11 +52,11 @@ dooms call (replies.Refused refusal) = not (is_reading call)
 dooms call reply = false
 
 -- so many lines a call that is served touches at most
-abbrev pub lines_of : Call → ℕ
-lines_of (calls.Malloc bytes) = 24 + (8 + bytes) / 64
-lines_of (calls.Free addr) = 24
-lines_of (calls.Write addr place bytes) = 2 + length bytes / 64
-lines_of call = 0
+abbrev pub call_lines : Call → ℕ
+call_lines (calls.Malloc bytes) = 24 + (8 + bytes) / 64
+call_lines (calls.Free addr) = 24
+call_lines (calls.Write addr place bytes) = 2 + length bytes / 64
+call_lines call = 0
 
 -- what the row of a call gives, where it is answered
 pub record Aim (w : World) (call : Call) : Type 0 where

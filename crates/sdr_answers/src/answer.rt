@@ -3,7 +3,7 @@ ghost use Rattle.std.specs.Prelude.{◌≡◌, ◌≤◌, [], ℕ, true};
 ghost use Rattle.sdr_base.specs.Moves.{KeepsSome};
 ghost use Rattle.sdr_base.specs.Works.{Works};
 ghost use Rattle.sdr_model.specs.Fields.{FitsCall};
-ghost use Rattle.sdr_answers.specs.Answering.{Comes, IsGood, built, lines_of};
+ghost use Rattle.sdr_answers.specs.Answering.{Comes, IsGood, built, call_lines};
 
 use crate::page::Page;
 use crate::raws::{free, length, malloc, read, stage, write};
@@ -33,7 +33,7 @@ pub fn answer<O: Objects>(o: &mut O, call: &Call, page: &mut Page) -> Result<Rep
     requires unmoved { (O.heap o.old).moves ≡ [] }
     requires built { built call.now ≡ true }
     ensures comes { Comes call.now (O.heap o.old) (O.heap o.new) page.old page.new result }
-    ensures works { Works O.HasHeap (lines_of call.now) o.old o.new result }
+    ensures works { Works O.HasHeap (call_lines call.now) o.old o.new result }
     ensures fits { FitsCall call.now }
 {
     match call {

@@ -1,6 +1,6 @@
 -- The words of a layout: each is read as it stands, and one that is set stands in its place.
 use Rattle.std.proofs.Common.{◌≡◌, ℕ, zero, suc, ◌+◌, ◌*◌, ◌<◌, ◌^◌, List, [], ◌∷◌, ◌++◌, take, drop, length, set}
-use Rattle.std.proofs.Common.{refl, sym, ap, ◌∙◌, arith, get_or}
+use Rattle.std.proofs.Common.{refl, sym, ap, ◌∙◌, append_assoc, arith, get_or}
 use Rattle.std.proofs.lemmas.List.{drop-drop}
 use Rattle.byteorder.specs.Endian.{big_bytes}
 use Rattle.byteorder.specs.Numbers.{big_number-reads_back}
@@ -59,3 +59,10 @@ pub length-layout : (ws rest : List ℕ) → length (layout ws rest) ≡ 8 * len
 unfolding layout
 length-layout [] rest = omega arith
 length-layout (w ∷ ws) rest = let ih = length-layout ws rest in omega (arith, ih)
+
+-- words, and bytes behind them
+pub layout-append : (words rest : List ℕ) → layout words [] ++ rest ≡ layout words rest
+unfolding layout
+layout-append [] rest = refl
+layout-append (w ∷ ws) rest =
+    append_assoc (big_bytes 8 w) (layout ws []) rest ∙ ap (λ (l : List ℕ). big_bytes 8 w ++ l) (layout-append ws rest)

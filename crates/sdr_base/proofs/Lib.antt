@@ -1,4 +1,5 @@
 pub mod CellsLemmas
+pub mod ChainLemmas
 pub mod FewLemmas
 pub mod FreshBlocksLemmas
 pub mod FreshHeapLemmas

@@ -1,5 +1,5 @@
 -- Calls one after another.
-use Rattle.std.proofs.Common.{◌+◌, ◌≤◌, ℕ, rules, arith}
+use Rattle.std.proofs.Common.{◌+◌, ◌≤◌, ℕ, ◌∙◌, rules, arith}
 use Rattle.std.specs.Prelude.{Result, Ok, Err}
 use Rattle.sdr_base.specs.Objects.{Settled}
 use Rattle.sdr_base.specs.Works.{Looks, Works}
@@ -52,3 +52,41 @@ works_more {S} {T} {m} {i} {j} {a} {b} {r} w le = record {
 pub looks_then : {S T U : Type 0} {m : Ghosts S} {j : ℕ} {a b c : S} {v : U} {r : Result T Stop} →
     Looks m a b (Ok v) → Works m j b c r → Works m j a c r
 looks_then l w = works_more (works_then (looks_works l) w) (omega arith)
+
+-- an answer's value doesn't matter
+pub works_ok : {S T U : Type 0} {m : Ghosts S} {lines : ℕ} {a b : S} {v : T} {u : U} → Works m lines a b (Ok v) → Works m lines a b (Ok u)
+works_ok w = record {
+  kept = w.kept;
+  moved = w.moved;
+  room = record { room = w.room.room; kept = w.room.kept; most = w.room.most; full = w.room.full };
+  cause = record { later = w.cause.later; explained = w.cause.explained };
+  quiet = w.quiet;
+}
+
+-- one reading call after another
+pub looks_looks : {S T U : Type 0} {m : Ghosts S} {a b c : S} {v : U} {r : Result T Stop} → Looks m a b (Ok v) → Looks m b c r → Looks m a c r
+looks_looks f s = record {
+  same = s.same ∙ f.same;
+  kept = s.kept;
+  moved = λ begin led. s.moved begin (f.moved begin led);
+  touched = s.touched ∙ f.touched;
+  room = touches_then f.room s.room;
+  cause = reason_then f.cause s.cause;
+  quiet = λ begin q. s.quiet begin (f.quiet begin q);
+}
+
+-- a reading call's value doesn't matter
+pub looks_ok : {S T U : Type 0} {m : Ghosts S} {a b : S} {v : T} {u : U} → Looks m a b (Ok v) → Looks m a b (Ok u)
+looks_ok l = record {
+  same = l.same;
+  kept = l.kept;
+  moved = l.moved;
+  touched = l.touched;
+  room = record { room = l.room.room; kept = l.room.kept; most = l.room.most; full = l.room.full };
+  cause = record { later = l.cause.later; explained = l.cause.explained };
+  quiet = l.quiet;
+}
+
+-- one reading call after another, whatever the last one answered
+pub looks_on : {S T U V : Type 0} {m : Ghosts S} {a b c : S} {v : T} {w : U} {x : V} → Looks m a b (Ok v) → Looks m b c (Ok w) → Looks m a c (Ok x)
+looks_on f s = looks_ok (looks_looks f s)

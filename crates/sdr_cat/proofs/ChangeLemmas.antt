@@ -20,7 +20,7 @@ use Rattle.sdr_base.proofs.HeapLemmas.{heap_blocks}
 use Rattle.sdr_base.proofs.LayoutLemmas.{length-layout}
 use Rattle.sdr_base.proofs.LinkedLemmas.{first-append, last-append, linked-append}
 use Rattle.sdr_base.proofs.StandingLemmas.{came}
-use Rattle.sdr_list.proofs.ChainLemmas.{last_holds}
+use Rattle.sdr_base.proofs.ChainLemmas.{last_holds}
 use Rattle.sdr_cat.specs.Changes.{AddsLast, with_last}
 use Rattle.sdr_cat.specs.Kept.{KeepsNames}
 use Rattle.sdr_cat.specs.Links.{Chain, LinksNext}

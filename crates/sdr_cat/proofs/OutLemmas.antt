@@ -14,7 +14,7 @@ use Rattle.sdr_base.proofs.HeapLemmas.{given_blocks}
 use Rattle.sdr_base.proofs.LinkedLemmas.{first-append, last-append, taken_out}
 use Rattle.sdr_base.proofs.StandingLemmas.{found}
 use Rattle.sdr_base.proofs.WritingLemmas.{reaches}
-use Rattle.sdr_list.proofs.ChainLemmas.{linked-around}
+use Rattle.sdr_base.proofs.ChainLemmas.{linked-around}
 use Rattle.sdr_cat.specs.Changes.{LinksLast, SomeFirst, TakesOut, last_if}
 use Rattle.sdr_cat.specs.Kept.{KeepsEntry, KeepsNames, SomeEntry}
 use Rattle.sdr_cat.specs.Links.{Chain, LinksNext}

@@ -15,24 +15,12 @@ use Rattle.sdr_base.specs.declared.has_heap.HasHeap.{Ghosts}
 use Rattle.sdr_base.proofs.LinkedLemmas.{last-append, length-linked}
 use Rattle.sdr_base.proofs.StandingLemmas.{at-nowhere}
 use Rattle.sdr_base.proofs.TransactionLemmas.{reason_then, touches_then}
-use Rattle.sdr_list.proofs.ChainLemmas.{linked_found}
+use Rattle.sdr_base.proofs.ChainLemmas.{linked_found}
 use Rattle.sdr_cat.specs.Kept.{KeepsEntry, KeepsNames, SomeEntry, NameFits, SomeNames}
 use Rattle.sdr_cat.specs.Names.{is_named}
 use Rattle.sdr_cat.specs.Walks.{Compares, IsFirst, Searches, Walked, Walks}
 use Rattle.sdr_cat.specs.declared.searching.Place.{Place}
 use Rattle.sdr_cat.proofs.NameLemmas.{compared, first_fits, name_reaches, next_is}
-
--- one reading call after another, whatever the last one answered
-pub looks_on : {S T U V : Type 0} {m : Ghosts S} {a b c : S} {v : T} {w : U} {x : V} → Looks m a b (Ok v) → Looks m b c (Ok w) → Looks m a c (Ok x)
-looks_on f s = record {
-  same = s.same ∙ f.same;
-  kept = s.kept;
-  moved = λ begin led. s.moved begin (f.moved begin led);
-  touched = s.touched ∙ f.touched;
-  room = let r = touches_then f.room s.room in record { room = r.room; kept = r.kept; most = r.most; full = r.full };
-  cause = let r = reason_then f.cause s.cause in record { later = r.later; explained = r.explained };
-  quiet = λ begin q. s.quiet begin (f.quiet begin q);
-}
 
 -- there is a first one
 pub record HasFirst (left : List NameRow) : Type 0 where

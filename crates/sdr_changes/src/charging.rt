@@ -2,7 +2,7 @@
 ghost use Rattle.std.specs.Prelude.{◌≡◌, ◌≤◌, ◌<◌, ◌^◌, [], IfErr, IfOk, OnErr, OnOk, true};
 ghost use Rattle.sdr_base.specs.declared.kind.Space.{Space as GhostSpace};
 ghost use Rattle.sdr_model.specs.AccountSteps.{new_ticket, with_amount, with_maximum, with_request, without_ticket};
-ghost use Rattle.sdr_model.specs.Accounts.{Stands, account_of, most_amount, with_account};
+ghost use Rattle.sdr_model.specs.Accounts.{IsInPlace, account_of, most_amount, with_account};
 ghost use Rattle.sdr_model.specs.Amounts.{amount};
 ghost use Rattle.sdr_model.specs.Charges.{occupancy};
 ghost use Rattle.sdr_model.specs.Charging.{grant_left, with_used};
@@ -156,7 +156,7 @@ pub fn request(
 /// A ticket goes, with what is left of its grant, and the queue is served. Want of memory leaves the
 /// world as before.
 pub fn shred(world: &mut Undoable, pending: &Pending) -> Result<(), NoMemory>
-    requires stands { Stands world.old.now.accounts pending.now }
+    requires stands { IsInPlace world.old.now.accounts pending.now }
     ensures ok { OnOk result (world.new.now ≡ record (without_ticket world.old.now pending.now) { shown = [] }) }
     ensures begun { world.new.begun ≡ world.old.begun }
     ensures same { OnErr result (world.new.now ≡ world.old.now) }

@@ -2,7 +2,7 @@
 use Rattle.std.proofs.Common.{◌≡◌, ◌∙◌, ℕ, List, [], ◌∷◌, ◌++◌, Bool, true, false, None, Some, MatchOption, refl, sym, ap, subst}
 use Rattle.std.specs.Option.{option_map, option_map_or, option_to_list}
 use Rattle.std.specs.Prelude.{if◌then◌else◌, ⊤}
-use Rattle.sdr_lock.specs.Core.{Log, Under, Work, all_said, closed_by, entry_of, is_outside, log_after, said_by, what_else, with_said, without_work, works_after}
+use Rattle.sdr_lock.specs.Core.{Log, Under, Work, all_said, closed_by, entry_of, was_outside, log_after, said_by, what_else, with_said, without_work, works_after}
 use Rattle.sdr_lock.specs.Machine.{Made}
 use Rattle.sdr_model.specs.declared.answer.Close.{Close}
 use Rattle.sdr_model.specs.declared.journal.Said.{Said}
@@ -33,8 +33,8 @@ pub closed_log : (u : Under) (log log' : Log) (e : Made) (close : Close) → clo
     → log'.works ≡ without_work (with_said log.works e.daemon e.said) e.daemon
     → log'.journal ≡ log.journal ++ entry_of u.number e (whats.Work (said_by (with_said log.works e.daemon e.said) e.daemon) close) ∷ [] → log' ≡ log_after u log e
 closed_log u log log' e close closes within works journal =
-    let inside : is_outside e.said ≡ false = subst (λ o. MatchOption o ⊤ (λ (c : Close). is_outside e.said ≡ false)) closes within in
-    let kept : log'.works ≡ (if is_outside e.said then log.works else works_after log.works e.daemon e.said) =
+    let inside : was_outside e.said ≡ false = subst (λ o. MatchOption o ⊤ (λ (c : Close). was_outside e.said ≡ false)) closes within in
+    let kept : log'.works ≡ (if was_outside e.said then log.works else works_after log.works e.daemon e.said) =
     works ∙ without_work-with_said log.works e.daemon e.said
     ∙ sym (ap (λ b. if b then log.works else works_after log.works e.daemon e.said) inside
     ∙ ap (λ o. option_map_or (λ (c : Close). without_work log.works e.daemon) o (with_said log.works e.daemon e.said)) closes) in

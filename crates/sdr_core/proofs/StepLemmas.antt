@@ -8,7 +8,7 @@ use Rattle.sdr_model.specs.declared.answer.Reply.TheVariants as replies
 use Rattle.sdr_model.specs.declared.event.Event.{Event}
 use Rattle.sdr_model.specs.declared.event.Event.TheVariants as events
 use Rattle.sdr_model.specs.declared.journal.Said.{Said}
-use Rattle.sdr_lock.specs.Core.{closed_by, is_failed, is_outside, is_passed_over}
+use Rattle.sdr_lock.specs.Core.{closed_by, is_failed, was_outside, is_passed_over}
 use Rattle.sdr_lock.specs.Machine.{Comes, Holds, Machine, Made, MachineStep}
 use Rattle.sdr_lock.specs.Roll.{daemon_of}
 use Rattle.sdr_lock.specs.Transaction.{bytes_given}
@@ -94,7 +94,7 @@ pub step_closes : (m : Machine) (e : Made) (m' : Machine) → MachineStep m e m'
 step_closes m e m' step = by (is_request e.said.event) refl
   where
     by : (b : Bool) → is_request e.said.event ≡ b → ClosesWithin e.said
-    by true is = subst (λ o. MatchOption o ⊤ (λ (close : Close). is_outside e.said ≡ false)) (sym (request_closes m e m' (request_is e.said.event is) step)) tt
+    by true is = subst (λ o. MatchOption o ⊤ (λ (close : Close). was_outside e.said ≡ false)) (sym (request_closes m e m' (request_is e.said.event is) step)) tt
     by false other = closes_other e.said.event e.said.answer other
 
 -- what is noted is what was said

@@ -1,7 +1,7 @@
 -- The log that a keeper keeps, and what it has room for.
 use Rattle.std.specs.Prelude.{◌≡◌, ◌<◌, ◌++◌, ℕ, false, MatchOption, if◌then◌else◌, vec_capacity, vec_len, ⊤}
 use Rattle.std.specs.Option.{option_map, option_to_list}
-use Rattle.sdr_lock.specs.Core.{Log, closed_by, is_outside, what_else, with_said}
+use Rattle.sdr_lock.specs.Core.{Log, closed_by, was_outside, what_else, with_said}
 use Rattle.sdr_model.specs.declared.journal.Said.{Said}
 use Rattle.sdr_core.specs.Keeping.{MaySay, works_of}
 use Rattle.sdr_core.specs.Noting.{entry_noted, under_of}
@@ -20,10 +20,10 @@ pub record HasRoom (k : Keeper) (daemon : ℕ) : Type 0 where
 
 -- what closes a transaction was said in one
 abbrev pub ClosesWithin : Said → Type 0
-ClosesWithin said = MatchOption (closed_by said.answer) ⊤ (λ close. is_outside said ≡ false)
+ClosesWithin said = MatchOption (closed_by said.answer) ⊤ (λ close. was_outside said ≡ false)
 
 -- What was said closes no transaction: it is kept where it was said in one, and the entry of a look or a leave is added.
 pub record GoesOn (n : Noted) (said : Said) (old new : Log) : Type 0 where
-  pub works : new.works ≡ (if is_outside said then old.works else with_said old.works n.daemon said)
+  pub works : new.works ≡ (if was_outside said then old.works else with_said old.works n.daemon said)
   pub journal :
       new.journal ≡ old.journal ++ option_to_list (option_map (entry_noted n) (what_else (under_of n.under) said.event said.answer))

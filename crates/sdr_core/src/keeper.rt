@@ -7,7 +7,7 @@ ghost use Rattle.sdr_core.specs.Keeping.{AreApart, works_of};
 ghost use Rattle.sdr_core.specs.Logging.{ClosesWithin, GoesOn, HasRoom, log_of};
 ghost use Rattle.sdr_core.specs.Noting.{entry_noted, made_noted, said_noted, under_of};
 
-use crate::noted::{closed_by, is_outside, what_else};
+use crate::noted::{closed_by, was_outside, what_else};
 use crate::spoken::{reserve_said, say, take_spoken};
 use crate::{Draft, Noted, Spoken};
 use sdr_base::{Items, Move, NoMemory};
@@ -105,7 +105,7 @@ impl Keeper {
         ensures { GoesOn noted.now said (log_of self.old) (log_of self.new) }
     {
         let what = what_else(&noted.under, &said.event, noted.came.answer);
-        if !is_outside(&said.event, noted.came.answer) {
+        if !was_outside(&said.event, noted.came.answer) {
             self.keep(noted.daemon, said, first);
         }
         if let Some(what) = what {

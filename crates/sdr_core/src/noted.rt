@@ -114,7 +114,7 @@ fn is_failed(answer: Answer) -> bool
 }
 
 /// Whether an event that was answered so stands in no transaction.
-pub fn is_outside(event: &Event, answer: Answer) -> bool
+pub fn was_outside(event: &Event, answer: Answer) -> bool
     ensures { result ≡ (is_passed_over event.now answer || is_failed answer) }
 {
     is_passed_over(event, answer) || is_failed(answer)

@@ -6,7 +6,7 @@ use Rattle.sdr_disk.specs.MemoryDisk.{CrashLeaves, Memory, bytes_now, moment_now
 use Rattle.sdr_disk.specs.Moments.{Only, Syncs, Writes}
 use Rattle.sdr_base.specs.Parts.{overwrite}
 use Rattle.sdr_disk.specs.Ranges.{Agrees, range}
-use Rattle.sdr_disk.specs.Told.{Both, Told}
+use Rattle.sdr_disk.specs.Told.{Both, IfTold}
 use Rattle.sdr_disk.specs.declared.change.Change.TheVariants.{Write, Sync}
 use Rattle.sdr_disk.specs.declared.change.Outcome.{Outcome}
 use Rattle.sdr_disk.specs.declared.change.Outcome.TheVariants.{Done}
@@ -40,7 +40,7 @@ module _ (place : ℕ) (from : List ℕ) (outcome : Outcome) (old new : History)
       (Agrees-written_over outcome place from (bytes_of old) [] inside)
 
   pub write_written : outcome ≡ Done
-      → Told (Some (bytes_of old)) (λ x. Some (bytes_of new) ≡ Some (overwrite place from x))
+      → IfTold (Some (bytes_of old)) (λ x. Some (bytes_of new) ≡ Some (overwrite place from x))
   write_written done x told =
       let e : bytes_of old ≡ x = cc in
       let over = ap (λ (o : Outcome). written_over o place from (bytes_of old)) done in
@@ -73,7 +73,7 @@ module _ (outcome : Outcome) (old new : History) (is : new ≡ with_change (Sync
   pub sync_moments : (d d' : Memory) → d.history ≡ old → d'.history ≡ new → Syncs moment_now CrashLeaves d d'
   sync_moments d d' before now = Syncs-history old _ d d' before (now ∙ is) (Syncs-push old outcome)
 
-  pub sync_durable : outcome ≡ Done → Told (Some (bytes_of new)) (λ x. Only x (MayLeave new (moment_of new)))
+  pub sync_durable : outcome ≡ Done → IfTold (Some (bytes_of new)) (λ x. Only x (MayLeave new (moment_of new)))
   sync_durable done x told image left =
       let e : bytes_of new ≡ x = cc in
       let good = is ∙ ap (λ (o : Outcome). with_change (Sync o) old) done in

@@ -3,7 +3,7 @@ use Rattle.std.specs.Prelude.{◌≡◌, ℕ, zero, suc, ◌*◌, ◌≤◌, Som
 use Rattle.std.proofs.Common.{arith, subst, sym}
 use Rattle.sdr_disk.specs.History.{History, Leaves, MayLeave, State, after, after_all, bytes_of}
 use Rattle.sdr_disk.specs.History.{moment_of, start, state_at}
-use Rattle.sdr_disk.specs.Told.{Told}
+use Rattle.sdr_disk.specs.Told.{IfTold}
 use Rattle.sdr_disk.specs.declared.change.Change.{Change}
 
 -- from the last return on the state is that after all changes
@@ -22,5 +22,5 @@ MayLeave-read h =
     (record { long = refl; same = λ i o. refl })
 
 -- so are the bytes that the disk tells
-pub told_read : (h : History) → Told (Some (bytes_of h)) (MayLeave h (moment_of h))
+pub told_read : (h : History) → IfTold (Some (bytes_of h)) (MayLeave h (moment_of h))
 told_read h x is = let e : bytes_of h ≡ x = cc in subst (MayLeave h (moment_of h)) e (MayLeave-read h)

@@ -3,8 +3,8 @@ use Rattle.std.specs.Prelude.{◌≡◌, ℕ, List, length, ⊤, Some, None}
 use Rattle.std.specs.declared.option.Option.{Option}
 
 -- where the disk tells its bytes, they have P
-abbrev pub Told : Option (List ℕ) → (List ℕ → Type 0) → Type 0
-Told bytes P = (x : List ℕ) → bytes ≡ Some x → P x
+abbrev pub IfTold : Option (List ℕ) → (List ℕ → Type 0) → Type 0
+IfTold bytes P = (x : List ℕ) → bytes ≡ Some x → P x
 
 -- where the disk tells its bytes before and after, they have P
 abbrev pub Both : Option (List ℕ) → Option (List ℕ) → (List ℕ → List ℕ → Type 0) → Type 0

@@ -7,7 +7,7 @@ ghost use Rattle.sdr_disk.specs.Moments.{IsAtEnd, Keeps, Only, Reads};
 ghost use Rattle.sdr_disk.specs.Moments.{RisesOrStays, Syncs, Writes};
 ghost use Rattle.sdr_base.specs.Parts.{overwrite, part};
 ghost use Rattle.sdr_disk.specs.Ranges.{Agrees, range};
-ghost use Rattle.sdr_disk.specs.Told.{Both, IsLong, Told};
+ghost use Rattle.sdr_disk.specs.Told.{Both, IsLong, IfTold};
 
 /// The disk failed.
 #[derive(Clone, Copy, Debug, PartialEq, Eq)]
@@ -38,7 +38,7 @@ pub trait Disk {
     fn read_at(&mut self, place: u64, into: &mut [u8]) -> Result<(), DiskFault>
         requires { place + length into.old ≤ size self.old }
 
-        ensures given { OnOk result (Told (bytes self.old)
+        ensures given { OnOk result (IfTold (bytes self.old)
             (λ x. into.new ≡ part place (length into.new) x)) }
         ensures cause { HasCause (faults self.old) (faults self.new) result }
 
@@ -53,7 +53,7 @@ pub trait Disk {
     fn write_at(&mut self, place: u64, from: &[u8]) -> Result<(), DiskFault>
         requires { place + length from.now ≤ size self.old }
 
-        ensures written { OnOk result (Told (bytes self.old)
+        ensures written { OnOk result (IfTold (bytes self.old)
             (λ x. bytes self.new ≡ Some (overwrite place from.now x))) }
         ensures rises { OnOk result (moment self.new ≡ moment self.old + 2) }
 
@@ -84,7 +84,7 @@ pub trait Disk {
         ensures same { bytes self.new ≡ bytes self.old }
         ensures size { size self.new ≡ size self.old }
 
-        ensures durable { OnOk result (Told (bytes self.new)
+        ensures durable { OnOk result (IfTold (bytes self.new)
             (λ x. Only x (may_leave self.new (moment self.new)))) }
         ensures moments { Syncs moment may_leave self.old self.new };
 
@@ -96,9 +96,9 @@ pub trait Disk {
     ghost told: { (d : Self) → IsLong (bytes d) (size d) };
 
     /// Where the disk tells its bytes, each image at a moment up to now is as long.
-    ghost long: { (d : Self) → Told (bytes d) (λ _.
+    ghost long: { (d : Self) → IfTold (bytes d) (λ _.
         (m : ℕ) (image : List ℕ) → m ≤ moment d → may_leave d m image → length image ≡ size d) };
 
     /// The bytes as read are one of the images now.
-    ghost read_now: { (d : Self) → Told (bytes d) (may_leave d (moment d)) };
+    ghost read_now: { (d : Self) → IfTold (bytes d) (may_leave d (moment d)) };
 }

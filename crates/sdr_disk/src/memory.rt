@@ -6,7 +6,7 @@ ghost use Rattle.sdr_disk.specs.Moments.{IsAtEnd, Keeps, Only, Reads};
 ghost use Rattle.sdr_disk.specs.Moments.{RisesOrStays, Syncs, Writes};
 ghost use Rattle.sdr_base.specs.Parts.{overwrite, part};
 ghost use Rattle.sdr_disk.specs.Ranges.{Agrees, range};
-ghost use Rattle.sdr_disk.specs.Told.{Both, Told};
+ghost use Rattle.sdr_disk.specs.Told.{Both, IfTold};
 
 use crate::change::Outcome;
 use crate::history::History;
@@ -156,7 +156,7 @@ impl Disk for MemoryDisk {
     fn read_at(&mut self, place: u64, into: &mut [u8]) -> Result<(), DiskFault>
         requires { place + length into.old ≤ size_now self.old }
 
-        ensures given { OnOk result (Told (bytes_now self.old)
+        ensures given { OnOk result (IfTold (bytes_now self.old)
             (λ x. into.new ≡ part place (length into.new) x)) }
         ensures cause { HasCause self.old.faults self.new.faults result }
 
@@ -181,7 +181,7 @@ impl Disk for MemoryDisk {
     fn write_at(&mut self, place: u64, from: &[u8]) -> Result<(), DiskFault>
         requires { place + length from.now ≤ size_now self.old }
 
-        ensures written { OnOk result (Told (bytes_now self.old)
+        ensures written { OnOk result (IfTold (bytes_now self.old)
             (λ x. bytes_now self.new ≡ Some (overwrite place from.now x))) }
         ensures rises { OnOk result (moment_now self.new ≡ moment_now self.old + 2) }
 
@@ -226,7 +226,7 @@ impl Disk for MemoryDisk {
         ensures same { bytes_now self.new ≡ bytes_now self.old }
         ensures size { size_now self.new ≡ size_now self.old }
 
-        ensures durable { OnOk result (Told (bytes_now self.new)
+        ensures durable { OnOk result (IfTold (bytes_now self.new)
             (λ x. Only x (CrashLeaves self.new (moment_now self.new)))) }
         ensures moments { Syncs moment_now CrashLeaves self.old self.new }
 

@@ -6,7 +6,7 @@ use Rattle.std.specs.Prelude.{Option}
 use Rattle.sdr_base.specs.Cells.{lines_of, is_among}
 use Rattle.sdr_base.specs.Parts.{overwrite, part}
 use Rattle.sdr_base.proofs.PartsLemmas.{sides, length-overwrite, get_or-overwrite_outside, length-part}
-use Rattle.sdr_disk.specs.Told.{Told}
+use Rattle.sdr_disk.specs.Told.{IfTold}
 use Rattle.sdr_log.specs.Frame.{room_of}
 use Rattle.sdr_log.specs.Log.{is_named, put_records}
 use Rattle.sdr_log.specs.declared.frame.Frame.{Frame}
@@ -112,7 +112,7 @@ module _ (size : ℕ) (told : Option (List ℕ)) (f : Frame) (bytes : List ℕ) 
 
   -- its bytes stand on the disk
   pub IsImage-saved : (size' : ℕ) (told' : Option (List ℕ)) (undo' : Olds) (memory' : ℕ) → size' ≡ size →
-      memory' ≡ memory → undo' ≡ record undo { olds = [] } → Told told' (HasBytes f bytes) →
+      memory' ≡ memory → undo' ≡ record undo { olds = [] } → IfTold told' (HasBytes f bytes) →
       IsImage size' told' f bytes undo' memory' false failed
   IsImage-saved size' told' undo' memory' size_is memory_is undo_is has =
       subst (λ (u : Olds). IsImage size' told' f bytes u memory' false failed) (sym undo_is)

@@ -6,7 +6,7 @@ use Rattle.sdr_base.specs.declared.line.TheConstants.{LINE}
 use Rattle.sdr_disk.specs.Moments.{AtEach, Reads}
 use Rattle.sdr_disk.specs.Pending.{IsSynced}
 use Rattle.sdr_base.specs.Parts.{part}
-use Rattle.sdr_disk.specs.Told.{Both, Told}
+use Rattle.sdr_disk.specs.Told.{Both, IfTold}
 use Rattle.sdr_disk.proofs.MomentsLemmas.{at_both, at_first, at_read}
 use Rattle.sdr_disk.proofs.ToldLemmas.{told_before}
 use Rattle.sdr_log.specs.Calls.{MayPutBack, PutsBack}
@@ -25,11 +25,11 @@ module _ (size : ℕ) (told : Option (List ℕ)) (f : Frame) (bytes : List ℕ) 
     (memory : ℕ) (is_open failed : Bool) (i : IsImage size told f bytes undo memory is_open failed)
     (sound : failed ≡ false) where
   -- opening the disk gives the bytes at begin
-  pub image_back : Told told (Gives (put_records undo.olds bytes))
+  pub image_back : IfTold told (Gives (put_records undo.olds bytes))
   image_back x is = bytes_back f (put_records undo.olds bytes) x (i.disk sound x is)
 
   -- where nothing is touched, these are the bytes now
-  pub image_bytes : undo.olds ≡ [] → Told told (HasBytes f bytes)
+  pub image_bytes : undo.olds ≡ [] → IfTold told (HasBytes f bytes)
   image_bytes none x is =
       subst (λ (olds : List Record). HasBytes f (put_records olds bytes) x) none (i.disk sound x is)
 
@@ -42,18 +42,18 @@ module _ {D : Type 0} (told : D → Option (List ℕ)) (moment : D → ℕ) (may
 
   -- at the moment now it does
   pub rests_now : (i : Opened D) → i.failed ≡ false → Rests told moment may_leave i →
-      Told (told i.disk) (λ _. AtEach moment may_leave i.disk i.disk (Gives i.begun))
+      IfTold (told i.disk) (λ _. AtEach moment may_leave i.disk i.disk (Gives i.begun))
   rests_now i sound rests x is = at_first moment may_leave i.disk (Gives i.begun) (rests_leaves i sound rests x is)
 
   -- the disk still rests where it and the bytes at begin are the same
   pub rests_same : (old new : Opened D) → IsQuiet old new → Rests told moment may_leave old →
       Rests told moment may_leave new
   rests_same old new q rests sound =
-      subst (λ (disk : D). Told (told disk) (λ x. HoldsHeap new.frame new.begun x (may_leave disk (moment disk))))
+      subst (λ (disk : D). IfTold (told disk) (λ x. HoldsHeap new.frame new.begun x (may_leave disk (moment disk))))
       (sym q.disk)
-      (subst (λ (f : Frame). Told (told old.disk)
+      (subst (λ (f : Frame). IfTold (told old.disk)
       (λ x. HoldsHeap f new.begun x (may_leave old.disk (moment old.disk)))) (sym q.frame)
-      (subst (λ (heap : List ℕ). Told (told old.disk)
+      (subst (λ (heap : List ℕ). IfTold (told old.disk)
       (λ x. HoldsHeap old.frame heap x (may_leave old.disk (moment old.disk)))) (sym q.begun)
       (rests (sym q.failed ∙ sound))))
 
@@ -67,7 +67,7 @@ module _ {D : Type 0} (told : D → Option (List ℕ)) (moment : D → ℕ) (may
   }
 
   -- where nothing is pending, the disk rests
-  pub rests_synced : (i : Opened D) → (i.failed ≡ false → Told (told i.disk) (HasBytes i.frame i.begun)) →
+  pub rests_synced : (i : Opened D) → (i.failed ≡ false → IfTold (told i.disk) (HasBytes i.frame i.begun)) →
       IsSynced told moment may_leave i.disk → Rests told moment may_leave i
   rests_synced i has synced sound x is = bytes_held i.frame i.begun x _ (has sound x is) (synced x is)
 
@@ -129,7 +129,7 @@ module _ {D : Type 0} (bytes : D → Option (List ℕ)) (moment : D → ℕ) (ma
   -- the heap that was read, of a disk whose open batches were put back
   pub loaded : (f : Frame) (count : ℕ) (heap y : List ℕ) (first old new : D) →
       is_some (bytes old) ≡ is_some (bytes first) → Both (bytes first) (bytes old) (PutsBack f count) →
-      Reads bytes moment may_leave old new → Told (bytes old) (λ z. heap ≡ heap_of f z) → bytes new ≡ Some y →
+      Reads bytes moment may_leave old new → IfTold (bytes old) (λ z. heap ≡ heap_of f z) → bytes new ≡ Some y →
       HasBytes f heap y
   loaded f count heap y first old new tells back reads given is =
       let was : bytes old ≡ Some y = sym reads.same ∙ is in
@@ -139,7 +139,7 @@ module _ {D : Type 0} (bytes : D → Option (List ℕ)) (moment : D → ℕ) (ma
 
 -- what opening gives is what was read
 pub opened_heap : (old new : Option (List ℕ)) (f : Frame) (count : ℕ) (bytes x : List ℕ) →
-    is_some new ≡ is_some old → Both old new (PutsBack f count) → Told new (HasBytes f bytes) →
+    is_some new ≡ is_some old → Both old new (PutsBack f count) → IfTold new (HasBytes f bytes) →
     old ≡ Some x → put_back_of x ≡ Some bytes
 opened_heap old new f count bytes x tells back holds is =
     let t = told_before new old x (sym tells) is in (back x is t.x t.is).gives ∙ ap Some (holds t.x t.is).heap

@@ -8,7 +8,7 @@ use Rattle.std.proofs.lemmas.Bool.Decides.{nat_tests}
 use Rattle.std.proofs.lemmas.List.{length-map}
 use Rattle.std.proofs.lemmas.List.Sorted.{length_permutation}
 use Rattle.sdr_disk.specs.Moments.{AtEach, Only}
-use Rattle.sdr_disk.specs.Told.{Both, Told}
+use Rattle.sdr_disk.specs.Told.{Both, IfTold}
 use Rattle.sdr_log.specs.Calls.{AreBelow, AreNamed, HasPlace, HoldLines}
 use Rattle.sdr_log.specs.Frame.{IsInLimits}
 use Rattle.sdr_log.specs.Log.{AreLines, are_good, heap_of, put_back_of, put_records}
@@ -151,7 +151,7 @@ pub Saves-from : {D : Type 0} (told : D → Option (List ℕ)) (moment : D → �
     f ≡ old.frame → bytes ≡ old.bytes → put_records olds bytes ≡ old.begun → lines_named olds ≡ old.touched →
     are_good f.heap_lines olds ≡ true → AreLines olds → length bytes ≡ 64 * f.heap_lines →
     (old.touched ≢ [] → Both (told disk) (told new.disk) (HasChanged f olds bytes)) →
-    Told (told new.disk) (HasBytes f bytes) → (old.touched ≢ [] → Rests told moment may_leave new) →
+    IfTold (told new.disk) (HasBytes f bytes) → (old.touched ≢ [] → Rests told moment may_leave new) →
     Saves told moment may_leave old new
 Saves-from told moment may_leave old new disk f bytes olds disk_is f_is bytes_is begun_is touched_is good whole long
     written holds rests =

@@ -5,7 +5,7 @@ use Rattle.sdr_base.specs.declared.line.TheConstants.{LINE}
 use Rattle.sdr_base.specs.declared.stop.Stop.{Stop}
 use Rattle.sdr_base.specs.declared.stop.Stop.TheVariants.{DiskFault}
 use Rattle.sdr_disk.specs.Moments.{AtEach}
-use Rattle.sdr_disk.specs.Told.{Told}
+use Rattle.sdr_disk.specs.Told.{IfTold}
 use Rattle.sdr_log.specs.Frame.{IsInLimits, room_of, disk_bytes}
 use Rattle.sdr_log.specs.Log.{are_good, AreLines, first_gate, put_records, heap_of}
 use Rattle.sdr_log.specs.Logged.{Gives, HasRegions, IsAtRest}
@@ -66,12 +66,12 @@ pub record HoldsHeap (f : Frame) (bytes disk : List ℕ) (left : List ℕ → Ty
 abbrev pub LeavesHeap : {D : Type 0} → (D → Option (List ℕ)) → (D → ℕ) → (D → ℕ → List ℕ → Type 0) → List ℕ → D
     → Type 0
 LeavesHeap told moment may_leave bytes disk =
-    Told (told disk) (λ _. (image : List ℕ) → may_leave disk (moment disk) image → Gives bytes image)
+    IfTold (told disk) (λ _. (image : List ℕ) → may_leave disk (moment disk) image → Gives bytes image)
 
 -- the disk of an image is at rest, with the bytes at begin in its heap region, unless it has failed
 abbrev pub Rests : {D : Type 0} → (D → Option (List ℕ)) → (D → ℕ) → (D → ℕ → List ℕ → Type 0) → Opened D → Type 0
 Rests told moment may_leave i =
-    i.failed ≡ false → Told (told i.disk) (λ x. HoldsHeap i.frame i.begun x (may_leave i.disk (moment i.disk)))
+    i.failed ≡ false → IfTold (told i.disk) (λ x. HoldsHeap i.frame i.begun x (may_leave i.disk (moment i.disk)))
 
 -- where the disk of an image rests, it still does later; and at each moment up to then a crash leaves what gives the
 -- bytes at begin, where the disk had not failed before
@@ -79,7 +79,7 @@ pub record KeepsBegun {D : Type 0} (told : D → Option (List ℕ)) (moment : D 
     (old new : Opened D) : Type 0 where
   pub rests : Rests told moment may_leave old → Rests told moment may_leave new
   pub any_moment : old.failed ≡ false → Rests told moment may_leave old →
-      Told (told old.disk) (λ _. AtEach moment may_leave old.disk new.disk (Gives old.begun))
+      IfTold (told old.disk) (λ _. AtEach moment may_leave old.disk new.disk (Gives old.begun))
 
 -- what each image keeps: its lengths, its old lines, and memory for a commit; and unless its disk has failed, that
 -- this has the heap at begin and no open batch
@@ -95,4 +95,4 @@ pub record IsImage (size : ℕ) (told : Option (List ℕ)) (f : Frame) (bytes : 
   pub whole : AreLines undo.olds
   pub reserved : room_of f ≤ memory
   pub idle : is_open ≡ false → undo.olds ≡ []
-  pub disk : failed ≡ false → Told told (HasBytes f (put_records undo.olds bytes))
+  pub disk : failed ≡ false → IfTold told (HasBytes f (put_records undo.olds bytes))

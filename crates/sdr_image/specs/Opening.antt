@@ -4,7 +4,7 @@ use Rattle.sdr_base.specs.Causes.{Rose}
 use Rattle.sdr_base.specs.Parts.{part}
 use Rattle.sdr_base.specs.declared.line.TheConstants.{LINE}
 use Rattle.sdr_disk.specs.Moments.{Only}
-use Rattle.sdr_disk.specs.Told.{Both, Told}
+use Rattle.sdr_disk.specs.Told.{Both, IfTold}
 use Rattle.sdr_log.specs.Calls.{KeepsDisk, PutsBack}
 use Rattle.sdr_log.specs.Frame.{IsInLimits, frame_of, room_of}
 use Rattle.sdr_log.specs.Log.{put_back_of}
@@ -56,10 +56,10 @@ MayBeOpened x left = Only x left ⊎ IsStopped x left
 pub record IsOpened {D : Type 0} (told : D → Option (List ℕ)) (moment : D → ℕ) (may_leave : D → ℕ → List ℕ → Type 0)
     (disk : D) (i : Opened D) : Type 0 where
   pub limits : IsInLimits i.frame
-  pub head : Told (told disk) (λ x. frame_of (part 0 LINE x) ≡ Some i.frame)
-  pub heap : Told (told disk) (λ x. put_back_of x ≡ Some i.bytes)
+  pub head : IfTold (told disk) (λ x. frame_of (part 0 LINE x) ≡ Some i.frame)
+  pub heap : IfTold (told disk) (λ x. put_back_of x ≡ Some i.bytes)
   pub back : Both (told disk) (told i.disk) (PutsBack i.frame i.restored)
-  pub rests : Told (told disk) (λ x. MayBeOpened x (may_leave disk (moment disk))) → Rests told moment may_leave i
+  pub rests : IfTold (told disk) (λ x. MayBeOpened x (may_leave disk (moment disk))) → Rests told moment may_leave i
   pub begun : i.begun ≡ i.bytes
   pub touched : i.touched ≡ []
   pub closed : i.is_open ≡ false

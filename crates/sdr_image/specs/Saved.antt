@@ -2,7 +2,7 @@
 use Rattle.std.specs.Prelude.{◌≡◌, ◌≢◌, ◌≤◌, ◌<◌, ◌+◌, ◌*◌, ℕ, zero, suc, true, List, [], length}
 use Rattle.std.specs.Prelude.{Option, Some}
 use Rattle.sdr_base.specs.declared.line.TheConstants.{LINE}
-use Rattle.sdr_disk.specs.Told.{Both, Told}
+use Rattle.sdr_disk.specs.Told.{Both, IfTold}
 use Rattle.sdr_log.specs.Batch.{batch_size}
 use Rattle.sdr_log.specs.Frame.{room_of}
 use Rattle.sdr_log.specs.Log.{AreLines, are_good, put_back_of}
@@ -31,7 +31,7 @@ pub record Saves {D : Type 0} (told : D → Option (List ℕ)) (moment : D → �
     (old new : Opened D) : Type 0 where
   pub written : old.touched ≢ [] → Both (told old.disk) (told new.disk)
       (HasChanged old.frame (lines_in old.begun old.touched) old.bytes)
-  pub back : Told (told new.disk) (λ x. put_back_of x ≡ Some old.bytes)
+  pub back : IfTold (told new.disk) (λ x. put_back_of x ≡ Some old.bytes)
   pub rests : old.touched ≢ [] → Rests told moment may_leave new
 
 -- how many writes and syncs the end of a transaction that touched so many lines makes at most: one for each and seven

@@ -3,7 +3,7 @@ ghost use Rattle.std.specs.Prelude.{◌≡◌, ◌≤◌, ◌+◌, ◌*◌, ◌�
 ghost use Rattle.sdr_base.specs.Causes.{HasCause};
 ghost use Rattle.sdr_disk.specs.Moments.{AtEach};
 ghost use Rattle.sdr_disk.specs.Pending.{IsSynced};
-ghost use Rattle.sdr_disk.specs.Told.{Both, Told};
+ghost use Rattle.sdr_disk.specs.Told.{Both, IfTold};
 ghost use Rattle.sdr_log.specs.Calls.{AreBelow, AreNamed, HasPlace, HoldLines, KeepsDisk};
 ghost use Rattle.sdr_log.specs.Frame.{LieInside};
 ghost use Rattle.sdr_log.specs.Log.{AreLines, are_good, heap_of, put_records};
@@ -29,7 +29,7 @@ pub fn change_lines<D: Disk>(
     requires below { AreBelow frame.heap_lines news.now }
     requires named { AreNamed olds.now news.now }
 
-    ensures written { OnOk result (Told (D.bytes disk.old)
+    ensures written { OnOk result (IfTold (D.bytes disk.old)
         (λ x. D.bytes disk.new ≡ Some (changed frame olds.now news.now x))) }
     ensures cause { HasCause (D.faults disk.old) (D.faults disk.new) result }
 
@@ -41,7 +41,7 @@ pub fn change_lines<D: Disk>(
     ensures synced { OnOk result (IsSynced D.bytes D.moment D.may_leave disk.new) }
     ensures calls { D.moment disk.new ≤ D.moment disk.old + 2 * (length news.now + 7) }
     // A crash leaves all lines as they were, or all as they are now.
-    ensures any_moment { Told (D.bytes disk.old)
+    ensures any_moment { IfTold (D.bytes disk.old)
         (λ x. IsAtRest frame x (D.may_leave disk.old (D.moment disk.old))
         → HoldLines (heap_of frame x) olds.now
         → AtEach D.moment D.may_leave disk.old disk.new

@@ -5,7 +5,7 @@ ghost use Rattle.sdr_base.specs.Causes.{HasCause};
 ghost use Rattle.sdr_base.specs.FreshHeap.{fresh_heap};
 ghost use Rattle.sdr_base.specs.Parts.{overwrite};
 ghost use Rattle.sdr_disk.specs.Moments.{Only};
-ghost use Rattle.sdr_disk.specs.Told.{Told};
+ghost use Rattle.sdr_disk.specs.Told.{IfTold};
 ghost use Rattle.sdr_log.specs.Frame.{IsInLimits, disk_bytes, heap_place, head_of};
 ghost use Rattle.sdr_image.specs.Format.{formatted, HasFormatCause, IfTooSmall};
 
@@ -19,7 +19,7 @@ use sdr_log::Frame;
 // Step 1: no head, so that from here on the disk gives no heap.
 fn erase_head<D: Disk>(disk: &mut D) -> Result<(), DiskFault>
     requires { 64 ≤ D.size disk.old }
-    ensures written { OnOk result (Told (D.bytes disk.old)
+    ensures written { OnOk result (IfTold (D.bytes disk.old)
         (λ x. D.bytes disk.new ≡ Some (overwrite 0 (replicate 64 0) x))) }
     ensures tells { is_some (D.bytes disk.new) ≡ is_some (D.bytes disk.old) }
     ensures size { D.size disk.new ≡ D.size disk.old }
@@ -33,7 +33,7 @@ fn erase_head<D: Disk>(disk: &mut D) -> Result<(), DiskFault>
 fn write_heap<D: Disk>(disk: &mut D, frame: &Frame) -> Result<(), DiskFault>
     requires limits { IsInLimits frame.now }
     requires inside { disk_bytes frame.now ≤ D.size disk.old }
-    ensures written { OnOk result (Told (D.bytes disk.old) (λ x. D.bytes disk.new
+    ensures written { OnOk result (IfTold (D.bytes disk.old) (λ x. D.bytes disk.new
         ≡ Some (overwrite (heap_place frame.now) (fresh_heap frame.now.heap_lines) x))) }
     ensures tells { is_some (D.bytes disk.new) ≡ is_some (D.bytes disk.old) }
     ensures size { D.size disk.new ≡ D.size disk.old }
@@ -52,7 +52,7 @@ fn write_heap<D: Disk>(disk: &mut D, frame: &Frame) -> Result<(), DiskFault>
 fn write_regions<D: Disk>(disk: &mut D, frame: &Frame) -> Result<(), DiskFault>
     requires limits { IsInLimits frame.now }
     requires inside { disk_bytes frame.now ≤ D.size disk.old }
-    ensures written { OnOk result (Told (D.bytes disk.old) (λ x. D.bytes disk.new
+    ensures written { OnOk result (IfTold (D.bytes disk.old) (λ x. D.bytes disk.new
         ≡ Some (overwrite (heap_place frame.now) (fresh_heap frame.now.heap_lines)
         (overwrite LINE (0 ∷ []) x)))) }
     ensures tells { is_some (D.bytes disk.new) ≡ is_some (D.bytes disk.old) }
@@ -68,12 +68,12 @@ fn write_regions<D: Disk>(disk: &mut D, frame: &Frame) -> Result<(), DiskFault>
 fn write_head<D: Disk>(disk: &mut D, frame: &Frame) -> Result<(), DiskFault>
     requires limits { IsInLimits frame.now }
     requires inside { disk_bytes frame.now ≤ D.size disk.old }
-    ensures written { OnOk result (Told (D.bytes disk.old)
+    ensures written { OnOk result (IfTold (D.bytes disk.old)
         (λ x. D.bytes disk.new ≡ Some (overwrite 0 (head_of frame.now) x))) }
     ensures tells { is_some (D.bytes disk.new) ≡ is_some (D.bytes disk.old) }
     ensures size { D.size disk.new ≡ D.size disk.old }
     ensures cause { HasCause (D.faults disk.old) (D.faults disk.new) result }
-    ensures durable { OnOk result (Told (D.bytes disk.new)
+    ensures durable { OnOk result (IfTold (D.bytes disk.new)
         (λ x. Only x (D.may_leave disk.new (D.moment disk.new)))) }
 {
     disk.write_at(0, &frame.head())?;
@@ -85,10 +85,10 @@ fn write_head<D: Disk>(disk: &mut D, frame: &Frame) -> Result<(), DiskFault>
 /// again.
 pub fn format<D: Disk>(disk: &mut D, frame: Frame) -> Result<(), FormatError>
     requires { IsInLimits frame }
-    ensures formatted { OnOk result (Told (D.bytes disk.old)
+    ensures formatted { OnOk result (IfTold (D.bytes disk.old)
         (λ x. D.bytes disk.new ≡ Some (formatted frame x))) }
 
-    ensures durable { OnOk result (Told (D.bytes disk.new)
+    ensures durable { OnOk result (IfTold (D.bytes disk.new)
         (λ x. Only x (D.may_leave disk.new (D.moment disk.new)))) }
 
     ensures same { IfTooSmall result (disk.new ≡ disk.old) }

@@ -7,7 +7,7 @@ ghost use Rattle.sdr_base.specs.Cells.{is_among, with_lines, lines_of};
 ghost use Rattle.sdr_base.specs.Parts.{overwrite};
 ghost use Rattle.sdr_base.specs.Transaction.{HasReason, IfRefused};
 ghost use Rattle.sdr_disk.specs.Moments.{AtEach, Reads};
-ghost use Rattle.sdr_disk.specs.Told.{Told};
+ghost use Rattle.sdr_disk.specs.Told.{IfTold};
 ghost use Rattle.sdr_log.specs.Calls.{KeepsDisk};
 ghost use Rattle.sdr_log.specs.Frame.{room_of};
 ghost use Rattle.sdr_log.specs.Log.{first_gate, put_back_of};
@@ -80,13 +80,13 @@ impl<D: Disk> Image<D> {
     pub fn open(alloc: Global, mut disk: D) -> Result<Image<D>, ImageShut<D>>
         ensures opened { IfOk result (IsOpened D.bytes D.moment D.may_leave disk) }
         ensures not_formatted { IfErr result (λ shut. OnNotFormatted shut.why
-            (Told (D.bytes disk) (λ x. put_back_of x ≡ None))) }
+            (IfTold (D.bytes disk) (λ x. put_back_of x ≡ None))) }
         ensures disk { Returns D.size D.bytes D.faults disk result }
-        ensures quiet { Told (D.bytes disk) (λ x. first_gate x ≡ 0
+        ensures quiet { IfTold (D.bytes disk) (λ x. first_gate x ≡ 0
             → Reads D.bytes D.moment D.may_leave disk (disk_in result)) }
         ensures calls { IfOk result (λ i.
             D.moment i.disk ≤ D.moment disk + 2 * (i.restored + 3)) }
-        ensures any_moment { Told (D.bytes disk)
+        ensures any_moment { IfTold (D.bytes disk)
             (λ x. MayBeOpened x (D.may_leave disk (D.moment disk))
             → AtEach D.moment D.may_leave disk (disk_in result) (GivesSame x)) }
     {
@@ -215,7 +215,7 @@ impl<D: Disk> Image<D> {
           touched = [];
           is_open = false;
         }) }
-        ensures back { OnOk result (Told (D.bytes self.new.disk) (Gives self.old.begun)) }
+        ensures back { OnOk result (IfTold (D.bytes self.new.disk) (Gives self.old.begun)) }
         ensures rests { Rests D.bytes D.moment D.may_leave self.old
             → Rests D.bytes D.moment D.may_leave self.new }
 
@@ -229,7 +229,7 @@ impl<D: Disk> Image<D> {
         ensures calls { D.moment self.new.disk
             ≤ D.moment self.old.disk + 2 * calls_of (length self.old.touched) }
         ensures any_moment { self.old.failed ≡ false → Rests D.bytes D.moment D.may_leave self.old
-            → Told (D.bytes self.old.disk)
+            → IfTold (D.bytes self.old.disk)
             (λ _. AtEach D.moment D.may_leave self.old.disk self.new.disk (Gives self.old.begun)) }
     {
         let lines = self.frame.heap_lines;
@@ -267,7 +267,7 @@ impl<D: Disk> Image<D> {
         ensures calls { D.moment self.new.disk
             ≤ D.moment self.old.disk + 2 * calls_of (length self.old.touched) }
         ensures any_moment { self.old.failed ≡ false → Rests D.bytes D.moment D.may_leave self.old
-            → Told (D.bytes self.old.disk)
+            → IfTold (D.bytes self.old.disk)
             (λ _. AtEach D.moment D.may_leave self.old.disk self.new.disk
             (GivesEither self.old.begun self.old.bytes)) }
     {
@@ -304,7 +304,7 @@ impl<D: Disk> Image<D> {
         ensures calls { D.moment self.new.disk
             ≤ D.moment self.old.disk + 2 * (length self.old.touched + 7) }
         ensures any_moment { Rests D.bytes D.moment D.may_leave self.old
-            → Told (D.bytes self.old.disk)
+            → IfTold (D.bytes self.old.disk)
             (λ _. AtEach D.moment D.may_leave self.old.disk self.new.disk
             (GivesEither self.old.begun self.old.bytes)) }
     {

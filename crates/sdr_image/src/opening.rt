@@ -3,7 +3,7 @@ ghost use Rattle.std.specs.Prelude.{◌≡◌, ◌≤◌, ◌<◌, ◌+◌, ◌*
 ghost use Rattle.sdr_base.specs.Causes.{HasCause};
 ghost use Rattle.sdr_disk.specs.Moments.{AtEach, Reads};
 ghost use Rattle.sdr_disk.specs.Pending.{IsSynced};
-ghost use Rattle.sdr_disk.specs.Told.{Both, Told};
+ghost use Rattle.sdr_disk.specs.Told.{Both, IfTold};
 ghost use Rattle.sdr_log.specs.Calls.{IsFramed, KeepsDisk, PutsBack};
 ghost use Rattle.sdr_log.specs.Frame.{IsInLimits, disk_bytes};
 ghost use Rattle.sdr_log.specs.Log.{first_gate, heap_of, put_back_of};
@@ -61,18 +61,18 @@ fn restore<D: Disk>(alloc: Global, disk: &mut D, frame: Frame) -> Result<u64, Im
     ensures back { IfOk result (λ count. Both (D.bytes disk.old) (D.bytes disk.new)
         (PutsBack frame count)) }
     ensures not_formatted { IfErr result (λ why. OnNotFormatted why
-        (Told (D.bytes disk.old) (λ x. put_back_of x ≡ None))) }
+        (IfTold (D.bytes disk.old) (λ x. put_back_of x ≡ None))) }
     ensures cause { HasImageCause (D.faults disk.old) (D.faults disk.new) result }
     ensures disk { KeepsDisk D.size D.bytes disk.old disk.new }
     ensures same { IfErr result (λ why. UnlessFault why (D.bytes disk.new ≡ D.bytes disk.old)) }
-    ensures synced { OnOk result (Told (D.bytes disk.old)
+    ensures synced { OnOk result (IfTold (D.bytes disk.old)
         (λ x. MayBeOpened x (D.may_leave disk.old (D.moment disk.old))
         → IsSynced D.bytes D.moment D.may_leave disk.new)) }
-    ensures quiet { Told (D.bytes disk.old) (λ x. first_gate x ≡ 0
+    ensures quiet { IfTold (D.bytes disk.old) (λ x. first_gate x ≡ 0
         → Reads D.bytes D.moment D.may_leave disk.old disk.new) }
     ensures calls { IfOk result (λ count.
         D.moment disk.new ≤ D.moment disk.old + 2 * (count + 3)) }
-    ensures any_moment { Told (D.bytes disk.old)
+    ensures any_moment { IfTold (D.bytes disk.old)
         (λ x. MayBeOpened x (D.may_leave disk.old (D.moment disk.old))
         → AtEach D.moment D.may_leave disk.old disk.new (GivesSame x)) }
 {
@@ -89,7 +89,7 @@ fn read_heap<D: Disk>(disk: &mut D, frame: &Frame, mut bytes: Vec<u8>) -> Result
     requires limits { IsInLimits frame.now }
     requires fits { disk_bytes frame.now ≤ D.size disk.old }
     requires long { length bytes.items ≡ LINE * frame.now.heap_lines }
-    ensures given { IfOk result (λ region. Told (D.bytes disk.old)
+    ensures given { IfOk result (λ region. IfTold (D.bytes disk.old)
         (λ x. region ≡ heap_of frame.now x)) }
     ensures long { IfOk result (λ region. length region ≡ LINE * frame.now.heap_lines) }
     ensures cause { HasCause (D.faults disk.old) (D.faults disk.new) result }
@@ -107,22 +107,22 @@ pub fn load<D: Disk>(alloc: Global, disk: &mut D) -> Result<Loaded, ImageError>
     ensures back { IfOk result (λ l. Both (D.bytes disk.old) (D.bytes disk.new)
         (PutsBack l.frame l.restored)) }
     ensures ready { IfOk result (λ l. IsReserved l.frame (length l.bytes) l.undo l.saving) }
-    ensures bytes { IfOk result (λ l. Told (D.bytes disk.new) (HasBytes l.frame l.bytes)) }
-    ensures synced { OnOk result (Told (D.bytes disk.old)
+    ensures bytes { IfOk result (λ l. IfTold (D.bytes disk.new) (HasBytes l.frame l.bytes)) }
+    ensures synced { OnOk result (IfTold (D.bytes disk.old)
         (λ x. MayBeOpened x (D.may_leave disk.old (D.moment disk.old))
         → IsSynced D.bytes D.moment D.may_leave disk.new)) }
 
     ensures not_formatted { IfErr result (λ why. OnNotFormatted why
-        (Told (D.bytes disk.old) (λ x. put_back_of x ≡ None))) }
+        (IfTold (D.bytes disk.old) (λ x. put_back_of x ≡ None))) }
     ensures cause { HasImageCause (D.faults disk.old) (D.faults disk.new) result }
     ensures same { IfErr result (λ why. UnlessFault why (D.bytes disk.new ≡ D.bytes disk.old)) }
 
     ensures disk { KeepsDisk D.size D.bytes disk.old disk.new }
-    ensures quiet { Told (D.bytes disk.old) (λ x. first_gate x ≡ 0
+    ensures quiet { IfTold (D.bytes disk.old) (λ x. first_gate x ≡ 0
         → Reads D.bytes D.moment D.may_leave disk.old disk.new) }
     ensures calls { IfOk result (λ l.
         D.moment disk.new ≤ D.moment disk.old + 2 * (l.restored + 3)) }
-    ensures any_moment { Told (D.bytes disk.old)
+    ensures any_moment { IfTold (D.bytes disk.old)
         (λ x. MayBeOpened x (D.may_leave disk.old (D.moment disk.old))
         → AtEach D.moment D.may_leave disk.old disk.new (GivesSame x)) }
 {

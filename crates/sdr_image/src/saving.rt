@@ -5,7 +5,7 @@ ghost use Rattle.std.specs.List.Sorted.{IsNonDecreasingBy};
 ghost use Rattle.sdr_base.specs.Causes.{HasCause};
 ghost use Rattle.sdr_disk.specs.Moments.{AtEach};
 ghost use Rattle.sdr_disk.specs.Pending.{IsSynced};
-ghost use Rattle.sdr_disk.specs.Told.{Both, Told};
+ghost use Rattle.sdr_disk.specs.Told.{Both, IfTold};
 ghost use Rattle.sdr_log.specs.Calls.{AreBelow, KeepsDisk};
 ghost use Rattle.sdr_log.specs.Frame.{LieInside};
 ghost use Rattle.sdr_log.specs.Log.{put_records};
@@ -117,7 +117,7 @@ impl Saving {
             → HasBytes frame region.now y)) }
         ensures synced { OnOk result (IsSynced D.bytes D.moment D.may_leave disk.new) }
         ensures calls { D.moment disk.new ≤ D.moment disk.old + 2 * (length olds.now + 7) }
-        ensures any_moment { Told (D.bytes disk.old)
+        ensures any_moment { IfTold (D.bytes disk.old)
             (λ x. HoldsHeap frame (put_records olds.now region.now) x
             (D.may_leave disk.old (D.moment disk.old))
             → AtEach D.moment D.may_leave disk.old disk.new

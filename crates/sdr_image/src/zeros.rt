@@ -2,7 +2,7 @@
 ghost use Rattle.std.specs.Prelude.{◌≡◌, ◌≤◌, ◌<◌, ◌+◌, ◌^◌, replicate, OnOk, Some, is_some};
 ghost use Rattle.sdr_base.specs.Causes.{HasCause};
 ghost use Rattle.sdr_base.specs.Parts.{overwrite};
-ghost use Rattle.sdr_disk.specs.Told.{Told};
+ghost use Rattle.sdr_disk.specs.Told.{IfTold};
 
 use sdr_disk::{Disk, DiskFault};
 
@@ -13,7 +13,7 @@ const PIECE: usize = 4096;
 fn write_few_zeros<D: Disk>(disk: &mut D, place: u64, count: u64) -> Result<(), DiskFault>
     requires few { count ≤ PIECE }
     requires inside { place + count ≤ D.size disk.old }
-    ensures written { OnOk result (Told (D.bytes disk.old)
+    ensures written { OnOk result (IfTold (D.bytes disk.old)
         (λ x. D.bytes disk.new ≡ Some (overwrite place (replicate count 0) x))) }
     ensures tells { is_some (D.bytes disk.new) ≡ is_some (D.bytes disk.old) }
     ensures size { D.size disk.new ≡ D.size disk.old }
@@ -28,7 +28,7 @@ fn write_few_zeros<D: Disk>(disk: &mut D, place: u64, count: u64) -> Result<(), 
 pub fn write_zeros<D: Disk>(disk: &mut D, place: u64, count: u64) -> Result<(), DiskFault>
     requires inside { place + count ≤ D.size disk.old }
     requires fits { place + count < 2 ^ 64 }
-    ensures written { OnOk result (Told (D.bytes disk.old)
+    ensures written { OnOk result (IfTold (D.bytes disk.old)
         (λ x. D.bytes disk.new ≡ Some (overwrite place (replicate count 0) x))) }
     ensures tells { is_some (D.bytes disk.new) ≡ is_some (D.bytes disk.old) }
     ensures size { D.size disk.new ≡ D.size disk.old }

@@ -11,7 +11,7 @@ use Rattle.sdr_lock.proofs.StepLemmas.{IsCalled, Kind, step_is}
 use Rattle.sdr_lock.specs.Core.{Core, RunsCore, first_core}
 use Rattle.sdr_lock.specs.Ground.{Ground, HasHeap, State, StepsBare, StepsOn, bare}
 use Rattle.sdr_lock.specs.Machine.{Machine, Made}
-use Rattle.sdr_lock.specs.Transaction.{Transaction, left_by}
+use Rattle.sdr_lock.specs.Transaction.{OpenTransaction, left_by}
 use Rattle.sdr_model.specs.Accounts.{ticket_blocks}
 use Rattle.sdr_model.specs.Blocks.{addresses_of, blocks_of, things_blocks}
 use Rattle.sdr_model.specs.Dry.{StepsDry, StopsReading}
@@ -87,7 +87,7 @@ called_sound m m' e sound c =
     let done = c.replies.done in
     let bare_steps : StepsBare m.now c.call done = subst (λ (g : Ground). StepsOn g m.now c.call done) sound.now_bare c.replies.steps in
     let f = reply_follows m.now.world done.after.world c.call done.moves done.reply sound.current.valid bare_steps.step in
-    sound_in m' m.before done.after c.before (c.now ∙ ap (λ (t : Transaction). t.state) c.replies.after) sound.before_bare bare_steps.base
+    sound_in m' m.before done.after c.before (c.now ∙ ap (λ (t : OpenTransaction). t.state) c.replies.after) sound.before_bare bare_steps.base
     sound.world (record { valid = f.valid; order = omega (arith, f.order, sound.current.order) })
 
 kind_sound : (m m' : Machine) (e : Made) → IsSound m → Kind m e m' → IsSound m'

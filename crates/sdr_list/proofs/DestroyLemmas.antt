@@ -77,16 +77,6 @@ stopped new DiskFault s u = tt
 stopped new MediaFault s u = absurd u
 stopped new Failed s u = tt
 
--- an answer's value doesn't matter
-pub works_ok : {S T U : Type 0} {m : Ghosts S} {lines : ℕ} {a b : S} {v : T} {u : U} → Works m lines a b (Ok v) → Works m lines a b (Ok u)
-works_ok w = record {
-  kept = w.kept;
-  moved = w.moved;
-  room = record { room = w.room.room; kept = w.room.kept; most = w.room.most; full = w.room.full };
-  cause = record { later = w.cause.later; explained = w.cause.explained };
-  quiet = w.quiet;
-}
-
 -- at the end all were given back
 pub ended : {old now : Heap} {first count cursor i : ℕ} → Gives old now first count cursor i → i ≡ count → GivesChain old now first count
 ended {old} {now} {first} {count} {cursor} {i} s e = record {

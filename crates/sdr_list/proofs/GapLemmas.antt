@@ -13,7 +13,7 @@ use Rattle.sdr_base.proofs.LinkedLemmas.{first-append, last-append, linked-appen
 use Rattle.sdr_base.proofs.StandingLemmas.{came, found, went}
 use Rattle.sdr_base.proofs.WritingLemmas.{block, reaches, word_set}
 use Rattle.sdr_list.specs.Gaps.{Gap, Opened, gap_entries}
-use Rattle.sdr_list.proofs.ChainLemmas.{last_holds, linked-around}
+use Rattle.sdr_base.proofs.ChainLemmas.{last_holds, linked-around}
 use Rattle.sdr_list.proofs.KeptLemmas.{words}
 
 -- a list with these elements

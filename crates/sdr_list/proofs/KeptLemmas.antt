@@ -19,7 +19,7 @@ use Rattle.sdr_base.proofs.HeapLemmas.{heap_blocks}
 use Rattle.sdr_base.proofs.WritingLemmas.{block, reaches, word_is, word_set}
 use Rattle.sdr_list.specs.Calls.{SetsInList, TellsOfElement, TellsOfList}
 use Rattle.sdr_list.specs.Kept.{IsSpot, Spot, addr_before, addr_from, elements_in}
-use Rattle.sdr_list.proofs.ChainLemmas.{linked_found}
+use Rattle.sdr_base.proofs.ChainLemmas.{linked_found}
 
 -- the words of a list's block, or of an element's
 abbrev pub words : ℕ → ℕ → ℕ → ℕ → List ℕ

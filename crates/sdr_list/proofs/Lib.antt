@@ -1,4 +1,3 @@
-pub mod ChainLemmas
 pub mod KeptLemmas
 mod LinkLemmas
 mod GapLemmas

@@ -20,7 +20,7 @@ use Rattle.sdr_list.specs.Calls.{InsertsBeside, InsertsInList}
 use Rattle.sdr_list.specs.Gaps.{FollowsIn, InsertsBetween, IsPlace, SomePlaceBehind}
 use Rattle.sdr_list.specs.Kept.{IsSpot, SomeList, Spot, with_element}
 use Rattle.sdr_list.specs.Orders.{FindsPlace, IsKey, ReadsKey, key_place}
-use Rattle.sdr_list.proofs.ChainLemmas.{last_holds}
+use Rattle.sdr_base.proofs.ChainLemmas.{last_holds}
 use Rattle.sdr_list.proofs.GapLemmas.{before_reaches}
 use Rattle.sdr_list.proofs.InsertLemmas.{at_place, gap_at}
 use Rattle.sdr_list.proofs.KeptLemmas.{first_fits, first_is, last_is, next_is, owner_is, previous_is, split_at, words}

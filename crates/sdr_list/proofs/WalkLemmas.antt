@@ -16,30 +16,6 @@ use Rattle.sdr_list.specs.Kept.{IsSpot, addr_before, addr_from}
 use Rattle.sdr_list.specs.Orders.{found_addr, place_behind}
 use Rattle.sdr_list.specs.Walks.{WalkedBack, WalkedOn}
 
--- one reading call after another
-pub looks_looks : {S T U : Type 0} {m : Ghosts S} {a b c : S} {v : U} {r : Result T Stop} → Looks m a b (Ok v) → Looks m b c r → Looks m a c r
-looks_looks f s = record {
-  same = s.same ∙ f.same;
-  kept = s.kept;
-  moved = λ begin led. s.moved begin (f.moved begin led);
-  touched = s.touched ∙ f.touched;
-  room = touches_then f.room s.room;
-  cause = reason_then f.cause s.cause;
-  quiet = λ begin q. s.quiet begin (f.quiet begin q);
-}
-
--- an answer's value doesn't matter
-pub looks_ok : {S T U : Type 0} {m : Ghosts S} {a b : S} {v : T} {u : U} → Looks m a b (Ok v) → Looks m a b (Ok u)
-looks_ok l = record {
-  same = l.same;
-  kept = l.kept;
-  moved = l.moved;
-  touched = l.touched;
-  room = record { room = l.room.room; kept = l.room.kept; most = l.room.most; full = l.room.full };
-  cause = record { later = l.cause.later; explained = l.cause.explained };
-  quiet = l.quiet;
-}
-
 pub take-append : {X : Type 0} (xs ys : List X) → take (length xs) (xs ++ ys) ≡ xs
 take-append xs ys = take-append-le (length xs) xs ys (omega arith) ∙ take_all (length xs) xs (omega arith)
 

@@ -15,7 +15,7 @@ use Rattle.sdr_lock.specs.Ground.{HasHeap}
 use Rattle.sdr_lock.specs.Machine.{Machine, Made, MachineStep, Answers, Closes, Comes, Enters, Faults, FaultsWithin, Goes, Holds, Looks, Serves, Works, is_outside, roll_acting, roll_coming, roll_failed, roll_holding}
 use Rattle.sdr_lock.specs.Nesting.{comes_to, deepened, deepest, doomed_for}
 use Rattle.sdr_lock.specs.Roll.{Roll, after_leave, daemon_of, is_stalled, served_number, waits_for, with_daemon, with_drawn, with_number}
-use Rattle.sdr_lock.specs.Transaction.{Replies, Transaction, Transacts, is_closing, is_opening, left_by, transaction_of}
+use Rattle.sdr_lock.specs.Transaction.{Replies, OpenTransaction, Transacts, is_closing, is_opening, left_by, transaction_of}
 use Rattle.sdr_lock.specs.declared.daemon.Daemon.{Daemon}
 use Rattle.sdr_lock.specs.declared.daemon.Holding.{Holding}
 use Rattle.sdr_lock.specs.declared.nesting.Nesting.{Nesting}
@@ -53,7 +53,7 @@ pub record IsCalled (m : Machine) (e : Made) (m' : Machine) : Type 0 where
   pub call : Call
   pub event : e.said.event ≡ events.Say call
   pub served : IsServed m.roll e.daemon
-  pub after : Transaction
+  pub after : OpenTransaction
   pub replies : Replies (transaction_of served.holding m.now) call e.said after
   pub before : m'.before ≡ m.before
   pub now : m'.now ≡ after.state
@@ -145,7 +145,7 @@ module _ (m : Machine) (e : Made) (m' : Machine) where
   kind_works d h events.Request is found left holds inside served works t = absurd t
   kind_works d h events.Begin is found left holds inside served works t =
       works_quiet d h _ works (record { moves = t.told.moves; bytes = t.told.bytes; untold = ap tells_media t.told.answer ∙ untold_deepened h.nesting })
-      (ap (λ (t : Transaction). t.state) t.after)
+      (ap (λ (t : OpenTransaction). t.state) t.after)
   kind_works d h (events.Say call) is found left holds inside served works t =
       from_option h.nesting.doom t
       (λ undoomed replies. record {
@@ -162,16 +162,16 @@ module _ (m : Machine) (e : Made) (m' : Machine) where
         });
       })
       (λ reason _ becomes. works_quiet d h _ works (record { moves = becomes.told.moves; bytes = becomes.told.bytes; untold = ap tells_media becomes.told.answer })
-      (ap (λ (t : Transaction). t.state) becomes.after))
+      (ap (λ (t : OpenTransaction). t.state) becomes.after))
   kind_works d h events.End is found left holds inside served works t =
-      works_quiet d h _ works (record { moves = t.told.moves; bytes = t.told.bytes; untold = ap tells_media t.told.answer }) (ap (λ (t : Transaction). t.state) t.after)
+      works_quiet d h _ works (record { moves = t.told.moves; bytes = t.told.bytes; untold = ap tells_media t.told.answer }) (ap (λ (t : OpenTransaction). t.state) t.after)
   kind_works d h events.Exit is found left holds inside served works t =
-      works_quiet d h _ works (record { moves = t.told.moves; bytes = t.told.bytes; untold = ap tells_media t.told.answer }) (ap (λ (t : Transaction). t.state) t.after)
+      works_quiet d h _ works (record { moves = t.told.moves; bytes = t.told.bytes; untold = ap tells_media t.told.answer }) (ap (λ (t : OpenTransaction). t.state) t.after)
   kind_works d h events.Cancel is found left holds inside served works t =
-      works_quiet d h _ works (record { moves = t.told.moves; bytes = t.told.bytes; untold = ap tells_media t.told.answer }) (ap (λ (t : Transaction). t.state) t.after)
+      works_quiet d h _ works (record { moves = t.told.moves; bytes = t.told.bytes; untold = ap tells_media t.told.answer }) (ap (λ (t : OpenTransaction). t.state) t.after)
   kind_works d h (events.Look ticket) is found left holds inside served works t =
       works_quiet d h _ works (record { moves = t.told.moves; bytes = t.told.bytes; untold = ap tells_media t.told.answer })
-      (ap (λ (t : Transaction). t.state) t.after)
+      (ap (λ (t : OpenTransaction). t.state) t.after)
   kind_works d h (events.Leaves leave) is found left holds inside served works t = absurd t
 
   kind_serves : (d : Daemon) (h : Holding) (event : Event) → e.said.event ≡ event → daemon_of m.roll e.daemon ≡ Some d → d.left ≡ false → d.holds ≡ Some h

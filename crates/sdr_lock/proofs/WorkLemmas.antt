@@ -23,7 +23,7 @@ use Rattle.sdr_lock.specs.Nesting.{Inner, closing, noted}
 use Rattle.sdr_lock.specs.Roll.{MayDraw, Roll, after_number, after_entry, after_wait, at_nesting, daemon_of, held_by, is_stalled, served_number, waits_for, with_daemon, with_drawn}
 use Rattle.sdr_lock.specs.Serving.{Settles, after_look, answer_seen, machine_at, sight, waiting_answer}
 use Rattle.sdr_lock.specs.Standing.{Standing}
-use Rattle.sdr_lock.specs.Transaction.{Nests, Transaction, Transacts, IsAnswered, asks_disk, bytes_given, is_closing, left_by, refused, transaction_of}
+use Rattle.sdr_lock.specs.Transaction.{Nests, OpenTransaction, Transacts, IsAnswered, asks_disk, bytes_given, is_closing, left_by, refused, transaction_of}
 use Rattle.sdr_lock.specs.declared.daemon.Daemon.{Daemon}
 use Rattle.sdr_lock.specs.declared.daemon.Holding.{Holding}
 use Rattle.sdr_lock.specs.declared.nesting.Nesting.{Nesting}
@@ -55,11 +55,11 @@ closes_outermost P Q S b e (inr s) = inr s
 
 -- An inner event of the served transaction.
 pub works_nests : (m m' : Machine) (d : Daemon) (h : Holding) (event : Event) (e : Made) (inner : Inner)
-    → ((said : Said) (t' : Transaction) → Nests (transaction_of h m.now) said t' inner → Transacts (transaction_of h m.now) event said t')
+    → ((said : Said) (t' : OpenTransaction) → Nests (transaction_of h m.now) said t' inner → Transacts (transaction_of h m.now) event said t')
     → Goes e m' inner.answer (with_roll m (with_daemon m.roll (at_nesting d h inner.after)))
     → Works m d h event e m'
 works_nests m m' d h event e inner transacts goes =
-    let t' : Transaction = record { number = h.number; nesting = inner.after; state = m.now } in
+    let t' : OpenTransaction = record { number = h.number; nesting = inner.after; state = m.now } in
     record { after = t'; transacts = transacts e.said t' (record { told = goes.told; after = refl }); others = goes.after }
 
 -- A call of a doomed transaction is refused.
@@ -94,7 +94,7 @@ works_called m m' d h call reply e v' sound steps answer moves bytes is = record
 }
 
 -- The disk is asked for an event that closes its transaction.
-pub asks_closing : (t : Transaction) (event : Event) → is_closing t event ≡ true → asks_disk t event ≡ true
+pub asks_closing : (t : OpenTransaction) (event : Event) → is_closing t event ≡ true → asks_disk t event ≡ true
 asks_closing t events.Request closes = closes
 asks_closing t events.Begin closes = closes
 asks_closing t (events.Say call) closes = absurd (true≢false (sym closes))

@@ -78,8 +78,8 @@ is_failed (answers.Reply (replies.Failed moment)) = true
 is_failed answer = false
 
 -- what was said stands in no transaction
-abbrev pub is_outside : Said → Bool
-is_outside said = is_passed_over said.event said.answer || is_failed said.answer
+abbrev pub was_outside : Said → Bool
+was_outside said = is_passed_over said.event said.answer || is_failed said.answer
 
 -- all that the daemon has said in its transaction, with this as the last
 abbrev pub all_said : List Work → ℕ → Said → List Said
@@ -136,7 +136,7 @@ entry_of number e what = record { number = number; daemon = e.daemon; begun = e.
 -- what is kept after an event
 abbrev pub log_after : Under → Log → Made → Log
 log_after u log e = record {
-  works = if is_outside e.said then log.works else works_after log.works e.daemon e.said;
+  works = if was_outside e.said then log.works else works_after log.works e.daemon e.said;
   journal = log.journal ++ option_to_list (option_map (entry_of u.number e) (what_of u log.works e));
 }
 

@@ -26,15 +26,15 @@ abbrev pub waited_for : List Entry → ℕ → ℕ → Bool
 waited_for journal daemon ticket = option_map_or (λ (e : Entry). is_wait_for ticket e.what) (last_entry journal daemon) false
 
 -- whether the entry is a leave, or a wait for a ticket that isn't granted in the world
-abbrev pub is_stuck : World → What → Bool
-is_stuck w (whats.Leaves leave) = true
-is_stuck w (whats.Waits ticket) = not (is_granted (pending_of w ticket))
-is_stuck w what = false
+abbrev pub ends_stuck : World → What → Bool
+ends_stuck w (whats.Leaves leave) = true
+ends_stuck w (whats.Waits ticket) = not (is_granted (pending_of w ticket))
+ends_stuck w what = false
 
 -- whether all of these daemons have stalled: the last entry of each is a leave, or a wait for a ticket that isn't granted
 abbrev pub have_stalled : List ℕ → List Entry → World → Bool
 have_stalled daemons journal w =
-    list_all (λ daemon. option_map_or (λ (e : Entry). is_stuck w e.what) (last_entry journal daemon) false) daemons
+    list_all (λ daemon. option_map_or (λ (e : Entry). ends_stuck w e.what) (last_entry journal daemon) false) daemons
 
 -- the ticket waits in the world
 abbrev pub IsWaiting : World → ℕ → Type 0

@@ -13,7 +13,7 @@ use Rattle.sdr_model.specs.declared.journal.Said.{Said}
 use Rattle.sdr_lock.specs.Ground.{State, HasHeap}
 use Rattle.sdr_lock.specs.Nesting.{nested}
 use Rattle.sdr_lock.specs.Roll.{Roll, after_entry, after_leave, after_number, after_wait, at_nesting, daemon_of, first_roll, is_stalled, served_number, waits_for, with_daemon, with_drawn, with_fault, with_number}
-use Rattle.sdr_lock.specs.Transaction.{Transaction, ClosesSo, IsAnswered, Transacts, asks_disk, is_closing, is_opening, refused, transaction_of}
+use Rattle.sdr_lock.specs.Transaction.{OpenTransaction, ClosesSo, IsAnswered, Transacts, asks_disk, is_closing, is_opening, refused, transaction_of}
 use Rattle.sdr_lock.specs.declared.daemon.Daemon.{Daemon}
 use Rattle.sdr_lock.specs.declared.daemon.Holding.{Holding}
 
@@ -96,12 +96,12 @@ Comes m d (events.Leaves leave) e m' = ComesLeaving m d e m'
 Comes m d event e m' = Goes e m' (refused refusals.NotBegun) m
 
 -- the machine with the served transaction come to this
-abbrev pub with_transaction : Machine → Daemon → Holding → Transaction → Machine
+abbrev pub with_transaction : Machine → Daemon → Holding → OpenTransaction → Machine
 with_transaction m d h t = record m { roll = with_daemon m.roll (at_nesting d h t.nesting); now = t.state }
 
 -- The served transaction goes on.
 pub record Works (m : Machine) (d : Daemon) (h : Holding) (event : Event) (e : Made) (m' : Machine) : Type 0 where
-  pub after : Transaction
+  pub after : OpenTransaction
   pub transacts : Transacts (transaction_of h m.now) event e.said after
   pub others : m' ≡ with_transaction m d h after
 

@@ -4,7 +4,7 @@ use Rattle.std.specs.Prelude.{Option, Some, None, is_some, option_map}
 use Rattle.sdr_base.specs.declared.line.TheConstants.{LINE}
 use Rattle.sdr_disk.specs.Moments.{Only}
 use Rattle.sdr_base.specs.Parts.{overwrite, part}
-use Rattle.sdr_disk.specs.Told.{Told}
+use Rattle.sdr_disk.specs.Told.{IfTold}
 use Rattle.sdr_log.specs.Batch.{batch_size, log_end}
 use Rattle.sdr_log.specs.Frame.{IsInLimits, disk_bytes, frame_of, heap_place}
 use Rattle.sdr_log.specs.Log.{are_good, first_gate, heap_of, is_named, put_back_of, put_records}
@@ -78,7 +78,7 @@ pub record Closes (f : Frame) (x y : List ℕ) (left : List ℕ → Type 0) : Ty
 pub record IsFramed (size : ℕ) (told : Option (List ℕ)) (f : Frame) : Type 0 where
   pub limits : IsInLimits f
   pub fits : disk_bytes f ≤ size
-  pub head : Told told (λ x. frame_of (part 0 LINE x) ≡ Some f)
+  pub head : IfTold told (λ x. frame_of (part 0 LINE x) ≡ Some f)
 
 -- nothing is pending, or all that is pending is logged
 abbrev pub MayPutBack : Frame → List ℕ → (List ℕ → Type 0) → Type 0

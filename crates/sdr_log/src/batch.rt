@@ -4,7 +4,7 @@ ghost use Rattle.std.specs.Prelude.{IfOk, OnOk, Some, is_some};
 ghost use Rattle.sdr_base.specs.Causes.{HasCause};
 ghost use Rattle.sdr_disk.specs.Moments.{AtEach, IsTorn, Only};
 ghost use Rattle.sdr_base.specs.Parts.{overwrite};
-ghost use Rattle.sdr_disk.specs.Told.{Both, Told};
+ghost use Rattle.sdr_disk.specs.Told.{Both, IfTold};
 ghost use Rattle.sdr_log.specs.Batch.{batch_of, batch_size, with_batch};
 ghost use Rattle.sdr_log.specs.Calls.{HasPlace, KeepsDisk, MayOpen, Opens};
 ghost use Rattle.sdr_log.specs.Frame.{LieInside};
@@ -21,14 +21,14 @@ fn save_batch<D: Disk>(disk: &mut D, place: u64, batch: &[u8]) -> Result<(), Dis
     requires inside { LINE + place + 1 + length batch.now ≤ D.size disk.old }
     requires small { place < 2 ^ 60 }
 
-    ensures written { OnOk result (Told (D.bytes disk.old)
+    ensures written { OnOk result (IfTold (D.bytes disk.old)
         (λ x. D.bytes disk.new ≡ Some (overwrite (LINE + place + 1) batch.now x))) }
     ensures cause { HasCause (D.faults disk.old) (D.faults disk.new) result }
 
     ensures tells { is_some (D.bytes disk.new) ≡ is_some (D.bytes disk.old) }
     ensures size { D.size disk.new ≡ D.size disk.old }
 
-    ensures durable { OnOk result (Told (D.bytes disk.new)
+    ensures durable { OnOk result (IfTold (D.bytes disk.new)
         (λ x. Only x (D.may_leave disk.new (D.moment disk.new)))) }
     ensures calls { D.moment disk.new ≤ D.moment disk.old + 4 }
     ensures any_moment { AtEach D.moment D.may_leave disk.old disk.new
@@ -43,14 +43,14 @@ fn open_gate<D: Disk>(disk: &mut D, place: u64) -> Result<(), DiskFault>
     requires inside { LINE + place < D.size disk.old }
     requires small { place < 2 ^ 60 }
 
-    ensures written { OnOk result (Told (D.bytes disk.old)
+    ensures written { OnOk result (IfTold (D.bytes disk.old)
         (λ x. D.bytes disk.new ≡ Some (overwrite (LINE + place) (1 ∷ []) x))) }
     ensures cause { HasCause (D.faults disk.old) (D.faults disk.new) result }
 
     ensures tells { is_some (D.bytes disk.new) ≡ is_some (D.bytes disk.old) }
     ensures size { D.size disk.new ≡ D.size disk.old }
 
-    ensures durable { OnOk result (Told (D.bytes disk.new)
+    ensures durable { OnOk result (IfTold (D.bytes disk.new)
         (λ x. Only x (D.may_leave disk.new (D.moment disk.new)))) }
     ensures calls { D.moment disk.new ≤ D.moment disk.old + 4 }
     ensures any_moment { AtEach D.moment D.may_leave disk.old disk.new
@@ -73,7 +73,7 @@ pub fn write_batch<D: Disk>(
     requires place { HasPlace frame place (length records.now) (length buffer.old) }
 
     ensures next { IfOk result (λ next. next ≡ place + batch_size (length records.now)) }
-    ensures written { OnOk result (Told (D.bytes disk.old)
+    ensures written { OnOk result (IfTold (D.bytes disk.old)
         (λ x. D.bytes disk.new ≡ Some (with_batch place records.now x))) }
     ensures cause { HasCause (D.faults disk.old) (D.faults disk.new) result }
 
@@ -83,7 +83,7 @@ pub fn write_batch<D: Disk>(
         (λ x y. MayOpen frame place records.now x (D.may_leave disk.old (D.moment disk.old))
         → Opens frame place records.now x y (D.may_leave disk.new (D.moment disk.new)))) }
     ensures calls { D.moment disk.new ≤ D.moment disk.old + 8 }
-    ensures any_moment { Told (D.bytes disk.old)
+    ensures any_moment { IfTold (D.bytes disk.old)
         (λ x. MayOpen frame place records.now x (D.may_leave disk.old (D.moment disk.old))
         → AtEach D.moment D.may_leave disk.old disk.new (GivesSame x)) }
 {

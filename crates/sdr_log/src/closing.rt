@@ -4,7 +4,7 @@ ghost use Rattle.sdr_base.specs.Causes.{HasCause};
 ghost use Rattle.sdr_disk.specs.Moments.{AtEach, IsTorn, Only, Syncs};
 ghost use Rattle.sdr_disk.specs.Pending.{IsSynced};
 ghost use Rattle.sdr_base.specs.Parts.{overwrite};
-ghost use Rattle.sdr_disk.specs.Told.{Both, Told};
+ghost use Rattle.sdr_disk.specs.Told.{Both, IfTold};
 ghost use Rattle.sdr_log.specs.Calls.{Closes, KeepsDisk};
 ghost use Rattle.sdr_log.specs.Frame.{LieInside};
 ghost use Rattle.sdr_log.specs.Log.{heap_of};
@@ -22,7 +22,7 @@ fn save_lines<D: Disk>(disk: &mut D) -> Result<(), DiskFault>
     ensures same { D.bytes disk.new ≡ D.bytes disk.old }
     ensures size { D.size disk.new ≡ D.size disk.old }
 
-    ensures durable { OnOk result (Told (D.bytes disk.new)
+    ensures durable { OnOk result (IfTold (D.bytes disk.new)
         (λ x. Only x (D.may_leave disk.new (D.moment disk.new)))) }
     ensures moments { Syncs D.moment D.may_leave disk.old disk.new }
 {
@@ -33,14 +33,14 @@ fn save_lines<D: Disk>(disk: &mut D) -> Result<(), DiskFault>
 fn close_gate<D: Disk>(disk: &mut D) -> Result<(), DiskFault>
     requires { LINE < D.size disk.old }
 
-    ensures written { OnOk result (Told (D.bytes disk.old)
+    ensures written { OnOk result (IfTold (D.bytes disk.old)
         (λ x. D.bytes disk.new ≡ Some (overwrite LINE (0 ∷ []) x))) }
     ensures cause { HasCause (D.faults disk.old) (D.faults disk.new) result }
 
     ensures tells { is_some (D.bytes disk.new) ≡ is_some (D.bytes disk.old) }
     ensures size { D.size disk.new ≡ D.size disk.old }
 
-    ensures durable { OnOk result (Told (D.bytes disk.new)
+    ensures durable { OnOk result (IfTold (D.bytes disk.new)
         (λ x. Only x (D.may_leave disk.new (D.moment disk.new)))) }
     ensures calls { D.moment disk.new ≤ D.moment disk.old + 4 }
     ensures any_moment { AtEach D.moment D.may_leave disk.old disk.new
@@ -54,7 +54,7 @@ fn close_gate<D: Disk>(disk: &mut D) -> Result<(), DiskFault>
 pub fn close<D: Disk>(disk: &mut D, frame: Frame) -> Result<(), DiskFault>
     requires regions { LieInside frame (D.size disk.old) }
 
-    ensures written { OnOk result (Told (D.bytes disk.old)
+    ensures written { OnOk result (IfTold (D.bytes disk.old)
         (λ x. D.bytes disk.new ≡ Some (overwrite LINE (0 ∷ []) x))) }
     ensures cause { HasCause (D.faults disk.old) (D.faults disk.new) result }
 
@@ -66,7 +66,7 @@ pub fn close<D: Disk>(disk: &mut D, frame: Frame) -> Result<(), DiskFault>
     ensures synced { OnOk result (IsSynced D.bytes D.moment D.may_leave disk.new) }
     ensures calls { D.moment disk.new ≤ D.moment disk.old + 6 }
     // A crash leaves the heap from before the call, or the heap region as it stands.
-    ensures any_moment { Told (D.bytes disk.old)
+    ensures any_moment { IfTold (D.bytes disk.old)
         (λ x. IsOpen frame x (D.may_leave disk.old (D.moment disk.old))
         → AtEach D.moment D.may_leave disk.old disk.new
         (λ image. GivesSame x image ⊎ Gives (heap_of frame x) image)) }

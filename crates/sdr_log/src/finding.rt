@@ -2,7 +2,7 @@
 ghost use Rattle.std.specs.Prelude.{◌≡◌, ◌≤◌, IfOk, IfSome, IsNone, None};
 ghost use Rattle.sdr_base.specs.Causes.{HasCause};
 ghost use Rattle.sdr_disk.specs.Moments.{Reads};
-ghost use Rattle.sdr_disk.specs.Told.{Told};
+ghost use Rattle.sdr_disk.specs.Told.{IfTold};
 ghost use Rattle.sdr_log.specs.Calls.{IsFramed};
 ghost use Rattle.sdr_log.specs.Log.{put_back_of};
 
@@ -16,7 +16,7 @@ pub fn read_frame<D: Disk>(disk: &mut D) -> Result<Option<Frame>, DiskFault>
     ensures found { IfOk result (λ found. IfSome found
         (IsFramed (D.size disk.old) (D.bytes disk.old))) }
     ensures none { IfOk result (λ found. IsNone found →
-        Told (D.bytes disk.old) (λ x. put_back_of x ≡ None)) }
+        IfTold (D.bytes disk.old) (λ x. put_back_of x ≡ None)) }
     ensures cause { HasCause (D.faults disk.old) (D.faults disk.new) result }
 
     ensures size { D.size disk.new ≡ D.size disk.old }

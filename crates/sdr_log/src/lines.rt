@@ -3,7 +3,7 @@ ghost use Rattle.std.specs.Prelude.{◌≡◌, ◌≤◌, ◌<◌, ◌+◌, ◌*
 ghost use Rattle.sdr_base.specs.Causes.{HasCause};
 ghost use Rattle.sdr_disk.specs.Moments.{AtEach, Writes};
 ghost use Rattle.sdr_base.specs.Parts.{overwrite};
-ghost use Rattle.sdr_disk.specs.Told.{Both, Told};
+ghost use Rattle.sdr_disk.specs.Told.{Both, IfTold};
 ghost use Rattle.sdr_log.specs.Calls.{AreBelow, KeepsDisk, MayPut, Puts, with_records};
 ghost use Rattle.sdr_log.specs.Frame.{LieInside, heap_place};
 ghost use Rattle.sdr_log.specs.Logged.{GivesSame};
@@ -17,7 +17,7 @@ fn put_line<D: Disk>(disk: &mut D, frame: Frame, line: &Record) -> Result<(), Di
     requires regions { LieInside frame (D.size disk.old) }
     requires below { line.now.line < frame.heap_lines }
 
-    ensures written { OnOk result (Told (D.bytes disk.old) (λ x. D.bytes disk.new
+    ensures written { OnOk result (IfTold (D.bytes disk.old) (λ x. D.bytes disk.new
         ≡ Some (overwrite (heap_place frame + LINE * line.now.line) line.now.bytes x))) }
     ensures long { length line.now.bytes ≡ LINE }
     ensures rises { OnOk result (D.moment disk.new ≡ D.moment disk.old + 2) }
@@ -37,7 +37,7 @@ pub fn put_lines<D: Disk>(disk: &mut D, frame: Frame, lines: &[Record]) -> Resul
     requires regions { LieInside frame (D.size disk.old) }
     requires below { AreBelow frame.heap_lines lines.now }
 
-    ensures written { OnOk result (Told (D.bytes disk.old)
+    ensures written { OnOk result (IfTold (D.bytes disk.old)
         (λ x. D.bytes disk.new ≡ Some (with_records frame lines.now x))) }
     ensures cause { HasCause (D.faults disk.old) (D.faults disk.new) result }
 
@@ -47,7 +47,7 @@ pub fn put_lines<D: Disk>(disk: &mut D, frame: Frame, lines: &[Record]) -> Resul
         (λ x y. MayPut frame lines.now x (D.may_leave disk.old (D.moment disk.old))
         → Puts frame lines.now x y (D.may_leave disk.new (D.moment disk.new)))) }
     ensures calls { D.moment disk.new ≤ D.moment disk.old + 2 * length lines.now }
-    ensures any_moment { Told (D.bytes disk.old)
+    ensures any_moment { IfTold (D.bytes disk.old)
         (λ x. MayPut frame lines.now x (D.may_leave disk.old (D.moment disk.old))
         → AtEach D.moment D.may_leave disk.old disk.new (GivesSame x)) }
 {

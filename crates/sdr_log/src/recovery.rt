@@ -3,7 +3,7 @@ ghost use Rattle.std.specs.Prelude.{◌≡◌, ◌≤◌, ◌<◌, ◌+◌, ◌*
 ghost use Rattle.std.specs.Prelude.{IfOk, IfErr, OnOk, IsTrue, is_some};
 ghost use Rattle.sdr_base.specs.Causes.{HasCause};
 ghost use Rattle.sdr_disk.specs.Moments.{AtEach, Reads};
-ghost use Rattle.sdr_disk.specs.Told.{Both, Told};
+ghost use Rattle.sdr_disk.specs.Told.{Both, IfTold};
 ghost use Rattle.sdr_log.specs.BackErrors.{HasBackCause, OnBadLog, UnlessFault};
 ghost use Rattle.sdr_log.specs.Calls.{AreBelow, GivesNone, IsFramed, KeepsDisk, MayPutBack, PutsBack};
 ghost use Rattle.sdr_log.specs.Frame.{LieInside};
@@ -20,7 +20,7 @@ use std::alloc::Global;
 fn read_log<D: Disk>(alloc: Global, disk: &mut D, frame: Frame) -> Result<Bytes, BackError>
     requires regions { LieInside frame (D.size disk.old) }
 
-    ensures given { IfOk result (λ log. Told (D.bytes disk.old) (λ x. log ≡ log_of frame x)) }
+    ensures given { IfOk result (λ log. IfTold (D.bytes disk.old) (λ x. log ≡ log_of frame x)) }
     ensures long { IfOk result (λ log. length log ≡ LINE * frame.log_lines) }
     ensures good { IfErr result (λ why. OnBadLog why ⊥) }
     ensures cause { HasBackCause (D.faults disk.old) (D.faults disk.new) result }
@@ -41,10 +41,10 @@ fn read_records<D: Disk>(
 ) -> Result<Items<Record>, BackError>
     requires framed { IsFramed (D.size disk.old) (D.bytes disk.old) frame }
 
-    ensures logs { IfOk result (λ records. Told (D.bytes disk.old) (λ x. Logs frame x records)) }
+    ensures logs { IfOk result (λ records. IfTold (D.bytes disk.old) (λ x. Logs frame x records)) }
     ensures good { IfOk result (λ records. are_good frame.heap_lines records ≡ true) }
     ensures bad_log { IfErr result (λ why. OnBadLog why
-        (Told (D.bytes disk.old) (GivesNone frame))) }
+        (IfTold (D.bytes disk.old) (GivesNone frame))) }
     ensures cause { HasBackCause (D.faults disk.old) (D.faults disk.new) result }
 
     ensures size { D.size disk.new ≡ D.size disk.old }
@@ -71,7 +71,7 @@ fn restore<D: Disk>(disk: &mut D, frame: Frame, records: &[Record]) -> Result<()
         (λ x y. Logs frame x records.now
         → IsOpen frame x (D.may_leave disk.old (D.moment disk.old))
         → IsAtRest frame y (D.may_leave disk.new (D.moment disk.new)))) }
-    ensures any_moment { Told (D.bytes disk.old) (λ x. Logs frame x records.now
+    ensures any_moment { IfTold (D.bytes disk.old) (λ x. Logs frame x records.now
         → IsOpen frame x (D.may_leave disk.old (D.moment disk.old))
         → AtEach D.moment D.may_leave disk.old disk.new (GivesSame x)) }
 {
@@ -90,14 +90,14 @@ pub fn put_back_found<D: Disk>(alloc: Global, disk: &mut D, frame: Frame) -> Res
     ensures back { IfOk result (λ count. Both (D.bytes disk.old) (D.bytes disk.new)
         (PutsBack frame count)) }
     ensures bad_log { IfErr result (λ why. OnBadLog why
-        (Told (D.bytes disk.old) (GivesNone frame))) }
+        (IfTold (D.bytes disk.old) (GivesNone frame))) }
     ensures cause { HasBackCause (D.faults disk.old) (D.faults disk.new) result }
 
     ensures disk { KeepsDisk D.size D.bytes disk.old disk.new }
     // Where it refuses, it has read alone, and so it has where no batch is open.
     ensures same { IfErr result (λ why. UnlessFault why
         (Reads D.bytes D.moment D.may_leave disk.old disk.new)) }
-    ensures quiet { Told (D.bytes disk.old) (λ x. first_gate x ≡ 0
+    ensures quiet { IfTold (D.bytes disk.old) (λ x. first_gate x ≡ 0
         → Reads D.bytes D.moment D.may_leave disk.old disk.new) }
     ensures calls { IfOk result (λ count.
         D.moment disk.new ≤ D.moment disk.old + 2 * (count + 3)) }
@@ -105,7 +105,7 @@ pub fn put_back_found<D: Disk>(alloc: Global, disk: &mut D, frame: Frame) -> Res
     ensures rest { OnOk result (Both (D.bytes disk.old) (D.bytes disk.new)
         (λ x y. MayPutBack frame x (D.may_leave disk.old (D.moment disk.old))
         → IsAtRest frame y (D.may_leave disk.new (D.moment disk.new)))) }
-    ensures any_moment { Told (D.bytes disk.old)
+    ensures any_moment { IfTold (D.bytes disk.old)
         (λ x. MayPutBack frame x (D.may_leave disk.old (D.moment disk.old))
         → AtEach D.moment D.may_leave disk.old disk.new (GivesSame x)) }
 {
@@ -122,14 +122,14 @@ pub fn put_back<D: Disk>(alloc: Global, disk: &mut D, frame: Frame) -> Result<u6
     ensures back { IfOk result (λ count. Both (D.bytes disk.old) (D.bytes disk.new)
         (PutsBack frame count)) }
     ensures bad_log { IfErr result (λ why. OnBadLog why
-        (Told (D.bytes disk.old) (GivesNone frame))) }
+        (IfTold (D.bytes disk.old) (GivesNone frame))) }
     ensures cause { HasBackCause (D.faults disk.old) (D.faults disk.new) result }
 
     ensures disk { KeepsDisk D.size D.bytes disk.old disk.new }
     // Where it refuses, it has read alone, and so it has where no batch is open.
     ensures same { IfErr result (λ why. UnlessFault why
         (Reads D.bytes D.moment D.may_leave disk.old disk.new)) }
-    ensures quiet { Told (D.bytes disk.old) (λ x. first_gate x ≡ 0
+    ensures quiet { IfTold (D.bytes disk.old) (λ x. first_gate x ≡ 0
         → Reads D.bytes D.moment D.may_leave disk.old disk.new) }
     ensures calls { IfOk result (λ count.
         D.moment disk.new ≤ D.moment disk.old + 2 * (count + 3)) }
@@ -137,7 +137,7 @@ pub fn put_back<D: Disk>(alloc: Global, disk: &mut D, frame: Frame) -> Result<u6
     ensures rest { OnOk result (Both (D.bytes disk.old) (D.bytes disk.new)
         (λ x y. MayPutBack frame x (D.may_leave disk.old (D.moment disk.old))
         → IsAtRest frame y (D.may_leave disk.new (D.moment disk.new)))) }
-    ensures any_moment { Told (D.bytes disk.old)
+    ensures any_moment { IfTold (D.bytes disk.old)
         (λ x. MayPutBack frame x (D.may_leave disk.old (D.moment disk.old))
         → AtEach D.moment D.may_leave disk.old disk.new (GivesSame x)) }
 {

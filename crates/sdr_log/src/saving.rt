@@ -3,7 +3,7 @@ ghost use Rattle.std.specs.Prelude.{◌≡◌, ◌≤◌, ◌+◌, length, OnOk,
 ghost use Rattle.sdr_base.specs.Causes.{HasCause};
 ghost use Rattle.sdr_disk.specs.Moments.{AtEach, IsTorn, Only};
 ghost use Rattle.sdr_base.specs.Parts.{overwrite};
-ghost use Rattle.sdr_disk.specs.Told.{Told};
+ghost use Rattle.sdr_disk.specs.Told.{IfTold};
 
 use sdr_disk::{Disk, DiskFault};
 
@@ -12,14 +12,14 @@ use sdr_disk::{Disk, DiskFault};
 pub fn save_at<D: Disk>(disk: &mut D, place: u64, from: &[u8]) -> Result<(), DiskFault>
     requires { place + length from.now ≤ D.size disk.old }
 
-    ensures written { OnOk result (Told (D.bytes disk.old)
+    ensures written { OnOk result (IfTold (D.bytes disk.old)
         (λ x. D.bytes disk.new ≡ Some (overwrite place from.now x))) }
     ensures cause { HasCause (D.faults disk.old) (D.faults disk.new) result }
 
     ensures tells { is_some (D.bytes disk.new) ≡ is_some (D.bytes disk.old) }
     ensures size { D.size disk.new ≡ D.size disk.old }
 
-    ensures durable { OnOk result (Told (D.bytes disk.new)
+    ensures durable { OnOk result (IfTold (D.bytes disk.new)
         (λ x. Only x (D.may_leave disk.new (D.moment disk.new)))) }
     ensures calls { D.moment disk.new ≤ D.moment disk.old + 4 }
     ensures any_moment { AtEach D.moment D.may_leave disk.old disk.new

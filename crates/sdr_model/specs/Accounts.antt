@@ -88,7 +88,7 @@ pending_among accounts number =
     option_or (pending_in accounts accts.Inbound number) (pending_in accounts accts.Outbound number)
 
 -- the ticket stands at its place
-pub record Stands (accounts : Accounts) (p : Pending) : Type 0 where
+pub record IsInPlace (accounts : Accounts) (p : Pending) : Type 0 where
   pub there : p.place < length (tickets_of accounts p.acct)
   pub is : slice_get (tickets_of accounts p.acct) p.place ≡ Some p.ticket
 

@@ -15,7 +15,6 @@ pub mod HashSteps
 pub mod Hashes
 pub mod Limits
 pub mod ListSteps
-pub mod Made
 pub mod NameSteps
 pub mod Names
 pub mod ObjectSteps

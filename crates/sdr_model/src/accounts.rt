@@ -1,6 +1,6 @@
 // Accounts of space, and the tickets in their queues.
 ghost use Rattle.std.specs.Prelude.{◌≡◌, ◌<◌, ◌==◌, IfOk, IfSome, length, map, position};
-ghost use Rattle.sdr_model.specs.Accounts.{Stands, account_of, unused_account, fresh_accounts, pending_among, pending_in, ticket_block, ticket_blocks, with_account};
+ghost use Rattle.sdr_model.specs.Accounts.{IsInPlace, account_of, unused_account, fresh_accounts, pending_among, pending_in, ticket_block, ticket_blocks, with_account};
 ghost use Rattle.sdr_model.specs.Things.{block_among};
 ghost use Rattle.sdr_model.specs.declared.accounts.Account.{Account};
 
@@ -167,7 +167,7 @@ impl Accounts {
     /// The ticket of a number, in the queue of an account. It is linear in the queue.
     pub fn pending_in(&self, acct: Acct, number: u64) -> Option<Pending>
         ensures pending { result ≡ pending_in self.now acct number }
-        ensures stands { IfSome result (Stands self.now) }
+        ensures stands { IfSome result (IsInPlace self.now) }
     {
         let tickets = self.account(acct).tickets.as_slice();
         let place = place_of(tickets, number)?;
@@ -182,7 +182,7 @@ impl Accounts {
     /// The ticket of a number, in the queue of either account. It is linear in both.
     pub fn pending(&self, number: u64) -> Option<Pending>
         ensures pending { result ≡ pending_among self.now number }
-        ensures stands { IfSome result (Stands self.now) }
+        ensures stands { IfSome result (IsInPlace self.now) }
     {
         match self.pending_in(Acct::Inbound, number) {
             Some(pending) => Some(pending),

@@ -17,7 +17,7 @@ use Rattle.sdr_lock.specs.Ground.{HasHeap, State}
 use Rattle.sdr_lock.specs.Legal.{MayStand, is_fault}
 use Rattle.sdr_lock.specs.Machine.{Machine, Made, roll_closed, with_transaction}
 use Rattle.sdr_lock.specs.Roll.{after_entry, at_nesting, daemon_of, number_of, put_daemon, served_number, with_fault}
-use Rattle.sdr_lock.specs.Transaction.{ClosesSo, Finishes, IsAnswered, Runs, Transaction, Transacts, asks_disk, is_closing, transaction_of}
+use Rattle.sdr_lock.specs.Transaction.{ClosesSo, Finishes, IsAnswered, Runs, OpenTransaction, Transacts, asks_disk, is_closing, transaction_of}
 use Rattle.sdr_lock.specs.declared.daemon.Daemon.{Daemon}
 use Rattle.sdr_lock.specs.declared.daemon.Holding.{Holding}
 use Rattle.sdr_runs.proofs.CaseLemmas.{IsIdle, closing_whole, left_same, mine, said_nothing}
@@ -80,7 +80,7 @@ module _ {told : Option Told} {daemons : List ℕ} {first : State} {c : Core} {e
         served_far told daemons c.log.journal c.machine c.log.works p.keeps.roll d.id d h (p.keeps.works sound).current (mine p found holds) inside served
 
     -- the transaction goes on
-    pub goes_on : (t : Transaction) → is_closing (transaction_of h c.machine.now) e.said.event ≡ false → Transacts (transaction_of h c.machine.now) e.said.event e.said t
+    pub goes_on : (t : OpenTransaction) → is_closing (transaction_of h c.machine.now) e.said.event ≡ false → Transacts (transaction_of h c.machine.now) e.said.event e.said t
         → AgreesWith told c.machine.now.world e.said.event e.said.answer e.said.bytes → StepKeeps told daemons first c e (with_transaction c.machine d h t)
     goes_on t unclosed transacts media =
         adds_none p found (with_transaction c.machine d h t) (with_said c.log.works d.id e.said) (next_inside p found refl refl within.inside within.open_still)

@@ -10,7 +10,7 @@ use Rattle.sdr_model.specs.declared.event.Event.{Event}
 use Rattle.sdr_model.specs.declared.journal.Entry.{Entry}
 use Rattle.sdr_model.specs.declared.journal.What.{What}
 use Rattle.sdr_model.specs.declared.journal.What.TheVariants as whats
-use Rattle.sdr_lock.specs.Core.{Core, Under, Work, all_said, closed_by, core_after, entry_of, is_outside, log_after, under, what_else, what_of, with_said, without_work, works_after}
+use Rattle.sdr_lock.specs.Core.{Core, Under, Work, all_said, closed_by, core_after, entry_of, was_outside, log_after, under, what_else, what_of, with_said, without_work, works_after}
 use Rattle.sdr_lock.specs.Ground.{State}
 use Rattle.sdr_lock.specs.Legal.{Lead, MayStand, is_fault, is_leave}
 use Rattle.sdr_lock.specs.Machine.{Machine, Made}
@@ -90,7 +90,7 @@ module _ {told : Option Told} {daemons : List ℕ} {first : State} {c : Core} {e
     made_under m' = under c.machine.roll d m'.roll e.said.event
 
     abbrev pub next_works : List Work
-    next_works = if is_outside e.said then c.log.works else works_after c.log.works e.daemon e.said
+    next_works = if was_outside e.said then c.log.works else works_after c.log.works e.daemon e.said
 
     after_is : (m' : Machine) (works' : List Work) (journal' : List Entry) → next_works ≡ works'
         → c.log.journal ++ option_to_list (entry_under (made_under m') c e) ≡ journal'
@@ -146,7 +146,7 @@ module _ {told : Option Told} {daemons : List ℕ} {first : State} {c : Core} {e
     }
 
     module _ {event : Event} {answer : Answer} (is : e.said.event ≡ event) (told_so : e.said.answer ≡ answer) where
-      outside_is : is_outside e.said ≡ passes event answer
+      outside_is : was_outside e.said ≡ passes event answer
       outside_is = λ i. passes (is i) (told_so i)
 
       pub next_outside : passes event answer ≡ true → next_works ≡ c.log.works

@@ -7,7 +7,7 @@ use Rattle.sdr_lock.specs.Core.{closed_by}
 use Rattle.sdr_lock.specs.Machine.{Machine, Made, MachineStep, Answers, Closes, Comes, Enters, Faults, FaultsWithin, Goes, Holds, Looks, LooksAt, Proceeds, Serves, Works, is_outside, roll_closed, with_transaction}
 use Rattle.sdr_lock.specs.Nesting.{noted}
 use Rattle.sdr_lock.specs.Roll.{Roll, daemon_of, is_stalled, served_number, waits_for, with_drawn}
-use Rattle.sdr_lock.specs.Transaction.{Becomes, Replies, Transaction, Transacts, bytes_given, is_closing, is_opening, left_by, transaction_of}
+use Rattle.sdr_lock.specs.Transaction.{Becomes, Replies, OpenTransaction, Transacts, bytes_given, is_closing, is_opening, left_by, transaction_of}
 use Rattle.sdr_lock.specs.declared.daemon.Daemon.{Daemon}
 use Rattle.sdr_lock.specs.declared.daemon.Holding.{Holding}
 use Rattle.sdr_lock.proofs.StepLemmas.{from_option, from_test}
@@ -68,7 +68,7 @@ pub record SameStep (e : Made) (answer : Answer) (bytes : List ℕ) (moves : Lis
   pub machine : m2 ≡ m1
 
 -- both are one in a transaction
-record SameTransaction (e : Made) (answer : Answer) (bytes : List ℕ) (moves : List Move) (t1 t2 : Transaction) : Type 0 where
+record SameTransaction (e : Made) (answer : Answer) (bytes : List ℕ) (moves : List Move) (t1 t2 : OpenTransaction) : Type 0 where
   answer_is : answer ≡ e.said.answer
   bytes_are : bytes ≡ e.said.bytes
   moves_are : moves ≡ e.said.moves
@@ -138,7 +138,7 @@ module _ (told : Option Told) (m : Machine) (e : Made) (answer : Answer) (bytes 
         machine = two.after ∙ (λ i. record { roll = roll_closed m.roll d; before = left i; now = left i }) ∙ sym one.after;
       }
 
-  becomes_same : (t1 t2 : Transaction) (a : Answer) (next : Transaction) → Becomes e.said t1 a next → Becomes again.said t2 a next → SameTransaction e answer bytes moves t1 t2
+  becomes_same : (t1 t2 : OpenTransaction) (a : Answer) (next : OpenTransaction) → Becomes e.said t1 a next → Becomes again.said t2 a next → SameTransaction e answer bytes moves t1 t2
   becomes_same t1 t2 a next one two = record {
     answer_is = two.told.answer ∙ sym one.told.answer;
     bytes_are = two.told.bytes ∙ sym one.told.bytes;
@@ -146,7 +146,7 @@ module _ (told : Option Told) (m : Machine) (e : Made) (answer : Answer) (bytes 
     transaction = two.after ∙ sym one.after;
   }
 
-  replies_same : (h : Holding) (call : Call) (t1 t2 : Transaction) → e.said.event ≡ events.Say call → Replies (transaction_of h m.now) call e.said t1 → Replies (transaction_of h m.now) call again.said t2
+  replies_same : (h : Holding) (call : Call) (t1 t2 : OpenTransaction) → e.said.event ≡ events.Say call → Replies (transaction_of h m.now) call e.said t1 → Replies (transaction_of h m.now) call again.said t2
       → SameTransaction e answer bytes moves t1 t2
   replies_same h call t1 t2 is one two =
       let same : two.done ≡ one.done =
@@ -163,7 +163,7 @@ module _ (told : Option Told) (m : Machine) (e : Made) (answer : Answer) (bytes 
             two.after ∙ (λ i. record (transaction_of h m.now) { nesting = noted call (same i).reply h.nesting; state = (same i).after }) ∙ sym one.after;
       }
 
-  transacts_same : (h : Holding) (event : Event) (t1 t2 : Transaction) → e.said.event ≡ event → Transacts (transaction_of h m.now) event e.said t1 → Transacts (transaction_of h m.now) event again.said t2
+  transacts_same : (h : Holding) (event : Event) (t1 t2 : OpenTransaction) → e.said.event ≡ event → Transacts (transaction_of h m.now) event e.said t1 → Transacts (transaction_of h m.now) event again.said t2
       → SameTransaction e answer bytes moves t1 t2
   transacts_same h events.Request t1 t2 is one two = absurd one
   transacts_same h events.Begin t1 t2 is one two = becomes_same t1 t2 _ _ one two

@@ -9,7 +9,7 @@ use Rattle.sdr_runs.specs.NestedRow.{doomed_journal, doomed_made}
 use Rattle.sdr_lock.specs.Ground.{bare}
 use Rattle.sdr_runs.specs.Rows.{LeavesJournal}
 use Rattle.sdr_model.specs.declared.answer.Close.TheVariants as closes
-use Rattle.sdr_lock.specs.Transaction.{Transaction}
+use Rattle.sdr_lock.specs.Transaction.{OpenTransaction}
 use Rattle.sdr_runs.proofs.RowLemmas.{◌and◌, answers_so, holder, machine, modified_at, plain, steps_leave, under}
 
 -- the worlds of the row of an inner cancel
@@ -47,7 +47,7 @@ doomed_machines =
     ∷ []
 
 -- the transaction under a number at this nesting
-abbrev within : ℕ → Nesting → World → Transaction
+abbrev within : ℕ → Nesting → World → OpenTransaction
 within number n w = record { number = number; nesting = n; state = bare w }
 
 pub doomed_row : LeavesJournal (1 ∷ []) (bare empty_world) doomed_made doomed_journal

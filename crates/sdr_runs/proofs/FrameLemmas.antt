@@ -12,12 +12,12 @@ use Rattle.sdr_model.specs.declared.journal.What.TheVariants as whats
 use Rattle.sdr_lock.specs.Core.{closed_by}
 use Rattle.sdr_lock.specs.Ground.{State}
 use Rattle.sdr_lock.specs.Legal.{IsLegal, Lead, MayStand}
-use Rattle.sdr_lock.specs.Transaction.{Finishes, GoesOn, Runs, Transaction, begun_in}
+use Rattle.sdr_lock.specs.Transaction.{Finishes, GoesOn, Runs, OpenTransaction, begun_in}
 use Rattle.sdr_runs.specs.Framed.{FramesWork}
 use Rattle.sdr_runs.proofs.TransactLemmas.{transacts_within}
 
 -- what finishes a transaction closes it so
-finish_closes : (before : State) (t : Transaction) (said : Said) (close : Close) (left : State) → Finishes before t said close left → closed_by said.answer ≡ Some close
+finish_closes : (before : State) (t : OpenTransaction) (said : Said) (close : Close) (left : State) → Finishes before t said close left → closed_by said.answer ≡ Some close
 finish_closes before t said close left (Finishes.closed is so) = ap closed_by so.told.answer
 finish_closes before t said close left (Finishes.faulted asks so) = ap closed_by so.told.answer ∙ ap Some (sym so.how)
 
@@ -29,7 +29,7 @@ record Closing (more : List Said) (close : Close) : Type 0 where
   unclosed : list_all (λ (s : Said). is_none (closed_by s.answer)) between ≡ true
   closing : closed_by last.answer ≡ Some close
 
-goes_on_closes : (told : Option Told) (before : State) (t : Transaction) (more : List Said) (close : Close) (left : State) → GoesOn told before t more close left → Closing more close
+goes_on_closes : (told : Option Told) (before : State) (t : OpenTransaction) (more : List Said) (close : Close) (left : State) → GoesOn told before t more close left → Closing more close
 goes_on_closes told before t [] close left goes = absurd goes
 goes_on_closes told before t (said ∷ []) close left goes = record {
   between = [];

@@ -31,15 +31,15 @@ waits_agree last d ticket agree = ap (λ o. option_map_or (λ t. t == ticket) o 
 
 -- whether it is stuck
 pub stuck_agree : (w : World) (last : Option Entry) (d : Daemon) → AgreesWithLast last d
-    → is_stuck w d ≡ option_map_or (λ (e : Entry). legal.is_stuck w e.what) last false
+    → is_stuck w d ≡ option_map_or (λ (e : Entry). legal.ends_stuck w e.what) last false
 stuck_agree w last d agree = (λ i. agree.left i || option_map_or (λ t. not (is_granted (pending_of w t))) (agree.waits i) false) ∙ by last
   where
-    of : (what : What) → (is_leave what || option_map_or (λ t. not (is_granted (pending_of w t))) (waited_ticket what) false) ≡ legal.is_stuck w what
+    of : (what : What) → (is_leave what || option_map_or (λ t. not (is_granted (pending_of w t))) (waited_ticket what) false) ≡ legal.ends_stuck w what
     of (whats.Leaves leave) = refl
     of (whats.Waits ticket) = refl
     of what = refl
 
-    by : (o : Option Entry) → (left_by o || option_map_or (λ t. not (is_granted (pending_of w t))) (waits_by o) false) ≡ option_map_or (λ (e : Entry). legal.is_stuck w e.what) o false
+    by : (o : Option Entry) → (left_by o || option_map_or (λ t. not (is_granted (pending_of w t))) (waits_by o) false) ≡ option_map_or (λ (e : Entry). legal.ends_stuck w e.what) o false
     by None = refl
     by (Some e) = of e.what
 
@@ -80,8 +80,8 @@ pub stalled_by_roll : (daemons : List ℕ) (journal : List Entry) (r : Roll) (w 
     → have_stalled daemons journal w ≡ true
 stalled_by_roll daemons journal r w keeps stalled =
     subst (λ ids. have_stalled ids journal w ≡ true) keeps.numbers
-    (passes_by_number (λ id. option_map_or (λ (e : Entry). legal.is_stuck w e.what) (last_entry journal id) false) r.daemons
-    (each_also (λ d. IsFound r.daemons d.id) (λ d. option_map_or (λ (e : Entry). legal.is_stuck w e.what) (last_entry journal d.id) false ≡ true)
+    (passes_by_number (λ id. option_map_or (λ (e : Entry). legal.ends_stuck w e.what) (last_entry journal id) false) r.daemons
+    (each_also (λ d. IsFound r.daemons d.id) (λ d. option_map_or (λ (e : Entry). legal.ends_stuck w e.what) (last_entry journal d.id) false ≡ true)
     (λ d is. sym (stuck_agree w (last_entry journal d.id) is.daemon (keeps.agree d.id is.daemon is.found))
     ∙ each_found (λ y. is_stuck w y ≡ true) r.daemons d.id is.daemon is.found (each_passes (is_stuck w) r.daemons stalled))
     r.daemons (each_is_found r.daemons)))
@@ -107,8 +107,8 @@ same_tests test by (d ∷ ds) all = λ i. all.0 i && same_tests test by ds all.1
 pub stalled_same : (daemons : List ℕ) (journal : List Entry) (r : Roll) (w : World) → KeepsRoll daemons journal r → IsDistinct nat_eq daemons
     → is_stalled r w ≡ have_stalled daemons journal w
 stalled_same daemons journal r w keeps distinct =
-    same_tests (is_stuck w) (λ id. option_map_or (λ (e : Entry). legal.is_stuck w e.what) (last_entry journal id) false) r.daemons
-    (each_also (λ d. among d.id r.daemons ≡ Some d) (λ d. is_stuck w d ≡ option_map_or (λ (e : Entry). legal.is_stuck w e.what) (last_entry journal d.id) false)
+    same_tests (is_stuck w) (λ id. option_map_or (λ (e : Entry). legal.ends_stuck w e.what) (last_entry journal id) false) r.daemons
+    (each_also (λ d. among d.id r.daemons ≡ Some d) (λ d. is_stuck w d ≡ option_map_or (λ (e : Entry). legal.ends_stuck w e.what) (last_entry journal d.id) false)
     (λ d found. stuck_agree w (last_entry journal d.id) d (keeps.agree d.id d found)) r.daemons
     (each_found_itself r.daemons (subst (IsDistinct nat_eq) (sym keeps.numbers) distinct)))
     ∙ ap (λ ids. have_stalled ids journal w) keeps.numbers

@@ -22,7 +22,7 @@ use Rattle.sdr_lock.specs.Ground.{bare, kept}
 use Rattle.sdr_model.specs.Dry.{StepsDry}
 use Rattle.sdr_model.specs.declared.answer.Answer.TheVariants as answers
 use Rattle.sdr_model.specs.declared.event.Event.TheVariants as events
-use Rattle.sdr_lock.specs.Transaction.{ClosesSo, Transaction}
+use Rattle.sdr_lock.specs.Transaction.{ClosesSo, OpenTransaction}
 use Rattle.sdr_model.specs.AccountSteps.{is_granted, with_amount, new_ticket}
 use Rattle.sdr_model.specs.Accounts.{account_of, fresh_accounts, pending_in, tickets_of, with_tickets}
 use Rattle.sdr_model.specs.Amounts.{amounts_by, no_amounts}
@@ -165,7 +165,7 @@ stalled_machines =
     ∷ []
 
 -- the transaction under a number, where something was changed in it
-abbrev changed_in : ℕ → World → Transaction
+abbrev changed_in : ℕ → World → OpenTransaction
 changed_in number w = record { number = number; nesting = modified_at 1; state = bare w }
 
 -- an end

@@ -19,7 +19,7 @@ use Rattle.sdr_lock.specs.Ground.{State}
 use Rattle.sdr_lock.specs.Legal.{last_entry, waited_for}
 use Rattle.sdr_lock.specs.Machine.{Machine, Made, MachineStep, Answers, Closes, Comes, Enters, FaultsWithin, Holds, Looks, LooksAt, Serves, Works, is_outside, roll_acting, roll_coming, roll_failed, roll_holding, with_roll}
 use Rattle.sdr_lock.specs.Roll.{after_leave, daemon_of, is_stalled, served_number, waits_for, with_daemon, with_drawn, with_number}
-use Rattle.sdr_lock.specs.Transaction.{Transaction, Transacts, asks_disk, is_closing, is_opening, transaction_of}
+use Rattle.sdr_lock.specs.Transaction.{OpenTransaction, Transacts, asks_disk, is_closing, is_opening, transaction_of}
 use Rattle.sdr_lock.specs.declared.daemon.Daemon.{Daemon}
 use Rattle.sdr_lock.specs.declared.daemon.Holding.{Holding}
 use Rattle.sdr_lock.proofs.StepLemmas.{from_option, from_test}
@@ -42,7 +42,7 @@ both_pass true b e = (refl, e)
 both_pass false b e = absurd (true≢false (sym e))
 
 -- an event that opens a transaction is a begin
-opening_begins : (t : Transaction) (event : Event) → is_opening t event ≡ true → (event ≡ events.Begin) × ((t.nesting.depth == 0) ≡ true)
+opening_begins : (t : OpenTransaction) (event : Event) → is_opening t event ≡ true → (event ≡ events.Begin) × ((t.nesting.depth == 0) ≡ true)
 opening_begins t events.Begin first = (refl, first)
 opening_begins t event first = absurd (true≢false (sym first))
 

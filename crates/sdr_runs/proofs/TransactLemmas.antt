@@ -20,7 +20,7 @@ use Rattle.sdr_model.specs.declared.journal.Said.{Said}
 use Rattle.sdr_lock.specs.Core.{closed_by, is_failed, is_passed_over}
 use Rattle.sdr_lock.specs.Ground.{Ground, NoHeap, OnHeap, Replied, State, StepsOn}
 use Rattle.sdr_lock.specs.Nesting.{comes_to, deepened, deepest, doomed_for, noted}
-use Rattle.sdr_lock.specs.Transaction.{Becomes, Replies, Transaction, Transacts, asks_disk, is_closing}
+use Rattle.sdr_lock.specs.Transaction.{Becomes, Replies, OpenTransaction, Transacts, asks_disk, is_closing}
 use Rattle.sdr_lock.specs.declared.nesting.Nesting.{Nesting}
 use Rattle.sdr_runs.specs.Replying.{is_of_call}
 use Rattle.sdr_runs.proofs.RowReplies.{row_fair, step_fair, stops_fair}
@@ -71,7 +71,7 @@ deepened_within n = by (nat_le deepest n.depth)
     by true = (refl, refl)
     by false = (refl, refl)
 
-pub transacts_within : (t : Transaction) (event : Event) (said : Said) (t' : Transaction) → Transacts t event said t' → IsWithin event said.answer
+pub transacts_within : (t : OpenTransaction) (event : Event) (said : Said) (t' : OpenTransaction) → Transacts t event said t' → IsWithin event said.answer
 transacts_within t events.Request said t' h = absurd h
 transacts_within t events.Begin said t' h = answered_within events.Begin said.answer _ h.told.answer (deepened_within t.nesting) (λ ticket e. absurd cc)
 transacts_within t (events.Say call) said t' h = by t.nesting.doom h
@@ -90,14 +90,14 @@ transacts_within t (events.Look ticket) said t' h =
 transacts_within t (events.Leaves leave) said t' h = absurd h
 
 -- the transaction keeps its number, and is still open
-pub record StaysOpen (t t' : Transaction) : Type 0 where
+pub record StaysOpen (t t' : OpenTransaction) : Type 0 where
   pub number : t'.number ≡ t.number
   pub depth : (t'.nesting.depth == 0) ≡ false
 
-becomes_open : (t t' next : Transaction) → t' ≡ next → next.number ≡ t.number → (next.nesting.depth == 0) ≡ false → StaysOpen t t'
+becomes_open : (t t' next : OpenTransaction) → t' ≡ next → next.number ≡ t.number → (next.nesting.depth == 0) ≡ false → StaysOpen t t'
 becomes_open t t' next is number depth = record {
-  number = ap (λ (x : Transaction). x.number) is ∙ number;
-  depth = ap (λ (x : Transaction). x.nesting.depth == 0) is ∙ depth;
+  number = ap (λ (x : OpenTransaction). x.number) is ∙ number;
+  depth = ap (λ (x : OpenTransaction). x.nesting.depth == 0) is ∙ depth;
 }
 
 deepened_open : (n : Nesting) → (n.depth == 0) ≡ false → ((deepened n).after.depth == 0) ≡ false
@@ -122,7 +122,7 @@ noted_depth call reply n = by (is_reading call)
     by true = refl
     by false = refl
 
-pub transacts_open : (t : Transaction) (event : Event) (said : Said) (t' : Transaction) → Transacts t event said t' → (t.nesting.depth == 0) ≡ false
+pub transacts_open : (t : OpenTransaction) (event : Event) (said : Said) (t' : OpenTransaction) → Transacts t event said t' → (t.nesting.depth == 0) ≡ false
     → is_closing t event ≡ false → StaysOpen t t'
 transacts_open t events.Request said t' h there stays = absurd h
 transacts_open t events.Begin said t' h there stays = becomes_open t t' _ h.after refl (deepened_open t.nesting there)
@@ -138,7 +138,7 @@ transacts_open t (events.Look ticket) said t' h there stays = becomes_open t t' 
 transacts_open t (events.Leaves leave) said t' h there stays = absurd h
 
 -- an event that closes a transaction stands in it
-pub closing_inside : (t : Transaction) (event : Event) (close : Close) → is_closing t event ≡ true → passes event (answers.Closed close) ≡ false
+pub closing_inside : (t : OpenTransaction) (event : Event) (close : Close) → is_closing t event ≡ true → passes event (answers.Closed close) ≡ false
 closing_inside t events.Request close closes = absurd (true≢false (sym closes))
 closing_inside t events.Begin close closes = refl
 closing_inside t (events.Say call) close closes = refl
@@ -149,7 +149,7 @@ closing_inside t (events.Look ticket) close closes = refl
 closing_inside t (events.Leaves leave) close closes = refl
 
 -- and so does one for which the disk is asked
-pub asking_inside : (t : Transaction) (event : Event) → asks_disk t event ≡ true → passes event (answers.Reply replies.DiskFault) ≡ false
+pub asking_inside : (t : OpenTransaction) (event : Event) → asks_disk t event ≡ true → passes event (answers.Reply replies.DiskFault) ≡ false
 asking_inside t events.Request asks = absurd (true≢false (sym asks))
 asking_inside t events.Begin asks = refl
 asking_inside t (events.Say call) asks = refl

@@ -8,7 +8,7 @@ use Rattle.sdr_model.specs.declared.journal.Said.{Said}
 use Rattle.sdr_lock.specs.Agreeing.{AgreesWith}
 use Rattle.sdr_lock.specs.Core.{Work, said_by, with_said, without_work}
 use Rattle.sdr_lock.specs.Ground.{State}
-use Rattle.sdr_lock.specs.Transaction.{Finishes, GoesOn, IsOpening, Runs, SaysThen, Transaction, Transacts, begun_in, is_closing, transaction_of}
+use Rattle.sdr_lock.specs.Transaction.{Finishes, GoesOn, IsOpening, Runs, SaysThen, OpenTransaction, Transacts, begun_in, is_closing, transaction_of}
 use Rattle.sdr_lock.specs.declared.daemon.Holding.{Holding}
 use Rattle.sdr_runs.proofs.RollLemmas.{contrary, number_same, same_number, turned}
 
@@ -114,12 +114,12 @@ apart_without (w ∷ works) id apart = by (w.daemon == id) refl (id == w.daemon)
     by false e false f rest = subst AreApart (sym (without_there w works id e)) (said_without works id w.daemon f ∙ apart.0, rest)
 
 -- from one transaction what was said leads to another
-abbrev pub GoesTo : Option Told → Transaction → List Said → Transaction → Type 0
+abbrev pub GoesTo : Option Told → OpenTransaction → List Said → OpenTransaction → Type 0
 GoesTo told t [] t' = t' ≡ t
 GoesTo told t (said ∷ more) t' = SaysThen told t said (λ next. GoesTo told next more t')
 
 -- What was said since its first begin leads to the transaction, where the state was this before.
-pub record SoFar (told : Option Told) (before : State) (number : ℕ) (said : List Said) (t : Transaction) : Type 0 where
+pub record SoFar (told : Option Told) (before : State) (number : ℕ) (said : List Said) (t : OpenTransaction) : Type 0 where
   pub begin : Said
   pub more : List Said
   pub all : said ≡ begin ∷ more
@@ -127,7 +127,7 @@ pub record SoFar (told : Option Told) (before : State) (number : ℕ) (said : Li
   pub goes : GoesTo told (begun_in number before) more t
 
 -- one more event of the transaction
-pub goes_more : (told : Option Told) (t : Transaction) (more : List Said) (t' : Transaction) (said : Said) (t'' : Transaction) → GoesTo told t more t'
+pub goes_more : (told : Option Told) (t : OpenTransaction) (more : List Said) (t' : OpenTransaction) (said : Said) (t'' : OpenTransaction) → GoesTo told t more t'
     → is_closing t' said.event ≡ false → Transacts t' said.event said t'' → AgreesWith told t'.state.world said.event said.answer said.bytes
     → GoesTo told t (more ++ said ∷ []) t''
 goes_more told t [] t' said t'' goes stays transacts media =
@@ -140,7 +140,7 @@ goes_more told t (first ∷ more) t' said t'' goes stays transacts media = recor
   rest = goes_more told goes.next more t' said t'' goes.rest stays transacts media;
 }
 
-pub so_far_more : (told : Option Told) (before : State) (number : ℕ) (all : List Said) (t : Transaction) (said : Said) (t' : Transaction)
+pub so_far_more : (told : Option Told) (before : State) (number : ℕ) (all : List Said) (t : OpenTransaction) (said : Said) (t' : OpenTransaction)
     → SoFar told before number all t → is_closing t said.event ≡ false → Transacts t said.event said t'
     → AgreesWith told t.state.world said.event said.answer said.bytes → SoFar told before number (all ++ said ∷ []) t'
 so_far_more told before number all t said t' far stays transacts media = record {
@@ -152,7 +152,7 @@ so_far_more told before number all t said t' far stays transacts media = record 
 }
 
 -- the last event of the transaction
-goes_last : (told : Option Told) (before : State) (t : Transaction) (more : List Said) (t' : Transaction) (said : Said) (close : Close) (left : State)
+goes_last : (told : Option Told) (before : State) (t : OpenTransaction) (more : List Said) (t' : OpenTransaction) (said : Said) (close : Close) (left : State)
     → GoesTo told t more t' → Finishes before t' said close left → GoesOn told before t (more ++ said ∷ []) close left
 goes_last told before t [] t' said close left goes last = subst (λ x. Finishes before x said close left) goes last
 goes_last told before t (first ∷ []) t' said close left goes last = record {
@@ -170,7 +170,7 @@ goes_last told before t (first ∷ second ∷ more) t' said close left goes last
   rest = goes_last told before goes.next (second ∷ more) t' said close left goes.rest last;
 }
 
-pub runs_last : (told : Option Told) (before : State) (number : ℕ) (all : List Said) (t : Transaction) (said : Said) (close : Close) (left : State)
+pub runs_last : (told : Option Told) (before : State) (number : ℕ) (all : List Said) (t : OpenTransaction) (said : Said) (close : Close) (left : State)
     → SoFar told before number all t → Finishes before t said close left → Runs told before number (all ++ said ∷ []) close left
 runs_last told before number all t said close left far last =
     subst (λ xs. Runs told before number (xs ++ said ∷ []) close left) (sym far.all) (by far.more far.goes)

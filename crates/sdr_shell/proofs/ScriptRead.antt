@@ -6,7 +6,7 @@ use Rattle.std.proofs.lemmas.List.Splits.{length-slice_split}
 use Rattle.std.proofs.lemmas.List.Sums.{count_by-le-length}
 use Rattle.std.specs.Io.KnownBytes.{Consumes, IsAtEnd}
 use Rattle.sdr_words.specs.Reading.{ReadsScript, RefusesLine, NamesLine}
-use Rattle.sdr_words.specs.Script.{Reading, ◌>>=◌, nothing_read, lines_of, longest_input, line_says, read_line, read_lines, script_of}
+use Rattle.sdr_words.specs.Script.{Reading, ◌>>=◌, nothing_read, input_lines, longest_input, line_says, read_line, read_lines, script_of}
 use Rattle.sdr_shell.specs.Still.{Had, HadScript, HadBadLine, NamesBadLine}
 use Rattle.sdr_words.specs.declared.error.ScriptError.{ScriptError}
 use Rattle.sdr_words.specs.declared.error.ScriptError.TheVariants as errors
@@ -67,9 +67,9 @@ steps_of_lines reading (line ∷ lines) now =
 -- bytes are lines, and a line more, at most
 pub few_steps : (bytes : List ℕ) (steps : List Step) → script_of bytes ≡ Ok steps → length steps ≤ length bytes + 1
 few_steps bytes steps =
-    elim (read_lines nothing_read (lines_of bytes)) as (λ r. read_lines nothing_read (lines_of bytes) ≡ r → (r >>= λ all. Ok all.steps) ≡ Ok steps → length steps ≤ length bytes + 1) [
+    elim (read_lines nothing_read (input_lines bytes)) as (λ r. read_lines nothing_read (input_lines bytes) ≡ r → (r >>= λ all. Ok all.steps) ≡ Ok steps → length steps ≤ length bytes + 1) [
       | Ok all ↦ λ here e. subst (λ l. length l ≤ length bytes + 1) (one_result _ refl e)
-          (omega (arith, steps_of_lines nothing_read (lines_of bytes) all here, length-slice_split (λ b. b == 10) bytes, count_by-le-length (λ b. b == 10) bytes))
+          (omega (arith, steps_of_lines nothing_read (input_lines bytes) all here, length-slice_split (λ b. b == 10) bytes, count_by-le-length (λ b. b == 10) bytes))
       | Err line ↦ λ here e. cc
     ] refl
 

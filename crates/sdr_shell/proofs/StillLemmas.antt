@@ -10,7 +10,7 @@ use Rattle.sdr_shell.specs.declared.form.Form.{Form}
 use Rattle.sdr_shell.specs.declared.form.Form.TheVariants as forms
 use Rattle.sdr_dry.specs.Schedule.{MediaChange, SomeRun}
 use Rattle.sdr_shell.specs.Formatting.{IsFormatStatus}
-use Rattle.sdr_shell.specs.Still.{Writes, HadScript, HadBadLine, HadRun, IsDryStatus, IsRefused, NamesBadLine, Tells}
+use Rattle.sdr_shell.specs.Still.{WritesOut, HadScript, HadBadLine, HadRun, IsDryStatus, IsRefused, NamesBadLine, Tells}
 use Rattle.sdr_words.specs.Script.{input_script}
 use Rattle.sdr_words.specs.declared.error.ScriptError.{ScriptError}
 use Rattle.sdr_words.specs.declared.error.ScriptError.TheVariants as errors
@@ -21,17 +21,17 @@ use Rattle.sdr_dry.proofs.ScheduleLemmas.{some_weaker}
 
 -- a last line behind a text that was written whole
 writes_behind : (old mid new : Option (List ℕ)) (before between now : ℕ) (text line : List ℕ)
-    → Appends old mid text → before ≤ between → Writes mid new between now line → Writes old new before now (text ++ line)
+    → Appends old mid text → before ≤ between → WritesOut mid new between now line → WritesOut old new before now (text ++ line)
 writes_behind old mid new before between now text line a later (inl w) = inl (Appends-trans old mid new text line a w)
 writes_behind old mid new before between now text line a later (inr f) =
     inr (rose_later before between now later f.0, part_later old mid new text line a f.1)
 
 -- a last line behind the answers of a run
 pub some_behind : (media : MediaChange) (script : List Step) (old mid new : Option (List ℕ)) (before between now : ℕ) (line : List ℕ)
-    → SomeRun media script (λ rest text. Appends old mid text) → before ≤ between → Writes mid new between now line
-    → SomeRun media script (λ rest text. Writes old new before now (text ++ line))
+    → SomeRun media script (λ rest text. Appends old mid text) → before ≤ between → WritesOut mid new between now line
+    → SomeRun media script (λ rest text. WritesOut old new before now (text ++ line))
 some_behind media script old mid new before between now line r later w =
-    some_weaker media script (λ rest text. Appends old mid text) (λ rest text. Writes old new before now (text ++ line))
+    some_weaker media script (λ rest text. Appends old mid text) (λ rest text. WritesOut old new before now (text ++ line))
     (λ rest text h. writes_behind old mid new before between now text line h later w) r
 
 -- what a told input spells

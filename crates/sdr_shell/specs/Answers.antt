@@ -7,7 +7,7 @@ use Rattle.sdr_log.specs.Frame.{disk_bytes}
 use Rattle.sdr_log.specs.declared.frame.Frame.{Frame}
 use Rattle.sdr_shell.specs.Formatting.{line_formatted, line_too_small, IsFormatted, HasFormatted, IsFormatStatus}
 use Rattle.sdr_dry.specs.Schedule.{MediaChange}
-use Rattle.sdr_shell.specs.Still.{Writes, HadRun, IsDone, IsDryStatus, IsRefused, IsStarved}
+use Rattle.sdr_shell.specs.Still.{WritesOut, HadRun, IsDone, IsDryStatus, IsRefused, IsStarved}
 use Rattle.sdr_words.specs.Script.{input_script}
 use Rattle.sdr_shell.specs.declared.status.TheConstants.{DONE, INPUT_FAULT, OUTPUT_FAULT, DISK_FAULT, REFUSED_LINE, NO_MEMORY, TOO_SMALL}
 
@@ -22,7 +22,7 @@ seen bytes faults x = record { bytes = bytes x; faults = faults x }
 
 -- the text was written whole, or a part of it from the front where the sink failed
 abbrev pub Wrote : Seen → Seen → List ℕ → Type 0
-Wrote sink sink' text = Writes sink.bytes sink'.bytes sink.faults sink'.faults text
+Wrote sink sink' text = WritesOut sink.bytes sink'.bytes sink.faults sink'.faults text
 
 -- What a dry run answers. A script that is refused is not run; one that is accepted is run to its end, unless there is a
 -- fault or no memory.

@@ -11,8 +11,8 @@ use Rattle.sdr_model.specs.declared.script.Step.{Step}
 use Rattle.sdr_shell.specs.declared.status.TheConstants.{DONE, INPUT_FAULT, OUTPUT_FAULT, REFUSED_LINE, NO_MEMORY}
 
 -- the text was written whole, or a part of it from the front where the sink's count of faults rose
-abbrev pub Writes : Option (List ℕ) → Option (List ℕ) → ℕ → ℕ → List ℕ → Type 0
-Writes old new before now text = Appends old new text ⊎ (Rose before now × AppendsPart old new text)
+abbrev pub WritesOut : Option (List ℕ) → Option (List ℕ) → ℕ → ℕ → List ℕ → Type 0
+WritesOut old new before now text = Appends old new text ⊎ (Rose before now × AppendsPart old new text)
 
 -- where a source told what it had left, that was this input
 abbrev pub Had : Option (List ℕ) → List ℕ → Type 0
@@ -56,13 +56,13 @@ line_refused line = codes "line " ++ decimal line ++ codes "\n"
 pub record IsRefused (left old new : Option (List ℕ)) (before now : ℕ) : Type 0 where
   pub line : ℕ
   pub input : HadBadLine left line
-  pub written : Writes old new before now (line_refused line)
+  pub written : WritesOut old new before now (line_refused line)
 
 -- Memory was wanted: before a step was made, or behind some steps, whose answers stand before the last line.
 abbrev pub IsStarved : Option (List ℕ) → MediaChange → Option (List ℕ) → Option (List ℕ) → ℕ → ℕ → Type 0
 IsStarved left media old new before now =
-    Writes old new before now (codes "no memory\n")
-    ⊎ HadRun left media (λ rest text. Writes old new before now (text ++ codes "no memory\n"))
+    WritesOut old new before now (codes "no memory\n")
+    ⊎ HadRun left media (λ rest text. WritesOut old new before now (text ++ codes "no memory\n"))
 
 -- the statuses with which a dry run ends
 abbrev pub IsDryStatus : ℕ → Type 0
@@ -70,6 +70,6 @@ IsDryStatus status = (status ≡ DONE) ⊎ (status ≡ INPUT_FAULT) ⊎ (status 
 
 -- the status and the last line that tell why no script was read
 abbrev pub Tells : ScriptError → ℕ → Option (List ℕ) → Option (List ℕ) → ℕ → ℕ → Type 0
-Tells errors.Input status old new before now = (status ≡ INPUT_FAULT) × Writes old new before now (codes "input fault\n")
-Tells (errors.Line line) status old new before now = (status ≡ REFUSED_LINE) × Writes old new before now (line_refused line)
-Tells errors.NoMemory status old new before now = (status ≡ NO_MEMORY) × Writes old new before now (codes "no memory\n")
+Tells errors.Input status old new before now = (status ≡ INPUT_FAULT) × WritesOut old new before now (codes "input fault\n")
+Tells (errors.Line line) status old new before now = (status ≡ REFUSED_LINE) × WritesOut old new before now (line_refused line)
+Tells errors.NoMemory status old new before now = (status ≡ NO_MEMORY) × WritesOut old new before now (codes "no memory\n")

@@ -5,7 +5,7 @@ ghost use Rattle.std.specs.Io.KnownBytes.{Appends};
 ghost use Rattle.sdr_base.specs.Causes.{Rose};
 ghost use Rattle.sdr_shell.specs.Form.{form_of};
 ghost use Rattle.sdr_dry.specs.Schedule.{HaveFailed, SomeRun, media_change};
-ghost use Rattle.sdr_shell.specs.Still.{Writes, HadRun, IsDone, IsRefused, IsDryStatus, IsStarved};
+ghost use Rattle.sdr_shell.specs.Still.{WritesOut, HadRun, IsDone, IsRefused, IsDryStatus, IsStarved};
 ghost use Rattle.sdr_shell.specs.Still.{Tells, line_refused};
 ghost use Rattle.sdr_base.specs.Written.{AppendsPart};
 ghost use Rattle.sdr_shell.specs.Words.{AnswersWords};
@@ -26,9 +26,9 @@ use sdr_words::{ScriptError, read_script};
 use std::alloc::Global;
 use std::rc::RcStr;
 
-// Writes the number of a refused line.
+// WritesOut the number of a refused line.
 fn refuse_line<K: Sink>(output: &mut K, line: u64)
-    ensures written { Writes (K.taken output.old) (K.taken output.new)
+    ensures written { WritesOut (K.taken output.old) (K.taken output.new)
         (K.faults output.old) (K.faults output.new)
         (line_refused line) }
     ensures later { K.faults output.old ≤ K.faults output.new }
@@ -60,7 +60,7 @@ fn run_script<M: Media, K: Sink>(
         AppendsPart (K.taken output.old) (K.taken output.new) text) }
     ensures starved { result ≡ NO_MEMORY →
         SomeRun (media_change M.told M.faults M.short media.old media.new) script.now (λ rest text.
-        Writes (K.taken output.old) (K.taken output.new) (K.faults output.old) (K.faults output.new)
+        WritesOut (K.taken output.old) (K.taken output.new) (K.faults output.old) (K.faults output.new)
         (text ++ codes "no memory\n")) }
 {
     match run(alloc, script, media, output) {
@@ -114,7 +114,7 @@ fn dry<M: Media, S: Source, K: Sink>(
         (K.taken output.old) (K.taken output.new) }
     ensures input { result ≡ INPUT_FAULT → Rose (S.faults input.old) (S.faults input.new) }
     ensures input_text { result ≡ INPUT_FAULT →
-        Writes (K.taken output.old) (K.taken output.new) (K.faults output.old) (K.faults output.new)
+        WritesOut (K.taken output.old) (K.taken output.new) (K.faults output.old) (K.faults output.new)
         (codes "input fault\n") }
     ensures output { result ≡ OUTPUT_FAULT → Rose (K.faults output.old) (K.faults output.new) }
     ensures part { result ≡ OUTPUT_FAULT → HadRun (S.left input.old)

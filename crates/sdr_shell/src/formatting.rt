@@ -7,7 +7,7 @@ ghost use Rattle.sdr_disk.specs.Pending.{IsSynced};
 ghost use Rattle.sdr_image.specs.declared.error.FormatError.TheVariants as errors;
 ghost use Rattle.sdr_log.specs.Frame.{IsInLimits, disk_bytes};
 ghost use Rattle.sdr_shell.specs.Formatting.{line_formatted, line_too_small, IsFormatted, HasFormatted, IsFormatStatus};
-ghost use Rattle.sdr_shell.specs.Still.{Writes};
+ghost use Rattle.sdr_shell.specs.Still.{WritesOut};
 
 use crate::last_line::last_line;
 use crate::status::{DISK_FAULT, DONE, OUTPUT_FAULT, TOO_SMALL};
@@ -41,7 +41,7 @@ fn tell_formatted<K: Sink>(output: &mut K, frame: Frame) -> u8
 
 // Tells how many bytes the regions take, and how many the disk has.
 fn tell_too_small<K: Sink>(output: &mut K, need: u64, have: u64)
-    ensures written { Writes (K.taken output.old) (K.taken output.new)
+    ensures written { WritesOut (K.taken output.old) (K.taken output.new)
         (K.faults output.old) (K.faults output.new)
         (line_too_small need have) }
     ensures later { K.faults output.old ≤ K.faults output.new }
@@ -75,11 +75,11 @@ pub fn format_disk<D: Disk, K: Sink>(frame: Frame, disk: &mut D, output: &mut K)
     // not done
     ensures small { (result ≡ TOO_SMALL) ↔ (D.size disk.old < disk_bytes frame) }
     ensures small_text { result ≡ TOO_SMALL →
-        Writes (K.taken output.old) (K.taken output.new) (K.faults output.old) (K.faults output.new)
+        WritesOut (K.taken output.old) (K.taken output.new) (K.faults output.old) (K.faults output.new)
         (line_too_small (disk_bytes frame) (D.size disk.old)) }
     ensures fault { result ≡ DISK_FAULT → Rose (D.faults disk.old) (D.faults disk.new) }
     ensures fault_text { result ≡ DISK_FAULT →
-        Writes (K.taken output.old) (K.taken output.new) (K.faults output.old) (K.faults output.new)
+        WritesOut (K.taken output.old) (K.taken output.new) (K.faults output.old) (K.faults output.new)
         (codes "disk fault\n") }
 
     // what stays

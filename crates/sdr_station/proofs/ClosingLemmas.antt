@@ -8,7 +8,7 @@ use Rattle.sdr_base.specs.Transaction.{Explains, IfRefused, Transaction}
 use Rattle.sdr_base.specs.declared.stop.Stop.{Stop}
 use Rattle.sdr_base.specs.declared.stop.Stop.TheVariants as stops
 use Rattle.sdr_disk.specs.Moments.{AtEach}
-use Rattle.sdr_disk.specs.Told.{Told}
+use Rattle.sdr_disk.specs.Told.{IfTold}
 use Rattle.sdr_heap.proofs.FewLemmas.{block_in-few}
 use Rattle.sdr_heap.specs.Noted.{Held, marked_in}
 use Rattle.sdr_image.specs.Changed.{GivesEither}
@@ -96,12 +96,12 @@ module _ {D : Type 0} (told : D → Option (List ℕ)) (moment : D → ℕ) (fau
     (old : Grounded D) (disk : D) (now : ℕ) (is : now ≡ max old.moment (moment disk)) (sound : old.heap.cells.failed ≡ false)
     (tells : is_some (told disk) ≡ is_some (told old.heap.cells.disk)) (P : List ℕ → Type 0)
     (each : Rests told moment may_leave old.heap.cells
-    → Told (told old.heap.cells.disk) (λ _. AtEach moment may_leave old.heap.cells.disk disk P)) where
+    → IfTold (told old.heap.cells.disk) (λ _. AtEach moment may_leave old.heap.cells.disk disk P)) where
   told_old : (y : List ℕ) → told disk ≡ Some y → (x : List ℕ) × (told old.heap.cells.disk ≡ Some x)
   told_old y t = some_of (told old.heap.cells.disk) (sym tells ∙ ap is_some t)
 
   -- the ground's moment is the disk's
-  pub here : (v : Standing) → StandsForBoth told moment may_leave old v → Told (told disk) (λ _. now ≡ moment disk)
+  pub here : (v : Standing) → StandsForBoth told moment may_leave old v → IfTold (told disk) (λ _. now ≡ moment disk)
   here v at y t =
       let x = told_old y t in
       let e = each at.rests x.0 x.1 in

@@ -54,7 +54,7 @@ use Rattle.sdr_station.proofs.MediaLemmas.{gap_none, misses_none}
 use Rattle.sdr_answers.proofs.KindLemmas.{IsRawAt, raw_is_at}
 use Rattle.sdr_answers.proofs.RawLemmas.{length_of_raw}
 use Rattle.sdr_station.specs.CrashNow.{crash_now}
-use Rattle.sdr_answers.specs.Answering.{Aim, Answered, Comes, IsGood, IsPlain, built, dooms, lines_of}
+use Rattle.sdr_answers.specs.Answering.{Aim, Answered, Comes, IsGood, IsPlain, built, dooms, call_lines}
 use Rattle.sdr_station.specs.Closing.{moves_left}
 use Rattle.sdr_station.specs.Grounded.{Grounded, Leaves, StandsAtRest, StandsForBoth, StandsSome, StandsWithin, heap_in}
 
@@ -157,7 +157,7 @@ module _ {D : Type 0} (told : D → Option (List ℕ)) (moment faults : D → �
         })
 
     -- the world after an answered call, on this heap
-    within_answered : (reply : Reply) → heap.cells.frame ≡ old.heap.cells.frame → length heap.cells.touched ≤ length old.heap.cells.touched + lines_of call
+    within_answered : (reply : Reply) → heap.cells.frame ≡ old.heap.cells.frame → length heap.cells.touched ≤ length old.heap.cells.touched + call_lines call
         → (ans : Answered v.now.world call (heap_in heap) page reply) → StandsWithin heap page (next ans.after reply)
     within_answered reply frame lines ans =
         let w = at.now going in
@@ -207,7 +207,7 @@ module _ {D : Type 0} (told : D → Option (List ℕ)) (moment faults : D → �
 
   -- an answered call brings what its row does
   pub brings_answered : (reply : Reply) → Comes call (heap_in fresh_heap) (heap_in heap) old.shown page (Ok reply)
-      → Works {T = Reply} (image_heap faults) (lines_of call) fresh_heap heap (Ok reply)
+      → Works {T = Reply} (image_heap faults) (call_lines call) fresh_heap heap (Ok reply)
       → Brings (λ g v. StandsForBoth told moment may_leave g v) old (record { heap = heap; shown = page; stopped = old.stopped; moment = old.moment }) (Calls None call reply)
   brings_answered reply comes works = record {
     each = λ v at.
@@ -248,7 +248,7 @@ module _ {D : Type 0} (told : D → Option (List ℕ)) (moment faults : D → �
       → ((w : World) → HeapStandsFor (heap_in fresh_heap) w → IsWhole w → IsPlain w
       → StepTo w (record { moves = heap.moves; after = w; reply = replies.Refused refusal }) call × (is_reading call ≡ true → heap_in heap ≡ heap_in fresh_heap) × (page ≡ old.shown))
       → Moves (KeepsRegion fresh_heap.size fresh_heap.cells.bytes) (KeepsRegion heap.size heap.cells.bytes) [] heap.moves
-      → Works {T = Reply} (image_heap faults) (lines_of call) fresh_heap heap (Err (stops.Refused refusal))
+      → Works {T = Reply} (image_heap faults) (call_lines call) fresh_heap heap (Err (stops.Refused refusal))
       → Brings (λ g v. StandsForBoth told moment may_leave g v) old (refused_ground refusal n) (Calls None call (replies.Refused refusal))
   brings_stopped refusal n same full steps moves works = record {
     each = λ v at.
@@ -283,7 +283,7 @@ module _ {D : Type 0} (told : D → Option (List ℕ)) (moment faults : D → �
   -- a refused call for which there was none
   brings_full : (lines room n : ℕ)
       → ((w : World) → HeapStandsFor (heap_in fresh_heap) w → IsWhole w → IsPlain w → Aim w call × (is_reading call ≡ false))
-      → Works {T = Reply} (image_heap faults) (lines_of call) fresh_heap heap (Err (stops.Refused (refusals.LogFull lines room)))
+      → Works {T = Reply} (image_heap faults) (call_lines call) fresh_heap heap (Err (stops.Refused (refusals.LogFull lines room)))
       → Brings (λ g v. StandsForBoth told moment may_leave g v) old (refused_ground (refusals.LogFull lines room) n)
       (Calls None call (replies.Refused (refusals.LogFull lines room)))
   brings_full lines room n aims works = record {
@@ -330,7 +330,7 @@ module _ {D : Type 0} (told : D → Option (List ℕ)) (moment faults : D → �
 
   -- a refused call brings what its step does
   pub brings_refused : (refusal : Refusal) (n : ℕ) → Comes call (heap_in fresh_heap) (heap_in heap) old.shown page (Err (stops.Refused refusal))
-      → Works {T = Reply} (image_heap faults) (lines_of call) fresh_heap heap (Err (stops.Refused refusal))
+      → Works {T = Reply} (image_heap faults) (call_lines call) fresh_heap heap (Err (stops.Refused refusal))
       → Brings (λ g v. StandsForBoth told moment may_leave g v) old (refused_ground refusal n) (Calls None call (replies.Refused refusal))
   brings_refused (refusals.LogFull lines room) n comes works =
       brings_full lines room n (λ w stands whole plain. (comes.each w stands whole plain).step) works

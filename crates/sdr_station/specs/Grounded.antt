@@ -4,7 +4,7 @@ use Rattle.sdr_audit.specs.Standing.{HeapStandsFor, StandsForWhole}
 use Rattle.sdr_base.specs.KeptHeap.{KeepsRegion, block_in, root_in}
 use Rattle.sdr_base.specs.Objects.{Heap}
 use Rattle.sdr_base.specs.Pools.{Pools}
-use Rattle.sdr_disk.specs.Told.{Told}
+use Rattle.sdr_disk.specs.Told.{IfTold}
 use Rattle.sdr_heap.specs.Noted.{Held, marked_in}
 use Rattle.sdr_image.specs.Opened.{Opened, Rests}
 use Rattle.sdr_lock.specs.Demand.{most_lines, no_demand}
@@ -63,7 +63,7 @@ pub record StandsForBoth {D : Type 0} (told : D → Option (List ℕ)) (moment :
     (g : Grounded D) (v : Standing) : Type 0 where
   pub sound : g.heap.cells.failed ≡ false
   pub rests : Rests told moment may_leave g.heap.cells
-  pub moment_is : Told (told g.heap.cells.disk) (λ _. g.moment ≡ moment g.heap.cells.disk)
+  pub moment_is : IfTold (told g.heap.cells.disk) (λ _. g.moment ≡ moment g.heap.cells.disk)
   pub size : length g.heap.cells.begun ≡ g.heap.size
   pub before : StandsAtRest (room_of g.heap.cells.frame) g.heap.cells.begun v.before
   pub taken : v.now.world.taken ≡ 0

@@ -8,7 +8,7 @@ use Rattle.sdr_base.specs.Causes.{Rose}
 use Rattle.sdr_base.specs.FreshHeap.{fresh_heap}
 use Rattle.sdr_base.specs.Pools.{fresh_pools}
 use Rattle.sdr_base.specs.declared.line.TheConstants.{LEAST_LINES, MOST_LINES}
-use Rattle.sdr_disk.specs.Told.{Told}
+use Rattle.sdr_disk.specs.Told.{IfTold}
 use Rattle.sdr_image.specs.Opening.{MayBeOpened}
 use Rattle.sdr_image.specs.declared.error.ImageError.{ImageError}
 use Rattle.sdr_image.specs.declared.error.ImageError.TheVariants as images
@@ -35,8 +35,8 @@ pub record IsOpen {D : Type 0} (told : D → Option (List ℕ)) (moment : D → 
   pub most : lines ≤ MOST_LINES
   pub going : g.stopped ≡ false
   pub sound : g.heap.cells.failed ≡ false
-  pub gives : Told (told disk) (λ x. put_back_of x ≡ Some (fresh_heap lines))
-  pub stands : Told (told disk) (λ x. MayBeOpened x (may_leave disk (moment disk)))
+  pub gives : IfTold (told disk) (λ x. put_back_of x ≡ Some (fresh_heap lines))
+  pub stands : IfTold (told disk) (λ x. MayBeOpened x (may_leave disk (moment disk)))
       → StandsForBoth told moment may_leave g (fresh_standing (room_of g.heap.cells.frame) lines)
 
 -- the disk of a heap that was opened, or of what is left where none was
@@ -57,8 +57,8 @@ pub record GivesDamaged (place : ℕ) (x : List ℕ) : Type 0 where
 
 -- why a heap wasn't opened, where the disk told these bytes, and its count of faults was so and is so
 abbrev pub ExplainsOpen : Option (List ℕ) → ℕ → ℕ → OpenError → Type 0
-ExplainsOpen told before now errors.NotFormatted = Told told (λ x. put_back_of x ≡ None)
-ExplainsOpen told before now (errors.Damaged place why) = (why ≡ whys.Control) × Told told (GivesDamaged place)
+ExplainsOpen told before now errors.NotFormatted = IfTold told (λ x. put_back_of x ≡ None)
+ExplainsOpen told before now (errors.Damaged place why) = (why ≡ whys.Control) × IfTold told (GivesDamaged place)
 ExplainsOpen told before now errors.DiskFault = Rose before now
 ExplainsOpen told before now errors.NoMemory = ⊤
 

@@ -2,7 +2,7 @@
 ghost use Rattle.std.specs.Prelude.{◌≡◌, false, max, OnErr, OnOk};
 ghost use Rattle.sdr_base.specs.Transaction.{HasReason, IfRefused};
 ghost use Rattle.sdr_disk.specs.Moments.{AtEach};
-ghost use Rattle.sdr_disk.specs.Told.{Told};
+ghost use Rattle.sdr_disk.specs.Told.{IfTold};
 ghost use Rattle.sdr_image.specs.Changed.{GivesEither};
 ghost use Rattle.sdr_image.specs.Opened.{Rests, StaysAt, transaction_of};
 ghost use Rattle.sdr_log.specs.Calls.{KeepsDisk};
@@ -25,7 +25,7 @@ pub fn commit<D: Disk>(heap: &mut Heap<Image<D>>) -> Result<(), Stop>
     ensures stays { StaysAt result heap.old.cells heap.new.cells }
     ensures disk { KeepsDisk D.size D.bytes heap.old.cells.disk heap.new.cells.disk }
     ensures any_moment { heap.old.cells.failed ≡ false → Rests D.bytes D.moment D.may_leave heap.old.cells
-        → Told (D.bytes heap.old.cells.disk) (λ _. AtEach D.moment D.may_leave heap.old.cells.disk heap.new.cells.disk
+        → IfTold (D.bytes heap.old.cells.disk) (λ _. AtEach D.moment D.may_leave heap.old.cells.disk heap.new.cells.disk
         (GivesEither heap.old.cells.begun heap.old.cells.bytes)) }
 {
     heap.cells().commit()?;
@@ -44,7 +44,7 @@ pub fn cancel<D: Disk>(heap: &mut Heap<Image<D>>) -> Result<(), Stop>
     ensures stays { StaysAt result heap.old.cells heap.new.cells }
     ensures disk { KeepsDisk D.size D.bytes heap.old.cells.disk heap.new.cells.disk }
     ensures any_moment { heap.old.cells.failed ≡ false → Rests D.bytes D.moment D.may_leave heap.old.cells
-        → Told (D.bytes heap.old.cells.disk) (λ _. AtEach D.moment D.may_leave heap.old.cells.disk heap.new.cells.disk
+        → IfTold (D.bytes heap.old.cells.disk) (λ _. AtEach D.moment D.may_leave heap.old.cells.disk heap.new.cells.disk
         (Gives heap.old.cells.begun)) }
 {
     heap.cells().cancel()?;

@@ -1,7 +1,7 @@
 // A heap on an image as the ground of a lock.
 ghost use Rattle.std.specs.Prelude.{◌≡◌, ◌≤◌, None, false, true, length, IfErr, IfOk, OnErr, OnOk};
 ghost use Rattle.sdr_disk.specs.Moments.{AtEach};
-ghost use Rattle.sdr_disk.specs.Told.{Told};
+ghost use Rattle.sdr_disk.specs.Told.{IfTold};
 ghost use Rattle.sdr_image.specs.Opening.{MayBeOpened};
 ghost use Rattle.sdr_lock.specs.Crash.{LeavesBefore, LeavesEither};
 ghost use Rattle.sdr_lock.specs.Serving.{Brings, Calls, Keeps, KeepsGround, MeetsFault, PutsBack};
@@ -107,7 +107,7 @@ impl<D: Disk> HeapGround<D> {
         ensures why { IfErr result (λ shut. ExplainsOpen (D.bytes disk) (D.faults disk) (D.faults shut.disk) shut.why) }
         ensures disk { KeepsDisk D.size D.bytes disk (disk_of result) }
         ensures later { D.faults disk ≤ D.faults (disk_of result) }
-        ensures any_moment { Told (D.bytes disk) (λ x. MayBeOpened x (D.may_leave disk (D.moment disk))
+        ensures any_moment { IfTold (D.bytes disk) (λ x. MayBeOpened x (D.may_leave disk (D.moment disk))
             → AtEach D.moment D.may_leave disk (disk_of result) (GivesSame x)) }
     {
         let mut image = match Image::open(alloc, disk) {

@@ -12,11 +12,10 @@ use Rattle.sdr_base.specs.Tables.{TableRow, table_block}
 use Rattle.sdr_base.specs.Words.{HasWord, layout}
 use Rattle.sdr_base.specs.declared.kind.Kind.TheVariants as kinds
 use Rattle.sdr_base.proofs.HeapLemmas.{heap_blocks}
-use Rattle.sdr_base.proofs.LayoutLemmas.{length-layout}
+use Rattle.sdr_base.proofs.LayoutLemmas.{layout-append, length-layout}
 use Rattle.sdr_base.proofs.StandingLemmas.{written_at}
 use Rattle.std.proofs.Math.Seq.{drop-append-add, take-append-add}
 use Rattle.sdr_base.proofs.PartsLemmas.{length-part}
-use Rattle.sdr_table.proofs.MadeLemmas.{layout-append}
 use Rattle.sdr_table.proofs.KeptLemmas.{head, rows_is, size_is}
 use Rattle.sdr_table.specs.Kept.{KeepsTable, SomeTable}
 use Rattle.sdr_table.specs.Rows.{HasRow, IsNoRow, IsSize, ReadsRow, SetsRow, row_bytes, with_row}

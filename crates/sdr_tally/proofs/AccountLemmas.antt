@@ -7,7 +7,7 @@ use Rattle.sdr_base.specs.declared.account.Acct.{Acct}
 use Rattle.sdr_base.specs.declared.account.Acct.TheVariants as accts
 use Rattle.sdr_base.specs.declared.account.Amounts.{Amounts}
 use Rattle.sdr_base.specs.declared.kind.Space.{Space}
-use Rattle.sdr_model.specs.Accounts.{Stands, account_of, most_amount, tickets_of, with_account, with_tickets}
+use Rattle.sdr_model.specs.Accounts.{IsInPlace, account_of, most_amount, tickets_of, with_account, with_tickets}
 use Rattle.sdr_model.specs.declared.accounts.Pending.{Pending}
 use Rattle.sdr_model.specs.Amounts.{amount, no_amounts}
 use Rattle.sdr_model.specs.Charges.{left_in, occupancy}
@@ -80,7 +80,7 @@ left_in-entered space ts place new' empty =
     )
 
 -- without a ticket no more is occupied
-pub bound_removed : (things : Things) (accounts : Accounts) (p : Pending) → AreBound things accounts → Stands accounts p
+pub bound_removed : (things : Things) (accounts : Accounts) (p : Pending) → AreBound things accounts → IsInPlace accounts p
     → AreBound things (with_tickets accounts p.acct (remove (tickets_of accounts p.acct) p.place))
 bound_removed things accounts p bound stands =
     bound_less things accounts p.acct _ bound (λ space. left_in-removed space (tickets_of accounts p.acct) p.place p.ticket stands.there)

@@ -10,7 +10,7 @@ use Rattle.sdr_base.specs.declared.account.Amounts.{Amounts}
 use Rattle.sdr_base.specs.declared.kind.Space.{Space}
 use Rattle.sdr_base.specs.declared.refusal.Refusal.{Refusal}
 use Rattle.sdr_base.specs.declared.refusal.Refusal.TheVariants as refusals
-use Rattle.sdr_model.specs.Accounts.{Stands, account_of, most_amount, pending_in, ticket_at, tickets_of, with_ticket, with_tickets}
+use Rattle.sdr_model.specs.Accounts.{IsInPlace, account_of, most_amount, pending_in, ticket_at, tickets_of, with_ticket, with_tickets}
 use Rattle.sdr_model.specs.declared.accounts.Pending.{Pending}
 use Rattle.sdr_tally.specs.Allowed.{HasRoomFor, IsBound, IsGrantOf, MayCharge, MayTakeBack, RefusesCharge, refusal_by, refusal_of, space_refusal, with_back}
 use Rattle.sdr_model.specs.Amounts.{amount, amounts_by, first_above, minus, no_amounts}
@@ -61,7 +61,7 @@ set_back ts place old between is =
     set-set ts place between old ∙ ap (set ts place) (sym (get_or_from_slice_get ts place old old is)) ∙ set-get_or ts place old
 
 -- what a charge used is given back
-pub with_back-used : (w : World) (p : Option Pending) (amounts : Amounts) → IfSome p (Stands w.accounts)
+pub with_back-used : (w : World) (p : Option Pending) (amounts : Amounts) → IfSome p (IsInPlace w.accounts)
     → with_back (with_used w p amounts) p ≡ w
 with_back-used w None amounts stands = refl
 with_back-used w (Some p) amounts stands =
@@ -75,7 +75,7 @@ with_back-used w (Some p) amounts stands =
 
 -- a charge leaves no more occupied
 pub bound_used : (things : Things) (accounts : Accounts) (p : Pending) (amounts : Amounts)
-    → AreBound things accounts → Stands accounts p
+    → AreBound things accounts → IsInPlace accounts p
     → AreBound things (with_ticket accounts p (record p.ticket { left = minus p.ticket.left amounts }))
 bound_used things accounts p amounts bound stands =
     let used = record p.ticket { left = minus p.ticket.left amounts } in
@@ -83,7 +83,7 @@ bound_used things accounts p amounts bound stands =
     omega (arith, left_in-set space (tickets_of accounts p.acct) p.place p.ticket used stands.there stands.is, amount-minus p.ticket.left amounts space))
 
 -- what a charge used may be given back
-pub may_take_back : (w : World) (p : Option Pending) (amounts : Amounts) → IfSome p (Stands w.accounts)
+pub may_take_back : (w : World) (p : Option Pending) (amounts : Amounts) → IfSome p (IsInPlace w.accounts)
     → IfSome p (λ p. p.ticket.granted ≡ true) → ((acct : Acct) (space : Space) → occupancy w acct space ≤ most_amount)
     → MayTakeBack (with_used w p amounts) p
 may_take_back w None amounts stands granted bound = record { there = tt; granted = tt; bound = bound }
@@ -99,7 +99,7 @@ may_take_back w (Some p) amounts stands granted bound =
     }
 
 -- what is occupied where a grant covered so much
-pub occupancy-used : (w : World) (p : Pending) (amounts : Amounts) (space : Space) → Stands w.accounts p
+pub occupancy-used : (w : World) (p : Pending) (amounts : Amounts) (space : Space) → IsInPlace w.accounts p
     → occupancy (with_used w (Some p) amounts) p.acct space + amount p.ticket.left space
     ≡ occupancy w p.acct space + (amount p.ticket.left space - amount amounts space)
 occupancy-used w p amounts space stands =
@@ -126,7 +126,7 @@ pending_acct accounts acct number p is =
 -- where there is room for what no grant covers, there is room for all where the grant covered what it could
 pub room_used : (w : World) (acct : Acct) (number : ℕ) (p : Option Pending) (amounts : Amounts)
     → IsGrantOf w.accounts acct number p
-    → IfSome p (Stands w.accounts) → IsBound w → HasRoomFor w acct (minus amounts (grant_left p)) → HasRoomFor (with_used w p amounts) acct amounts
+    → IfSome p (IsInPlace w.accounts) → IsBound w → HasRoomFor w acct (minus amounts (grant_left p)) → HasRoomFor (with_used w p amounts) acct amounts
 room_used w acct number None amounts granted stands bound room space =
     omega (arith, room space, amount-minus amounts no_amounts space, nothing_in space)
 room_used w acct number (Some p) amounts granted stands bound room space =

@@ -13,7 +13,7 @@ use Rattle.sdr_base.specs.declared.account.Acct.{Acct}
 use Rattle.sdr_base.specs.declared.account.Acct.TheVariants as accts
 use Rattle.sdr_model.specs.Accounts.{is_same_account}
 use Rattle.sdr_undo.specs.Draft.{Draft}
-use Rattle.sdr_tally.specs.Drops.{Goes, IsNoted, MayGo}
+use Rattle.sdr_tally.specs.Drops.{GoesWith, IsNoted, MayGo}
 use Rattle.sdr_model.specs.Gone.{gone_things, gone_with, is_passing, names_source, source_blocks, without_things}
 use Rattle.sdr_model.specs.Zco.{raw_of, as_object, as_source, naming, object_at, owned_raw, source_at, taken_over, uses_in, uses_of}
 use Rattle.sdr_model.specs.Steps.{without_thing}
@@ -152,58 +152,58 @@ source_no_object (Some thing) s is = refl
 -- what goes with extents, where raw objects of sources are plain
 module _ (w : World) (all : List Extent)
     (plain : (source raw : ℕ) → raw_at w source ≡ Some raw → is_plain (thing_at w raw) ≡ true) where
-  raw_goes : (raw : ℕ) → is_plain (thing_at w raw) ≡ true → Goes w all raw
+  raw_goes : (raw : ℕ) → is_plain (thing_at w raw) ≡ true → GoesWith w all raw
   raw_goes raw is = record {
     no_object = plain_no_object (thing_at w raw) is;
     unused = subst (λ o. IfSome o (λ s. uses_of w raw ≡ naming raw all)) (sym (plain_source (thing_at w raw) is)) tt;
   }
 
-  source_goes : (addr : ℕ) (s : ZcoSource) → source_at w addr ≡ Some s → uses_of w addr ≡ naming addr all → Goes w all addr
+  source_goes : (addr : ℕ) (s : ZcoSource) → source_at w addr ≡ Some s → uses_of w addr ≡ naming addr all → GoesWith w all addr
   source_goes addr s is used = record {
     no_object = source_no_object (thing_at w addr) s is;
     unused = subst (λ o. IfSome o (λ s. uses_of w addr ≡ naming addr all)) (sym is) used;
   }
 
   raws_go : (subject : Subject) → ((raw : ℕ) → raw_of subject ≡ Some raw → is_plain (thing_at w raw) ≡ true)
-      → All (Goes w all) (option_to_list (taken_over subject))
-  raws_go (subjects.Heap raw) each = All-cons (Goes w all) raw [] (raw_goes raw (each raw refl)) (All-nil (Goes w all))
-  raws_go (subjects.File path) each = All-nil (Goes w all)
-  raws_go (subjects.Bulk item) each = All-nil (Goes w all)
-  raws_go (subjects.Obj raw) each = All-nil (Goes w all)
+      → All (GoesWith w all) (option_to_list (taken_over subject))
+  raws_go (subjects.Heap raw) each = All-cons (GoesWith w all) raw [] (raw_goes raw (each raw refl)) (All-nil (GoesWith w all))
+  raws_go (subjects.File path) each = All-nil (GoesWith w all)
+  raws_go (subjects.Bulk item) each = All-nil (GoesWith w all)
+  raws_go (subjects.Obj raw) each = All-nil (GoesWith w all)
 
   blocks_go : (addr : ℕ) (o : Option ZcoSource) → source_at w addr ≡ o → uses_of w addr ≡ naming addr all
-      → All (Goes w all) (source_blocks addr o)
-  blocks_go addr None is used = All-nil (Goes w all)
+      → All (GoesWith w all) (source_blocks addr o)
+  blocks_go addr None is used = All-nil (GoesWith w all)
   blocks_go addr (Some s) is used = by (is_passing s)
     where
       each : (raw : ℕ) → raw_of s.subject ≡ Some raw → is_plain (thing_at w raw) ≡ true
       each raw of = plain addr raw (ap (option_and_then (λ s. raw_of s.subject)) is ∙ of)
 
-      by : (b : Bool) → All (Goes w all) (cond b (option_to_list (owned_raw s) ++ addr ∷ []) [])
+      by : (b : Bool) → All (GoesWith w all) (cond b (option_to_list (owned_raw s) ++ addr ∷ []) [])
       by true =
-          All-append (Goes w all) (option_to_list (owned_raw s)) (addr ∷ []) (raws_go s.subject each)
-          (All-cons (Goes w all) addr [] (source_goes addr s is used) (All-nil (Goes w all)))
-      by false = All-nil (Goes w all)
+          All-append (GoesWith w all) (option_to_list (owned_raw s)) (addr ∷ []) (raws_go s.subject each)
+          (All-cons (GoesWith w all) addr [] (source_goes addr s is used) (All-nil (GoesWith w all)))
+      by false = All-nil (GoesWith w all)
 
-  with_extent_go : (e : Extent) (later : Bool) → All (Goes w all)
+  with_extent_go : (e : Extent) (later : Bool) → All (GoesWith w all)
       (cond ((uses_of w e.source == naming e.source all) && later) (source_blocks e.source (source_at w e.source)) [])
   with_extent_go e later = by (uses_of w e.source == naming e.source all) later refl
     where
       by : (b later : Bool) → (uses_of w e.source == naming e.source all) ≡ b
-          → All (Goes w all) (cond (b && later) (source_blocks e.source (source_at w e.source)) [])
+          → All (GoesWith w all) (cond (b && later) (source_blocks e.source (source_at w e.source)) [])
       by true true is = blocks_go e.source (source_at w e.source) refl (eqb-true (uses_of w e.source) (naming e.source all) is)
-      by true false is = All-nil (Goes w all)
-      by false later is = All-nil (Goes w all)
+      by true false is = All-nil (GoesWith w all)
+      by false later is = All-nil (GoesWith w all)
 
-  pub gone_go : (es : List Extent) → All (Goes w all) (gone_things w all es)
-  gone_go [] = All-nil (Goes w all)
+  pub gone_go : (es : List Extent) → All (GoesWith w all) (gone_things w all es)
+  gone_go [] = All-nil (GoesWith w all)
   gone_go (e ∷ es) =
-      All-append (Goes w all) (gone_with w all es e) (gone_things w all es)
+      All-append (GoesWith w all) (gone_with w all es e) (gone_things w all es)
       (with_extent_go e (not (names_source e.source es))) (gone_go es)
 
 -- what goes with an object's extents may go once it is gone
 pub MayGo-lost : (d d' : Draft) (k addr : ℕ) (z : ZcoObject) → object_at d.now k ≡ Some z → d'.now ≡ without_thing d.now k
-    → d'.touched ≡ d.touched → d'.noted ≡ d.noted → IsNoted d addr → Goes d.now z.extents addr → MayGo d' addr
+    → d'.touched ≡ d.touched → d'.noted ≡ d.noted → IsNoted d addr → GoesWith d.now z.extents addr → MayGo d' addr
 MayGo-lost d d' k addr z there now touched noted is goes = record {
   touched = subst (λ ts. Contains ts addr) (sym touched) is.touched;
   noted = subst₂ (λ t ns. IfSome (option_and_then (λ s. raw_of s.subject) (as_source t)) (Contains ns)) (sym at) (sym noted)

@@ -16,7 +16,7 @@ use Rattle.sdr_model.specs.Accounts.{is_same_account}
 use Rattle.sdr_model.specs.Charges.{bytes_charge, extent_charge, space_in}
 use Rattle.sdr_model.specs.Cuts.{cut, cut_all, left_out}
 use Rattle.sdr_undo.specs.Draft.{Draft}
-use Rattle.sdr_tally.specs.Drops.{Goes, IsNoted, MayGo}
+use Rattle.sdr_tally.specs.Drops.{GoesWith, IsNoted, MayGo}
 use Rattle.sdr_model.specs.Gone.{without_things}
 use Rattle.sdr_model.specs.ObjectSteps.{with_object}
 use Rattle.sdr_undo.specs.Owners.{Owns, OwnsInside}
@@ -160,7 +160,7 @@ apart w k addr z there none = by (is_at (nat_cmp addr) k) refl
 pub MayGo-replaced : (d d' : Draft) (k addr : ℕ) (z y : ZcoObject) (out : List Extent) → object_at d.now k ≡ Some z
     → y.account ≡ z.account → naming addr y.extents + naming addr out ≡ naming addr z.extents → d'.now ≡ with_object d.now k y
     → ((other : ℕ) → Contains d.touched other → Contains d'.touched other) → d'.noted ≡ d.noted → IsNoted d addr
-    → Goes d.now out addr → MayGo d' addr
+    → GoesWith d.now out addr → MayGo d' addr
 MayGo-replaced d d' k addr z y out there same names now touched noted is goes = record {
   touched = touched addr is.touched;
   noted = subst₂ (λ t ns. IfSome (raw_of_thing t) (Contains ns)) (sym at) (sym noted) is.noted;
@@ -213,9 +213,9 @@ without_things-with w k y (a ∷ addrs) all =
 
 -- what goes isn't where the object is
 pub all_apart : (w : World) (k : ℕ) (z : ZcoObject) (out : List Extent) (addrs : List ℕ) → object_at w k ≡ Some z
-    → All (Goes w out) addrs → All (λ a. is_at (nat_cmp a) k ≡ false) addrs
+    → All (GoesWith w out) addrs → All (λ a. is_at (nat_cmp a) k ≡ false) addrs
 all_apart w k z out addrs there goes =
-    All-weaker (Goes w out) (λ a. is_at (nat_cmp a) k ≡ false) (λ a is. apart w k a z there is.no_object) addrs goes
+    All-weaker (GoesWith w out) (λ a. is_at (nat_cmp a) k ≡ false) (λ a is. apart w k a z there is.no_object) addrs goes
 
 -- the bytes that are left are no more
 pub length-cut : (from to : ℕ) (es : List Extent) → extents_length (cut_all from to es) ≤ extents_length es

@@ -12,7 +12,7 @@ pub record IsNoted (d : Draft) (addr : ℕ) : Type 0 where
   pub noted : IfSome (raw_at d.now addr) (Contains d.noted)
 
 -- What is at an address goes where these extents go: it isn't an object, and if it is a source, no others name it.
-pub record Goes (w : World) (extents : List Extent) (addr : ℕ) : Type 0 where
+pub record GoesWith (w : World) (extents : List Extent) (addr : ℕ) : Type 0 where
   pub no_object : object_at w addr ≡ None
   pub unused : IfSome (source_at w addr) (λ s. uses_of w addr ≡ naming addr extents)
 

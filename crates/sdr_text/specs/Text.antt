@@ -1,8 +1,7 @@
 -- What is printed of answers. Each `.._on` is the line so far, which begins with the bytes handed in, with one more thing on it.
-use Rattle.std.specs.Prelude.{ℕ, List, [], ◌∷◌, ◌++◌, Bool, not, ◌&&◌, ◌==◌, nat_le, if◌then◌else◌, codes, decimal}
+use Rattle.std.specs.Prelude.{ℕ, List, [], ◌++◌, Bool, not, ◌&&◌, ◌==◌, nat_le, if◌then◌else◌, codes, decimal}
 use Rattle.std.specs.List.{list_all}
 use Rattle.hex.specs.Hex.{encode_lower}
-use Rattle.sdr_model.specs.Made.{Made}
 use Rattle.sdr_model.specs.declared.answer.Answer.{Answer}
 use Rattle.sdr_model.specs.declared.answer.Answer.TheVariants as answers
 use Rattle.sdr_model.specs.declared.answer.Close.{Close}
@@ -78,8 +77,3 @@ answer_text t answer bytes = behind_on (answer_on t answer ++ given_text answer 
 abbrev pub line_text : ℕ → ℕ → Answer → List ℕ → List ℕ
 line_text line daemon answer bytes =
     answer_text (field_on (decimal line) daemon ++ codes " ") answer bytes ++ codes "\n"
-
--- the printed lines of what was made
-abbrev pub made_text : List Made → List ℕ
-made_text [] = []
-made_text (e ∷ made) = line_text e.line e.daemon e.answer e.bytes ++ made_text made

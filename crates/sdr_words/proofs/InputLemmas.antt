@@ -8,7 +8,7 @@ use Rattle.std.specs.Io.KnownBytes.{Consumes, IsAtEnd}
 use Rattle.sdr_words.proofs.ReadingLemmas.{read_lines-append}
 use Rattle.sdr_words.specs.LineAnswers.{Stops, GivesScript}
 use Rattle.sdr_words.specs.Reading.{ReadsInput, ReadsScript, NamesLine}
-use Rattle.sdr_words.specs.Script.{◌>>=◌, Reading, nothing_read, lines_of, ended_lines, but_last, longest_input, read_line, read_lines, script_of, refused_behind, input_script}
+use Rattle.sdr_words.specs.Script.{◌>>=◌, Reading, nothing_read, input_lines, ended_lines, but_last, longest_input, read_line, read_lines, script_of, refused_behind, input_script}
 use Rattle.sdr_words.specs.declared.error.ScriptError.{ScriptError}
 use Rattle.sdr_words.specs.declared.error.ScriptError.TheVariants as errors
 use Rattle.sdr_model.specs.declared.script.Step.{Step}
@@ -20,7 +20,7 @@ last_of (x ∷ y ∷ xs) some = let last = last_of (y ∷ xs) (omega arith) in (
 
 module _ (old : Reading) (input : List ℕ) (fresh : old ≡ nothing_read) where
   -- the script is read by the ended lines and the last one
-  script-parts : (last : List ℕ) → lines_of input ≡ ended_lines input ++ last ∷ []
+  script-parts : (last : List ℕ) → input_lines input ≡ ended_lines input ++ last ∷ []
       → script_of input
       ≡ (read_lines old (ended_lines input) >>= λ ended. read_lines ended (last ∷ [])) >>= λ all. Ok all.steps
   script-parts last parts =
@@ -28,7 +28,7 @@ module _ (old : Reading) (input : List ℕ) (fresh : old ≡ nothing_read) where
       ∙ ap (λ d. read_lines d (ended_lines input ++ last ∷ []) >>= λ all. Ok all.steps) (sym fresh)
       ∙ ap (λ r. r >>= λ all. Ok all.steps) (read_lines-append old (ended_lines input) (last ∷ []))
 
-  module _ (last : List ℕ) (ended : Reading) (parts : lines_of input ≡ ended_lines input ++ last ∷ [])
+  module _ (last : List ℕ) (ended : Reading) (parts : input_lines input ≡ ended_lines input ++ last ∷ [])
       (reads : read_lines old (ended_lines input) ≡ Ok ended) where
     script-last : script_of input ≡ (read_line ended last >>= λ all. Ok all) >>= λ all. Ok all.steps
     script-last = script-parts last parts
@@ -49,7 +49,7 @@ module _ (old : Reading) (input : List ℕ) (fresh : old ≡ nothing_read) where
       → Stops error (script_of input)
   Stops-ended errors.Input stops = stops
   Stops-ended (errors.Line line) stops =
-      let last = last_of (lines_of input) (omega (arith, length-slice_split (λ b. b == 10) input)) in
+      let last = last_of (input_lines input) (omega (arith, length-slice_split (λ b. b == 10) input)) in
       script-parts last.0 last.1
       ∙ ap (λ r. (r >>= λ ended. read_lines ended (last.0 ∷ [])) >>= λ all. Ok all.steps) stops
   Stops-ended errors.NoMemory stops = tt

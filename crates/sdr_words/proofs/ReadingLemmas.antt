@@ -8,15 +8,15 @@ use Rattle.bstr.specs.Find.{IsFirstByte, is_byte}
 use Rattle.sdr_words.specs.LineAnswers.{Stops}
 use Rattle.sdr_words.specs.declared.error.ScriptError.{ScriptError}
 use Rattle.sdr_words.specs.declared.error.ScriptError.TheVariants as errors
-use Rattle.sdr_words.specs.Script.{◌>>=◌, Reading, lines_of, ended_lines, but_last, read_line, read_lines}
+use Rattle.sdr_words.specs.Script.{◌>>=◌, Reading, input_lines, ended_lines, but_last, read_line, read_lines}
 
 -- an input cut at the first byte 10
 pub lines_cut : (bytes : List ℕ) (end : ℕ) → IsFirstByte (is_byte 10) bytes (Some end)
-    → lines_of bytes ≡ take end bytes ∷ lines_of (take (length bytes - (end + 1)) (drop (end + 1) bytes))
+    → input_lines bytes ≡ take end bytes ∷ input_lines (take (length bytes - (end + 1)) (drop (end + 1) bytes))
 lines_cut bytes end first = split_cut 10 bytes end first
 
 -- an input without the byte 10 is one line
-pub lines_uncut : (bytes : List ℕ) → IsFirstByte (is_byte 10) bytes None → lines_of bytes ≡ bytes ∷ []
+pub lines_uncut : (bytes : List ℕ) → IsFirstByte (is_byte 10) bytes None → input_lines bytes ≡ bytes ∷ []
 lines_uncut bytes none = split_uncut 10 bytes none
 
 pub ruleset cutting = (lines_cut, lines_uncut)
@@ -38,17 +38,17 @@ read_lines-append reading (x ∷ xs) ys =
 -- all lines but those of a rest were read
 pub record HasRead (old now : Reading) (bytes rest : List ℕ) : Type 0 where
   pub done : List (List ℕ)
-  pub parts : lines_of bytes ≡ done ++ lines_of rest
+  pub parts : input_lines bytes ≡ done ++ input_lines rest
   pub reads : read_lines old done ≡ Ok now
 
 pub HasRead-none : (old : Reading) (bytes : List ℕ) → HasRead old old bytes bytes
 HasRead-none old bytes = record { done = []; parts = refl; reads = refl }
 
 pub HasRead-more : (old now later : Reading) (bytes rest line after : List ℕ) → HasRead old now bytes rest
-    → lines_of rest ≡ line ∷ lines_of after → read_line now line ≡ Ok later → HasRead old later bytes after
+    → input_lines rest ≡ line ∷ input_lines after → read_line now line ≡ Ok later → HasRead old later bytes after
 HasRead-more old now later bytes rest line after read cut reads = record {
   done = read.done ++ line ∷ [];
-  parts = read.parts ∙ ap (λ l. read.done ++ l) cut ∙ sym (append_assoc read.done (line ∷ []) (lines_of after));
+  parts = read.parts ∙ ap (λ l. read.done ++ l) cut ∙ sym (append_assoc read.done (line ∷ []) (input_lines after));
   reads = read_lines-append old read.done (line ∷ []) ∙ ap (λ r. r >>= λ now. read_lines now (line ∷ [])) read.reads
       ∙ ap (λ r. r >>= λ now. read_lines now []) reads;
 }
@@ -58,15 +58,15 @@ first_of [] some = absurd (omega arith)
 first_of (x ∷ xs) some = (x, xs, refl)
 
 -- the ended lines of an input that goes on behind a line
-ended_behind : (bytes line after : List ℕ) (done : List (List ℕ)) → lines_of bytes ≡ done ++ line ∷ lines_of after
+ended_behind : (bytes line after : List ℕ) (done : List (List ℕ)) → input_lines bytes ≡ done ++ line ∷ input_lines after
     → ended_lines bytes ≡ done ++ line ∷ ended_lines after
 ended_behind bytes line after done parts =
-    let next = first_of (lines_of after) (omega (arith, length-slice_split (λ b. b == 10) after)) in
-    ap but_last parts ∙ but_last-append done line (lines_of after)
+    let next = first_of (input_lines after) (omega (arith, length-slice_split (λ b. b == 10) after)) in
+    ap but_last parts ∙ but_last-append done line (input_lines after)
     ∙ ap (λ l. done ++ but_last (line ∷ l)) next.2 ∙ ap (λ l. done ++ line ∷ but_last l) (sym next.2)
 
 pub HasRead-refused : (old now : Reading) (bytes rest line after : List ℕ) (number : ℕ) → HasRead old now bytes rest
-    → lines_of rest ≡ line ∷ lines_of after → read_line now line ≡ Err number → read_lines old (ended_lines bytes)
+    → input_lines rest ≡ line ∷ input_lines after → read_line now line ≡ Err number → read_lines old (ended_lines bytes)
     ≡ Err number
 HasRead-refused old now bytes rest line after number read cut refused =
     ap (read_lines old) (ended_behind bytes line after read.done (read.parts ∙ ap (λ l. read.done ++ l) cut))
@@ -76,7 +76,7 @@ HasRead-refused old now bytes rest line after number read cut refused =
 
 -- why the ended lines are not read
 pub Stops-refused : (old now : Reading) (bytes rest line after : List ℕ) (error : ScriptError)
-    → HasRead old now bytes rest → lines_of rest ≡ line ∷ lines_of after
+    → HasRead old now bytes rest → input_lines rest ≡ line ∷ input_lines after
     → Stops error (read_line now line) → Stops error (read_lines old (ended_lines bytes))
 Stops-refused old now bytes rest line after errors.Input read cut stops = stops
 Stops-refused old now bytes rest line after (errors.Line number) read cut stops =
@@ -84,18 +84,18 @@ Stops-refused old now bytes rest line after (errors.Line number) read cut stops 
 Stops-refused old now bytes rest line after errors.NoMemory read cut stops = tt
 
 -- the ended lines are those before the last
-ended_are_done : (bytes rest : List ℕ) (done : List (List ℕ)) → lines_of bytes ≡ done ++ lines_of rest → lines_of rest
+ended_are_done : (bytes rest : List ℕ) (done : List (List ℕ)) → input_lines bytes ≡ done ++ input_lines rest → input_lines rest
     ≡ rest ∷ [] → ended_lines bytes ≡ done
 ended_are_done bytes rest done parts last = ap but_last (parts ∙ ap (λ l. done ++ l) last)
     ∙ but_last-append done rest [] ∙ append-nil done
 
-pub HasRead-all : (old now : Reading) (bytes rest : List ℕ) → HasRead old now bytes rest → lines_of rest ≡ rest ∷ []
+pub HasRead-all : (old now : Reading) (bytes rest : List ℕ) → HasRead old now bytes rest → input_lines rest ≡ rest ∷ []
     → read_lines old (ended_lines bytes) ≡ Ok now
 HasRead-all old now bytes rest read last = ap (read_lines old) (ended_are_done bytes rest read.done read.parts last)
     ∙ read.reads
 
-pub HasRead-last : (old now : Reading) (bytes rest : List ℕ) → HasRead old now bytes rest → lines_of rest ≡ rest ∷ []
-    → lines_of bytes ≡ ended_lines bytes ++ rest ∷ []
+pub HasRead-last : (old now : Reading) (bytes rest : List ℕ) → HasRead old now bytes rest → input_lines rest ≡ rest ∷ []
+    → input_lines bytes ≡ ended_lines bytes ++ rest ∷ []
 HasRead-last old now bytes rest read last =
     read.parts ∙ ap (λ l. read.done ++ l) last
     ∙ ap (λ l. l ++ rest ∷ []) (sym (ended_are_done bytes rest read.done read.parts last))

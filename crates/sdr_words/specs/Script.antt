@@ -16,8 +16,8 @@ abbrev pub longest_input : ℕ
 longest_input = 1048576
 
 -- the lines of an input: its parts between the bytes 10. An empty one behind a last byte 10 says nothing
-abbrev pub lines_of : List ℕ → List (List ℕ)
-lines_of = slice_split (λ b. b == 10)
+abbrev pub input_lines : List ℕ → List (List ℕ)
+input_lines = slice_split (λ b. b == 10)
 
 -- whether a byte may stand in a line
 abbrev pub is_line_byte : ℕ → Bool
@@ -64,7 +64,7 @@ read_lines reading (line ∷ lines) = do
 -- the steps of an input in the order of its lines, or its first refused line, counted from 1
 abbrev pub script_of : List ℕ → Result (List Step) ℕ
 script_of input = do
-  all ← read_lines nothing_read (lines_of input)
+  all ← read_lines nothing_read (input_lines input)
   Ok all.steps
 
 -- a list without its last item
@@ -75,7 +75,7 @@ but_last (x ∷ y ∷ xs) = x ∷ but_last (y ∷ xs)
 
 -- the lines that end in the front of an input: all but the one in which the next byte stands
 abbrev pub ended_lines : List ℕ → List (List ℕ)
-ended_lines front = but_last (lines_of front)
+ended_lines front = but_last (input_lines front)
 
 -- the first refused line of an input that goes on behind this front, where the next byte is refused with its line
 abbrev pub refused_behind : List ℕ → Result (List Step) ℕ

@@ -20,12 +20,12 @@ unfoldable pub shapes : List (List Shape)
 shapes = map (λ row. row.arguments) verb_table
 
 -- the place of a name among names
-abbrev pub place_in : List (List ℕ) → List ℕ → Option ℕ
-place_in names name = position (λ n. pointwise nat_eq n name) names
+abbrev pub place_among : List (List ℕ) → List ℕ → Option ℕ
+place_among names name = position (λ n. pointwise nat_eq n name) names
 
 -- the place of the verb with this name in the table
 abbrev pub place_of : List ℕ → Option ℕ
-place_of name = place_in names name
+place_of name = place_among names name
 
 -- the name of the verb at a place of the table, no byte where there is none
 abbrev pub name_at : ℕ → List ℕ

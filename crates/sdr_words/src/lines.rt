@@ -2,7 +2,7 @@
 ghost use Rattle.std.specs.Prelude.{◌≡◌, ◌≤◌, ◌<◌, ◌^◌, MatchOption, IfOk, IfSome, OnOk, OnErr, ◌+◌, ◌++◌, ◌∷◌, [], length, Some, None};
 ghost use Rattle.sdr_words.specs.Fields.{fields_of};
 ghost use Rattle.sdr_words.specs.LineAnswers.{AddsStep, GivesOr, Reads};
-ghost use Rattle.sdr_words.specs.Script.{lines_of, ended_lines, read_line, read_lines};
+ghost use Rattle.sdr_words.specs.Script.{input_lines, ended_lines, read_line, read_lines};
 ghost use Rattle.sdr_words.specs.Statements.{is_bound_by, name_and_rest, step_of, verb_and_args};
 
 use crate::arguments::args_of;
@@ -99,8 +99,8 @@ pub fn read_line<'a>(
 // The line at the front, and what stands behind its end; none where no line ends within the bytes.
 #[tactic(auto, using(crate::proofs::ReadingLemmas::cutting))]
 fn cut_line(bytes: &[u8]) -> Option<(&[u8], &[u8])>
-    ensures lines { MatchOption result (lines_of bytes.now ≡ bytes.now ∷ [])
-        (λ cut. lines_of bytes.now ≡ cut.0.now ∷ lines_of cut.1.now) }
+    ensures lines { MatchOption result (input_lines bytes.now ≡ bytes.now ∷ [])
+        (λ cut. input_lines bytes.now ≡ cut.0.now ∷ input_lines cut.1.now) }
     ensures shorter { IfSome result (λ cut. length cut.1.now < length bytes.now) }
 {
     let end = bytes.find_byte(b'\n')?;
@@ -117,7 +117,7 @@ pub fn read_ended<'a>(
     requires room { draft.old.next + length bytes.now < 2 ^ 63 }
     ensures ended { Reads result draft.new (read_lines draft.old (ended_lines bytes.now)) }
     ensures last { IfOk result (λ last.
-        lines_of bytes.now ≡ ended_lines bytes.now ++ last.now ∷ []) }
+        input_lines bytes.now ≡ ended_lines bytes.now ++ last.now ∷ []) }
     ensures room { OnOk result (draft.new.next < 2 ^ 63) }
 {
     let mut rest = bytes;

@@ -1,6 +1,6 @@
 // The verbs of scripts: the one table by which they are read, which is the grammar's.
 ghost use Rattle.std.specs.Prelude.{◌≡◌, [], map, slice_get, unwrap_or};
-ghost use Rattle.sdr_words.specs.Verbs.{place_in, place_of, verb_at, shapes_at};
+ghost use Rattle.sdr_words.specs.Verbs.{place_among, place_of, verb_at, shapes_at};
 
 /// What an argument of a verb may be.
 #[derive(Clone, Copy)]
@@ -229,8 +229,8 @@ static VERBS: [Row; 78] = [
 ];
 
 // The place of the row with this name.
-fn place_in(rows: &[Row], name: &[u8]) -> Option<usize>
-    ensures { result ≡ place_in (map (λ row. row.1.now) rows.now) name.now }
+fn place_among(rows: &[Row], name: &[u8]) -> Option<usize>
+    ensures { result ≡ place_among (map (λ row. row.1.now) rows.now) name.now }
 {
     rows.iter().position(|row| row.1 == name)
 }
@@ -260,7 +260,7 @@ fn verb_in(rows: &[Row], place: usize) -> Verb
 pub fn place_of(name: &[u8]) -> Option<usize>
     ensures { result ≡ place_of name.now }
 {
-    place_in(&VERBS, name)
+    place_among(&VERBS, name)
 }
 
 /// The shapes of the arguments of the verb at a place.

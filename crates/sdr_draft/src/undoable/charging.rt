@@ -2,7 +2,7 @@
 ghost use Rattle.std.specs.Prelude.{◌≡◌, ◌≤◌, ◌<◌, ◌+◌, IfErr, IfOk, IfSome, OnErr, OnOk, remove, true};
 ghost use Rattle.sdr_base.specs.declared.account.Amounts.{Amounts as GhostAmounts};
 ghost use Rattle.sdr_base.specs.declared.kind.Space.{Space as GhostSpace};
-ghost use Rattle.sdr_model.specs.Accounts.{Stands, account_of, most_amount, tickets_of, with_account, with_tickets};
+ghost use Rattle.sdr_model.specs.Accounts.{IsInPlace, account_of, most_amount, tickets_of, with_account, with_tickets};
 ghost use Rattle.sdr_model.specs.Amounts.{amount, no_amounts};
 ghost use Rattle.sdr_model.specs.Charges.{occupancies};
 ghost use Rattle.sdr_model.specs.Charging.{with_used};
@@ -54,7 +54,7 @@ impl Undoable {
     /// The ticket that a charge names: it is the account's, and granted. 0 names none.
     pub fn grant_of(&self, acct: Acct, number: u64) -> Result<Option<Pending>, Refusal>
         ensures granted { IfOk result (IsGrantOf self.now.now.accounts acct number) }
-        ensures stands { IfOk result (λ p. IfSome p (Stands self.now.now.accounts)) }
+        ensures stands { IfOk result (λ p. IfSome p (IsInPlace self.now.now.accounts)) }
         ensures refused { IfErr result (λ refusal. (amounts : GhostAmounts) →
             RefusesCharge self.now.now acct number amounts refusal) }
     {
@@ -100,7 +100,7 @@ impl Undoable {
     /// The grant of a ticket covers of these amounts what it can.
     pub fn use_grant(&mut self, granted: Option<Pending>, amounts: &Amounts)
         requires saved { self.old.saved ≡ true }
-        requires stands { IfSome granted (Stands self.old.now.accounts) }
+        requires stands { IfSome granted (IsInPlace self.old.now.accounts) }
         requires granted { IfSome granted (λ p. p.ticket.granted ≡ true) }
         ensures { self.new ≡ record self.old { now = with_used self.old.now granted amounts.now } }
     {
@@ -156,7 +156,7 @@ impl Undoable {
     /// A ticket goes out of its queue.
     pub fn drop_ticket(&mut self, pending: &Pending)
         requires saved { self.old.saved ≡ true }
-        requires stands { Stands self.old.now.accounts pending.now }
+        requires stands { IsInPlace self.old.now.accounts pending.now }
         ensures { let p = pending.now in let accounts = self.old.now.accounts in self.new ≡ record self.old {
           now = record self.old.now {
             accounts = with_tickets accounts p.acct (remove (tickets_of accounts p.acct) p.place);

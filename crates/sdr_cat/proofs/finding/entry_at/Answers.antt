@@ -2,7 +2,8 @@
 use Rattle.std.proofs.Common.{arith, rules}
 use Rattle.sdr_base.proofs.WritingLemmas.{reaches_less}
 use Rattle.sdr_cat.proofs.EntryLemmas.{counts, counts_none, starts, steps_on}
-use Rattle.sdr_cat.proofs.WalkLemmas.{looks_on, reaches_here}
+use Rattle.sdr_base.proofs.WorksLemmas.{looks_on}
+use Rattle.sdr_cat.proofs.WalkLemmas.{reaches_here}
 use Rattle.sdr_cat.proofs.finding.entry_at.Goals as goal
 
 pub loop-i-init : goal.loop-i-init

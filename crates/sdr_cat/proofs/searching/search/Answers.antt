@@ -2,7 +2,8 @@
 use Rattle.std.proofs.Common.{ℕ, ◌∙◌, refl, arith, subst}
 use Rattle.sdr_cat.specs.Walks.{Compares}
 use Rattle.sdr_base.proofs.WritingLemmas.{reaches_less}
-use Rattle.sdr_cat.proofs.WalkLemmas.{answered, found_here, found_no_more, found_none, looks_on, passes, reaches_here}
+use Rattle.sdr_base.proofs.WorksLemmas.{looks_on}
+use Rattle.sdr_cat.proofs.WalkLemmas.{answered, found_here, found_no_more, found_none, passes, reaches_here}
 use Rattle.sdr_cat.proofs.searching.search.Goals as goal
 
 pub returns-then-addr-eq0-clause-found : goal.returns-then-addr-eq0-clause-found

@@ -1,8 +1,8 @@
 -- The elements go one by one.
 use Rattle.std.proofs.Common.{arith, rules}
-use Rattle.sdr_base.proofs.WorksLemmas.{looks_works, works_more, works_then}
+use Rattle.sdr_base.proofs.WorksLemmas.{looks_works, works_more, works_ok, works_then}
 use Rattle.sdr_list.specs.Giving.{GiveStops}
-use Rattle.sdr_list.proofs.DestroyLemmas.{cursor_reaches, ended, onward, spare_left, start, stopped, works_ok}
+use Rattle.sdr_list.proofs.DestroyLemmas.{cursor_reaches, ended, onward, spare_left, start, stopped}
 use Rattle.sdr_list.proofs.destroying.give_chain.Goals as goal
 
 pub loop-i-init : goal.loop-i-init

@@ -3,7 +3,7 @@ use Rattle.std.proofs.Common.{arith, sym, ◌∙◌}
 use Rattle.sdr_base.proofs.WritingLemmas.{reaches_less}
 use Rattle.sdr_list.proofs.KeptLemmas.{list_reaches}
 use Rattle.sdr_list.proofs.OrderedLemmas.{back_next, back_none, back_place, back_reaches, back_start}
-use Rattle.sdr_list.proofs.WalkLemmas.{looks_looks, looks_ok}
+use Rattle.sdr_base.proofs.WorksLemmas.{looks_looks, looks_ok}
 use Rattle.sdr_list.proofs.ordered.last_upto.Goals as goal
 
 pub word-requires-clause-inside : goal.word-requires-clause-inside

@@ -1,6 +1,6 @@
 use Rattle.std.proofs.Common.{◌≡◌, ◌≤◌, ◌+◌, ◌*◌, length}
 use Rattle.std.specs.Prelude.{is_some}
-use Rattle.sdr_disk.specs.Told.{Told}
+use Rattle.sdr_disk.specs.Told.{IfTold}
 use Rattle.sdr_log.specs.Calls.{AreBelow}
 use Rattle.sdr_log.proofs.PuttingLemmas.{Putting}
 use Rattle.sdr_log.proofs.lines.put_lines.Given as goal
@@ -12,7 +12,7 @@ invariant-loop-line g l = record {
   below : AreBelow l.frame.heap_lines l.rest;
   later : g.D.Disk.faults l.fn.disk ≤ g.D.Disk.faults l.disk;
   calls : g.D.Disk.moment l.disk + 2 * length l.rest ≤ g.D.Disk.moment l.fn.disk + 2 * length l.fn.lines;
-  told : Told (g.D.Disk.bytes l.fn.disk) (λ x.
+  told : IfTold (g.D.Disk.bytes l.fn.disk) (λ x.
       Putting g.D.Disk.moment g.D.Disk.may_leave g.D.Disk.bytes l.frame l.fn.lines l.rest l.fn.disk l.disk x);
 }
 

@@ -1,6 +1,6 @@
 use Rattle.std.proofs.Common.{◌≡◌, ◌∙◌, List, ℕ, length, ap, sym}
 use Rattle.std.proofs.lemmas.Result.{err_from_is_err_and}
-use Rattle.sdr_disk.specs.Told.{Told}
+use Rattle.sdr_disk.specs.Told.{IfTold}
 use Rattle.sdr_log.specs.Calls.{GivesNone}
 use Rattle.sdr_log.specs.Log.{batches_of, log_of}
 use Rattle.sdr_log.proofs.ReadingLemmas.{OnBadLog-then}
@@ -11,7 +11,7 @@ pub returns-in_err-records-clause-bad_log : goal.returns-in_err-records-clause-b
 returns-in_err-records-clause-bad_log g c =
     let p = err_from_is_err_and c.from_residual-in_err-records.result c.from_residual-in_err-records.ensures.1 in
     rw (p.1, p.2) (OnBadLog-then
-    {Q = Told (g.D.Disk.bytes c.args.disk.now) (GivesNone c.args.frame)} _ (λ wrong x is.
+    {Q = IfTold (g.D.Disk.bytes c.args.disk.now) (GivesNone c.args.frame)} _ (λ wrong x is.
     let log : c.as_slice.result.now ≡ log_of c.args.frame x =
     c.as_slice.ensures ∙ c.in_ok-log.ensures.given x is in
     GivesNone-log c.args.frame x (HasRegions-framed _ _ _ x c.requires.framed (g.met.D.Disk.told c.args.disk.now) is)

@@ -4,7 +4,7 @@ use Rattle.std.specs.Prelude.{codes}
 use Rattle.sdr_base.specs.Written.{AppendsPart}
 use Rattle.sdr_shell.proofs.ScriptRead.{bad_line_of, had_script, read_to_the_end}
 use Rattle.sdr_shell.proofs.StillLemmas.{had_run, tells_refused}
-use Rattle.sdr_shell.specs.Still.{Writes}
+use Rattle.sdr_shell.specs.Still.{WritesOut}
 use Rattle.sdr_shell.proofs.commands.dry.Goals as goal
 
 pub returns-in-Ok-clause-done : goal.returns-in-Ok-clause-done
@@ -22,7 +22,7 @@ returns-in-Ok-clause-part g c is =
 pub returns-in-Ok-clause-starved : goal.returns-in-Ok-clause-starved
 returns-in-Ok-clause-starved g c is =
     inr (had_run _ _ c.in-Ok.script _
-    (λ rest text. Writes (g.K.Sink.taken c.args.output.now) (g.K.Sink.taken c.run_script.new.output)
+    (λ rest text. WritesOut (g.K.Sink.taken c.args.output.now) (g.K.Sink.taken c.run_script.new.output)
     (g.K.Sink.faults c.args.output.now) (g.K.Sink.faults c.run_script.new.output) (text ++ codes "no memory\n"))
     (had_script _ _ _ c.in-Ok.ensures.script) c.as_slice.ensures (c.run_script.ensures.starved is))
 

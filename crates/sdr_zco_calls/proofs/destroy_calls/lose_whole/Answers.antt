@@ -3,7 +3,7 @@ use Rattle.std.proofs.lemmas.List.Elements.{All-weaker}
 use Rattle.std.specs.List.{All}
 use Rattle.std.specs.Prelude.{Contains, IfSome, []}
 use Rattle.sdr_undo.specs.Draft.{Draft}
-use Rattle.sdr_tally.specs.Drops.{Goes, IsNoted, MayGo}
+use Rattle.sdr_tally.specs.Drops.{GoesWith, IsNoted, MayGo}
 use Rattle.sdr_model.specs.Gone.{gone_things, without_things}
 use Rattle.sdr_model.specs.Queue.{with_served}
 use Rattle.sdr_model.specs.Steps.{without_thing}
@@ -48,8 +48,8 @@ drop_all-requires c =
     (λ other was. subst (λ (d : Draft). Contains d.noted other) (sym saved) was) was)
     (gone_things w all all)
     (subst (All (IsNoted c.touch_all.new.world)) (c.as_slice-2.ensures ∙ gone) c.in_ok-touch_all.ensures.going) in
-    let goes : All (Goes d.now all) (gone_things w all all) =
-    subst (λ v. All (Goes v all) (gone_things w all all)) (sym now) (gone_go w all c.known_object.ensures.plain all) in
+    let goes : All (GoesWith d.now all) (gone_things w all all) =
+    subst (λ v. All (GoesWith v all) (gone_things w all all)) (sym now) (gone_go w all c.known_object.ensures.plain all) in
     let may : All (MayGo new) (gone_things w all all) =
     λ k x inside. MayGo-lost d new addr (get_or (gone_things w all all) k x) c.args.object.now there c.lose_object.ensures.lost
     c.lose_object.ensures.touched c.lose_object.ensures.noted_stay (going k x inside) (goes k x inside) in

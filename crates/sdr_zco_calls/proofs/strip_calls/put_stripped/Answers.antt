@@ -3,7 +3,7 @@ use Rattle.std.proofs.lemmas.List.Elements.{All-weaker}
 use Rattle.std.specs.List.{All}
 use Rattle.std.specs.Prelude.{Contains, IfSome, []}
 use Rattle.sdr_undo.specs.Draft.{Draft}
-use Rattle.sdr_tally.specs.Drops.{Goes, IsNoted, MayGo}
+use Rattle.sdr_tally.specs.Drops.{GoesWith, IsNoted, MayGo}
 use Rattle.sdr_model.specs.Dry.{next_addr}
 use Rattle.sdr_parts.specs.Trims.{edited}
 use Rattle.sdr_model.specs.Gone.{gone_things, without_things}
@@ -78,8 +78,8 @@ drop_all-requires c =
     (λ other was. subst (λ (d : Draft). Contains d.noted other) (sym saved) was) was)
     (gone_things w out out)
     (subst (All (IsNoted c.touch_all.new.world)) (c.as_slice-3.ensures ∙ gone) c.in_ok-touch_all.ensures.going) in
-    let goes : All (Goes d.now out) (gone_things w out out) =
-    subst (λ v. All (Goes v out) (gone_things w out out)) (sym now) (gone_go w out c.known_object.ensures.plain out) in
+    let goes : All (GoesWith d.now out) (gone_things w out out) =
+    subst (λ v. All (GoesWith v out) (gone_things w out out)) (sym now) (gone_go w out c.known_object.ensures.plain out) in
     let put : new.now ≡ with_object d.now addr (stripped z) =
     subst (λ o. IfSome o (λ z. new.now ≡ with_object d.now addr (edited c.args.so.edit z))) is c.in_ok-edit_object.ensures.edited
     ∙ ap (with_object d.now addr) there.1.1.edited in

@@ -1,5 +1,5 @@
 use Rattle.std.proofs.Common.{◌∙◌, ◌≡◌, ◌++◌, ◌∷◌, [], ap, subst, sym}
-use Rattle.sdr_lock.specs.Core.{is_outside, said_by, with_said, without_work}
+use Rattle.sdr_lock.specs.Core.{was_outside, said_by, with_said, without_work}
 use Rattle.sdr_model.specs.declared.journal.What.TheVariants as whats
 use Rattle.sdr_core.proofs.KeeperLemmas.{apart_either, closed_log}
 use Rattle.sdr_core.proofs.SpokenLemmas.{apart-said, apart-without}
@@ -15,7 +15,7 @@ close-requires-clause-apart c =
 pub returns-in-None-clause-apart : goal.returns-in-None-clause-apart
 returns-in-None-clause-apart c =
     subst AreApart (sym c.go_on.ensures.works)
-    (apart_either (is_outside c.said-said.result.0) (works_of c.args.self.now.works.items) c.args.noted.now.daemon c.said-said.result.0 c.requires.apart)
+    (apart_either (was_outside c.said-said.result.0) (works_of c.args.self.now.works.items) c.args.noted.now.daemon c.said-said.result.0 c.requires.apart)
 
 pub returns-in-Some-clause-apart : goal.returns-in-Some-clause-apart
 returns-in-Some-clause-apart c =

@@ -1,5 +1,5 @@
 use Rattle.std.proofs.Common.{ap, subst, sym}
-use Rattle.sdr_model.specs.Accounts.{Stands}
+use Rattle.sdr_model.specs.Accounts.{IsInPlace}
 use Rattle.sdr_undo.specs.Draft.{Draft}
 use Rattle.sdr_undo.specs.Ledger.{Ledger}
 use Rattle.sdr_tally.proofs.AccountLemmas.{AreBound, bound_removed}
@@ -13,5 +13,5 @@ invariant_of-self c =
     (ap (λ (l : Ledger). l.begun) c.remove_ticket.ensures)
     (subst (AreBound inside.things.now) (sym (ap (λ (l : Ledger). l.now) c.remove_ticket.ensures))
     (bound_removed inside.things.now inside.accounts.now c.args.pending.now c.self.invariant.told.now.bound
-    (subst (λ (d : Draft). Stands d.now.accounts c.args.pending.now) (sym c.self.view_is) c.requires.stands)))
+    (subst (λ (d : Draft). IsInPlace d.now.accounts c.args.pending.now) (sym c.self.view_is) c.requires.stands)))
     c.self.invariant

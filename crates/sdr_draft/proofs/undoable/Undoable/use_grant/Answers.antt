@@ -1,5 +1,5 @@
 use Rattle.std.proofs.Common.{IfSome, ap, subst, sym, ◌∙◌}
-use Rattle.sdr_model.specs.Accounts.{Stands, with_ticket}
+use Rattle.sdr_model.specs.Accounts.{IsInPlace, with_ticket}
 use Rattle.sdr_undo.specs.Draft.{Draft}
 use Rattle.sdr_undo.specs.Ledger.{Ledger}
 use Rattle.sdr_tally.proofs.AccountLemmas.{AreBound}
@@ -11,9 +11,9 @@ pub invariant_of-self : goal.invariant_of-self
 invariant_of-self c =
     let inside = c.self.inside in
     let p = c.in-Some.pending in
-    let stands : Stands inside.accounts.now p
-    = subst (λ (d : Draft). Stands d.now.accounts p) (sym c.self.view_is)
-    (subst (λ g. IfSome g (Stands c.args.self.now.now.accounts)) c.in-Some.is c.requires.stands) in
+    let stands : IsInPlace inside.accounts.now p
+    = subst (λ (d : Draft). IsInPlace d.now.accounts p) (sym c.self.view_is)
+    (subst (λ g. IfSome g (IsInPlace c.args.self.now.now.accounts)) c.in-Some.is c.requires.stands) in
     IsKept-accounts inside.owners inside.tally _ inside.things inside.accounts c.put_ticket.new.self
     (ap (λ (l : Ledger). l.begun) c.put_ticket.ensures)
     (subst (AreBound inside.things.now) (sym (ap (λ (l : Ledger). l.now) c.put_ticket.ensures

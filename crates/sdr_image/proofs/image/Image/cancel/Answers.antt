@@ -1,6 +1,6 @@
 use Rattle.std.proofs.Common.{◌∙◌, ap, sym, subst, List, ℕ}
 use Rattle.sdr_disk.specs.Moments.{AtEach}
-use Rattle.sdr_disk.specs.Told.{Told}
+use Rattle.sdr_disk.specs.Told.{IfTold}
 use Rattle.sdr_log.specs.Log.{put_records}
 use Rattle.sdr_log.specs.declared.record.Record.{Record}
 use Rattle.sdr_log.specs.Logged.{Gives}
@@ -24,7 +24,7 @@ returns-clause-back g c x is =
 pub returns-clause-any_moment : goal.returns-clause-any_moment
 returns-clause-any_moment g c sound rests =
     let old = c.args.self.now in
-    subst (λ (disk : g.row.D.Denot). Told (g.D.Disk.bytes old.disk)
+    subst (λ (disk : g.row.D.Denot). IfTold (g.D.Disk.bytes old.disk)
     (λ _. AtEach g.D.Disk.moment g.D.Disk.may_leave old.disk disk (Gives old.begun)))
     (sym (ap (λ (v : Opened g.row.D.Denot). v.disk) c.self.view_is))
     (rests_now g.D.Disk.bytes g.D.Disk.moment g.D.Disk.may_leave old sound rests)

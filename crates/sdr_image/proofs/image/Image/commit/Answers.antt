@@ -2,7 +2,7 @@ use Rattle.std.proofs.Common.{◌≡◌, ◌∙◌, ap, sym, subst, [], length, 
 use Rattle.std.proofs.lemmas.List.{nil_from_length}
 use Rattle.std.proofs.lemmas.Bool.{eqb-true}
 use Rattle.sdr_disk.specs.Moments.{AtEach}
-use Rattle.sdr_disk.specs.Told.{Told}
+use Rattle.sdr_disk.specs.Told.{IfTold}
 use Rattle.sdr_disk.proofs.MomentsLemmas.{at_then}
 use Rattle.sdr_image.specs.Changed.{GivesEither}
 use Rattle.sdr_image.specs.Opened.{Opened, lines_named}
@@ -42,7 +42,7 @@ returns-clause-saved g c =
 pub returns-clause-any_moment : goal.returns-clause-any_moment
 returns-clause-any_moment g c sound rests =
     let old = c.args.self.now in
-    subst (λ (disk : g.row.D.Denot). Told (g.D.Disk.bytes old.disk)
+    subst (λ (disk : g.row.D.Denot). IfTold (g.D.Disk.bytes old.disk)
     (λ _. AtEach g.D.Disk.moment g.D.Disk.may_leave old.disk disk (GivesEither old.begun old.bytes)))
     (sym (ap (λ (v : Opened g.row.D.Denot). v.disk) c.self.view_is))
     (λ x is. at_then g.D.Disk.moment g.D.Disk.may_leave old.disk old.disk (Gives old.begun)
