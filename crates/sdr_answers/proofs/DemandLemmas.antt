@@ -34,6 +34,15 @@ enough d w call o is row answered = by call is (moves_are_the_rows w o.after cal
     by (calls.Read addr place count) is moves = omega (arith)
     by (calls.Write addr place bytes) is moves = omega (arith)
     by (calls.Stage addr count) is moves = omega (arith)
+    by (calls.String text) is moves =
+        let one : length o.moves ≡ 1 = ap (λ (ms : List Move). length ms) moves in
+        let need : bytes_taken o.moves ≡ 1 + length text + 0 = ap bytes_taken moves in
+        omega (arith, one, need)
+    by (calls.StringLength addr) is moves = omega (arith)
+    by (calls.StringRead addr) is moves = omega (arith)
+    by (calls.StringDup addr) is moves =
+        let one : length o.moves ≡ 1 = ap (λ (ms : List Move). length ms) moves in
+        omega (arith, one)
     by c is moves = absurd (true≢false (sym is))
 
 -- a call that reads touches none
@@ -44,6 +53,10 @@ reading_lines (calls.Length addr) is reads = refl
 reading_lines (calls.Read addr place count) is reads = refl
 reading_lines (calls.Write addr place bytes) is reads = absurd (true≢false (sym reads))
 reading_lines (calls.Stage addr count) is reads = refl
+reading_lines (calls.String text) is reads = absurd (true≢false (sym reads))
+reading_lines (calls.StringLength addr) is reads = refl
+reading_lines (calls.StringRead addr) is reads = refl
+reading_lines (calls.StringDup addr) is reads = absurd (true≢false (sym reads))
 reading_lines call is reads = absurd (true≢false (sym is))
 
 -- no call takes back what was asked

@@ -6,7 +6,7 @@ use Rattle.std.specs.List.{list_any}
 use Rattle.sdr_audit.proofs.ChangeLemmas.{apart, goes}
 use Rattle.sdr_audit.proofs.TiesLemmas.{same_ties, untied_alike}
 use Rattle.sdr_audit.specs.Shape.{told_of}
-use Rattle.sdr_audit.specs.Standing.{HeapStandsFor, thing_entries}
+use Rattle.sdr_audit.specs.Standing.{HeapStandsFor, thing_entries, with_taken_marked}
 use Rattle.sdr_audit.specs.Ties.{IsUntied, NoneIsTied, ties_of}
 use Rattle.sdr_base.proofs.StandingLemmas.{found, went}
 use Rattle.sdr_base.specs.Blocks as base
@@ -38,20 +38,23 @@ use Rattle.sdr_model.specs.declared.call.Call.TheVariants as calls
 use Rattle.sdr_model.specs.declared.things.Block.{Block}
 use Rattle.sdr_model.specs.declared.things.Thing.{Thing}
 use Rattle.sdr_model.specs.declared.things.Thing.TheVariants as things
-use Rattle.sdr_answers.proofs.KindLemmas.{block_told, raw_is_at, text_is_at}
-use Rattle.sdr_answers.proofs.ReadingLemmas.{no_block, row_refused}
+use Rattle.sdr_answers.proofs.KindLemmas.{block_told, no_block}
+use Rattle.sdr_answers.proofs.RawLemmas.{no_raw, raw_is_at}
+use Rattle.sdr_answers.proofs.RowLemmas.{full_refused, gave_back, marks_none, row_refused, thing_went}
+use Rattle.sdr_answers.proofs.TextLemmas.{no_text, text_is_at}
 use Rattle.sdr_answers.specs.Answering.{Answered, IsPlain, IsRefused}
 
--- the world after the thing at an address was given back
-abbrev pub after_free : World → ℕ → World
-after_free w addr = record (without_thing w addr) { shown = [] }
+-- the thing at an address was given back
+abbrev pub free_outcome : World → ℕ → Outcome
+free_outcome w addr =
+    record { moves = Gave addr ∷ []; after = with_taken_marked (without_thing w addr) (Gave addr ∷ []); reply = replies.Done }
 
 -- a thing that may be given back by its address alone: a raw object, or a string
 pub record IsFreeable (heap : Heap) (w : World) (addr : ℕ) : Type 0 where
   pub thing : Thing
   pub there : thing_at w addr ≡ Some thing
   pub untied : IsUntied thing
-  pub row : (moves : List Move) → moves ≡ Gave addr ∷ [] → ByRow w (record { moves = moves; after = after_free w addr; reply = replies.Done }) (calls.Free addr)
+  pub row : ByRow w (free_outcome w addr) (calls.Free addr)
   pub goes : (new : Heap) → new ≡ with_given heap addr → Changes heap.blocks new.blocks (thing_entries (ties_of w) addr thing) []
 
 one_goes : (heap new : Heap) (addr : ℕ) (x : base.Block) → new ≡ with_given heap addr → Changes heap.blocks new.blocks ((addr, x) ∷ []) []
@@ -68,8 +71,8 @@ raw_freeable heap w addr s whole plain kind =
       thing = things.Raw r.bytes;
       there = r.there;
       untied = tt;
-      row = λ moves is. subst (λ (t : Option Thing). FreesThing w (record { moves = moves; after = after_free w addr; reply = replies.Done }) addr (as_raw t) (as_text t))
-          (sym r.there) (on_none _ _ (source_on w addr) (plain.unnamed addr) (is, refl, refl));
+      row = subst (λ (t : Option Thing). FreesThing w (free_outcome w addr) addr (as_raw t) (as_text t)) (sym r.there)
+          (on_none _ _ (source_on w addr) (plain.unnamed addr) (refl, marks_none (without_thing w addr) (Gave addr ∷ []) refl, refl));
       goes = λ new is. one_goes heap new addr _ is;
     }
 
@@ -78,11 +81,11 @@ text_freeable : (heap : Heap) (w : World) (addr : ℕ) → HeapStandsFor heap w 
 text_freeable heap w addr s whole kind =
     let r = text_is_at heap w addr s whole.valid kind in
     record {
-      thing = things.Text r.0;
-      there = r.1;
+      thing = things.Text r.text;
+      there = r.there;
       untied = tt;
-      row = λ moves is. subst (λ (t : Option Thing). FreesThing w (record { moves = moves; after = after_free w addr; reply = replies.Done }) addr (as_raw t) (as_text t))
-          (sym r.1) (is, refl, refl);
+      row = subst (λ (t : Option Thing). FreesThing w (free_outcome w addr) addr (as_raw t) (as_text t)) (sym r.there)
+          (refl, marks_none (without_thing w addr) (Gave addr ∷ []) refl, refl);
       goes = λ new is. one_goes heap new addr _ is;
     }
 
@@ -95,41 +98,13 @@ pub free_answered : (addr : ℕ) (old new : Heap) (w : World) → old.moves ≡ 
     → HeapStandsFor old w → IsWhole w → IsPlain w → Answered w (calls.Free addr) new [] replies.Done
 free_answered addr old new w unmoved frees s whole plain =
     let f = freeable old w addr s whole plain frees.found in
-    let moves : new.moves ≡ Gave addr ∷ [] =
-    ap (λ (h : Heap). h.moves) frees.given ∙ ap (λ (ms : List Move). ms ++ Gave addr ∷ []) unmoved in
-    let stands = goes addr old new w f.thing (Gave addr ∷ []) f.there f.untied s (f.goes new frees.given) (record { all = ap besides frees.given }) in
-    record {
-      after = after_free w addr;
-      row = f.row new.moves moves;
-      answered = refl;
-      fresh = subst (λ (ms : List Move). AreFresh (addresses_of (blocks_of w)) ms) (sym moves) tt;
-      stands = record {
-        blocks = stands.blocks;
-        roots = stands.roots;
-        marks = λ q. stands.marks q ∙ ap (λ (ms : List ℕ). list_any (λ m. m == q) ms) (append-nil w.marks);
-      };
-      gave = refl;
-      words = subst (λ (ms : List Move). All IsWord (taken_addresses ms)) (sym moves) (All-nil IsWord);
-      ties = same_ties w addr None (untied_alike (thing_at w addr) None (subst NoneIsTied (sym f.there) f.untied) tt);
-      accounts = refl;
-      taken = refl;
-    }
+    thing_went w (calls.Free addr) addr f.thing (Gave addr ∷ []) replies.Done old new f.there f.untied s
+    (gave_back w (addr ∷ []) old new unmoved (record { all = ap besides frees.given })) (f.goes new frees.given) f.row refl
 
 -- neither a raw object nor a string is where no such block is
-neither_at : (heap : Heap) (w : World) (addr : ℕ) → HeapStandsFor heap w → ¬ IsKind (heap.blocks addr) kinds.Raw → ¬ IsKind (heap.blocks addr) kinds.Text
+neither_at : (heap : Heap) (w : World) (addr : ℕ) → HeapStandsFor heap w → IsValid w → ¬ IsKind (heap.blocks addr) kinds.Raw → ¬ IsKind (heap.blocks addr) kinds.Text
     → (as_raw (thing_at w addr) ≡ None) × (as_text (thing_at w addr) ≡ None)
-neither_at heap w addr s raw text = by (thing_at w addr) refl
-  where
-    here : (thing : Thing) (x : base.Block) → thing_at w addr ≡ Some thing → thing_entries (ties_of w) addr thing ≡ (addr, x) ∷ [] → heap.blocks addr ≡ Some x
-    here thing x at is =
-        let a = apart addr thing s at in
-        found heap.blocks addr x [] a.rest (subst (λ es. Stands heap.blocks (es ++ a.rest)) is a.stands)
-
-    by : (o : Option Thing) → thing_at w addr ≡ o → (as_raw o ≡ None) × (as_text o ≡ None)
-    by (Some (things.Raw bytes)) at = absurd (raw (subst (λ f. IsKind f kinds.Raw) (sym (here (things.Raw bytes) _ at refl)) refl))
-    by (Some (things.Text t)) at = absurd (text (subst (λ f. IsKind f kinds.Text) (sym (here (things.Text t) _ at refl)) refl))
-    by None at = (refl, refl)
-    by (Some thing) at = (refl, refl)
+neither_at heap w addr s valid raw text = (no_raw heap w addr s valid raw, no_text heap w addr s valid text)
 
 -- the address of neither is refused
 neither_row : (w : World) (addr : ℕ) (refusal : Refusal) → (as_raw (thing_at w addr) ≡ None) × (as_text (thing_at w addr) ≡ None) → refusal ≡ misnamed w addr
@@ -145,10 +120,10 @@ pub free_refused : (addr : ℕ) (old new : Heap) (w : World) (was : List ℕ) (r
     → IsRefused w (calls.Free addr) old new was was refusal
 free_refused addr old new w was (refusals.BadAddress bad) unmoved s whole plain m = record {
   step =
-      let none = no_block old w addr s whole m.1 in
+      let none = no_block old w addr s whole.valid m.1 in
       let no : (kind : Kind) → ¬ IsKind (old.blocks addr) kind = λ kind is. subst (λ f. IsKind f kind) m.1 is in
       inl (row_refused w (calls.Free addr) new (refusals.BadAddress bad) (ap (λ (h : Heap). h.moves) m.2 ∙ unmoved)
-      (neither_row w addr (refusals.BadAddress bad) (neither_at old w addr s (no kinds.Raw) (no kinds.Text))
+      (neither_row w addr (refusals.BadAddress bad) (neither_at old w addr s whole.valid (no kinds.Raw) (no kinds.Text))
       (ap (λ a. refusals.BadAddress a) m.0 ∙ sym (ap (refusal_for addr) none))));
   left = λ reads. m.2;
   gave = refl;
@@ -157,7 +132,7 @@ free_refused addr old new w was (refusals.WrongKind bad number) unmoved s whole 
   step =
       let n = other (old.blocks addr) (block_at w addr) refl (block_told old w addr s whole.valid) m.1 in
       inl (row_refused w (calls.Free addr) new (refusals.WrongKind bad number) (ap (λ (h : Heap). h.moves) m.2 ∙ unmoved)
-      (neither_row w addr (refusals.WrongKind bad number) (neither_at old w addr s n.0 n.1) n.2));
+      (neither_row w addr (refusals.WrongKind bad number) (neither_at old w addr s whole.valid n.0 n.1) n.2));
   left = λ reads. m.2;
   gave = refl;
 }
@@ -175,11 +150,7 @@ free_refused addr old new w was (refusals.WrongKind bad number) unmoved s whole 
       λ is. n.2 (subst (λ f. IsKind f kinds.Text) here is),
       λ i. refusals.WrongKind (m.0 i) ((n.0 ∙ ap kind_number (ap kind_in same)) i),
     )
-free_refused addr old new w was (refusals.LogFull lines room) unmoved s whole plain m = record {
-  step =
-      let f = freeable old w addr s whole plain m.0 in
-      (record { to = record { moves = Gave addr ∷ []; after = after_free w addr; reply = replies.Done }; row = f.row (Gave addr ∷ []) refl; answered = refl }, refl);
-  left = λ reads. absurd (true≢false (sym reads));
-  gave = refl;
-}
+free_refused addr old new w was (refusals.LogFull lines room) unmoved s whole plain m =
+    let f = freeable old w addr s whole plain m.0 in
+    full_refused w (calls.Free addr) old new was (refusals.LogFull lines room) refl (record { to = _; row = f.row; answered = refl }) m.1
 free_refused addr old new w was refusal unmoved s whole plain m = absurd m.1

@@ -7,3 +7,9 @@ pub mod MallocLemmas
 pub mod RawLemmas
 pub mod ReadingLemmas
 pub mod WriteLemmas
+pub mod TextLemmas
+pub mod RowLemmas
+pub mod ListLemmas
+pub mod SpotLemmas
+pub mod StringLemmas
+pub mod GoodLemmas

@@ -4,7 +4,7 @@ use Rattle.std.specs.Prelude.{All, replicate}
 use Rattle.std.proofs.lemmas.Bool.Decides.{nat_tests}
 use Rattle.std.proofs.lemmas.List.Elements.{All-cons, All-nil}
 use Rattle.sdr_audit.proofs.ChangeLemmas.{comes, nothing_at}
-use Rattle.sdr_audit.specs.Standing.{HeapStandsFor}
+use Rattle.sdr_audit.specs.Standing.{HeapStandsFor, with_taken_marked}
 use Rattle.sdr_audit.proofs.TiesLemmas.{same_ties, untied_alike}
 use Rattle.sdr_audit.specs.Ties.{NoneIsTied, or_null, ties_of}
 use Rattle.sdr_base.specs.Making.{MakesThing}
@@ -22,7 +22,7 @@ use Rattle.sdr_model.specs.Blocks.{addresses_of, blocks_of}
 use Rattle.sdr_model.specs.Fields.{IsWord}
 use Rattle.sdr_model.specs.Limits.{longest_raw}
 use Rattle.sdr_model.specs.Rows.{ByRow}
-use Rattle.sdr_model.specs.Steps.{taken_addresses, with_thing}
+use Rattle.sdr_model.specs.Steps.{Outcome, with_thing}
 use Rattle.sdr_model.specs.Things.{raw_need}
 use Rattle.sdr_model.specs.Whole.{IsWhole}
 use Rattle.sdr_model.specs.World.{World, thing_at}
@@ -30,16 +30,21 @@ use Rattle.sdr_model.specs.declared.answer.Reply.TheVariants as replies
 use Rattle.sdr_model.specs.declared.call.Call.TheVariants as calls
 use Rattle.sdr_model.specs.declared.things.Thing.TheVariants as things
 use Rattle.sdr_answers.proofs.EntryLemmas.{none_named}
-use Rattle.sdr_answers.proofs.RawLemmas.{none_of, zeros_made}
-use Rattle.sdr_answers.specs.Answering.{Aim, Answered, IsRefused}
+use Rattle.sdr_answers.proofs.KindLemmas.{none_of}
+use Rattle.sdr_answers.proofs.RawLemmas.{zeros_made}
+use Rattle.sdr_answers.proofs.RowLemmas.{short_refused, thing_made}
+use Rattle.sdr_answers.specs.Answering.{Answered, IsRefused}
 
--- the world after a raw object of zeros was made at an address
-abbrev pub after_malloc : World → ℕ → ℕ → World
-after_malloc w bytes addr = record (with_thing w addr (things.Raw (replicate bytes 0))) { marks = w.marks ++ addr ∷ []; shown = [] }
+-- a raw object of zeros was made at an address
+abbrev pub malloc_outcome : World → ℕ → ℕ → Outcome
+malloc_outcome w bytes addr = record {
+  moves = Took (raw_need bytes) addr ∷ [];
+  after = with_taken_marked (with_thing w addr (things.Raw (replicate bytes 0))) (Took (raw_need bytes) addr ∷ []);
+  reply = replies.At addr;
+}
 
 -- the row of an object that isn't too long
-pub malloc_row : (w : World) (bytes addr : ℕ) → bytes ≤ longest_raw
-    → ByRow w (record { moves = Took (raw_need bytes) addr ∷ []; after = after_malloc w bytes addr; reply = replies.At addr }) (calls.Malloc bytes)
+pub malloc_row : (w : World) (bytes addr : ℕ) → bytes ≤ longest_raw → ByRow w (malloc_outcome w bytes addr) (calls.Malloc bytes)
 malloc_row w bytes addr short =
     let fits : nat_lt longest_raw bytes ≡ false = grind (arith, nat_tests, short) in
     on_false _ _ _ fits (refl, (refl, refl))
@@ -49,32 +54,12 @@ pub malloc_answered : (bytes addr : ℕ) (old new : Heap) (w : World) → old.mo
     → HeapStandsFor old w → IsWhole w → Answered w (calls.Malloc bytes) new [] (replies.At addr)
 malloc_answered bytes addr old new w unmoved makes stands whole =
     let t = makes.taken in
-    let moves : new.moves ≡ Took (raw_need bytes) addr ∷ [] =
-    ap (λ (h : Heap). h.moves) t.taken ∙ ap (λ (ms : List Move). ms ++ Took (8 + bytes) addr ∷ []) unmoved in
     let unnamed : 0 ≡ (ties_of w).named_by addr =
     sym (ap or_null (none_named w addr whole.fits (nothing_at addr stands t.fresh))) in
-    record {
-      after = after_malloc w bytes addr;
-      row = subst (λ (ms : List Move). ByRow w (record { moves = ms; after = after_malloc w bytes addr; reply = replies.At addr }) (calls.Malloc bytes))
-          (sym moves) (malloc_row w bytes addr makes.short);
-      answered = refl;
-      fresh = subst (λ (ms : List Move). AreFresh (addresses_of (blocks_of w)) ms) (sym moves)
-          (t.nonzero, none_of old w addr stands whole.valid t.fresh, tt);
-      stands = comes (8 + bytes) addr old new w (things.Raw (replicate bytes 0)) tt stands
-          (subst (λ (named : ℕ). MakesThing (8 + bytes) addr (raw_entries addr named (replicate bytes 0)) old new) unnamed
-          (zeros_made bytes addr old new t));
-      gave = refl;
-      words = subst (λ (ms : List Move). All IsWord (taken_addresses ms)) (sym moves)
-          (All-cons IsWord addr [] (omega (arith, t.small)) (All-nil IsWord));
-      ties = same_ties w addr (Some (things.Raw (replicate bytes 0)))
-          (untied_alike (thing_at w addr) _ (subst NoneIsTied (sym (nothing_at addr stands t.fresh)) tt) tt);
-      accounts = refl;
-      taken = refl;
-    }
-
--- the row would answer it
-malloc_aim : (w : World) (bytes : ℕ) → bytes ≤ longest_raw → Aim w (calls.Malloc bytes)
-malloc_aim w bytes short = record { to = _; row = malloc_row w bytes 0 short; answered = refl }
+    thing_made w (calls.Malloc bytes) (raw_need bytes) addr (things.Raw (replicate bytes 0)) old new unmoved stands whole.valid tt
+    (subst (λ (named : ℕ). MakesThing (8 + bytes) addr (raw_entries addr named (replicate bytes 0)) old new) unnamed
+    (zeros_made bytes addr old new t))
+    (malloc_row w bytes addr makes.short)
 
 -- a raw object wasn't made
 pub malloc_refused : (bytes : ℕ) (old new : Heap) (w : World) (was : List ℕ) (refusal : Refusal) → old.moves ≡ []
@@ -86,26 +71,6 @@ malloc_refused bytes old new w was (refusals.BadLength length most) unmoved s = 
   left = λ reads. s.3;
   gave = refl;
 }
-malloc_refused bytes old new w was (refusals.NoBlock missing) unmoved s = record {
-  step = inr (record {
-    aim = _;
-    row = malloc_row w bytes 0 s.0;
-    answered = refl;
-    stopped = record {
-      done = [];
-      addr = 0;
-      rest = [];
-      whole = sym (ap (λ (n : ℕ). Took n 0 ∷ []) s.1.0);
-      short = ap (λ (h : Heap). h.moves) s.1.1 ∙ ap (λ (ms : List Move). ms ++ Short (8 + bytes) ∷ []) unmoved ∙ sym (ap (λ (n : ℕ). Short n ∷ []) s.1.0);
-    };
-    same = refl;
-  });
-  left = λ reads. absurd (true≢false (sym reads));
-  gave = refl;
-}
-malloc_refused bytes old new w was (refusals.LogFull lines room) unmoved s = record {
-  step = (malloc_aim w bytes s.0, refl);
-  left = λ reads. absurd (true≢false (sym reads));
-  gave = refl;
-}
-malloc_refused bytes old new w was refusal unmoved s = absurd s.1
+malloc_refused bytes old new w was refusal unmoved s =
+    short_refused w (calls.Malloc bytes) (raw_need bytes) old new was refusal refl
+    (record { after = _; reply = _; row = malloc_row w bytes 0 s.0; answered = refl }) unmoved s.1

@@ -1,15 +1,12 @@
 -- Raw objects in blocks.
-use Rattle.std.proofs.Common.{◌≡◌, ◌∙◌, ◌+◌, ◌==◌, ◌||◌, ◌++◌, ℕ, List, [], ◌∷◌, Bool, true, false, true≢false, Option, None, Some, suc, length, take, drop, refl, sym, ap, subst, arith}
-use Rattle.std.specs.Prelude.{Contains, replicate, nat_eq, cond}
-use Rattle.std.proofs.lemmas.Bool.Decides.{nat_tests}
-use Rattle.std.specs.Cmp.{nat_eq_equiv}
-use Rattle.std.specs.List.{list_any}
-use Rattle.std.proofs.lemmas.Map.Views.{list_any-from_Contains}
-use Rattle.sdr_audit.proofs.ShapeLemmas.{told}
-use Rattle.sdr_audit.specs.Shape.{told_of}
+use Rattle.std.proofs.Common.{◌≡◌, ◌∙◌, ◌+◌, ◌++◌, ℕ, List, [], ◌∷◌, Option, None, Some, suc, length, take, drop, refl, sym, ap, subst, arith}
+use Rattle.std.specs.Prelude.{replicate}
+use Rattle.sdr_answers.proofs.KindLemmas.{own_in_use, thing_is_at}
+use Rattle.sdr_audit.proofs.ChangeLemmas.{apart}
 use Rattle.sdr_audit.specs.Standing.{HeapStandsFor}
+use Rattle.sdr_audit.specs.Ties.{ties_of}
 use Rattle.sdr_base.specs.Blocks as base
-use Rattle.sdr_base.specs.Blocks.{kind_length}
+use Rattle.sdr_base.specs.Blocks.{IsKind}
 use Rattle.sdr_base.specs.Entries.{Stands}
 use Rattle.sdr_base.specs.Making.{MakesThing, besides}
 use Rattle.sdr_base.specs.Objects.{Heap, TakesZeros}
@@ -17,12 +14,12 @@ use Rattle.sdr_base.specs.Parts.{overwrite, part}
 use Rattle.sdr_base.specs.Raws.{raw_block}
 use Rattle.sdr_base.specs.Words.{layout}
 use Rattle.sdr_base.specs.declared.kind.Kind.TheVariants as kinds
-use Rattle.sdr_base.proofs.StandingLemmas.{came}
-use Rattle.sdr_model.specs.Blocks.{addresses_of, blocks_of}
-use Rattle.sdr_model.specs.Things.{block_among}
+use Rattle.sdr_base.proofs.StandingLemmas.{came, found}
+use Rattle.sdr_model.specs.Things.{own_block}
 use Rattle.sdr_model.specs.Valid.{IsValid}
-use Rattle.sdr_model.specs.World.{World}
-use Rattle.sdr_model.specs.declared.things.Block.{Block}
+use Rattle.sdr_model.specs.World.{World, as_raw, thing_at}
+use Rattle.sdr_model.specs.declared.things.Thing.{Thing}
+use Rattle.sdr_model.specs.declared.things.Thing.TheVariants as things
 
 -- zero bytes are those of a raw object of zeros that no source names
 pub raw_zeros : (bytes : ℕ) → replicate (8 + bytes) 0 ≡ (raw_block 0 (replicate bytes 0)).bytes
@@ -72,27 +69,34 @@ zeros_made bytes addr old new t =
       made = record { all = ap besides t.taken };
     })
 
--- no address is listed where no block begins
-unlisted : (addr : ℕ) (bs : List Block) → block_among addr bs ≡ None → list_any (nat_eq addr) (addresses_of bs) ≡ false
-unlisted addr [] none = refl
-unlisted addr (b ∷ bs) none = step (unlisted addr bs) (b.addr == addr) refl none
-  where
-    step : (block_among addr bs ≡ None → list_any (nat_eq addr) (addresses_of bs) ≡ false)
-        → (v : Bool) → (b.addr == addr) ≡ v → cond v (Some b) (block_among addr bs) ≡ None
-        → (nat_eq addr b.addr || list_any (nat_eq addr) (addresses_of bs)) ≡ false
-    step rest true is goes = absurd cc
-    step rest false is goes =
-        let apart : nat_eq addr b.addr ≡ false = grind (arith, nat_tests, is) in
-        ap (λ v. v || list_any (nat_eq addr) (addresses_of bs)) apart ∙ rest goes
+-- a raw object, and its block
+pub record IsRawAt (heap : Heap) (w : World) (addr : ℕ) : Type 0 where
+  pub bytes : List ℕ
+  pub there : thing_at w addr ≡ Some (things.Raw bytes)
+  pub block : heap.blocks addr ≡ Some (raw_block ((ties_of w).named_by addr) bytes)
 
--- where no block is in use, the world has none
-pub none_of : (heap : Heap) (w : World) (addr : ℕ) → HeapStandsFor heap w → IsValid w → heap.blocks addr ≡ None
-    → ¬ Contains (addresses_of (blocks_of w)) addr
-none_of heap w addr s valid none listed =
-    let no : None ≡ told_of (block_among addr (blocks_of w)) = sym (ap kind_length none) ∙ told heap.blocks w addr s.blocks valid in
-    true≢false (sym (list_any-from_Contains nat_eq_equiv addr (addresses_of (blocks_of w)) listed)
-    ∙ unlisted addr (blocks_of w) (untold (block_among addr (blocks_of w)) no))
+pub raw_stands : (heap : Heap) (w : World) (addr : ℕ) (bytes : List ℕ) → HeapStandsFor heap w → thing_at w addr ≡ Some (things.Raw bytes)
+    → IsRawAt heap w addr
+raw_stands heap w addr bytes s there =
+    let a = apart addr (things.Raw bytes) s there in
+    record { bytes = bytes; there = there; block = found heap.blocks addr (raw_block ((ties_of w).named_by addr) bytes) [] a.rest a.stands }
+
+own_raw : (addr : ℕ) (thing : Thing) → (own_block addr thing).kind ≡ kinds.Raw → (bytes : List ℕ) × (thing ≡ things.Raw bytes)
+own_raw addr (things.Raw bytes) is = (bytes, refl)
+own_raw addr thing is = absurd cc
+
+-- a block in use of the kind of raw objects is a raw object's
+pub raw_is_at : (heap : Heap) (w : World) (addr : ℕ) → HeapStandsFor heap w → IsValid w → IsKind (heap.blocks addr) kinds.Raw → IsRawAt heap w addr
+raw_is_at heap w addr s valid kind =
+    let t = thing_is_at heap w addr kinds.Raw s valid refl kind in
+    let raw = own_raw addr t.thing t.kind_is in
+    raw_stands heap w addr raw.0 s (t.there ∙ ap Some raw.1)
+
+-- and where there is none, no raw object is
+pub no_raw : (heap : Heap) (w : World) (addr : ℕ) → HeapStandsFor heap w → IsValid w → ¬ IsKind (heap.blocks addr) kinds.Raw → as_raw (thing_at w addr) ≡ None
+no_raw heap w addr s valid other = by (thing_at w addr) refl
   where
-    untold : (o : Option Block) → None ≡ told_of o → o ≡ None
-    untold None is = refl
-    untold (Some b) is = absurd cc
+    by : (o : Option Thing) → thing_at w addr ≡ o → as_raw o ≡ None
+    by (Some (things.Raw bytes)) at = absurd (other (own_in_use heap w addr (things.Raw bytes) s valid at))
+    by None at = refl
+    by (Some thing) at = refl

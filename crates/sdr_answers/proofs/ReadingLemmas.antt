@@ -11,7 +11,7 @@ use Rattle.sdr_audit.specs.Ties.{ties_of}
 use Rattle.sdr_base.specs.Blocks as base
 use Rattle.sdr_base.specs.Blocks.{HasBytes, IsKind, kind_length, with_at}
 use Rattle.sdr_base.specs.Kinds.{kind_number}
-use Rattle.sdr_base.specs.Objects.{Heap, with_mark}
+use Rattle.sdr_base.specs.Objects.{Heap, Misses, with_mark}
 use Rattle.sdr_base.specs.Parts.{part}
 use Rattle.sdr_base.specs.Raws.{raw_block}
 use Rattle.sdr_base.specs.declared.kind.Kind.{Kind}
@@ -39,84 +39,25 @@ use Rattle.sdr_model.specs.declared.call.Call.TheVariants as calls
 use Rattle.sdr_model.specs.declared.things.Block.{Block}
 use Rattle.sdr_model.specs.declared.things.Thing.{Thing}
 use Rattle.sdr_model.specs.declared.things.Thing.TheVariants as things
-use Rattle.sdr_answers.proofs.KindLemmas.{IsRawAt, block_told, raw_is_at, raw_stands}
-use Rattle.sdr_answers.proofs.RawLemmas.{length_of_raw, part_of_raw}
+use Rattle.sdr_answers.proofs.KindLemmas.{block_told, missed, no_block}
+use Rattle.sdr_answers.proofs.RawLemmas.{IsRawAt, length_of_raw, no_raw, part_of_raw, raw_is_at}
+use Rattle.sdr_answers.proofs.RowLemmas.{row_refused, shows, unmoved_answered}
 use Rattle.sdr_answers.specs.Answering.{Answered, IsRefused}
 
--- the heap still stands where the world shows other bytes
-pub shows : (old new : Heap) (w : World) (bytes : List ℕ) → new ≡ old → HeapStandsFor old w → HeapStandsFor new (record w { shown = bytes })
-shows old new w bytes same s =
-    subst (λ (h : Heap). HeapStandsFor h (record w { shown = bytes })) (sym same) (record { blocks = s.blocks; roots = s.roots; marks = s.marks })
-
--- a call without moves that was answered
-pub unmoved_answered : (w after : World) (call : Call) (new : Heap) (shown : List ℕ) (reply : Reply) → new.moves ≡ []
-    → ByRow w (record { moves = []; after = after; reply = reply }) call → is_answer reply ≡ true → HeapStandsFor new after
-    → after.shown ≡ shown → ties_of after ≡ ties_of w → after.accounts ≡ w.accounts → after.taken ≡ w.taken → Answered w call new shown reply
-unmoved_answered w after call new shown reply none row answered stands gave ties accounts taken = record {
-  after = after;
-  row = subst (λ (ms : List Move). ByRow w (record { moves = ms; after = after; reply = reply }) call) (sym none) row;
-  answered = answered;
-  fresh = subst (λ (ms : List Move). AreFresh (addresses_of (blocks_of w)) ms) (sym none) tt;
-  stands = stands;
-  gave = gave;
-  words = subst (λ (ms : List Move). All IsWord (taken_addresses ms)) (sym none) (All-nil IsWord);
-  ties = ties;
-  accounts = accounts;
-  taken = taken;
-}
-
--- what a row gives that refuses a call without moves
-pub row_refused : (w : World) (call : Call) (new : Heap) (refusal : Refusal) → new.moves ≡ []
-    → ByRow w (record { moves = []; after = w; reply = replies.Refused refusal }) call
-    → ByRow w (record { moves = new.moves; after = w; reply = replies.Refused refusal }) call
-row_refused w call new refusal none row =
-    subst (λ (ms : List Move). ByRow w (record { moves = ms; after = w; reply = replies.Refused refusal }) call) (sym none) row
-
--- no block of the world is where none is in use
-pub no_block : (heap : Heap) (w : World) (addr : ℕ) → HeapStandsFor heap w → IsWhole w → heap.blocks addr ≡ None → block_at w addr ≡ None
-no_block heap w addr s whole none = untold (block_at w addr) (sym (ap kind_length none) ∙ block_told heap w addr s whole.valid)
-  where
-    untold : (o : Option Block) → None ≡ told_of o → o ≡ None
-    untold None is = refl
-    untold (Some b) is = absurd cc
-
--- a thing whose block isn't a raw object's isn't one
-pub no_raw : (heap : Heap) (w : World) (addr : ℕ) → HeapStandsFor heap w → ¬ IsKind (heap.blocks addr) kinds.Raw → as_raw (thing_at w addr) ≡ None
-no_raw heap w addr s other = by (thing_at w addr) refl
-  where
-    by : (o : Option Thing) → thing_at w addr ≡ o → as_raw o ≡ None
-    by (Some (things.Raw bytes)) at =
-        let r = raw_stands heap w addr bytes s at in
-        absurd (other (subst (λ found. IsKind found kinds.Raw) (sym r.block) refl))
-    by None at = refl
-    by (Some thing) at = refl
-
 -- the address of what isn't a raw object is refused
+as_misses : (found : Option base.Block) (addr : ℕ) (refusal : Refusal) → MissesRaw found addr (stops.Refused refusal) ⊥
+    → Misses found addr kinds.Raw (stops.Refused refusal)
+as_misses found addr (refusals.BadAddress bad) m = m
+as_misses None addr (refusals.WrongKind bad number) m = absurd m
+as_misses (Some block) addr (refusals.WrongKind bad number) m = (m.0, (m.1, m.2))
+as_misses None addr refusal m = absurd m
+as_misses (Some block) addr refusal m = absurd m
+
 pub misses : (heap : Heap) (w : World) (addr : ℕ) (refusal : Refusal) → HeapStandsFor heap w → IsWhole w
     → MissesRaw (heap.blocks addr) addr (stops.Refused refusal) ⊥ → (as_raw (thing_at w addr) ≡ None) × (refusal ≡ misnamed w addr)
-misses heap w addr refusal s whole = by (heap.blocks addr) (block_at w addr) refusal refl refl (block_told heap w addr s whole.valid)
-  where
-    kind_in : Option (Kind × ℕ) → Kind
-    kind_in None = kinds.Raw
-    kind_in (Some told) = told.0
-
-    by : (found : Option base.Block) (b : Option Block) (r : Refusal) → heap.blocks addr ≡ found → block_at w addr ≡ b → kind_length found ≡ told_of b
-        → MissesRaw found addr (stops.Refused r) ⊥ → (as_raw (thing_at w addr) ≡ None) × (r ≡ refusal_for addr b)
-    by None None (refusals.BadAddress bad) here at same m =
-        (no_raw heap w addr s (λ raw. subst (λ found. IsKind found kinds.Raw) here raw), ap (λ a. refusals.BadAddress a) m.0)
-    by (Some block) None (refusals.BadAddress bad) here at same m = absurd cc
-    by None (Some b) r here at same m = absurd cc
-    by None None (refusals.WrongKind bad number) here at same m = absurd m
-    by (Some block) (Some b) (refusals.BadAddress bad) here at same m = absurd (let no : Some block ≡ None = m.1 in cc)
-    by (Some block) (Some b) (refusals.WrongKind bad number) here at same m =
-        let kinds_same : block.kind ≡ b.kind = ap kind_in same in (
-          no_raw heap w addr s (λ raw. m.2 (subst (λ found. IsKind found kinds.Raw) here raw)),
-          λ i. refusals.WrongKind (m.0 i) ((m.1 ∙ ap kind_number kinds_same) i),
-        )
-    by (Some block) None (refusals.WrongKind bad number) here at same m = absurd cc
-    by None None r here at same m = absurd m
-    by (Some block) None r here at same m = absurd cc
-    by (Some block) (Some b) r here at same m = absurd m
+misses heap w addr refusal s whole m =
+    let miss = missed heap w addr kinds.Raw refusal s whole.valid (as_misses (heap.blocks addr) addr refusal m) in
+    (no_raw heap w addr s whole.valid miss.0, miss.1)
 
 -- what is told of a length is the model's
 same_length : (kind : Kind) (bytes : ℕ) → told_length kind bytes ≡ length_as kind bytes
@@ -158,7 +99,7 @@ pub length_refused : (addr : ℕ) (old new : Heap) (w : World) (was : List ℕ) 
     → IsRefused w (calls.Length addr) old new was was refusal
 length_refused addr old new w was (refusals.BadAddress bad) unmoved same s whole m = record {
   step =
-      let none = no_block old w addr s whole m.1 in
+      let none = no_block old w addr s whole.valid m.1 in
       inl (row_refused w (calls.Length addr) new (refusals.BadAddress bad) (ap (λ (h : Heap). h.moves) same ∙ unmoved)
       (on_none _ _ (block_at w addr) none
       (refl, refl, ap (λ r. replies.Refused r) (ap (λ a. refusals.BadAddress a) m.0 ∙ sym (ap (refusal_for addr) none)))));

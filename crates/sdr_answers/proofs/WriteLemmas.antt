@@ -27,9 +27,9 @@ use Rattle.sdr_model.specs.World.{World, thing_at}
 use Rattle.sdr_model.specs.declared.answer.Reply.TheVariants as replies
 use Rattle.sdr_model.specs.declared.call.Call.TheVariants as calls
 use Rattle.sdr_model.specs.declared.things.Thing.TheVariants as things
-use Rattle.sdr_answers.proofs.KindLemmas.{IsRawAt, raw_is_at}
-use Rattle.sdr_answers.proofs.RawLemmas.{overwrite_raw}
-use Rattle.sdr_answers.proofs.ReadingLemmas.{misses, no_room_in, on_raw, raw_missed, room_in, row_refused, unmoved_answered}
+use Rattle.sdr_answers.proofs.RawLemmas.{IsRawAt, overwrite_raw, raw_is_at}
+use Rattle.sdr_answers.proofs.ReadingLemmas.{misses, no_room_in, on_raw, raw_missed, room_in}
+use Rattle.sdr_answers.proofs.RowLemmas.{row_refused, unmoved_answered}
 use Rattle.sdr_answers.specs.Answering.{Answered, IsRefused}
 
 -- the world after bytes were written into a raw object

@@ -2,7 +2,6 @@
 use Rattle.std.specs.Prelude.{◌≡◌, ◌+◌, ◌/◌, ℕ, Bool, true, false, not, List, [], length, ⊤, All, Option, None, Result, Ok, Err}
 use Rattle.sdr_audit.specs.Standing.{HeapStandsFor}
 use Rattle.sdr_audit.specs.Ties.{ties_of}
-use Rattle.sdr_base.specs.Blocks.{Block}
 use Rattle.sdr_base.specs.Objects.{Heap}
 use Rattle.sdr_base.specs.declared.moves.Move.{Move}
 use Rattle.sdr_base.specs.declared.refusal.Refusal.{Refusal}
@@ -11,8 +10,9 @@ use Rattle.sdr_base.specs.declared.stop.Stop.{Stop}
 use Rattle.sdr_base.specs.declared.stop.Stop.TheVariants as stops
 use Rattle.sdr_heap.specs.Raw.{IsUnnamed, IsWhole}
 use Rattle.sdr_laws.specs.Fresh.{AreFresh}
+use Rattle.sdr_list.specs.Kept.{IsElement, IsList}
 use Rattle.sdr_model.specs.Blocks.{addresses_of, blocks_of}
-use Rattle.sdr_model.specs.Fields.{IsWord}
+use Rattle.sdr_model.specs.Fields.{FitsFields, IsWord}
 use Rattle.sdr_model.specs.Reading.{is_reading}
 use Rattle.sdr_model.specs.Rows.{ByRow}
 use Rattle.sdr_model.specs.Step.{StepTo, is_answer}
@@ -24,6 +24,7 @@ use Rattle.sdr_model.specs.declared.answer.Reply.{Reply}
 use Rattle.sdr_model.specs.declared.answer.Reply.TheVariants as replies
 use Rattle.sdr_model.specs.declared.call.Call.{Call}
 use Rattle.sdr_model.specs.declared.call.Call.TheVariants as calls
+use Rattle.sdr_string.specs.Calls.{IsString}
 
 -- a world that calls which are served leave: there is no ticket, and no source of a raw object
 pub record IsPlain (w : World) : Type 0 where
@@ -31,10 +32,20 @@ pub record IsPlain (w : World) : Type 0 where
   pub outbound : w.accounts.outbound.tickets ≡ []
   pub unnamed : (raw : ℕ) → source_on w raw ≡ None
 
--- a block that may be read as a raw object has its source word, which is 0
-pub record IsGood (found : Option Block) : Type 0 where
-  pub whole : IsWhole found
-  pub unnamed : IsUnnamed found
+-- a world in which calls are served: it is whole, its numbers fit the fields of blocks, and it is plain
+pub record IsServed (w : World) : Type 0 where
+  pub whole : model.IsWhole w
+  pub fits : FitsFields w
+  pub plain : IsPlain w
+
+-- What is of a kind is kept: a raw object's block has its source word, which is 0, a string's has its text, and a list is kept
+-- for the block of a list and for that of an element.
+pub record IsGood (heap : Heap) : Type 0 where
+  pub raws : (addr : ℕ) → IsWhole (heap.blocks addr)
+  pub unnamed : (addr : ℕ) → IsUnnamed (heap.blocks addr)
+  pub strings : (addr : ℕ) → IsString (heap.blocks addr)
+  pub lists : (addr : ℕ) → IsList heap.blocks addr
+  pub elements : (addr : ℕ) → IsElement heap.blocks addr
 
 -- whether the call is served
 abbrev pub built : Call → Bool
@@ -44,6 +55,10 @@ built (calls.Length addr) = true
 built (calls.Read addr place count) = true
 built (calls.Write addr place bytes) = true
 built (calls.Stage addr count) = true
+built (calls.String text) = true
+built (calls.StringLength addr) = true
+built (calls.StringRead addr) = true
+built (calls.StringDup addr) = true
 built call = false
 
 -- whether a call that was answered so dooms its transaction: it is a change that was refused
@@ -56,6 +71,8 @@ abbrev pub call_lines : Call → ℕ
 call_lines (calls.Malloc bytes) = 24 + (8 + bytes) / 64
 call_lines (calls.Free addr) = 24
 call_lines (calls.Write addr place bytes) = 2 + length bytes / 64
+call_lines (calls.String text) = 26 + (1 + length text) / 32
+call_lines (calls.StringDup addr) = 34
 call_lines call = 0
 
 -- what the row of a call gives, where it is answered
@@ -95,6 +112,6 @@ ComesIn w call old new was shown (Ok reply) = Answered w call new shown reply
 ComesIn w call old new was shown (Err (stops.Refused refusal)) = IsRefused w call old new was shown refusal
 ComesIn w call old new was shown (Err stop) = ⊤
 
--- what a call comes to in each whole and plain world for which the heap stood
+-- what a call comes to in each world in which calls are served and for which the heap stood
 pub record Comes (call : Call) (old new : Heap) (was shown : List ℕ) (result : Result Reply Stop) : Type 0 where
-  pub each : (w : World) → HeapStandsFor old w → model.IsWhole w → IsPlain w → ComesIn w call old new was shown result
+  pub each : (w : World) → HeapStandsFor old w → IsServed w → ComesIn w call old new was shown result

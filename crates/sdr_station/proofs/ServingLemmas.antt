@@ -3,15 +3,11 @@ use Rattle.std.proofs.Common.{◌≡◌, ◌∙◌, ◌≤◌, ◌+◌, ◌⊎�
 use Rattle.sdr_audit.specs.Standing.{HeapStandsFor}
 use Rattle.sdr_base.proofs.MovesLemmas.{Moves-none}
 use Rattle.sdr_base.specs.KeptHeap.{KeepsRegion}
-use Rattle.sdr_base.proofs.LayoutLemmas.{number_at-layout}
-use Rattle.sdr_base.specs.Blocks as base
-use Rattle.sdr_base.specs.Blocks.{IsKind}
-use Rattle.sdr_base.specs.Raws.{raw_block}
-use Rattle.sdr_base.specs.Stored.{number_at}
 use Rattle.sdr_base.specs.Transaction.{Explains}
-use Rattle.sdr_base.specs.declared.kind.Kind.TheVariants as kinds
 use Rattle.sdr_base.specs.Moves.{Leads, Moves, MovesPools}
 use Rattle.sdr_base.specs.Objects.{Heap}
+use Rattle.sdr_base.specs.Pools.{Pools}
+use Rattle.sdr_base.proofs.FewLemmas.{region_small}
 use Rattle.sdr_base.specs.Works.{Works}
 use Rattle.sdr_base.specs.declared.has_heap.HasHeap.{Ghosts as HeapGhosts}
 use Rattle.sdr_base.specs.declared.moves.Move.{Move}
@@ -42,19 +38,17 @@ use Rattle.sdr_model.specs.Reading.{is_reading}
 use Rattle.sdr_model.specs.Step.{StepTo, is_answer}
 use Rattle.sdr_model.specs.Steps.{Outcome}
 use Rattle.sdr_model.specs.Valid.{IsValid}
-use Rattle.sdr_model.specs.Whole.{IsWhole}
 use Rattle.sdr_model.specs.World.{World, thing_at}
 use Rattle.sdr_model.specs.Zco.{source_on}
 use Rattle.sdr_model.specs.declared.answer.Answer.TheVariants as answers
 use Rattle.sdr_model.specs.declared.answer.Reply.TheVariants as replies
 use Rattle.sdr_answers.proofs.DemandLemmas.{asks_more, enough, reading_lines}
 use Rattle.sdr_answers.proofs.EntryLemmas.{source_there}
+use Rattle.sdr_answers.proofs.ListLemmas.{IsSmall}
 use Rattle.sdr_station.proofs.GroundLemmas.{heap_ground}
 use Rattle.sdr_station.proofs.MediaLemmas.{gap_none, misses_none}
-use Rattle.sdr_answers.proofs.KindLemmas.{IsRawAt, raw_is_at}
-use Rattle.sdr_answers.proofs.RawLemmas.{length_of_raw}
 use Rattle.sdr_station.specs.CrashNow.{crash_now}
-use Rattle.sdr_answers.specs.Answering.{Aim, Answered, Comes, IsGood, IsPlain, built, dooms, call_lines}
+use Rattle.sdr_answers.specs.Answering.{Aim, Answered, Comes, IsServed, built, dooms, call_lines}
 use Rattle.sdr_station.specs.Closing.{moves_left}
 use Rattle.sdr_station.specs.Grounded.{Grounded, Leaves, StandsAtRest, StandsForBoth, StandsSome, StandsWithin, heap_in}
 
@@ -67,6 +61,14 @@ image_heap faults = record {
   quiet = λ a b. IsQuiet a.cells b.cells × (b.size ≡ a.size);
   moved = λ a b. Moves (KeepsRegion a.size a.cells.bytes) (KeepsRegion b.size b.cells.bytes) a.moves b.moves;
 }
+
+-- a heap region that keeps a heap is of no more bytes than are allowed, with few blocks in use
+pub small_in : {D : Type 0} (h : Held (Opened D)) {pools : Pools} → KeepsRegion h.size h.cells.bytes pools → IsSmall (heap_in h)
+small_in h {pools} keeps = record { few = keeps.few; small = region_small h.size h.cells.bytes pools keeps }
+
+-- calls are served in the world that an open transaction has made
+pub served_in : {D : Type 0} {h : Held (Opened D)} {shown : List ℕ} {s : State} → StandsWithin h shown s → IsServed s.world
+served_in w = record { whole = w.whole; fits = w.fits; plain = w.plain }
 
 -- a reply that answers tells of no want of log room
 not_full : (room : ℕ) (d : Demand) (w : World) (call : Call) (reply : Reply) → is_answer reply ≡ true → MayFillLog room d w call reply
@@ -212,7 +214,7 @@ module _ {D : Type 0} (told : D → Option (List ℕ)) (moment faults : D → �
   brings_answered reply comes works = record {
     each = λ v at.
         let w = at.now going in
-        let ans = comes.each v.now.world (fresh_stands v at) w.whole w.plain in
+        let ans = comes.each v.now.world (fresh_stands v at) (served_in w) in
         let moves = works.moved fresh_heap (Moves-none (KeepsRegion fresh_heap.size fresh_heap.cells.bytes) (KeepsRegion fresh_heap.size fresh_heap.cells.bytes) [] (λ P k. k)) in
         let q = quiet_of works in
         let after = next v at moves ans.after reply in
@@ -245,7 +247,7 @@ module _ {D : Type 0} (told : D → Option (List ℕ)) (moment faults : D → �
   -- a refused call for which there was log room
   brings_stopped : (refusal : Refusal) (n : ℕ) → moves_left refusal heap.moves ≡ heap.moves
       → ((room : ℕ) (d : Demand) (w : World) → MayFillLog room d w call (replies.Refused refusal))
-      → ((w : World) → HeapStandsFor (heap_in fresh_heap) w → IsWhole w → IsPlain w
+      → ((w : World) → HeapStandsFor (heap_in fresh_heap) w → IsServed w
       → StepTo w (record { moves = heap.moves; after = w; reply = replies.Refused refusal }) call × (is_reading call ≡ true → heap_in heap ≡ heap_in fresh_heap) × (page ≡ old.shown))
       → Moves (KeepsRegion fresh_heap.size fresh_heap.cells.bytes) (KeepsRegion heap.size heap.cells.bytes) [] heap.moves
       → Works {T = Reply} (image_heap faults) (call_lines call) fresh_heap heap (Err (stops.Refused refusal))
@@ -253,7 +255,7 @@ module _ {D : Type 0} (told : D → Option (List ℕ)) (moment faults : D → �
   brings_stopped refusal n same full steps moves works = record {
     each = λ v at.
         let w = at.now going in
-        let s = steps v.now.world (fresh_stands v at) w.whole w.plain in
+        let s = steps v.now.world (fresh_stands v at) (served_in w) in
         let q = quiet_of works in
         let after = next v at moves v.now.world (replies.Refused refusal) in
         record {
@@ -282,7 +284,7 @@ module _ {D : Type 0} (told : D → Option (List ℕ)) (moment faults : D → �
 
   -- a refused call for which there was none
   brings_full : (lines room n : ℕ)
-      → ((w : World) → HeapStandsFor (heap_in fresh_heap) w → IsWhole w → IsPlain w → Aim w call × (is_reading call ≡ false))
+      → ((w : World) → HeapStandsFor (heap_in fresh_heap) w → IsServed w → Aim w call × (is_reading call ≡ false))
       → Works {T = Reply} (image_heap faults) (call_lines call) fresh_heap heap (Err (stops.Refused (refusals.LogFull lines room)))
       → Brings (λ g v. StandsForBoth told moment may_leave g v) old (refused_ground (refusals.LogFull lines room) n)
       (Calls None call (replies.Refused (refusals.LogFull lines room)))
@@ -290,7 +292,7 @@ module _ {D : Type 0} (told : D → Option (List ℕ)) (moment faults : D → �
     each = λ v at.
         let w = at.now going in
         let reply = replies.Refused (refusals.LogFull lines room) in
-        let aim = aims v.now.world (fresh_stands v at) w.whole w.plain in
+        let aim = aims v.now.world (fresh_stands v at) (served_in w) in
         let q = quiet_of works in
         let after = full_state v at reply in
         let f = works.room.full in
@@ -333,10 +335,10 @@ module _ {D : Type 0} (told : D → Option (List ℕ)) (moment faults : D → �
       → Works {T = Reply} (image_heap faults) (call_lines call) fresh_heap heap (Err (stops.Refused refusal))
       → Brings (λ g v. StandsForBoth told moment may_leave g v) old (refused_ground refusal n) (Calls None call (replies.Refused refusal))
   brings_refused (refusals.LogFull lines room) n comes works =
-      brings_full lines room n (λ w stands whole plain. (comes.each w stands whole plain).step) works
+      brings_full lines room n (λ w stands served. (comes.each w stands served).step) works
   brings_refused refusal n comes works =
       brings_stopped refusal n refl (λ room d w. tt)
-      (λ w stands whole plain. let r = comes.each w stands whole plain in (r.step, r.left, r.gave))
+      (λ w stands served. let r = comes.each w stands served in (r.step, r.left, r.gave))
       (works.moved fresh_heap (Moves-none (KeepsRegion fresh_heap.size fresh_heap.cells.bytes) (KeepsRegion fresh_heap.size fresh_heap.cells.bytes) [] (λ P k. k)))
       works
 
@@ -367,29 +369,6 @@ no_fault faults old new lines sound stop works (inr (inl is)) =
 no_fault faults old new lines sound stop works (inr (inr is)) =
     let e = subst (λ (s : Stop). Explains {T = Reply} (transaction_of faults old.cells) (transaction_of faults new.cells) (Err s)) is works.cause.explained in
     true≢false (sym e.0 ∙ sound)
-
--- where a heap stands for a world of served calls, a raw object's block has its source word, which is 0
-pub good_of : (heap : Heap) (w : World) → HeapStandsFor heap w → IsWhole w → IsPlain w → (addr : ℕ) → IsGood (heap.blocks addr)
-good_of heap w s whole plain addr = by (heap.blocks addr) (λ kind. of (raw_is_at heap w addr s whole.valid kind))
-  where
-    of : IsRawAt heap w addr → (bytes : List ℕ) × (heap.blocks addr ≡ Some (raw_block 0 bytes))
-    of r = (r.bytes, r.block ∙ ap (λ (n : ℕ). Some (raw_block n r.bytes)) (ap or_null (plain.unnamed addr)))
-
-    first : (bytes : List ℕ) → number_at 0 (raw_block 0 bytes).bytes ≡ 0
-    first bytes = number_at-layout (0 ∷ []) bytes 0 (omega arith) (omega arith)
-
-    by : (found : Option base.Block) → (IsKind found kinds.Raw → (bytes : List ℕ) × (found ≡ Some (raw_block 0 bytes))) → IsGood found
-    by None raws = record { whole = tt; unnamed = tt }
-    by (Some block) raws = record {
-      whole = λ kind.
-          let r = raws kind in
-          let same : raw_block 0 r.0 ≡ block = cc in
-          subst (λ (b : base.Block). 8 ≤ length b.bytes) same (omega (arith, length_of_raw 0 r.0));
-      unnamed = λ kind.
-          let r = raws kind in
-          let same : raw_block 0 r.0 ≡ block = cc in
-          subst (λ (b : base.Block). number_at 0 b.bytes ≡ 0) same (first r.0);
-    }
 
 -- a reply that answers dooms nothing
 pub answers_no_doom : (call : Call) (reply : Reply) → is_answer reply ≡ true → dooms call reply ≡ false

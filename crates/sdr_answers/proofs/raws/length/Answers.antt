@@ -15,15 +15,15 @@ returns-in_err-value-clause-comes g c =
     let page = c.args.page.now in
     let fact : Comes (calls.Length c.args.addr) old new page page (Err c.in_err-value.field-0.0) =
     comes_stopped (calls.Length c.args.addr) old new page c.in_err-value.field-0.0
-    (λ w refusal stands whole plain is. length_refused c.args.addr old new w page refusal c.requires.unmoved c.in_err-value.ensures.looks.same stands whole
+    (λ w refusal stands served is. length_refused c.args.addr old new w page refusal c.requires.unmoved c.in_err-value.ensures.looks.same stands served.whole
     (subst (λ (s : Stop). IsMissing (old.blocks c.args.addr) c.args.addr s) is c.in_err-value.ensures.refused)) in
     search rules
 
 pub returns-clause-comes : goal.returns-clause-comes
 returns-clause-comes g c = record {
-  each = λ w stands whole plain.
+  each = λ w stands served.
       let old = g.O.HasHeap.heap c.args.o.now in
       let new = g.O.HasHeap.heap c.length.new.o in
       subst (λ (shown : List ℕ). Answered w (calls.Length c.args.addr) new shown (replies.Value c.in_ok-value.value)) (sym c.clear.ensures)
-      (length_answered c.args.addr c.in_ok-value.value old new w c.requires.unmoved c.in_ok-value.ensures.looks.same c.in_ok-value.ensures.given stands whole);
+      (length_answered c.args.addr c.in_ok-value.value old new w c.requires.unmoved c.in_ok-value.ensures.looks.same c.in_ok-value.ensures.given stands served.whole);
 }

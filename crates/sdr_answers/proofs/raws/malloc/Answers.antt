@@ -15,15 +15,15 @@ returns-in_err-addr-clause-comes g c =
     let page = c.args.page.now in
     let fact : Comes (calls.Malloc c.args.bytes) old new page page (Err c.in_err-addr.field-0.0) =
     comes_stopped (calls.Malloc c.args.bytes) old new page c.in_err-addr.field-0.0
-    (λ w refusal stands whole plain is. malloc_refused c.args.bytes old new w page refusal c.requires.unmoved
+    (λ w refusal stands served is. malloc_refused c.args.bytes old new w page refusal c.requires.unmoved
     (subst (λ (s : Stop). MallocStops c.args.bytes old new s) is c.in_err-addr.ensures.refused)) in
     search rules
 
 pub returns-clause-comes : goal.returns-clause-comes
 returns-clause-comes g c = record {
-  each = λ w stands whole plain.
+  each = λ w stands served.
       let old = g.O.HasHeap.heap c.args.o.now in
       let new = g.O.HasHeap.heap c.malloc.new.o in
       subst (λ (shown : List ℕ). Answered w (calls.Malloc c.args.bytes) new shown (replies.At c.in_ok-addr.addr)) (sym c.clear.ensures)
-      (malloc_answered c.args.bytes c.in_ok-addr.addr old new w c.requires.unmoved c.in_ok-addr.ensures.made stands whole);
+      (malloc_answered c.args.bytes c.in_ok-addr.addr old new w c.requires.unmoved c.in_ok-addr.ensures.made stands served.whole);
 }

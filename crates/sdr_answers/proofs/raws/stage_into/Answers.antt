@@ -16,18 +16,18 @@ returns-in_err-stage-clause-comes g c =
     let e = c.in_err-stage.ensures in
     let fact : Comes (calls.Stage c.args.addr c.args.count) old new page page (Err c.in_err-stage.field-0.0) =
     comes_stopped (calls.Stage c.args.addr c.args.count) old new page c.in_err-stage.field-0.0
-    (λ w refusal stands whole plain is. stage_refused c.args.addr c.args.count old new w page refusal c.requires.unmoved e.same stands whole
+    (λ w refusal stands served is. stage_refused c.args.addr c.args.count old new w page refusal c.requires.unmoved e.same stands served.whole
     (subst (λ (s : Stop). ReadStops (old.blocks c.args.addr) c.args.addr 0 c.args.count s) is
     (subst (λ (n : ℕ). ReadStops (old.blocks c.args.addr) c.args.addr 0 n c.in_err-stage.field-0.0) c.requires.count e.refused))) in
     search rules
 
 pub returns-clause-comes : goal.returns-clause-comes
 returns-clause-comes g c = record {
-  each = λ w stands whole plain.
+  each = λ w stands served.
       let old = g.O.HasHeap.heap c.args.o.now in
       let new = g.O.HasHeap.heap c.stage.new.o in
       let e = c.in_ok-stage.ensures in
       subst (λ (shown : List ℕ). Answered w (calls.Stage c.args.addr c.args.count) new shown (replies.Bytes c.args.count)) (sym c.show.ensures)
       (stage_answered c.args.addr c.args.count c.stage.new.into old new w c.requires.unmoved e.marked
-      (subst (λ (n : ℕ). ReadsRaw (old.blocks c.args.addr) 0 n c.stage.new.into) c.requires.count e.given) stands whole);
+      (subst (λ (n : ℕ). ReadsRaw (old.blocks c.args.addr) 0 n c.stage.new.into) c.requires.count e.given) stands served.whole);
 }

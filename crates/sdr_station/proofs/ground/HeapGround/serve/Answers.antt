@@ -13,7 +13,8 @@ use Rattle.sdr_model.specs.declared.answer.Reply.{Reply}
 use Rattle.sdr_model.specs.declared.answer.Reply.TheVariants as replies
 use Rattle.sdr_station.proofs.ClosingLemmas.{keeps_brought}
 use Rattle.sdr_station.proofs.GroundLemmas.{heap_ground}
-use Rattle.sdr_station.proofs.ServingLemmas.{answers_no_doom, brings_answered, brings_refused, good_of, image_heap, leaves_quiet, no_fault, refused_ground}
+use Rattle.sdr_station.proofs.ServingLemmas.{answers_no_doom, brings_answered, brings_refused, image_heap, leaves_quiet, no_fault, refused_ground, served_in, small_in}
+use Rattle.sdr_answers.proofs.GoodLemmas.{good_of}
 use Rattle.sdr_answers.specs.Answering.{Comes, IsGood, call_lines}
 use Rattle.sdr_station.specs.Grounded.{Grounded, Lasts, StandsForBoth, StandsSome, heap_in}
 use Rattle.sdr_station.proofs.ground.HeapGround.serve.Goals as goal
@@ -47,8 +48,10 @@ answer-requires-clause-good g c =
     let sound : old.heap.cells.failed ≡ false = c.self.invariant going in
     let some : StandsSome b m l old = subst (λ (o : Grounded D). Lasts b m l o) (sym c.self.view_is) c.requires.lasts sound in
     let w = some.holds.now going in
-    subst (λ (h : Held (Opened D)). (addr : _) → IsGood (block_in h.cells.bytes addr)) (sym c.fresh.ensures.none)
-    (good_of (heap_in old.heap) some.for.now.world w.heap w.whole w.plain)
+    let s = w.heap in
+    let fresh : Held (Opened D) = record old.heap { moves = []; spare = c.fresh.new.self.spare } in
+    subst (λ (h : Held (Opened D)). IsGood (heap_in h)) (sym c.fresh.ensures.none)
+    (good_of (heap_in fresh) some.for.now.world (record { blocks = s.blocks; roots = s.roots; marks = s.marks }) (served_in w) (small_in fresh w.keeps))
 
 pub unreachable-requires : goal.unreachable-requires
 unreachable-requires g c =

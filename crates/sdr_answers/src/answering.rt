@@ -1,5 +1,5 @@
 // The answer of each call that is served.
-ghost use Rattle.std.specs.Prelude.{◌≡◌, ◌≤◌, [], ℕ, true};
+ghost use Rattle.std.specs.Prelude.{◌≡◌, ◌≤◌, ◌+◌, ◌/◌, [], true};
 ghost use Rattle.sdr_base.specs.Moves.{KeepsSome};
 ghost use Rattle.sdr_base.specs.Works.{Works};
 ghost use Rattle.sdr_model.specs.Fields.{FitsCall};
@@ -7,6 +7,7 @@ ghost use Rattle.sdr_answers.specs.Answering.{Comes, IsGood, built, call_lines};
 
 use crate::page::Page;
 use crate::raws::{free, length, malloc, read, stage, write};
+use crate::strings::{string, string_dup, string_length, string_read};
 use sdr_base::{Objects, Stop};
 use sdr_model::{Call, Reply};
 
@@ -22,14 +23,18 @@ pub fn built(call: &Call) -> bool
             | Call::Read(_, _, _)
             | Call::Write(_, _, _)
             | Call::Stage(_, _)
+            | Call::String(_)
+            | Call::StringLength(_)
+            | Call::StringRead(_)
+            | Call::StringDup(_)
     )
 }
 
 /// Answers a call that is served.
 pub fn answer<O: Objects>(o: &mut O, call: &Call, page: &mut Page) -> Result<Reply, Stop>
     requires kept { KeepsSome (O.keeps o.old) }
-    requires spare { 1 ≤ (O.heap o.old).spare }
-    requires good { (addr : ℕ) → IsGood ((O.heap o.old).blocks addr) }
+    requires room { (O.heap o.old).size / 4 + 4 ≤ (O.heap o.old).spare }
+    requires good { IsGood (O.heap o.old) }
     requires unmoved { (O.heap o.old).moves ≡ [] }
     requires built { built call.now ≡ true }
     ensures comes { Comes call.now (O.heap o.old) (O.heap o.new) page.old page.new result }
@@ -43,6 +48,10 @@ pub fn answer<O: Objects>(o: &mut O, call: &Call, page: &mut Page) -> Result<Rep
         Call::Read(addr, place, count) => read(o, *addr, *place, *count, page),
         Call::Write(addr, place, bytes) => write(o, *addr, *place, bytes.as_slice(), page),
         Call::Stage(addr, count) => stage(o, *addr, *count, page),
+        Call::String(text) => string(o, text.as_slice(), page),
+        Call::StringLength(addr) => string_length(o, *addr, page),
+        Call::StringRead(addr) => string_read(o, *addr, page),
+        Call::StringDup(addr) => string_dup(o, *addr, page),
         _ => unreachable!(),
     }
 }
