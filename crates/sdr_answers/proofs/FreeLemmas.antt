@@ -30,6 +30,7 @@ use Rattle.sdr_model.specs.Fields.{IsWord}
 use Rattle.sdr_model.specs.RawSteps.{FreesThing}
 use Rattle.sdr_model.specs.Rows.{ByRow}
 use Rattle.sdr_model.specs.Steps.{Outcome, taken_addresses, without_thing}
+use Rattle.sdr_model.specs.Valid.{IsValid}
 use Rattle.sdr_model.specs.Whole.{IsWhole}
 use Rattle.sdr_model.specs.World.{World, as_raw, as_text, block_at, misnamed, refusal_for, thing_at}
 use Rattle.sdr_model.specs.Zco.{source_on}

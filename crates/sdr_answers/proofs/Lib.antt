@@ -13,3 +13,7 @@ pub mod ListLemmas
 pub mod SpotLemmas
 pub mod StringLemmas
 pub mod GoodLemmas
+pub mod AddressLemmas
+pub mod SortingLemmas
+pub mod ListReading
+pub mod ListChanging

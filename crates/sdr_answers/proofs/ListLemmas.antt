@@ -36,7 +36,6 @@ pub record IsSmall (heap : Heap) : Type 0 where
 pub record IsListAt (heap : Heap) (w : World) (list : ℕ) : Type 0 where
   pub row : SdrList
   pub there : thing_at w list ≡ Some (things.List row)
-  pub word : IsWord list
   pub keeps : KeepsList heap.blocks list (list_row row)
 
 -- the elements of a list are few
@@ -47,29 +46,27 @@ few_elements heap list row small a =
     let all = small.few.few (list_entries list (list_row row) ++ a.rest) a.stands in
     let split = length-append between a.rest in
     let chain = length-linked addr_of (element_block list) 0 0 (map element_row row.elements) in
-    let same = length-map element_row row.elements in
+    let same = length-map row.elements element_row in
     omega (arith, all, split, chain, same)
 
 fits_row : (row : SdrList) → All FitsElement row.elements → All ElementFits (map element_row row.elements)
 fits_row row all = All-map ElementFits element_row row.elements (λ k d l. let f = all k d l in record { addr = f.block; datum = f.datum })
 
-pub list_stands : (heap : Heap) (w : World) (list : ℕ) (row : SdrList) → HeapStandsFor heap w → FitsFields w → IsSmall heap
-    → thing_at w list ≡ Some (things.List row) → IsListAt heap w list
-list_stands heap w list row s fits small there =
+-- the blocks of a list of the world keep it
+pub list_kept : (heap : Heap) (w : World) (list : ℕ) (row : SdrList) → HeapStandsFor heap w → FitsFields w → IsSmall heap
+    → thing_at w list ≡ Some (things.List row) → IsWord list × KeepsList heap.blocks list (list_row row)
+list_kept heap w list row s fits small there =
     let a = apart list (things.List row) s there in
     let few = few_elements heap list row small a in
-    let fit = subst (λ (o : Option Thing). IfSome o (λ thing. IsWord list × FitsThing thing)) there (fits.things list) in
-    record {
-      row = row;
-      there = there;
-      word = fit.0;
-      keeps = record {
+    let fit = subst (λ (o : Option Thing). IfSome o (λ thing. IsWord list × FitsThing thing)) there (fits.things list) in (
+      fit.0,
+      record {
         rest = a.rest;
         stands = a.stands;
-        few = omega (arith, few, small.small, length-map element_row row.elements);
+        few = omega (arith, few, small.small, length-map row.elements element_row);
         fits = record { user = fit.1.0; elements = fits_row row fit.1.1 };
-      };
-    }
+      },
+    )
 
 own_list : (addr : ℕ) (thing : Thing) → (own_block addr thing).kind ≡ kinds.List → (row : SdrList) × (thing ≡ things.List row)
 own_list addr (things.List row) is = (row, refl)
@@ -81,7 +78,8 @@ pub list_is_at : (heap : Heap) (w : World) (list : ℕ) → HeapStandsFor heap w
 list_is_at heap w list s served small kind =
     let t = thing_is_at heap w list kinds.List s served.whole.valid refl kind in
     let row = own_list list t.thing t.kind_is in
-    list_stands heap w list row.0 s served.fits small (t.there ∙ ap Some row.1)
+    let there = t.there ∙ ap Some row.1 in
+    record { row = row.0; there = there; keeps = (list_kept heap w list row.0 s served.fits small there).1 }
 
 -- and where there is none, no list is
 pub no_list : (heap : Heap) (w : World) (list : ℕ) → HeapStandsFor heap w → IsValid w → ¬ IsKind (heap.blocks list) kinds.List

@@ -1,6 +1,6 @@
 -- How what a call came to on blocks is a step, by the shape of its row.
-use Rattle.std.proofs.Common.{◌≡◌, ◌≢◌, ◌∙◌, ◌<◌, ◌^◌, ◌++◌, ℕ, List, [], ◌∷◌, Bool, true, false, true≢false, inl, inr, Option, None, Some, refl, sym, ap, subst, arith, append-nil}
-use Rattle.std.specs.Prelude.{All}
+use Rattle.std.proofs.Common.{◌≡◌, ◌≢◌, ◌∙◌, ◌<◌, ◌^◌, ◌-◌, ◌==◌, ◌++◌, not, ℕ, List, [], ◌∷◌, Bool, true, false, true≢false, inl, inr, Option, None, Some, refl, sym, ap, subst, arith, append-nil}
+use Rattle.std.specs.Prelude.{All, filter}
 use Rattle.std.proofs.lemmas.List.Elements.{All-cons, All-nil}
 use Rattle.sdr_answers.proofs.KindLemmas.{missed, none_of}
 use Rattle.sdr_answers.specs.Answering.{Aim, Answered, IsRefused}
@@ -10,7 +10,7 @@ use Rattle.sdr_audit.specs.Standing.{HeapStandsFor, thing_entries, with_taken_ma
 use Rattle.sdr_audit.specs.Ties.{IsUntied, NoneIsTied, ties_of}
 use Rattle.sdr_base.specs.Blocks.{IsKind}
 use Rattle.sdr_base.specs.Entries.{Changes}
-use Rattle.sdr_base.specs.Making.{Made, MakesThing}
+use Rattle.sdr_base.specs.Making.{Made, MakesThing, besides, with_moves}
 use Rattle.sdr_base.specs.Objects.{Heap, Misses, OnlyShort, OnlyUnmoved}
 use Rattle.sdr_base.specs.declared.kind.Kind.{Kind}
 use Rattle.sdr_base.specs.declared.moves.Move.{Move}
@@ -94,11 +94,11 @@ pub moves_made : (moves : List Move) (old new : Heap) → old.moves ≡ [] → M
 moves_made moves old new unmoved made = ap (λ (h : Heap). h.moves) made.all ∙ ap (λ (ms : List Move). ms ++ moves) unmoved
 
 -- what these moves do
-record Moved (w : World) (moves : List Move) (old new : Heap) : Type 0 where
-  made : Made moves old new
-  unmoved : old.moves ≡ []
-  fresh : AreFresh (addresses_of (blocks_of w)) moves
-  words : All IsWord (taken_addresses moves)
+pub record Moved (w : World) (moves : List Move) (old new : Heap) : Type 0 where
+  pub made : Made moves old new
+  pub unmoved : old.moves ≡ []
+  pub fresh : AreFresh (addresses_of (blocks_of w)) moves
+  pub words : All IsWord (taken_addresses moves)
 
 -- a call with moves was answered
 pub moved_answered : (w w' : World) (call : Call) (moves : List Move) (old new : Heap) (reply : Reply) → Moved w moves old new
@@ -120,6 +120,27 @@ moved_answered w w' call moves old new reply m stands ties accounts taken row an
       taken = taken;
     }
 
+-- no move was made
+pub unmade : (old : Heap) → besides old ≡ besides (with_moves old [])
+unmade old =
+    let spare : old.spare ≡ old.spare - 0 = omega arith in
+    λ i. record {
+      size = old.size;
+      blocks = λ addr. None;
+      roots = old.roots;
+      marks = old.marks;
+      moves = sym (append-nil old.moves) i;
+      spare = spare i;
+    }
+
+pub moved_nothing : (w : World) (old new : Heap) → old.moves ≡ [] → besides new ≡ besides old → Moved w [] old new
+moved_nothing w old new unmoved same = record {
+  made = record { all = same ∙ unmade old };
+  unmoved = unmoved;
+  fresh = tt;
+  words = All-nil IsWord;
+}
+
 -- a block was taken where none was
 pub took_one : (w : World) (need addr : ℕ) (old new : Heap) → HeapStandsFor old w → IsValid w → old.moves ≡ [] → old.blocks addr ≡ None → addr ≢ 0
     → addr < 2 ^ 32 → Made (Took need addr ∷ []) old new → Moved w (Took need addr ∷ []) old new
@@ -133,7 +154,7 @@ took_one w need addr old new s valid unmoved free nonzero small made = record {
 -- blocks were given back
 pub gave_fresh : (used addrs : List ℕ) → AreFresh used (gave addrs)
 gave_fresh used [] = tt
-gave_fresh used (addr ∷ addrs) = gave_fresh _ addrs
+gave_fresh used (addr ∷ addrs) = gave_fresh (filter (λ a. not (a == addr)) used) addrs
 
 pub gave_takes : (addrs : List ℕ) → taken_addresses (gave addrs) ≡ []
 gave_takes [] = refl

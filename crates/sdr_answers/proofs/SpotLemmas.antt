@@ -1,11 +1,11 @@
 -- Elements of lists in blocks.
-use Rattle.std.proofs.Common.{◌≡◌, ◌≢◌, ◌∙◌, ◌+◌, ◌==◌, ℕ, List, [], ◌∷◌, ◌++◌, Bool, true, false, true≢false, cond, map, length, get_or, position, Option, None, Some, refl, sym, ap, subst, arith}
+use Rattle.std.proofs.Common.{◌≡◌, ◌≢◌, ◌∙◌, ◌+◌, ◌<◌, ◌==◌, ℕ, List, [], ◌∷◌, ◌++◌, Bool, true, false, true≢false, cond, map, length, get_or, position, Option, None, Some, refl, sym, ap, subst, arith}
 use Rattle.std.proofs.lemmas.Option.{slice_get-get_or, slice_get-map}
 use Rattle.std.specs.FinMap as finite
 use Rattle.std.specs.Option.{option_map, option_or}
 use Rattle.std.specs.Prelude.{count_by, slice_get}
 use Rattle.sdr_answers.proofs.KindLemmas.{Finds, all_of, block_of_kind, found_all, inner_block, loose_all, loose_block, object_all, or_finds}
-use Rattle.sdr_answers.proofs.ListLemmas.{IsSmall, list_stands}
+use Rattle.sdr_answers.proofs.ListLemmas.{IsSmall, list_kept}
 use Rattle.sdr_answers.specs.Answering.{IsServed}
 use Rattle.sdr_audit.specs.Rows.{element_row, list_row}
 use Rattle.sdr_audit.specs.Standing.{HeapStandsFor}
@@ -31,6 +31,7 @@ pub record IsSpotAt (heap : Heap) (w : World) (element : ℕ) : Type 0 where
   pub datum : ℕ
   pub found : spot_of w element ≡ Some spot
   pub there : thing_at w spot.list ≡ Some (things.List spot.row)
+  pub within : spot.place < length spot.row.elements
   pub here : slice_get spot.row.elements spot.place ≡ Some (record { block = element; datum = datum })
   pub keeps : IsSpot heap.blocks element (record { list = spot.list; row = list_row spot.row; place = spot.place; datum = datum })
 
@@ -41,7 +42,7 @@ spot_stands heap w element spot s served small found =
     let there = spot_there w.things element spot found in
     let place = at_place w element spot found in
     let one = get_or spot.row.elements spot.place no_element in
-    let l = list_stands heap w spot.list spot.row s served.fits small there in
+    let l = list_kept heap w spot.list spot.row s served.fits small there in
     let here : slice_get spot.row.elements spot.place ≡ Some (record { block = element; datum = one.datum }) =
     slice_get-get_or spot.row.elements spot.place no_element place.0
     ∙ ap (λ (b : ℕ). Some (record { block = b; datum = one.datum })) place.1 in
@@ -50,10 +51,11 @@ spot_stands heap w element spot s served small found =
       datum = one.datum;
       found = found;
       there = there;
+      within = place.0;
       here = here;
       keeps = record {
-        keeps = l.keeps;
-        small = l.word;
+        keeps = l.1;
+        small = l.0;
         here = slice_get-map element_row spot.row.elements spot.place ∙ ap (option_map element_row) here;
       };
     }
@@ -80,22 +82,24 @@ IsOther b = b.kind ≢ kinds.Element
 -- where none is found in a thing, no block inside it is an element's
 other_inside : (element list : ℕ) (thing : Thing) → spot_in_thing element list (Some thing) ≡ None → Finds IsOther (block_among element (inner_blocks thing))
 other_inside element list (things.List row) none b is =
-    let gone : None ≡ Some b = sym (none_among element row.elements (unmapped (position (λ e. e.block == element) row.elements) none)) ∙ is in absurd cc
+    let gone : None ≡ Some b = sym (none_among element row.elements (unmapped _ (position (λ e. e.block == element) row.elements) none)) ∙ is in absurd cc
   where
-    unmapped : {X Y : Type 0} {f : X → Y} (o : Option X) → option_map f o ≡ None → o ≡ None
-    unmapped None e = refl
-    unmapped (Some x) e = absurd cc
-other_inside element list (things.Hash hash) none = found_all IsOther element (map entry_block hash.entries) (all_of IsOther entry_block (λ e is. absurd cc) hash.entries)
-other_inside element list (things.Object z) none = found_all IsOther element (object_blocks z) (object_all IsOther z (λ c is. absurd cc) (λ e is. absurd cc))
+    unmapped : {X Y : Type 0} (f : X → Y) (o : Option X) → option_map f o ≡ None → o ≡ None
+    unmapped f None e = refl
+    unmapped f (Some x) e = absurd cc
+other_inside element list (things.Hash hash) none b is =
+    found_all IsOther element (map entry_block hash.entries) (all_of IsOther entry_block (λ e kind. absurd cc) hash.entries) b is
+other_inside element list (things.Object z) none b is =
+    found_all IsOther element (object_blocks z) (object_all IsOther z (λ c kind. absurd cc) (λ e kind. absurd cc)) b is
 other_inside element list thing none b is = absurd cc
 
 -- and so inside all things
 other_among : (element : ℕ) (es : List (ℕ × Thing)) → spot_among element es ≡ None → Finds IsOther (inner_among element es)
 other_among element [] none b is = absurd cc
-other_among element (e ∷ es) none =
+other_among element (e ∷ es) none b is =
     let parts = neither (spot_in_thing element e.0 (Some e.1)) (spot_among element es) none in
     or_finds IsOther (block_among element (inner_blocks e.1)) (inner_among element es)
-    (other_inside element e.0 e.1 parts.0) (other_among element es parts.1)
+    (other_inside element e.0 e.1 parts.0) (other_among element es parts.1) b is
   where
     neither : (o r : Option Spot) → option_or o r ≡ None → (o ≡ None) × (r ≡ None)
     neither None r is = (refl, is)

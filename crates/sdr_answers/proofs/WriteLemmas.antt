@@ -21,7 +21,7 @@ use Rattle.sdr_base.specs.declared.stop.Stop.TheVariants as stops
 use Rattle.sdr_heap.specs.Raw.{HasRoom, WriteStops, WritesRaw}
 use Rattle.sdr_lock.proofs.WorkLemmas.{on_false, on_true}
 use Rattle.sdr_model.specs.Rows.{ByRow}
-use Rattle.sdr_model.specs.Steps.{with_thing}
+use Rattle.sdr_model.specs.Steps.{Outcome, with_thing}
 use Rattle.sdr_model.specs.Whole.{IsWhole}
 use Rattle.sdr_model.specs.World.{World, thing_at}
 use Rattle.sdr_model.specs.declared.answer.Reply.TheVariants as replies
@@ -29,22 +29,24 @@ use Rattle.sdr_model.specs.declared.call.Call.TheVariants as calls
 use Rattle.sdr_model.specs.declared.things.Thing.TheVariants as things
 use Rattle.sdr_answers.proofs.RawLemmas.{IsRawAt, overwrite_raw, raw_is_at}
 use Rattle.sdr_answers.proofs.ReadingLemmas.{misses, no_room_in, on_raw, raw_missed, room_in}
-use Rattle.sdr_answers.proofs.RowLemmas.{row_refused, unmoved_answered}
+use Rattle.sdr_answers.proofs.RowLemmas.{marks_none, moved_nothing, row_refused, thing_changed}
 use Rattle.sdr_answers.specs.Answering.{Answered, IsRefused}
 
--- the world after bytes were written into a raw object
-abbrev pub after_write : World → ℕ → ℕ → List ℕ → List ℕ → World
-after_write w addr place from bytes = record (with_thing w addr (things.Raw (overwrite place from bytes))) { shown = [] }
+-- bytes were written into a raw object
+abbrev pub write_outcome : World → ℕ → ℕ → List ℕ → List ℕ → Outcome
+write_outcome w addr place from bytes =
+    record { moves = []; after = with_taken_marked (with_thing w addr (things.Raw (overwrite place from bytes))) []; reply = replies.Done }
 
 -- the row of a write that fits a marked raw object
 pub write_row : (heap : Heap) (w : World) (addr place : ℕ) (from : List ℕ) (r : IsRawAt heap w addr) → HeapStandsFor heap w
     → HasRoom (heap.blocks addr) (place + length from) → heap.marks addr ≡ true
-    → ByRow w (record { moves = []; after = after_write w addr place from r.bytes; reply = replies.Done }) (calls.Write addr place from)
+    → ByRow w (write_outcome w addr place from r.bytes) (calls.Write addr place from)
 write_row heap w addr place from r s room marked =
     let fits = room_in heap w addr (place + length from) r room in
     let inside : nat_lt (length r.bytes) (place + length from) ≡ false = grind (arith, nat_tests, fits) in
-    on_raw w (record { moves = []; after = after_write w addr place from r.bytes; reply = replies.Done }) addr r.bytes _ r.there
-    (on_false _ _ _ inside (on_true _ _ _ (sym (s.marks addr) ∙ marked) (refl, refl, refl)))
+    on_raw w (write_outcome w addr place from r.bytes) addr r.bytes _ r.there
+    (on_false _ _ _ inside (on_true _ _ _ (sym (s.marks addr) ∙ marked)
+    (refl, marks_none (with_thing w addr (things.Raw (overwrite place from r.bytes))) [] refl, refl)))
 
 -- the block of a raw object becomes that of one with other bytes
 raw_changes : (heap new : Heap) (w : World) (addr place : ℕ) (from : List ℕ) (r : IsRawAt heap w addr) → new ≡ with_bytes heap addr (8 + place) from
@@ -62,42 +64,14 @@ raw_changes heap new w addr place from r is =
           (written_at heap.blocks addr (raw_block named r.bytes) (raw_block named (overwrite place from r.bytes)) [] rest s);
     }
 
--- no move was made
-unmade : (old : Heap) → besides old ≡ besides (with_moves old [])
-unmade old =
-    let spare : old.spare ≡ old.spare - 0 = omega arith in
-    λ i. record {
-      size = old.size;
-      blocks = λ addr. None;
-      roots = old.roots;
-      marks = old.marks;
-      moves = sym (append-nil old.moves) i;
-      spare = spare i;
-    }
-
--- with no move no mark is new
-same_marks : (heap : Heap) (w : World) → HeapStandsFor heap (with_taken_marked w []) → HeapStandsFor heap (record w { shown = [] })
-same_marks heap w s = record {
-  blocks = s.blocks;
-  roots = s.roots;
-  marks = λ q. s.marks q ∙ ap (λ (ms : List ℕ). list_any (λ m. m == q) ms) (append-nil w.marks);
-}
-
 -- bytes were written
 pub write_answered : (addr place : ℕ) (from : List ℕ) (old new : Heap) (w : World) → old.moves ≡ [] → WritesRaw addr place from old new
     → HeapStandsFor old w → IsWhole w → Answered w (calls.Write addr place from) new [] replies.Done
 write_answered addr place from old new w unmoved writes s whole =
     let r = raw_is_at old w addr s whole.valid writes.raw in
-    unmoved_answered w (after_write w addr place from r.bytes) (calls.Write addr place from) new [] replies.Done
-    (ap (λ (h : Heap). h.moves) writes.written ∙ unmoved) (write_row old w addr place from r s writes.inside writes.marked) refl
-    (same_marks new (with_thing w addr (things.Raw (overwrite place from r.bytes)))
-    (changes addr old new w (things.Raw r.bytes) (things.Raw (overwrite place from r.bytes)) [] r.there tt tt s
-    (raw_changes old new w addr place from r writes.written)
-    (record { all = ap besides writes.written ∙ unmade old })))
-    refl
-    (same_ties w addr (Some (things.Raw (overwrite place from r.bytes)))
-    (untied_alike (thing_at w addr) _ (subst NoneIsTied (sym r.there) tt) tt))
-    refl refl
+    thing_changed w (calls.Write addr place from) addr (things.Raw r.bytes) (things.Raw (overwrite place from r.bytes)) [] replies.Done old new r.there tt tt s
+    (moved_nothing w old new unmoved (ap besides writes.written)) (raw_changes old new w addr place from r writes.written)
+    (write_row old w addr place from r s writes.inside writes.marked) refl
 
 -- why bytes weren't written
 pub write_refused : (addr place : ℕ) (from : List ℕ) (old new : Heap) (w : World) (was : List ℕ) (refusal : Refusal) → old.moves ≡ []

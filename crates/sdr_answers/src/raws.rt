@@ -4,6 +4,7 @@ ghost use Rattle.sdr_base.specs.Moves.{KeepsSome};
 ghost use Rattle.sdr_base.specs.Works.{Looks, Works};
 ghost use Rattle.sdr_heap.specs.Raw.{IsUnnamed, IsWhole, ReadStops};
 ghost use Rattle.sdr_model.specs.Fields.{AreBytes};
+ghost use Rattle.sdr_model.specs.declared.call.Call.TheVariants as calls;
 ghost use Rattle.sdr_answers.specs.Answering.{Comes};
 
 use crate::page::{PAGE, Page};
@@ -16,7 +17,7 @@ pub fn malloc<O: Objects>(o: &mut O, bytes: u64, page: &mut Page) -> Result<Repl
     requires kept { KeepsSome (O.keeps o.old) }
     requires spare { 1 ≤ (O.heap o.old).spare }
     requires unmoved { (O.heap o.old).moves ≡ [] }
-    ensures comes { Comes (Call.Malloc bytes) (O.heap o.old) (O.heap o.new) page.old page.new result }
+    ensures comes { Comes (calls.Malloc bytes) (O.heap o.old) (O.heap o.new) page.old page.new result }
     ensures works { Works O.HasHeap (24 + (8 + bytes) / 64) o.old o.new result }
 {
     let addr = sdr_heap::malloc(o, bytes)?;
@@ -30,7 +31,7 @@ pub fn free<O: Objects>(o: &mut O, addr: Addr, page: &mut Page) -> Result<Reply,
     requires spare { 1 ≤ (O.heap o.old).spare }
     requires unnamed { IsUnnamed ((O.heap o.old).blocks addr) }
     requires unmoved { (O.heap o.old).moves ≡ [] }
-    ensures comes { Comes (Call.Free addr) (O.heap o.old) (O.heap o.new) page.old page.new result }
+    ensures comes { Comes (calls.Free addr) (O.heap o.old) (O.heap o.new) page.old page.new result }
     ensures works { Works O.HasHeap 24 o.old o.new result }
 {
     sdr_heap::free(o, addr)?;
@@ -42,7 +43,7 @@ pub fn free<O: Objects>(o: &mut O, addr: Addr, page: &mut Page) -> Result<Reply,
 pub fn length<O: Objects>(o: &mut O, addr: Addr, page: &mut Page) -> Result<Reply, Stop>
     requires kept { KeepsSome (O.keeps o.old) }
     requires unmoved { (O.heap o.old).moves ≡ [] }
-    ensures comes { Comes (Call.Length addr) (O.heap o.old) (O.heap o.new) page.old page.new result }
+    ensures comes { Comes (calls.Length addr) (O.heap o.old) (O.heap o.new) page.old page.new result }
     ensures works { Works O.HasHeap 0 o.old o.new result }
 {
     let value = sdr_heap::length(o, addr)?;
@@ -79,7 +80,7 @@ fn read_into<O: Objects>(
     requires unmoved { (O.heap o.old).moves ≡ [] }
     requires count { length into.old ≡ count }
     requires few { count ≤ LONGEST_READ }
-    ensures comes { Comes (Call.Read addr place count) (O.heap o.old) (O.heap o.new) page.old page.new result }
+    ensures comes { Comes (calls.Read addr place count) (O.heap o.old) (O.heap o.new) page.old page.new result }
     ensures works { Works O.HasHeap 0 o.old o.new result }
 {
     sdr_heap::read(o, addr, place, into)?;
@@ -98,7 +99,7 @@ pub fn read<O: Objects>(
     requires kept { KeepsSome (O.keeps o.old) }
     requires whole { IsWhole ((O.heap o.old).blocks addr) }
     requires unmoved { (O.heap o.old).moves ≡ [] }
-    ensures comes { Comes (Call.Read addr place count) (O.heap o.old) (O.heap o.new) page.old page.new result }
+    ensures comes { Comes (calls.Read addr place count) (O.heap o.old) (O.heap o.new) page.old page.new result }
     ensures works { Works O.HasHeap 0 o.old o.new result }
 {
     if count > LONGEST_READ {
@@ -121,7 +122,7 @@ fn stage_into<O: Objects>(
     requires unmoved { (O.heap o.old).moves ≡ [] }
     requires count { length into.old ≡ count }
     requires few { count ≤ LONGEST_READ }
-    ensures comes { Comes (Call.Stage addr count) (O.heap o.old) (O.heap o.new) page.old page.new result }
+    ensures comes { Comes (calls.Stage addr count) (O.heap o.old) (O.heap o.new) page.old page.new result }
     ensures works { Works O.HasHeap 0 o.old o.new result }
 {
     sdr_heap::stage(o, addr, into)?;
@@ -134,7 +135,7 @@ pub fn stage<O: Objects>(o: &mut O, addr: Addr, count: u64, page: &mut Page) -> 
     requires kept { KeepsSome (O.keeps o.old) }
     requires whole { IsWhole ((O.heap o.old).blocks addr) }
     requires unmoved { (O.heap o.old).moves ≡ [] }
-    ensures comes { Comes (Call.Stage addr count) (O.heap o.old) (O.heap o.new) page.old page.new result }
+    ensures comes { Comes (calls.Stage addr count) (O.heap o.old) (O.heap o.new) page.old page.new result }
     ensures works { Works O.HasHeap 0 o.old o.new result }
 {
     if count > LONGEST_READ {
@@ -155,7 +156,7 @@ pub fn write<O: Objects>(
     requires kept { KeepsSome (O.keeps o.old) }
     requires whole { IsWhole ((O.heap o.old).blocks addr) }
     requires unmoved { (O.heap o.old).moves ≡ [] }
-    ensures comes { Comes (Call.Write addr place from.now) (O.heap o.old) (O.heap o.new) page.old page.new result }
+    ensures comes { Comes (calls.Write addr place from.now) (O.heap o.old) (O.heap o.new) page.old page.new result }
     ensures works { Works O.HasHeap (2 + length from.now / 64) o.old o.new result }
     ensures bytes { AreBytes from.now }
 {

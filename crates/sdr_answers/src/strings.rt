@@ -4,6 +4,7 @@ ghost use Rattle.sdr_answers.specs.Answering.{Comes};
 ghost use Rattle.sdr_base.specs.Moves.{KeepsSome};
 ghost use Rattle.sdr_base.specs.Works.{Works};
 ghost use Rattle.sdr_model.specs.Fields.{AreBytes};
+ghost use Rattle.sdr_model.specs.declared.call.Call.TheVariants as calls;
 ghost use Rattle.sdr_string.specs.Calls.{IsString};
 
 use crate::page::Page;
@@ -16,7 +17,7 @@ pub fn string<O: Objects>(o: &mut O, text: &[u8], page: &mut Page) -> Result<Rep
     requires kept { KeepsSome (O.keeps o.old) }
     requires spare { 1 ≤ (O.heap o.old).spare }
     requires unmoved { (O.heap o.old).moves ≡ [] }
-    ensures comes { Comes (Call.String text.now) (O.heap o.old) (O.heap o.new) page.old page.new result }
+    ensures comes { Comes (calls.String text.now) (O.heap o.old) (O.heap o.new) page.old page.new result }
     ensures works { Works O.HasHeap (26 + (1 + length text.now) / 32) o.old o.new result }
     ensures bytes { AreBytes text.now }
 {
@@ -30,7 +31,7 @@ pub fn string_length<O: Objects>(o: &mut O, addr: Addr, page: &mut Page) -> Resu
     requires kept { KeepsSome (O.keeps o.old) }
     requires string { IsString ((O.heap o.old).blocks addr) }
     requires unmoved { (O.heap o.old).moves ≡ [] }
-    ensures comes { Comes (Call.StringLength addr) (O.heap o.old) (O.heap o.new) page.old page.new result }
+    ensures comes { Comes (calls.StringLength addr) (O.heap o.old) (O.heap o.new) page.old page.new result }
     ensures works { Works O.HasHeap 0 o.old o.new result }
 {
     let value = sdr_string::length(o, addr)?;
@@ -43,7 +44,7 @@ pub fn string_read<O: Objects>(o: &mut O, addr: Addr, page: &mut Page) -> Result
     requires kept { KeepsSome (O.keeps o.old) }
     requires string { IsString ((O.heap o.old).blocks addr) }
     requires unmoved { (O.heap o.old).moves ≡ [] }
-    ensures comes { Comes (Call.StringRead addr) (O.heap o.old) (O.heap o.new) page.old page.new result }
+    ensures comes { Comes (calls.StringRead addr) (O.heap o.old) (O.heap o.new) page.old page.new result }
     ensures works { Works O.HasHeap 0 o.old o.new result }
 {
     let mut text = [0; LONGEST_STRING];
@@ -58,7 +59,7 @@ pub fn string_dup<O: Objects>(o: &mut O, addr: Addr, page: &mut Page) -> Result<
     requires spare { 1 ≤ (O.heap o.old).spare }
     requires string { IsString ((O.heap o.old).blocks addr) }
     requires unmoved { (O.heap o.old).moves ≡ [] }
-    ensures comes { Comes (Call.StringDup addr) (O.heap o.old) (O.heap o.new) page.old page.new result }
+    ensures comes { Comes (calls.StringDup addr) (O.heap o.old) (O.heap o.new) page.old page.new result }
     ensures works { Works O.HasHeap 34 o.old o.new result }
 {
     let copy = sdr_string::dup(o, addr)?;
