@@ -9,16 +9,20 @@ use Rattle.sdr_audit.proofs.ChangeLemmas.{apart}
 use Rattle.sdr_audit.specs.Rows.{element_row, list_row}
 use Rattle.sdr_audit.specs.Standing.{HeapStandsFor}
 use Rattle.sdr_base.proofs.LinkedLemmas.{length-linked}
+use Rattle.sdr_base.specs.Blocks as base
 use Rattle.sdr_base.specs.Blocks.{IsKind}
 use Rattle.sdr_base.specs.Entries.{Among, Few}
 use Rattle.sdr_base.specs.Lists.{ElementFits, KeepsList, addr_of, element_block, elements_between, list_entries}
 use Rattle.sdr_base.specs.Objects.{Heap}
+use Rattle.sdr_base.specs.Stored.{number_at}
+use Rattle.sdr_base.specs.declared.kind.Kind.{Kind}
 use Rattle.sdr_base.specs.declared.kind.Kind.TheVariants as kinds
 use Rattle.sdr_base.specs.declared.line.TheConstants.{LINE, MOST_LINES}
 use Rattle.sdr_list.proofs.KeptLemmas.{elements_are}
-use Rattle.sdr_list.specs.Kept.{elements_in}
+use Rattle.sdr_list.specs.Kept.{IsList, elements_in, if_list}
 use Rattle.sdr_model.specs.Fields.{FitsElement, FitsFields, FitsThing, IsWord}
 use Rattle.sdr_model.specs.ListSteps.{as_list}
+use Rattle.sdr_model.specs.RowMoves as moves
 use Rattle.sdr_model.specs.Things.{own_block}
 use Rattle.sdr_model.specs.Valid.{IsValid}
 use Rattle.sdr_model.specs.World.{World, thing_at}
@@ -90,3 +94,44 @@ no_list heap w list s valid other = by (thing_at w list) refl
     by (Some (things.List row)) at = absurd (other (own_in_use heap w list (things.List row) s valid at))
     by None at = refl
     by (Some thing) at = refl
+
+-- as many elements as its block tells are the world's at least
+pub elements_told : (heap : Heap) (w : World) (list : ℕ) → HeapStandsFor heap w → IsServed w → IsSmall heap
+    → elements_in (heap.blocks list) ≤ length (moves.elements_in (as_list (thing_at w list)))
+elements_told heap w list s served small = by (heap.blocks list) refl
+  where
+    of_kind : (block : base.Block) (kind : Kind) → heap.blocks list ≡ Some block → block.kind ≡ kind
+        → elements_in (Some block) ≤ length (moves.elements_in (as_list (thing_at w list)))
+    of_kind block kinds.List here is =
+        let l = list_is_at heap w list s served small (subst (λ f. IsKind f kinds.List) (sym here) is) in
+        let told : elements_in (Some block) ≡ length (map element_row l.row.elements) = ap elements_in (sym here) ∙ elements_are l.keeps in
+        let same : length (moves.elements_in (as_list (thing_at w list))) ≡ length (map (λ (e : Element). e.block) l.row.elements) =
+        ap (λ o. length (moves.elements_in (as_list o))) l.there in
+        omega (arith, told, same, length-map l.row.elements element_row, length-map l.row.elements (λ (e : Element). e.block))
+    of_kind block kind here is =
+        let none : elements_in (Some block) ≡ if_list kind (number_at 8 block.bytes) = ap (λ (k : Kind). if_list k (number_at 8 block.bytes)) is in
+        omega (arith, none)
+
+    by : (o : Option base.Block) → heap.blocks list ≡ o → elements_in o ≤ length (moves.elements_in (as_list (thing_at w list)))
+    by None here = omega (arith)
+    by (Some block) here = of_kind block block.kind here refl
+
+-- where a list is kept, its elements are few
+pub room_for_list : (heap : Heap) (list : ℕ) → Few heap.size heap.blocks → IsList heap.blocks list → 16 * elements_in (heap.blocks list) ≤ heap.size
+room_for_list heap list few kept = by (heap.blocks list) refl
+  where
+    of_kind : (block : base.Block) (kind : Kind) → heap.blocks list ≡ Some block → block.kind ≡ kind → 16 * elements_in (Some block) ≤ heap.size
+    of_kind block kinds.List here is =
+        let some = kept (subst (λ f. IsKind f kinds.List) (sym here) is) in
+        let keeps = some.keeps in
+        let between = elements_between list 0 0 some.row.elements in
+        let all = few.few (list_entries list some.row ++ keeps.rest) keeps.stands in
+        let told : elements_in (Some block) ≡ length some.row.elements = ap elements_in (sym here) ∙ elements_are keeps in
+        omega (arith, all, told, length-append between keeps.rest, length-linked addr_of (element_block list) 0 0 some.row.elements)
+    of_kind block kind here is =
+        let none : elements_in (Some block) ≡ if_list kind (number_at 8 block.bytes) = ap (λ (k : Kind). if_list k (number_at 8 block.bytes)) is in
+        omega (arith, none)
+
+    by : (o : Option base.Block) → heap.blocks list ≡ o → 16 * elements_in o ≤ heap.size
+    by None here = omega (arith)
+    by (Some block) here = of_kind block block.kind here refl

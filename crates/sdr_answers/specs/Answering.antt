@@ -1,7 +1,8 @@
 -- What a call comes to on a heap that stands for a world.
-use Rattle.std.specs.Prelude.{◌≡◌, ◌+◌, ◌/◌, ℕ, Bool, true, false, not, List, [], length, ⊤, All, Option, None, Result, Ok, Err}
+use Rattle.std.specs.Prelude.{◌≡◌, ◌+◌, ◌*◌, ◌/◌, ℕ, Bool, true, false, not, List, [], length, ⊤, All, Option, None, Result, Ok, Err}
 use Rattle.sdr_audit.specs.Standing.{HeapStandsFor}
 use Rattle.sdr_audit.specs.Ties.{ties_of}
+use Rattle.sdr_base.specs.Blocks.{Blocks}
 use Rattle.sdr_base.specs.Objects.{Heap}
 use Rattle.sdr_base.specs.declared.moves.Move.{Move}
 use Rattle.sdr_base.specs.declared.refusal.Refusal.{Refusal}
@@ -10,7 +11,7 @@ use Rattle.sdr_base.specs.declared.stop.Stop.{Stop}
 use Rattle.sdr_base.specs.declared.stop.Stop.TheVariants as stops
 use Rattle.sdr_heap.specs.Raw.{IsUnnamed, IsWhole}
 use Rattle.sdr_laws.specs.Fresh.{AreFresh}
-use Rattle.sdr_list.specs.Kept.{IsElement, IsList}
+use Rattle.sdr_list.specs.Kept.{IsElement, IsList, elements_in}
 use Rattle.sdr_model.specs.Blocks.{addresses_of, blocks_of}
 use Rattle.sdr_model.specs.Fields.{FitsFields, IsWord}
 use Rattle.sdr_model.specs.Reading.{is_reading}
@@ -59,6 +60,24 @@ built (calls.String text) = true
 built (calls.StringLength addr) = true
 built (calls.StringRead addr) = true
 built (calls.StringDup addr) = true
+built (calls.List user) = true
+built (calls.ListDestroy list) = true
+built (calls.ListLength list) = true
+built (calls.ListUser list) = true
+built (calls.SetListUser list user) = true
+built (calls.InsertFirst list datum) = true
+built (calls.InsertLast list datum) = true
+built (calls.InsertBefore element datum) = true
+built (calls.InsertAfter element datum) = true
+built (calls.InsertOrdered list datum keys) = true
+built (calls.Search list datum keys) = true
+built (calls.Delete element) = true
+built (calls.First list) = true
+built (calls.Last list) = true
+built (calls.Next element) = true
+built (calls.Prev element) = true
+built (calls.Datum element) = true
+built (calls.SetDatum element datum) = true
 built call = false
 
 -- whether a call that was answered so dooms its transaction: it is a change that was refused
@@ -66,14 +85,24 @@ abbrev pub dooms : Call → Reply → Bool
 dooms call (replies.Refused refusal) = not (is_reading call)
 dooms call reply = false
 
--- so many lines a call that is served touches at most
-abbrev pub call_lines : Call → ℕ
-call_lines (calls.Malloc bytes) = 24 + (8 + bytes) / 64
-call_lines (calls.Free addr) = 24
-call_lines (calls.Write addr place bytes) = 2 + length bytes / 64
-call_lines (calls.String text) = 26 + (1 + length text) / 32
-call_lines (calls.StringDup addr) = 34
-call_lines call = 0
+-- so many lines a call that is served touches at most on these blocks
+abbrev pub call_lines : Blocks → Call → ℕ
+call_lines blocks (calls.Malloc bytes) = 24 + (8 + bytes) / 64
+call_lines blocks (calls.Free addr) = 24
+call_lines blocks (calls.Write addr place bytes) = 2 + length bytes / 64
+call_lines blocks (calls.String text) = 26 + (1 + length text) / 32
+call_lines blocks (calls.StringDup addr) = 34
+call_lines blocks (calls.List user) = 29
+call_lines blocks (calls.ListDestroy list) = 24 * (elements_in (blocks list) + 1)
+call_lines blocks (calls.SetListUser list user) = 2
+call_lines blocks (calls.InsertFirst list datum) = 35
+call_lines blocks (calls.InsertLast list datum) = 35
+call_lines blocks (calls.InsertBefore element datum) = 35
+call_lines blocks (calls.InsertAfter element datum) = 35
+call_lines blocks (calls.InsertOrdered list datum keys) = 35
+call_lines blocks (calls.Delete element) = 30
+call_lines blocks (calls.SetDatum element datum) = 2
+call_lines blocks call = 0
 
 -- what the row of a call gives, where it is answered
 pub record Aim (w : World) (call : Call) : Type 0 where

@@ -4,10 +4,11 @@
 //!    their order, and the blocks stand for the world after it; or it is refused, as its row or the want of a block or of log
 //!    room has it.
 //! 2. It touches no more lines than its transaction may by what it has asked.
-//! 3. So far the calls on raw objects and on strings are served.
+//! 3. So far the calls on raw objects, strings and lists are served.
 #![tactic(auto)]
 
 mod answering;
+mod lists;
 mod page;
 mod raws;
 mod strings;

@@ -44,11 +44,12 @@ use Rattle.sdr_model.specs.declared.answer.Answer.TheVariants as answers
 use Rattle.sdr_model.specs.declared.answer.Reply.TheVariants as replies
 use Rattle.sdr_answers.proofs.DemandLemmas.{asks_more, enough, reading_lines}
 use Rattle.sdr_answers.proofs.EntryLemmas.{source_there}
+use Rattle.sdr_answers.proofs.GoodLemmas.{good_of}
 use Rattle.sdr_answers.proofs.ListLemmas.{IsSmall}
 use Rattle.sdr_station.proofs.GroundLemmas.{heap_ground}
 use Rattle.sdr_station.proofs.MediaLemmas.{gap_none, misses_none}
 use Rattle.sdr_station.specs.CrashNow.{crash_now}
-use Rattle.sdr_answers.specs.Answering.{Aim, Answered, Comes, IsServed, built, dooms, call_lines}
+use Rattle.sdr_answers.specs.Answering.{Aim, Answered, Comes, IsGood, IsServed, built, dooms, call_lines}
 use Rattle.sdr_station.specs.Closing.{moves_left}
 use Rattle.sdr_station.specs.Grounded.{Grounded, Leaves, StandsAtRest, StandsForBoth, StandsSome, StandsWithin, heap_in}
 
@@ -69,6 +70,15 @@ small_in h {pools} keeps = record { few = keeps.few; small = region_small h.size
 -- calls are served in the world that an open transaction has made
 pub served_in : {D : Type 0} {h : Held (Opened D)} {shown : List ℕ} {s : State} → StandsWithin h shown s → IsServed s.world
 served_in w = record { whole = w.whole; fits = w.fits; plain = w.plain }
+
+-- what is of a kind is kept before a call
+pub good_in : {D : Type 0} (h : Held (Opened D)) (spare : ℕ) {shown : List ℕ} {s : State} → StandsWithin h shown s
+    → IsGood (heap_in (record h { moves = []; spare = spare }))
+good_in h spare {shown} {s} w =
+    let stands = w.heap in
+    good_of (heap_in (record h { moves = []; spare = spare })) s.world
+    (record { blocks = stands.blocks; roots = stands.roots; marks = stands.marks }) (served_in w)
+    (small_in (record h { moves = []; spare = spare }) w.keeps)
 
 -- a reply that answers tells of no want of log room
 not_full : (room : ℕ) (d : Demand) (w : World) (call : Call) (reply : Reply) → is_answer reply ≡ true → MayFillLog room d w call reply
@@ -159,13 +169,13 @@ module _ {D : Type 0} (told : D → Option (List ℕ)) (moment faults : D → �
         })
 
     -- the world after an answered call, on this heap
-    within_answered : (reply : Reply) → heap.cells.frame ≡ old.heap.cells.frame → length heap.cells.touched ≤ length old.heap.cells.touched + call_lines call
+    within_answered : (reply : Reply) → heap.cells.frame ≡ old.heap.cells.frame → length heap.cells.touched ≤ length old.heap.cells.touched + call_lines (heap_in fresh_heap).blocks call
         → (ans : Answered v.now.world call (heap_in heap) page reply) → StandsWithin heap page (next ans.after reply)
     within_answered reply frame lines ans =
         let w = at.now going in
         let o : Outcome = record { moves = heap.moves; after = ans.after; reply = reply } in
         let whole = whole_kept v.now.world ans.after call heap.moves reply w.whole ans.fresh (inl ans.row) in
-        let more = enough v.now.demand v.now.world call o is ans.row ans.answered in
+        let more = enough v.now.demand (heap_in fresh_heap) v.now.world call o is (fresh_stands v at) (served_in w) (small_in fresh_heap w.keeps) ans.row ans.answered in
         record {
           pools = lead.after;
           base = refl;
@@ -209,7 +219,7 @@ module _ {D : Type 0} (told : D → Option (List ℕ)) (moment faults : D → �
 
   -- an answered call brings what its row does
   pub brings_answered : (reply : Reply) → Comes call (heap_in fresh_heap) (heap_in heap) old.shown page (Ok reply)
-      → Works {T = Reply} (image_heap faults) (call_lines call) fresh_heap heap (Ok reply)
+      → Works {T = Reply} (image_heap faults) (call_lines (heap_in fresh_heap).blocks call) fresh_heap heap (Ok reply)
       → Brings (λ g v. StandsForBoth told moment may_leave g v) old (record { heap = heap; shown = page; stopped = old.stopped; moment = old.moment }) (Calls None call reply)
   brings_answered reply comes works = record {
     each = λ v at.
@@ -250,7 +260,7 @@ module _ {D : Type 0} (told : D → Option (List ℕ)) (moment faults : D → �
       → ((w : World) → HeapStandsFor (heap_in fresh_heap) w → IsServed w
       → StepTo w (record { moves = heap.moves; after = w; reply = replies.Refused refusal }) call × (is_reading call ≡ true → heap_in heap ≡ heap_in fresh_heap) × (page ≡ old.shown))
       → Moves (KeepsRegion fresh_heap.size fresh_heap.cells.bytes) (KeepsRegion heap.size heap.cells.bytes) [] heap.moves
-      → Works {T = Reply} (image_heap faults) (call_lines call) fresh_heap heap (Err (stops.Refused refusal))
+      → Works {T = Reply} (image_heap faults) (call_lines (heap_in fresh_heap).blocks call) fresh_heap heap (Err (stops.Refused refusal))
       → Brings (λ g v. StandsForBoth told moment may_leave g v) old (refused_ground refusal n) (Calls None call (replies.Refused refusal))
   brings_stopped refusal n same full steps moves works = record {
     each = λ v at.
@@ -263,7 +273,7 @@ module _ {D : Type 0} (told : D → Option (List ℕ)) (moment faults : D → �
           holds = stands_on (refused_ground refusal n) v at refl q.0 q.1 after at.taken
               (λ going_on.
               let reads = reads_only (is_reading call) going_on in
-              let none = reading_lines call is reads in
+              let none = reading_lines (heap_in fresh_heap).blocks call is reads in
               within_refused v at moves (refused_ground refusal n).heap refusal refl refl refl (s.1 reads) s.2 (omega (arith, works.room.most, none)));
           tells = record {
             steps = subst (λ (ms : List Move). Steps v.now call (record { reply = replies.Refused refusal; moves = ms; after = after })) (sym same)
@@ -285,7 +295,7 @@ module _ {D : Type 0} (told : D → Option (List ℕ)) (moment faults : D → �
   -- a refused call for which there was none
   brings_full : (lines room n : ℕ)
       → ((w : World) → HeapStandsFor (heap_in fresh_heap) w → IsServed w → Aim w call × (is_reading call ≡ false))
-      → Works {T = Reply} (image_heap faults) (call_lines call) fresh_heap heap (Err (stops.Refused (refusals.LogFull lines room)))
+      → Works {T = Reply} (image_heap faults) (call_lines (heap_in fresh_heap).blocks call) fresh_heap heap (Err (stops.Refused (refusals.LogFull lines room)))
       → Brings (λ g v. StandsForBoth told moment may_leave g v) old (refused_ground (refusals.LogFull lines room) n)
       (Calls None call (replies.Refused (refusals.LogFull lines room)))
   brings_full lines room n aims works = record {
@@ -296,7 +306,7 @@ module _ {D : Type 0} (told : D → Option (List ℕ)) (moment faults : D → �
         let q = quiet_of works in
         let after = full_state v at reply in
         let f = works.room.full in
-        let more = enough v.now.demand v.now.world call aim.0.to is aim.0.row aim.0.answered in
+        let more = enough v.now.demand (heap_in fresh_heap) v.now.world call aim.0.to is (fresh_stands v at) (served_in w) (small_in fresh_heap w.keeps) aim.0.row aim.0.answered in
         record {
           for = record { before = v.before; now = after; moves = [] };
           holds = stands_on (refused_ground (refusals.LogFull lines room) n) v at refl q.0 q.1 after at.taken
@@ -332,7 +342,7 @@ module _ {D : Type 0} (told : D → Option (List ℕ)) (moment faults : D → �
 
   -- a refused call brings what its step does
   pub brings_refused : (refusal : Refusal) (n : ℕ) → Comes call (heap_in fresh_heap) (heap_in heap) old.shown page (Err (stops.Refused refusal))
-      → Works {T = Reply} (image_heap faults) (call_lines call) fresh_heap heap (Err (stops.Refused refusal))
+      → Works {T = Reply} (image_heap faults) (call_lines (heap_in fresh_heap).blocks call) fresh_heap heap (Err (stops.Refused refusal))
       → Brings (λ g v. StandsForBoth told moment may_leave g v) old (refused_ground refusal n) (Calls None call (replies.Refused refusal))
   brings_refused (refusals.LogFull lines room) n comes works =
       brings_full lines room n (λ w stands served. (comes.each w stands served).step) works
