@@ -4,7 +4,6 @@ use Rattle.std.proofs.lemmas.List.{length-append, length-map}
 use Rattle.std.specs.Prelude.{slice_index}
 use Rattle.sdr_answers.proofs.ListLemmas.{IsSmall, elements_told}
 use Rattle.sdr_audit.specs.Standing.{HeapStandsFor}
-use Rattle.sdr_base.specs.Blocks.{Blocks}
 use Rattle.sdr_base.specs.Objects.{Heap}
 use Rattle.sdr_base.specs.declared.moves.Move.{Move}
 use Rattle.sdr_base.specs.declared.moves.Move.TheVariants.{Gave}
@@ -24,13 +23,13 @@ use Rattle.sdr_answers.specs.Answering.{IsServed, built, call_lines}
 -- a call that is answered by its row asks for as many lines as it touches
 pub enough : (d : Demand) (heap : Heap) (w : World) (call : Call) (o : Outcome) → built call ≡ true → HeapStandsFor heap w → IsServed w
     → IsSmall heap → ByRow w o call → is_answer o.reply ≡ true
-    → most_lines d + call_lines heap.blocks call ≤ most_lines (demand_after d w call o)
+    → most_lines d + call_lines heap call ≤ most_lines (demand_after d w call o)
 enough d heap w call o is s served small row answered = by call is (moves_are_the_rows w o.after call o.moves o.reply (inl row) answered)
   where
     at : ℕ → ℕ
     at = slice_index (taken_addresses o.moves)
 
-    by : (c : Call) → built c ≡ true → o.moves ≡ row_moves w c at → most_lines d + call_lines heap.blocks c ≤ most_lines (demand_after d w c o)
+    by : (c : Call) → built c ≡ true → o.moves ≡ row_moves w c at → most_lines d + call_lines heap c ≤ most_lines (demand_after d w c o)
     by (calls.Malloc bytes) is moves =
         let one : length o.moves ≡ 1 = ap (λ (ms : List Move). length ms) moves in
         let need : bytes_taken o.moves ≡ 8 + bytes + 0 = ap bytes_taken moves in
@@ -92,36 +91,36 @@ enough d heap w call o is s served small row answered = by call is (moves_are_th
     by c is moves = absurd (true≢false (sym is))
 
 -- a call that reads touches none
-pub reading_lines : (blocks : Blocks) (call : Call) → built call ≡ true → is_reading call ≡ true → call_lines blocks call ≡ 0
-reading_lines blocks (calls.Malloc bytes) is reads = absurd (true≢false (sym reads))
-reading_lines blocks (calls.Free addr) is reads = absurd (true≢false (sym reads))
-reading_lines blocks (calls.Length addr) is reads = refl
-reading_lines blocks (calls.Read addr place count) is reads = refl
-reading_lines blocks (calls.Write addr place bytes) is reads = absurd (true≢false (sym reads))
-reading_lines blocks (calls.Stage addr count) is reads = refl
-reading_lines blocks (calls.String text) is reads = absurd (true≢false (sym reads))
-reading_lines blocks (calls.StringLength addr) is reads = refl
-reading_lines blocks (calls.StringRead addr) is reads = refl
-reading_lines blocks (calls.StringDup addr) is reads = absurd (true≢false (sym reads))
-reading_lines blocks (calls.List user) is reads = absurd (true≢false (sym reads))
-reading_lines blocks (calls.ListDestroy list) is reads = absurd (true≢false (sym reads))
-reading_lines blocks (calls.SetListUser list user) is reads = absurd (true≢false (sym reads))
-reading_lines blocks (calls.InsertFirst list datum) is reads = absurd (true≢false (sym reads))
-reading_lines blocks (calls.InsertLast list datum) is reads = absurd (true≢false (sym reads))
-reading_lines blocks (calls.InsertBefore element datum) is reads = absurd (true≢false (sym reads))
-reading_lines blocks (calls.InsertAfter element datum) is reads = absurd (true≢false (sym reads))
-reading_lines blocks (calls.InsertOrdered list datum keys) is reads = absurd (true≢false (sym reads))
-reading_lines blocks (calls.Delete element) is reads = absurd (true≢false (sym reads))
-reading_lines blocks (calls.SetDatum element datum) is reads = absurd (true≢false (sym reads))
-reading_lines blocks (calls.ListLength list) is reads = refl
-reading_lines blocks (calls.ListUser list) is reads = refl
-reading_lines blocks (calls.Search list datum keys) is reads = refl
-reading_lines blocks (calls.First list) is reads = refl
-reading_lines blocks (calls.Last list) is reads = refl
-reading_lines blocks (calls.Next element) is reads = refl
-reading_lines blocks (calls.Prev element) is reads = refl
-reading_lines blocks (calls.Datum element) is reads = refl
-reading_lines blocks call is reads = absurd (true≢false (sym is))
+pub reading_lines : (heap : Heap) (call : Call) → built call ≡ true → is_reading call ≡ true → call_lines heap call ≡ 0
+reading_lines heap (calls.Malloc bytes) is reads = absurd (true≢false (sym reads))
+reading_lines heap (calls.Free addr) is reads = absurd (true≢false (sym reads))
+reading_lines heap (calls.Length addr) is reads = refl
+reading_lines heap (calls.Read addr place count) is reads = refl
+reading_lines heap (calls.Write addr place bytes) is reads = absurd (true≢false (sym reads))
+reading_lines heap (calls.Stage addr count) is reads = refl
+reading_lines heap (calls.String text) is reads = absurd (true≢false (sym reads))
+reading_lines heap (calls.StringLength addr) is reads = refl
+reading_lines heap (calls.StringRead addr) is reads = refl
+reading_lines heap (calls.StringDup addr) is reads = absurd (true≢false (sym reads))
+reading_lines heap (calls.List user) is reads = absurd (true≢false (sym reads))
+reading_lines heap (calls.ListDestroy list) is reads = absurd (true≢false (sym reads))
+reading_lines heap (calls.SetListUser list user) is reads = absurd (true≢false (sym reads))
+reading_lines heap (calls.InsertFirst list datum) is reads = absurd (true≢false (sym reads))
+reading_lines heap (calls.InsertLast list datum) is reads = absurd (true≢false (sym reads))
+reading_lines heap (calls.InsertBefore element datum) is reads = absurd (true≢false (sym reads))
+reading_lines heap (calls.InsertAfter element datum) is reads = absurd (true≢false (sym reads))
+reading_lines heap (calls.InsertOrdered list datum keys) is reads = absurd (true≢false (sym reads))
+reading_lines heap (calls.Delete element) is reads = absurd (true≢false (sym reads))
+reading_lines heap (calls.SetDatum element datum) is reads = absurd (true≢false (sym reads))
+reading_lines heap (calls.ListLength list) is reads = refl
+reading_lines heap (calls.ListUser list) is reads = refl
+reading_lines heap (calls.Search list datum keys) is reads = refl
+reading_lines heap (calls.First list) is reads = refl
+reading_lines heap (calls.Last list) is reads = refl
+reading_lines heap (calls.Next element) is reads = refl
+reading_lines heap (calls.Prev element) is reads = refl
+reading_lines heap (calls.Datum element) is reads = refl
+reading_lines heap call is reads = absurd (true≢false (sym is))
 
 -- no call takes back what was asked
 pub asks_more : (d : Demand) (w : World) (call : Call) (o : Outcome) → most_lines d ≤ most_lines (demand_after d w call o)

@@ -2,7 +2,6 @@
 use Rattle.std.specs.Prelude.{◌≡◌, ◌+◌, ◌*◌, ◌/◌, ℕ, Bool, true, false, not, List, [], length, ⊤, All, Option, None, Result, Ok, Err}
 use Rattle.sdr_audit.specs.Standing.{HeapStandsFor}
 use Rattle.sdr_audit.specs.Ties.{ties_of}
-use Rattle.sdr_base.specs.Blocks.{Blocks}
 use Rattle.sdr_base.specs.Objects.{Heap}
 use Rattle.sdr_base.specs.declared.moves.Move.{Move}
 use Rattle.sdr_base.specs.declared.refusal.Refusal.{Refusal}
@@ -85,24 +84,24 @@ abbrev pub dooms : Call → Reply → Bool
 dooms call (replies.Refused refusal) = not (is_reading call)
 dooms call reply = false
 
--- so many lines a call that is served touches at most on these blocks
-abbrev pub call_lines : Blocks → Call → ℕ
-call_lines blocks (calls.Malloc bytes) = 24 + (8 + bytes) / 64
-call_lines blocks (calls.Free addr) = 24
-call_lines blocks (calls.Write addr place bytes) = 2 + length bytes / 64
-call_lines blocks (calls.String text) = 26 + (1 + length text) / 32
-call_lines blocks (calls.StringDup addr) = 34
-call_lines blocks (calls.List user) = 29
-call_lines blocks (calls.ListDestroy list) = 24 * (elements_in (blocks list) + 1)
-call_lines blocks (calls.SetListUser list user) = 2
-call_lines blocks (calls.InsertFirst list datum) = 35
-call_lines blocks (calls.InsertLast list datum) = 35
-call_lines blocks (calls.InsertBefore element datum) = 35
-call_lines blocks (calls.InsertAfter element datum) = 35
-call_lines blocks (calls.InsertOrdered list datum keys) = 35
-call_lines blocks (calls.Delete element) = 30
-call_lines blocks (calls.SetDatum element datum) = 2
-call_lines blocks call = 0
+-- so many lines a call that is served touches at most on this heap
+abbrev pub call_lines : Heap → Call → ℕ
+call_lines heap (calls.Malloc bytes) = 24 + (8 + bytes) / 64
+call_lines heap (calls.Free addr) = 24
+call_lines heap (calls.Write addr place bytes) = 2 + length bytes / 64
+call_lines heap (calls.String text) = 26 + (1 + length text) / 32
+call_lines heap (calls.StringDup addr) = 34
+call_lines heap (calls.List user) = 29
+call_lines heap (calls.ListDestroy list) = 24 * (elements_in (heap.blocks list) + 1)
+call_lines heap (calls.SetListUser list user) = 2
+call_lines heap (calls.InsertFirst list datum) = 35
+call_lines heap (calls.InsertLast list datum) = 35
+call_lines heap (calls.InsertBefore element datum) = 35
+call_lines heap (calls.InsertAfter element datum) = 35
+call_lines heap (calls.InsertOrdered list datum keys) = 35
+call_lines heap (calls.Delete element) = 30
+call_lines heap (calls.SetDatum element datum) = 2
+call_lines heap call = 0
 
 -- what the row of a call gives, where it is answered
 pub record Aim (w : World) (call : Call) : Type 0 where

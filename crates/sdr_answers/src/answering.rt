@@ -57,7 +57,7 @@ pub fn answer<O: Objects>(o: &mut O, call: &Call, page: &mut Page) -> Result<Rep
     requires unmoved { (O.heap o.old).moves ≡ [] }
     requires built { built call.now ≡ true }
     ensures comes { Comes call.now (O.heap o.old) (O.heap o.new) page.old page.new result }
-    ensures works { Works O.HasHeap (call_lines (O.heap o.old).blocks call.now) o.old o.new result }
+    ensures works { Works O.HasHeap (call_lines (O.heap o.old) call.now) o.old o.new result }
     ensures fits { FitsCall call.now }
 {
     match call {

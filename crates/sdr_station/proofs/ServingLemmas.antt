@@ -169,7 +169,7 @@ module _ {D : Type 0} (told : D → Option (List ℕ)) (moment faults : D → �
         })
 
     -- the world after an answered call, on this heap
-    within_answered : (reply : Reply) → heap.cells.frame ≡ old.heap.cells.frame → length heap.cells.touched ≤ length old.heap.cells.touched + call_lines (heap_in fresh_heap).blocks call
+    within_answered : (reply : Reply) → heap.cells.frame ≡ old.heap.cells.frame → length heap.cells.touched ≤ length old.heap.cells.touched + call_lines (heap_in fresh_heap) call
         → (ans : Answered v.now.world call (heap_in heap) page reply) → StandsWithin heap page (next ans.after reply)
     within_answered reply frame lines ans =
         let w = at.now going in
@@ -219,7 +219,7 @@ module _ {D : Type 0} (told : D → Option (List ℕ)) (moment faults : D → �
 
   -- an answered call brings what its row does
   pub brings_answered : (reply : Reply) → Comes call (heap_in fresh_heap) (heap_in heap) old.shown page (Ok reply)
-      → Works {T = Reply} (image_heap faults) (call_lines (heap_in fresh_heap).blocks call) fresh_heap heap (Ok reply)
+      → Works {T = Reply} (image_heap faults) (call_lines (heap_in fresh_heap) call) fresh_heap heap (Ok reply)
       → Brings (λ g v. StandsForBoth told moment may_leave g v) old (record { heap = heap; shown = page; stopped = old.stopped; moment = old.moment }) (Calls None call reply)
   brings_answered reply comes works = record {
     each = λ v at.
@@ -260,7 +260,7 @@ module _ {D : Type 0} (told : D → Option (List ℕ)) (moment faults : D → �
       → ((w : World) → HeapStandsFor (heap_in fresh_heap) w → IsServed w
       → StepTo w (record { moves = heap.moves; after = w; reply = replies.Refused refusal }) call × (is_reading call ≡ true → heap_in heap ≡ heap_in fresh_heap) × (page ≡ old.shown))
       → Moves (KeepsRegion fresh_heap.size fresh_heap.cells.bytes) (KeepsRegion heap.size heap.cells.bytes) [] heap.moves
-      → Works {T = Reply} (image_heap faults) (call_lines (heap_in fresh_heap).blocks call) fresh_heap heap (Err (stops.Refused refusal))
+      → Works {T = Reply} (image_heap faults) (call_lines (heap_in fresh_heap) call) fresh_heap heap (Err (stops.Refused refusal))
       → Brings (λ g v. StandsForBoth told moment may_leave g v) old (refused_ground refusal n) (Calls None call (replies.Refused refusal))
   brings_stopped refusal n same full steps moves works = record {
     each = λ v at.
@@ -273,7 +273,7 @@ module _ {D : Type 0} (told : D → Option (List ℕ)) (moment faults : D → �
           holds = stands_on (refused_ground refusal n) v at refl q.0 q.1 after at.taken
               (λ going_on.
               let reads = reads_only (is_reading call) going_on in
-              let none = reading_lines (heap_in fresh_heap).blocks call is reads in
+              let none = reading_lines (heap_in fresh_heap) call is reads in
               within_refused v at moves (refused_ground refusal n).heap refusal refl refl refl (s.1 reads) s.2 (omega (arith, works.room.most, none)));
           tells = record {
             steps = subst (λ (ms : List Move). Steps v.now call (record { reply = replies.Refused refusal; moves = ms; after = after })) (sym same)
@@ -295,7 +295,7 @@ module _ {D : Type 0} (told : D → Option (List ℕ)) (moment faults : D → �
   -- a refused call for which there was none
   brings_full : (lines room n : ℕ)
       → ((w : World) → HeapStandsFor (heap_in fresh_heap) w → IsServed w → Aim w call × (is_reading call ≡ false))
-      → Works {T = Reply} (image_heap faults) (call_lines (heap_in fresh_heap).blocks call) fresh_heap heap (Err (stops.Refused (refusals.LogFull lines room)))
+      → Works {T = Reply} (image_heap faults) (call_lines (heap_in fresh_heap) call) fresh_heap heap (Err (stops.Refused (refusals.LogFull lines room)))
       → Brings (λ g v. StandsForBoth told moment may_leave g v) old (refused_ground (refusals.LogFull lines room) n)
       (Calls None call (replies.Refused (refusals.LogFull lines room)))
   brings_full lines room n aims works = record {
@@ -342,7 +342,7 @@ module _ {D : Type 0} (told : D → Option (List ℕ)) (moment faults : D → �
 
   -- a refused call brings what its step does
   pub brings_refused : (refusal : Refusal) (n : ℕ) → Comes call (heap_in fresh_heap) (heap_in heap) old.shown page (Err (stops.Refused refusal))
-      → Works {T = Reply} (image_heap faults) (call_lines (heap_in fresh_heap).blocks call) fresh_heap heap (Err (stops.Refused refusal))
+      → Works {T = Reply} (image_heap faults) (call_lines (heap_in fresh_heap) call) fresh_heap heap (Err (stops.Refused refusal))
       → Brings (λ g v. StandsForBoth told moment may_leave g v) old (refused_ground refusal n) (Calls None call (replies.Refused refusal))
   brings_refused (refusals.LogFull lines room) n comes works =
       brings_full lines room n (λ w stands served. (comes.each w stands served).step) works

@@ -1,7 +1,7 @@
-use Rattle.std.proofs.Common.{rules, subst, sym, Err, List, ℕ}
-use Rattle.sdr_answers.proofs.CallLemmas.{comes_stopped_by}
+use Rattle.std.proofs.Common.{rules, take, Err}
+use Rattle.sdr_answers.proofs.CallLemmas.{comes_showing, comes_stopped}
 use Rattle.sdr_answers.proofs.StringLemmas.{string_read_answered, string_read_refused}
-use Rattle.sdr_answers.specs.Answering.{Answered, Comes}
+use Rattle.sdr_answers.specs.Answering.{Comes}
 use Rattle.sdr_base.specs.Objects.{Misses}
 use Rattle.sdr_base.specs.declared.kind.Kind.TheVariants as kinds
 use Rattle.sdr_model.specs.declared.answer.Reply.TheVariants as replies
@@ -14,15 +14,17 @@ returns-in_err-count-clause-comes g c =
     let new = g.O.HasHeap.heap c.read.new.o in
     let page = c.args.page.now in
     let fact : Comes (calls.StringRead c.args.addr) old new page page (Err c.in_err-count.field-0.0) =
-    comes_stopped_by (calls.StringRead c.args.addr) old new page c.in_err-count.field-0.0 (Misses (old.blocks c.args.addr) c.args.addr kinds.Text) c.in_err-count.ensures.refused
-    (λ w refusal stands served m. string_read_refused c.args.addr old new w page refusal c.requires.unmoved c.in_err-count.ensures.looks.same stands served m) in
+    comes_stopped (calls.StringRead c.args.addr) old new page c.in_err-count.field-0.0
+    (Misses (old.blocks c.args.addr) c.args.addr kinds.Text) c.in_err-count.ensures.refused
+    (λ w refusal stands served m. string_read_refused c.args.addr old new w page refusal c.requires.unmoved
+    c.in_err-count.ensures.looks.same stands served m) in
     search rules
 
 pub returns-clause-comes : goal.returns-clause-comes
-returns-clause-comes g c = record {
-  each = λ w stands served.
-      let old = g.O.HasHeap.heap c.args.o.now in
-      let new = g.O.HasHeap.heap c.read.new.o in
-      subst (λ (shown : List ℕ). Answered w (calls.StringRead c.args.addr) new shown (replies.Bytes c.in_ok-count.count)) (sym c.show.ensures)
-      (string_read_answered c.args.addr c.in_ok-count.count c.read.new.into old new w c.requires.unmoved c.in_ok-count.ensures.looks.same c.in_ok-count.ensures.given stands served);
-}
+returns-clause-comes g c =
+    let old = g.O.HasHeap.heap c.args.o.now in
+    let new = g.O.HasHeap.heap c.read.new.o in
+    comes_showing (calls.StringRead c.args.addr) old new c.args.page.now c.show.new.self
+    (take c.in_ok-count.count c.read.new.into) (replies.Bytes c.in_ok-count.count) c.show.ensures
+    (λ w stands served. string_read_answered c.args.addr c.in_ok-count.count c.read.new.into old new w c.requires.unmoved
+    c.in_ok-count.ensures.looks.same c.in_ok-count.ensures.given stands served)

@@ -60,7 +60,7 @@ unreachable-requires g c =
     let old : Grounded D = record { heap = c.self.inside.heap; shown = c.self.inside.shown; stopped = c.self.inside.stopped; moment = c.self.inside.moment } in
     let going : old.stopped ≡ false = ap (λ (o : Grounded D). o.stopped) c.self.view_is ∙ c.requires.going in
     let sound : old.heap.cells.failed ≡ false = c.self.invariant going in
-    no_fault f c.fresh.new.self c.answer.new.o (call_lines (heap_in c.fresh.new.self).blocks call)
+    no_fault f c.fresh.new.self c.answer.new.o (call_lines (heap_in c.fresh.new.self) call)
     (ap (λ (h : Held (Opened D)). h.cells.failed) c.fresh.ensures.none ∙ sound) c.in-Err-DiskFault.field-0 c.in-Err-DiskFault.ensures.works (inl c.in-Err-DiskFault.field-0-is)
 
 pub unreachable-requires-in-Err-MediaFault : goal.unreachable-requires-in-Err-MediaFault
@@ -74,7 +74,7 @@ unreachable-requires-in-Err-MediaFault g c =
     let old : Grounded D = record { heap = c.self.inside.heap; shown = c.self.inside.shown; stopped = c.self.inside.stopped; moment = c.self.inside.moment } in
     let going : old.stopped ≡ false = ap (λ (o : Grounded D). o.stopped) c.self.view_is ∙ c.requires.going in
     let sound : old.heap.cells.failed ≡ false = c.self.invariant going in
-    no_fault f c.fresh.new.self c.answer.new.o (call_lines (heap_in c.fresh.new.self).blocks call)
+    no_fault f c.fresh.new.self c.answer.new.o (call_lines (heap_in c.fresh.new.self) call)
     (ap (λ (h : Held (Opened D)). h.cells.failed) c.fresh.ensures.none ∙ sound) c.in-Err-MediaFault.field-0 c.in-Err-MediaFault.ensures.works (inr (inl c.in-Err-MediaFault.field-0-is))
 
 pub unreachable-requires-in-Err-Failed : goal.unreachable-requires-in-Err-Failed
@@ -88,7 +88,7 @@ unreachable-requires-in-Err-Failed g c =
     let old : Grounded D = record { heap = c.self.inside.heap; shown = c.self.inside.shown; stopped = c.self.inside.stopped; moment = c.self.inside.moment } in
     let going : old.stopped ≡ false = ap (λ (o : Grounded D). o.stopped) c.self.view_is ∙ c.requires.going in
     let sound : old.heap.cells.failed ≡ false = c.self.invariant going in
-    no_fault f c.fresh.new.self c.answer.new.o (call_lines (heap_in c.fresh.new.self).blocks call)
+    no_fault f c.fresh.new.self c.answer.new.o (call_lines (heap_in c.fresh.new.self) call)
     (ap (λ (h : Held (Opened D)). h.cells.failed) c.fresh.ensures.none ∙ sound) c.in-Err-Failed.field-0 c.in-Err-Failed.ensures.works (inr (inr c.in-Err-Failed.field-0-is))
 
 pub returns-in-Ok-clause-answered : goal.returns-in-Ok-clause-answered
@@ -108,7 +108,7 @@ returns-in-Ok-clause-answered g c =
     let new : Grounded D = record { heap = heap; shown = page; stopped = c.self.inside.stopped; moment = c.self.inside.moment } in
     let fresh : Held (Opened D) = record old.heap { moves = []; spare = c.fresh.new.self.spare } in
     let comes = subst (λ (h : Held (Opened D)). Comes call (heap_in h) (heap_in heap) old.shown page (Ok reply)) c.fresh.ensures.none c.in-Ok.ensures.comes in
-    let works = subst (λ (h : Held (Opened D)). Works {T = Reply} (image_heap f) (call_lines (heap_in h).blocks call) h heap (Ok reply)) c.fresh.ensures.none c.in-Ok.ensures.works in
+    let works = subst (λ (h : Held (Opened D)). Works {T = Reply} (image_heap f) (call_lines (heap_in h) call) h heap (Ok reply)) c.fresh.ensures.none c.in-Ok.ensures.works in
     let brings : Brings (λ g v. StandsForBoth b m l g v) old new (Calls None call reply) =
     brings_answered b m f l old going call c.requires.built c.in-Ok.ensures.fits c.fresh.new.self.spare heap page reply comes works in
     let q = works.quiet fresh (record { disk = refl; frame = refl; begun = refl; failed = refl }, refl) in
@@ -131,7 +131,7 @@ returns-in-Ok-clause-stopped g c =
     let new : Grounded D = record { heap = heap; shown = page; stopped = c.self.inside.stopped; moment = c.self.inside.moment } in
     let fresh : Held (Opened D) = record old.heap { moves = []; spare = c.fresh.new.self.spare } in
     let comes = subst (λ (h : Held (Opened D)). Comes call (heap_in h) (heap_in heap) old.shown page (Ok reply)) c.fresh.ensures.none c.in-Ok.ensures.comes in
-    let works = subst (λ (h : Held (Opened D)). Works {T = Reply} (image_heap f) (call_lines (heap_in h).blocks call) h heap (Ok reply)) c.fresh.ensures.none c.in-Ok.ensures.works in
+    let works = subst (λ (h : Held (Opened D)). Works {T = Reply} (image_heap f) (call_lines (heap_in h) call) h heap (Ok reply)) c.fresh.ensures.none c.in-Ok.ensures.works in
     let some : StandsSome b m l old = subst (λ (o : Grounded D). Lasts b m l o) (sym c.self.view_is) c.requires.lasts sound in
     let w = some.holds.now going in
     let stands : HeapStandsFor (heap_in fresh) some.for.now.world = record { blocks = w.heap.blocks; roots = w.heap.roots; marks = w.heap.marks } in
@@ -154,7 +154,7 @@ returns-in-Ok-clause-keeps g c =
     let new : Grounded D = record { heap = heap; shown = page; stopped = c.self.inside.stopped; moment = c.self.inside.moment } in
     let fresh : Held (Opened D) = record old.heap { moves = []; spare = c.fresh.new.self.spare } in
     let comes = subst (λ (h : Held (Opened D)). Comes call (heap_in h) (heap_in heap) old.shown page (Ok reply)) c.fresh.ensures.none c.in-Ok.ensures.comes in
-    let works = subst (λ (h : Held (Opened D)). Works {T = Reply} (image_heap f) (call_lines (heap_in h).blocks call) h heap (Ok reply)) c.fresh.ensures.none c.in-Ok.ensures.works in
+    let works = subst (λ (h : Held (Opened D)). Works {T = Reply} (image_heap f) (call_lines (heap_in h) call) h heap (Ok reply)) c.fresh.ensures.none c.in-Ok.ensures.works in
     let brings : Brings (λ g v. StandsForBoth b m l g v) old new (Calls None call reply) =
     brings_answered b m f l old going call c.requires.built c.in-Ok.ensures.fits c.fresh.new.self.spare heap page reply comes works in
     let q = works.quiet fresh (record { disk = refl; frame = refl; begun = refl; failed = refl }, refl) in
@@ -178,7 +178,7 @@ returns-in-Ok-clause-any_moment g c =
     let new : Grounded D = record { heap = heap; shown = page; stopped = c.self.inside.stopped; moment = c.self.inside.moment } in
     let fresh : Held (Opened D) = record old.heap { moves = []; spare = c.fresh.new.self.spare } in
     let comes = subst (λ (h : Held (Opened D)). Comes call (heap_in h) (heap_in heap) old.shown page (Ok reply)) c.fresh.ensures.none c.in-Ok.ensures.comes in
-    let works = subst (λ (h : Held (Opened D)). Works {T = Reply} (image_heap f) (call_lines (heap_in h).blocks call) h heap (Ok reply)) c.fresh.ensures.none c.in-Ok.ensures.works in
+    let works = subst (λ (h : Held (Opened D)). Works {T = Reply} (image_heap f) (call_lines (heap_in h) call) h heap (Ok reply)) c.fresh.ensures.none c.in-Ok.ensures.works in
     let brings : Brings (λ g v. StandsForBoth b m l g v) old new (Calls None call reply) =
     brings_answered b m f l old going call c.requires.built c.in-Ok.ensures.fits c.fresh.new.self.spare heap page reply comes works in
     let q = works.quiet fresh (record { disk = refl; frame = refl; begun = refl; failed = refl }, refl) in
@@ -204,8 +204,8 @@ returns-in-Err-Refused-clause-answered g c =
     let fresh : Held (Opened D) = record old.heap { moves = []; spare = c.fresh.new.self.spare } in
     let comes = subst (λ (s : Stop). Comes call (heap_in fresh) (heap_in heap) old.shown page (Err s)) c.in-Err-Refused.field-0-is
     (subst (λ (h : Held (Opened D)). Comes call (heap_in h) (heap_in heap) old.shown page (Err c.in-Err-Refused.field-0)) c.fresh.ensures.none c.in-Err-Refused.ensures.comes) in
-    let works = subst (λ (s : Stop). Works {T = Reply} (image_heap f) (call_lines (heap_in fresh).blocks call) fresh heap (Err s)) c.in-Err-Refused.field-0-is
-    (subst (λ (h : Held (Opened D)). Works {T = Reply} (image_heap f) (call_lines (heap_in h).blocks call) h heap (Err c.in-Err-Refused.field-0)) c.fresh.ensures.none c.in-Err-Refused.ensures.works) in
+    let works = subst (λ (s : Stop). Works {T = Reply} (image_heap f) (call_lines (heap_in fresh) call) fresh heap (Err s)) c.in-Err-Refused.field-0-is
+    (subst (λ (h : Held (Opened D)). Works {T = Reply} (image_heap f) (call_lines (heap_in h) call) h heap (Err c.in-Err-Refused.field-0)) c.fresh.ensures.none c.in-Err-Refused.ensures.works) in
     let stands_for = refused_ground b m f l old going call c.requires.built c.in-Err-Refused.ensures.fits c.fresh.new.self.spare heap page refusal told.spare in
     let is : stands_for ≡ new = λ i. record {
       heap = sym c.forget_moves.ensures i;
@@ -240,8 +240,8 @@ returns-in-Err-Refused-clause-keeps g c =
     let fresh : Held (Opened D) = record old.heap { moves = []; spare = c.fresh.new.self.spare } in
     let comes = subst (λ (s : Stop). Comes call (heap_in fresh) (heap_in heap) old.shown page (Err s)) c.in-Err-Refused.field-0-is
     (subst (λ (h : Held (Opened D)). Comes call (heap_in h) (heap_in heap) old.shown page (Err c.in-Err-Refused.field-0)) c.fresh.ensures.none c.in-Err-Refused.ensures.comes) in
-    let works = subst (λ (s : Stop). Works {T = Reply} (image_heap f) (call_lines (heap_in fresh).blocks call) fresh heap (Err s)) c.in-Err-Refused.field-0-is
-    (subst (λ (h : Held (Opened D)). Works {T = Reply} (image_heap f) (call_lines (heap_in h).blocks call) h heap (Err c.in-Err-Refused.field-0)) c.fresh.ensures.none c.in-Err-Refused.ensures.works) in
+    let works = subst (λ (s : Stop). Works {T = Reply} (image_heap f) (call_lines (heap_in fresh) call) fresh heap (Err s)) c.in-Err-Refused.field-0-is
+    (subst (λ (h : Held (Opened D)). Works {T = Reply} (image_heap f) (call_lines (heap_in h) call) h heap (Err c.in-Err-Refused.field-0)) c.fresh.ensures.none c.in-Err-Refused.ensures.works) in
     let stands_for = refused_ground b m f l old going call c.requires.built c.in-Err-Refused.ensures.fits c.fresh.new.self.spare heap page refusal told.spare in
     let is : stands_for ≡ new = λ i. record {
       heap = sym c.forget_moves.ensures i;
@@ -278,8 +278,8 @@ returns-in-Err-Refused-clause-any_moment g c =
     let fresh : Held (Opened D) = record old.heap { moves = []; spare = c.fresh.new.self.spare } in
     let comes = subst (λ (s : Stop). Comes call (heap_in fresh) (heap_in heap) old.shown page (Err s)) c.in-Err-Refused.field-0-is
     (subst (λ (h : Held (Opened D)). Comes call (heap_in h) (heap_in heap) old.shown page (Err c.in-Err-Refused.field-0)) c.fresh.ensures.none c.in-Err-Refused.ensures.comes) in
-    let works = subst (λ (s : Stop). Works {T = Reply} (image_heap f) (call_lines (heap_in fresh).blocks call) fresh heap (Err s)) c.in-Err-Refused.field-0-is
-    (subst (λ (h : Held (Opened D)). Works {T = Reply} (image_heap f) (call_lines (heap_in h).blocks call) h heap (Err c.in-Err-Refused.field-0)) c.fresh.ensures.none c.in-Err-Refused.ensures.works) in
+    let works = subst (λ (s : Stop). Works {T = Reply} (image_heap f) (call_lines (heap_in fresh) call) fresh heap (Err s)) c.in-Err-Refused.field-0-is
+    (subst (λ (h : Held (Opened D)). Works {T = Reply} (image_heap f) (call_lines (heap_in h) call) h heap (Err c.in-Err-Refused.field-0)) c.fresh.ensures.none c.in-Err-Refused.ensures.works) in
     let stands_for = refused_ground b m f l old going call c.requires.built c.in-Err-Refused.ensures.fits c.fresh.new.self.spare heap page refusal told.spare in
     let is : stands_for ≡ new = λ i. record {
       heap = sym c.forget_moves.ensures i;
@@ -311,7 +311,7 @@ returns-in-Ok-clause-sound g c =
     let new : Grounded D = record { heap = heap; shown = page; stopped = c.self.inside.stopped; moment = c.self.inside.moment } in
     let fresh : Held (Opened D) = record old.heap { moves = []; spare = c.fresh.new.self.spare } in
     let comes = subst (λ (h : Held (Opened D)). Comes call (heap_in h) (heap_in heap) old.shown page (Ok reply)) c.fresh.ensures.none c.in-Ok.ensures.comes in
-    let works = subst (λ (h : Held (Opened D)). Works {T = Reply} (image_heap f) (call_lines (heap_in h).blocks call) h heap (Ok reply)) c.fresh.ensures.none c.in-Ok.ensures.works in
+    let works = subst (λ (h : Held (Opened D)). Works {T = Reply} (image_heap f) (call_lines (heap_in h) call) h heap (Ok reply)) c.fresh.ensures.none c.in-Ok.ensures.works in
     let q = works.quiet fresh (record { disk = refl; frame = refl; begun = refl; failed = refl }, refl) in
     q.0.failed ∙ sound
 
@@ -335,8 +335,8 @@ returns-in-Err-Refused-clause-sound g c =
     let fresh : Held (Opened D) = record old.heap { moves = []; spare = c.fresh.new.self.spare } in
     let comes = subst (λ (s : Stop). Comes call (heap_in fresh) (heap_in heap) old.shown page (Err s)) c.in-Err-Refused.field-0-is
     (subst (λ (h : Held (Opened D)). Comes call (heap_in h) (heap_in heap) old.shown page (Err c.in-Err-Refused.field-0)) c.fresh.ensures.none c.in-Err-Refused.ensures.comes) in
-    let works = subst (λ (s : Stop). Works {T = Reply} (image_heap f) (call_lines (heap_in fresh).blocks call) fresh heap (Err s)) c.in-Err-Refused.field-0-is
-    (subst (λ (h : Held (Opened D)). Works {T = Reply} (image_heap f) (call_lines (heap_in h).blocks call) h heap (Err c.in-Err-Refused.field-0)) c.fresh.ensures.none c.in-Err-Refused.ensures.works) in
+    let works = subst (λ (s : Stop). Works {T = Reply} (image_heap f) (call_lines (heap_in fresh) call) fresh heap (Err s)) c.in-Err-Refused.field-0-is
+    (subst (λ (h : Held (Opened D)). Works {T = Reply} (image_heap f) (call_lines (heap_in h) call) h heap (Err c.in-Err-Refused.field-0)) c.fresh.ensures.none c.in-Err-Refused.ensures.works) in
     let stands_for = refused_ground b m f l old going call c.requires.built c.in-Err-Refused.ensures.fits c.fresh.new.self.spare heap page refusal told.spare in
     let is : stands_for ≡ new = λ i. record {
       heap = sym c.forget_moves.ensures i;
