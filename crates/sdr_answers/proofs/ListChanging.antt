@@ -1,20 +1,18 @@
 -- Calls that change lists, as steps.
-use Rattle.std.proofs.Common.{◌≡◌, ◌∙◌, ◌+◌, ◌-◌, ◌++◌, ℕ, List, [], ◌∷◌, true, false, true≢false, Some, refl, sym, ap, subst, length, map, arith, append-nil}
+use Rattle.std.proofs.Common.{◌≡◌, ◌∙◌, ◌++◌, ℕ, List, [], ◌∷◌, false, true≢false, Some, refl, sym, ap, subst, map}
 use Rattle.std.proofs.lemmas.List.{map-set}
-use Rattle.std.proofs.lemmas.List.Elements.{All-nil}
 use Rattle.std.proofs.lemmas.Simd.{map-map}
 use Rattle.std.specs.Prelude.{insert, remove, set}
 use Rattle.sdr_answers.proofs.ListLemmas.{IsListAt, IsSmall, list_is_at}
 use Rattle.sdr_answers.proofs.ListReading.{element_missed, list_missed}
-use Rattle.sdr_answers.proofs.RowLemmas.{Moved, TakesAim, full_refused, gave_back, gave_takes, marks_none, moved_nothing, short_refused, thing_changed, thing_made, thing_went, took_one}
+use Rattle.sdr_answers.proofs.RowLemmas.{Moved, full_refused, gave_back, gave_takes, marks_none, moved_nothing, short_refused, thing_changed, thing_made, thing_went, took_one}
 use Rattle.sdr_answers.proofs.SortingLemmas.{order_is, ordered_place_is}
 use Rattle.sdr_answers.proofs.SpotLemmas.{IsSpotAt, spot_is_at}
 use Rattle.sdr_answers.specs.Answering.{Aim, Answered, IsRefused, IsServed}
 use Rattle.sdr_answers.specs.Sorting.{Sorts}
 use Rattle.sdr_audit.specs.Rows.{element_row, list_row}
 use Rattle.sdr_audit.specs.Standing.{HeapStandsFor, with_taken_marked}
-use Rattle.sdr_base.specs.Blocks.{IsKind}
-use Rattle.sdr_base.specs.Entries.{Adds, Changes, Entries}
+use Rattle.sdr_base.specs.Entries.{Adds, Changes}
 use Rattle.sdr_base.specs.Lists.{ListElement, addr_of, list_entries}
 use Rattle.sdr_base.specs.Making.{Made, MakesThing}
 use Rattle.sdr_base.specs.Objects.{Heap, OnlyShort}
@@ -276,12 +274,14 @@ module _ (old new : Heap) (w : World) (unmoved : old.moves ≡ []) (s : HeapStan
       list_missed old new w unmoved s served small (calls.ListDestroy list) list _ was (refusals.WrongKind bad number) m.1 (λ o h. h) m.0
   destroy_refused list was (refusals.LogFull lines room) m = record {
     step =
-        let l = list_is_at old w list s served small m.kind in
-        (record {
-          to = record { moves = gave (blocks_in list l.row); after = record (without_thing w list) { shown = [] }; reply = replies.Done };
-          row = on_some _ _ (as_list (thing_at w list)) l.row (ap as_list l.there) (refl, refl, refl);
-          answered = refl;
-        }, refl);
+        let l = list_is_at old w list s served small m.kind in (
+          record {
+            to = record { moves = gave (blocks_in list l.row); after = record (without_thing w list) { shown = [] }; reply = replies.Done };
+            row = on_some _ _ (as_list (thing_at w list)) l.row (ap as_list l.there) (refl, refl, refl);
+            answered = refl;
+          },
+          refl,
+        );
     left = λ reads. absurd (true≢false (sym reads));
     gave = refl;
   }

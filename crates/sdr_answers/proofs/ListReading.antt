@@ -1,5 +1,5 @@
 -- Calls that read lists and elements, as steps.
-use Rattle.std.proofs.Common.{◌≡◌, ◌∙◌, ◌+◌, ℕ, List, [], ◌∷◌, true, Some, refl, sym, ap, length, map}
+use Rattle.std.proofs.Common.{◌≡◌, ◌∙◌, ◌+◌, ℕ, List, [], true, refl, sym, ap, length}
 use Rattle.std.proofs.lemmas.List.{length-map}
 use Rattle.sdr_answers.proofs.AddressLemmas.{addr_before_is, addr_from_is, last_addr_is}
 use Rattle.sdr_answers.proofs.ListLemmas.{IsSmall, list_is_at, no_list}

@@ -1,36 +1,29 @@
 -- A raw object that is made, as a step.
-use Rattle.std.proofs.Common.{◌≡◌, ◌∙◌, ◌≤◌, ◌+◌, ℕ, List, [], ◌∷◌, ◌++◌, true, false, true≢false, inl, inr, Some, refl, sym, ap, subst, arith, nat_lt}
-use Rattle.std.specs.Prelude.{All, replicate}
+use Rattle.std.proofs.Common.{◌≡◌, ◌∙◌, ◌≤◌, ◌+◌, ℕ, List, [], ◌∷◌, true, false, inl, refl, sym, ap, subst, arith, nat_lt}
+use Rattle.std.specs.Prelude.{replicate}
 use Rattle.std.proofs.lemmas.Bool.Decides.{nat_tests}
-use Rattle.std.proofs.lemmas.List.Elements.{All-cons, All-nil}
-use Rattle.sdr_audit.proofs.ChangeLemmas.{comes, nothing_at}
+use Rattle.sdr_audit.proofs.ChangeLemmas.{nothing_at}
 use Rattle.sdr_audit.specs.Standing.{HeapStandsFor, with_taken_marked}
-use Rattle.sdr_audit.proofs.TiesLemmas.{same_ties, untied_alike}
-use Rattle.sdr_audit.specs.Ties.{NoneIsTied, or_null, ties_of}
+use Rattle.sdr_audit.specs.Ties.{or_null, ties_of}
 use Rattle.sdr_base.specs.Making.{MakesThing}
 use Rattle.sdr_base.specs.Objects.{Heap}
 use Rattle.sdr_base.specs.Raws.{raw_entries}
-use Rattle.sdr_base.specs.declared.moves.Move.{Move}
-use Rattle.sdr_base.specs.declared.moves.Move.TheVariants.{Short, Took}
+use Rattle.sdr_base.specs.declared.moves.Move.TheVariants.{Took}
 use Rattle.sdr_base.specs.declared.refusal.Refusal.{Refusal}
 use Rattle.sdr_base.specs.declared.refusal.Refusal.TheVariants as refusals
 use Rattle.sdr_base.specs.declared.stop.Stop.TheVariants as stops
 use Rattle.sdr_heap.specs.Raw.{MallocStops, Makes}
-use Rattle.sdr_laws.specs.Fresh.{AreFresh}
 use Rattle.sdr_lock.proofs.WorkLemmas.{on_false, on_true}
-use Rattle.sdr_model.specs.Blocks.{addresses_of, blocks_of}
-use Rattle.sdr_model.specs.Fields.{IsWord}
 use Rattle.sdr_model.specs.Limits.{longest_raw}
 use Rattle.sdr_model.specs.Rows.{ByRow}
 use Rattle.sdr_model.specs.Steps.{Outcome, with_thing}
 use Rattle.sdr_model.specs.Things.{raw_need}
 use Rattle.sdr_model.specs.Whole.{IsWhole}
-use Rattle.sdr_model.specs.World.{World, thing_at}
+use Rattle.sdr_model.specs.World.{World}
 use Rattle.sdr_model.specs.declared.answer.Reply.TheVariants as replies
 use Rattle.sdr_model.specs.declared.call.Call.TheVariants as calls
 use Rattle.sdr_model.specs.declared.things.Thing.TheVariants as things
 use Rattle.sdr_answers.proofs.EntryLemmas.{none_named}
-use Rattle.sdr_answers.proofs.KindLemmas.{none_of}
 use Rattle.sdr_answers.proofs.RawLemmas.{zeros_made}
 use Rattle.sdr_answers.proofs.RowLemmas.{short_refused, thing_made}
 use Rattle.sdr_answers.specs.Answering.{Answered, IsRefused}

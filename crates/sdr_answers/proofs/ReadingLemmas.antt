@@ -1,8 +1,6 @@
 -- Calls that read raw objects, as steps.
 use Rattle.std.proofs.Common.{◌≡◌, ◌∙◌, ◌≤◌, ◌<◌, ◌+◌, ◌==◌, ◌||◌, cond, ℕ, List, [], ◌∷◌, ◌++◌, Bool, true, false, inl, Option, Some, None, refl, sym, ap, subst, arith, length, MatchOption, nat_lt}
-use Rattle.std.specs.Prelude.{All}
 use Rattle.std.proofs.lemmas.Bool.Decides.{nat_tests}
-use Rattle.std.proofs.lemmas.List.Elements.{All-nil}
 use Rattle.std.proofs.lemmas.List.Folds.{list_any-append}
 use Rattle.std.specs.List.{list_any}
 use Rattle.sdr_audit.specs.Shape.{told_of}
@@ -10,34 +8,24 @@ use Rattle.sdr_audit.specs.Standing.{HeapStandsFor}
 use Rattle.sdr_audit.specs.Ties.{ties_of}
 use Rattle.sdr_base.specs.Blocks as base
 use Rattle.sdr_base.specs.Blocks.{HasBytes, IsKind, kind_length, with_at}
-use Rattle.sdr_base.specs.Kinds.{kind_number}
 use Rattle.sdr_base.specs.Objects.{Heap, Misses, with_mark}
 use Rattle.sdr_base.specs.Parts.{part}
 use Rattle.sdr_base.specs.Raws.{raw_block}
 use Rattle.sdr_base.specs.declared.kind.Kind.{Kind}
 use Rattle.sdr_base.specs.declared.kind.Kind.TheVariants as kinds
-use Rattle.sdr_base.specs.declared.moves.Move.{Move}
 use Rattle.sdr_base.specs.declared.refusal.Refusal.{Refusal}
 use Rattle.sdr_base.specs.declared.refusal.Refusal.TheVariants as refusals
 use Rattle.sdr_base.specs.declared.stop.Stop.TheVariants as stops
 use Rattle.sdr_heap.specs.Raw.{Exceeds, HasRoom, HasTold, IsMissing, MissesRaw, ReadStops, ReadsRaw, told_length}
-use Rattle.sdr_laws.specs.Fresh.{AreFresh}
 use Rattle.sdr_lock.proofs.WorkLemmas.{on_false, on_none, on_some, on_true}
-use Rattle.sdr_model.specs.Blocks.{addresses_of, blocks_of}
-use Rattle.sdr_model.specs.Fields.{IsWord}
 use Rattle.sdr_model.specs.Limits.{longest_read}
 use Rattle.sdr_model.specs.RawSteps.{length_as}
-use Rattle.sdr_model.specs.Rows.{ByRow}
-use Rattle.sdr_model.specs.Step.{is_answer}
-use Rattle.sdr_model.specs.Steps.{On, Outcome, Reads, Refuses, taken_addresses}
+use Rattle.sdr_model.specs.Steps.{On, Outcome, Reads, Refuses}
 use Rattle.sdr_model.specs.Whole.{IsWhole}
 use Rattle.sdr_model.specs.World.{World, as_raw, block_at, misnamed, refusal_for, thing_at}
-use Rattle.sdr_model.specs.declared.answer.Reply.{Reply}
 use Rattle.sdr_model.specs.declared.answer.Reply.TheVariants as replies
-use Rattle.sdr_model.specs.declared.call.Call.{Call}
 use Rattle.sdr_model.specs.declared.call.Call.TheVariants as calls
 use Rattle.sdr_model.specs.declared.things.Block.{Block}
-use Rattle.sdr_model.specs.declared.things.Thing.{Thing}
 use Rattle.sdr_model.specs.declared.things.Thing.TheVariants as things
 use Rattle.sdr_answers.proofs.KindLemmas.{block_told, missed, no_block}
 use Rattle.sdr_answers.proofs.RawLemmas.{IsRawAt, length_of_raw, no_raw, part_of_raw, raw_is_at}

@@ -1,5 +1,5 @@
 -- How what a call came to on blocks is a step, by the shape of its row.
-use Rattle.std.proofs.Common.{◌≡◌, ◌≢◌, ◌∙◌, ◌<◌, ◌^◌, ◌-◌, ◌==◌, ◌++◌, not, ℕ, List, [], ◌∷◌, Bool, true, false, true≢false, inl, inr, Option, None, Some, refl, sym, ap, subst, arith, append-nil}
+use Rattle.std.proofs.Common.{◌≡◌, ◌≢◌, ◌∙◌, ◌<◌, ◌^◌, ◌-◌, ◌==◌, ◌++◌, not, ℕ, List, [], ◌∷◌, true, false, true≢false, inl, inr, Option, None, Some, refl, sym, ap, subst, arith, append-nil}
 use Rattle.std.specs.Prelude.{All, filter}
 use Rattle.std.proofs.lemmas.List.Elements.{All-cons, All-nil}
 use Rattle.sdr_answers.proofs.KindLemmas.{missed, none_of}

@@ -1,5 +1,5 @@
 -- The keys in blocks are those of the world.
-use Rattle.std.proofs.Common.{◌≡◌, ◌∙◌, ◌==◌, ℕ, List, [], ◌∷◌, Bool, not, Option, None, Some, refl, sym, ap, subst, position}
+use Rattle.std.proofs.Common.{◌≡◌, ◌∙◌, ℕ, [], not, Option, None, Some, refl, sym, ap, subst, position}
 use Rattle.std.specs.Ordering.{is_eq, is_gt}
 use Rattle.sdr_answers.proofs.AddressLemmas.{found_addr_is, place_behind_is}
 use Rattle.sdr_answers.proofs.RawLemmas.{IsRawAt, no_raw, raw_is_at}
@@ -17,11 +17,10 @@ use Rattle.sdr_list.specs.Orders as blocks
 use Rattle.sdr_list.specs.Orders.{if_raw, key_in}
 use Rattle.sdr_list.specs.Preorders.{order_of}
 use Rattle.sdr_list.specs.declared.orders.Keys.{Keys as Order}
-use Rattle.sdr_list.specs.declared.orders.Keys.TheVariants as orders
 use Rattle.sdr_model.specs.ListSteps as steps
 use Rattle.sdr_model.specs.ListSteps.{KeyOrder, bytes_of, compare_keys, equal_addr, ordered_place, sort_key}
 use Rattle.sdr_model.specs.Valid.{IsValid}
-use Rattle.sdr_model.specs.World.{World, as_raw, thing_at}
+use Rattle.sdr_model.specs.World.{World, as_raw}
 use Rattle.sdr_model.specs.declared.keys.Keys.{Keys}
 use Rattle.sdr_model.specs.declared.keys.Keys.TheVariants as keys
 use Rattle.sdr_model.specs.declared.things.SdrList.{SdrList}

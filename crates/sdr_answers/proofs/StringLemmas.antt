@@ -1,5 +1,5 @@
 -- Calls on strings, as steps.
-use Rattle.std.proofs.Common.{◌≡◌, ◌∙◌, ◌≤◌, ◌+◌, ℕ, List, [], ◌∷◌, ◌++◌, true, false, inl, Some, refl, sym, ap, subst, arith, length, take, nat_lt}
+use Rattle.std.proofs.Common.{◌≡◌, ◌∙◌, ◌≤◌, ℕ, List, [], ◌∷◌, true, false, inl, Some, refl, sym, ap, subst, arith, length, take, nat_lt}
 use Rattle.std.proofs.lemmas.Bool.Decides.{nat_tests}
 use Rattle.sdr_answers.proofs.RowLemmas.{looked, misnamed_refused, short_refused, thing_made}
 use Rattle.sdr_answers.proofs.TextLemmas.{no_text, text_is_at}
@@ -13,7 +13,6 @@ use Rattle.sdr_base.specs.declared.refusal.Refusal.TheVariants as refusals
 use Rattle.sdr_base.specs.declared.stop.Stop.TheVariants as stops
 use Rattle.sdr_lock.proofs.WorkLemmas.{on_false, on_some, on_true}
 use Rattle.sdr_model.specs.Limits.{longest_string}
-use Rattle.sdr_model.specs.RawSteps as raw
 use Rattle.sdr_model.specs.Rows.{ByRow}
 use Rattle.sdr_model.specs.Steps.{Outcome, with_thing}
 use Rattle.sdr_model.specs.Things.{text_need}

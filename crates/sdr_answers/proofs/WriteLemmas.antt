@@ -1,16 +1,13 @@
 -- A write into a raw object, as a step.
-use Rattle.std.proofs.Common.{◌≡◌, ◌∙◌, ◌+◌, ◌-◌, ◌==◌, ℕ, List, [], ◌++◌, true, false, true≢false, inl, Some, None, refl, sym, ap, subst, arith, length, append-nil, nat_lt}
+use Rattle.std.proofs.Common.{◌≡◌, ◌∙◌, ◌+◌, ℕ, List, [], ◌++◌, true, false, true≢false, inl, Some, refl, sym, ap, subst, arith, length, nat_lt}
 use Rattle.std.proofs.lemmas.Bool.Decides.{nat_tests}
-use Rattle.std.specs.List.{list_any}
-use Rattle.sdr_audit.proofs.ChangeLemmas.{changes}
 use Rattle.sdr_audit.specs.Standing.{HeapStandsFor, with_taken_marked}
-use Rattle.sdr_audit.proofs.TiesLemmas.{same_ties, untied_alike}
-use Rattle.sdr_audit.specs.Ties.{NoneIsTied, ties_of}
+use Rattle.sdr_audit.specs.Ties.{ties_of}
 use Rattle.sdr_base.proofs.StandingLemmas.{written_at}
 use Rattle.sdr_base.specs.Blocks as base
 use Rattle.sdr_base.specs.Blocks.{IsKind, overwritten, with_block}
 use Rattle.sdr_base.specs.Entries.{Changes, Stands}
-use Rattle.sdr_base.specs.Making.{besides, with_moves}
+use Rattle.sdr_base.specs.Making.{besides}
 use Rattle.sdr_base.specs.Objects.{Heap, with_bytes}
 use Rattle.sdr_base.specs.Parts.{overwrite}
 use Rattle.sdr_base.specs.Raws.{raw_block, raw_entries}
@@ -23,7 +20,7 @@ use Rattle.sdr_lock.proofs.WorkLemmas.{on_false, on_true}
 use Rattle.sdr_model.specs.Rows.{ByRow}
 use Rattle.sdr_model.specs.Steps.{Outcome, with_thing}
 use Rattle.sdr_model.specs.Whole.{IsWhole}
-use Rattle.sdr_model.specs.World.{World, thing_at}
+use Rattle.sdr_model.specs.World.{World}
 use Rattle.sdr_model.specs.declared.answer.Reply.TheVariants as replies
 use Rattle.sdr_model.specs.declared.call.Call.TheVariants as calls
 use Rattle.sdr_model.specs.declared.things.Thing.TheVariants as things

@@ -78,7 +78,12 @@ pub fn list_user<O: Objects>(o: &mut O, list: Addr, page: &mut Page) -> Result<R
 }
 
 // Sets the user's number of a list.
-pub fn set_list_user<O: Objects>(o: &mut O, list: Addr, user: u64, page: &mut Page) -> Result<Reply, Stop>
+pub fn set_list_user<O: Objects>(
+    o: &mut O,
+    list: Addr,
+    user: u64,
+    page: &mut Page,
+) -> Result<Reply, Stop>
     requires kept { KeepsSome (O.keeps o.old) }
     requires list { IsList (O.heap o.old).blocks list }
     requires unmoved { (O.heap o.old).moves ≡ [] }
@@ -92,7 +97,12 @@ pub fn set_list_user<O: Objects>(o: &mut O, list: Addr, user: u64, page: &mut Pa
 }
 
 // Makes a new first element of a list.
-pub fn insert_first<O: Objects>(o: &mut O, list: Addr, datum: u64, page: &mut Page) -> Result<Reply, Stop>
+pub fn insert_first<O: Objects>(
+    o: &mut O,
+    list: Addr,
+    datum: u64,
+    page: &mut Page,
+) -> Result<Reply, Stop>
     requires kept { KeepsSome (O.keeps o.old) }
     requires spare { 1 ≤ (O.heap o.old).spare }
     requires list { IsList (O.heap o.old).blocks list }
@@ -107,7 +117,12 @@ pub fn insert_first<O: Objects>(o: &mut O, list: Addr, datum: u64, page: &mut Pa
 }
 
 // Makes a new last element of a list.
-pub fn insert_last<O: Objects>(o: &mut O, list: Addr, datum: u64, page: &mut Page) -> Result<Reply, Stop>
+pub fn insert_last<O: Objects>(
+    o: &mut O,
+    list: Addr,
+    datum: u64,
+    page: &mut Page,
+) -> Result<Reply, Stop>
     requires kept { KeepsSome (O.keeps o.old) }
     requires spare { 1 ≤ (O.heap o.old).spare }
     requires list { IsList (O.heap o.old).blocks list }
@@ -122,7 +137,12 @@ pub fn insert_last<O: Objects>(o: &mut O, list: Addr, datum: u64, page: &mut Pag
 }
 
 // Makes a new element before another.
-pub fn insert_before<O: Objects>(o: &mut O, element: Addr, datum: u64, page: &mut Page) -> Result<Reply, Stop>
+pub fn insert_before<O: Objects>(
+    o: &mut O,
+    element: Addr,
+    datum: u64,
+    page: &mut Page,
+) -> Result<Reply, Stop>
     requires kept { KeepsSome (O.keeps o.old) }
     requires spare { 1 ≤ (O.heap o.old).spare }
     requires element { IsElement (O.heap o.old).blocks element }
@@ -137,7 +157,12 @@ pub fn insert_before<O: Objects>(o: &mut O, element: Addr, datum: u64, page: &mu
 }
 
 // Makes a new element behind another.
-pub fn insert_after<O: Objects>(o: &mut O, element: Addr, datum: u64, page: &mut Page) -> Result<Reply, Stop>
+pub fn insert_after<O: Objects>(
+    o: &mut O,
+    element: Addr,
+    datum: u64,
+    page: &mut Page,
+) -> Result<Reply, Stop>
     requires kept { KeepsSome (O.keeps o.old) }
     requires spare { 1 ≤ (O.heap o.old).spare }
     requires element { IsElement (O.heap o.old).blocks element }
@@ -152,7 +177,13 @@ pub fn insert_after<O: Objects>(o: &mut O, element: Addr, datum: u64, page: &mut
 }
 
 // Makes a new element where its key has its place in order.
-pub fn insert_ordered<O: Objects>(o: &mut O, list: Addr, datum: u64, keys: Keys, page: &mut Page) -> Result<Reply, Stop>
+pub fn insert_ordered<O: Objects>(
+    o: &mut O,
+    list: Addr,
+    datum: u64,
+    keys: Keys,
+    page: &mut Page,
+) -> Result<Reply, Stop>
     requires kept { KeepsSome (O.keeps o.old) }
     requires spare { 1 ≤ (O.heap o.old).spare }
     requires list { IsList (O.heap o.old).blocks list }
@@ -167,7 +198,13 @@ pub fn insert_ordered<O: Objects>(o: &mut O, list: Addr, datum: u64, keys: Keys,
 }
 
 // The first element of an equal key.
-pub fn search<O: Objects>(o: &mut O, list: Addr, datum: u64, keys: Keys, page: &mut Page) -> Result<Reply, Stop>
+pub fn search<O: Objects>(
+    o: &mut O,
+    list: Addr,
+    datum: u64,
+    keys: Keys,
+    page: &mut Page,
+) -> Result<Reply, Stop>
     requires kept { KeepsSome (O.keeps o.old) }
     requires list { IsList (O.heap o.old).blocks list }
     requires unmoved { (O.heap o.old).moves ≡ [] }
@@ -259,7 +296,12 @@ pub fn datum<O: Objects>(o: &mut O, element: Addr, page: &mut Page) -> Result<Re
 }
 
 // Sets an element's datum.
-pub fn set_datum<O: Objects>(o: &mut O, element: Addr, datum: u64, page: &mut Page) -> Result<Reply, Stop>
+pub fn set_datum<O: Objects>(
+    o: &mut O,
+    element: Addr,
+    datum: u64,
+    page: &mut Page,
+) -> Result<Reply, Stop>
     requires kept { KeepsSome (O.keeps o.old) }
     requires element { IsElement (O.heap o.old).blocks element }
     requires unmoved { (O.heap o.old).moves ≡ [] }

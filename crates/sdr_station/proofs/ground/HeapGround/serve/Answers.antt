@@ -1,6 +1,6 @@
 use Rattle.sdr_audit.specs.Standing.{HeapStandsFor}
 use Rattle.std.proofs.Common.{◌≡◌, ◌∙◌, ◌≤◌, [], not, ap, Err, Ok, None, false, true, inl, inr, refl, sym, subst}
-use Rattle.sdr_base.specs.KeptHeap.{KeepsRegion, block_in}
+use Rattle.sdr_base.specs.KeptHeap.{KeepsRegion}
 use Rattle.sdr_base.specs.Moves.{KeepsSome}
 use Rattle.sdr_base.specs.Works.{Works}
 use Rattle.sdr_base.specs.declared.stop.Stop.{Stop}
