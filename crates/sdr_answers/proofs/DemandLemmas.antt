@@ -1,5 +1,5 @@
 -- How many lines a call may touch by what it asks.
-use Rattle.std.proofs.Common.{◌≡◌, ◌≤◌, ◌+◌, ◌++◌, ℕ, List, [], ◌∷◌, true, true≢false, inl, refl, sym, ap, length, arith}
+use Rattle.std.proofs.Common.{◌≡◌, ◌≤◌, ◌+◌, ◌*◌, ◌++◌, ℕ, List, [], ◌∷◌, true, true≢false, inl, refl, sym, ap, length, arith}
 use Rattle.std.proofs.lemmas.List.{length-append, length-map}
 use Rattle.std.specs.Prelude.{slice_index}
 use Rattle.sdr_answers.proofs.ListLemmas.{IsSmall, elements_told}
@@ -88,6 +88,17 @@ enough d heap w call o is s served small row answered = by call is (moves_are_th
         let split = length-append elements (list ∷ []) in
         let few = elements_told heap w list s served small in
         omega (arith, all, same, split, few)
+    by (calls.Table rows size user) is moves =
+        let one : length o.moves ≡ 1 = ap (λ (ms : List Move). length ms) moves in
+        let need : bytes_taken o.moves ≡ 24 + rows * size + 0 = ap bytes_taken moves in
+        omega (arith, one, need)
+    by (calls.Row table row) is moves = omega (arith)
+    by (calls.SetRow table row bytes) is moves = omega (arith)
+    by (calls.Dimensions table) is moves = omega (arith)
+    by (calls.TableUser table) is moves = omega (arith)
+    by (calls.TableDestroy table) is moves =
+        let one : length o.moves ≡ 1 = ap (λ (ms : List Move). length ms) moves in
+        omega (arith, one)
     by c is moves = absurd (true≢false (sym is))
 
 -- a call that reads touches none
@@ -120,6 +131,12 @@ reading_lines heap (calls.Last list) is reads = refl
 reading_lines heap (calls.Next element) is reads = refl
 reading_lines heap (calls.Prev element) is reads = refl
 reading_lines heap (calls.Datum element) is reads = refl
+reading_lines heap (calls.Table rows size user) is reads = absurd (true≢false (sym reads))
+reading_lines heap (calls.Row table row) is reads = refl
+reading_lines heap (calls.SetRow table row bytes) is reads = absurd (true≢false (sym reads))
+reading_lines heap (calls.Dimensions table) is reads = refl
+reading_lines heap (calls.TableUser table) is reads = refl
+reading_lines heap (calls.TableDestroy table) is reads = absurd (true≢false (sym reads))
 reading_lines heap call is reads = absurd (true≢false (sym is))
 
 -- no call takes back what was asked

@@ -17,3 +17,5 @@ pub mod AddressLemmas
 pub mod SortingLemmas
 pub mod ListReading
 pub mod ListChanging
+pub mod TableLemmas
+pub mod TableCalls

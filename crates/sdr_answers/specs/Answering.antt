@@ -25,6 +25,7 @@ use Rattle.sdr_model.specs.declared.answer.Reply.TheVariants as replies
 use Rattle.sdr_model.specs.declared.call.Call.{Call}
 use Rattle.sdr_model.specs.declared.call.Call.TheVariants as calls
 use Rattle.sdr_string.specs.Calls.{IsString}
+use Rattle.sdr_table.specs.Kept.{IsTable}
 
 -- a world that calls which are served leave: there is no ticket, and no source of a raw object
 pub record IsPlain (w : World) : Type 0 where
@@ -38,14 +39,15 @@ pub record IsServed (w : World) : Type 0 where
   pub fits : FitsFields w
   pub plain : IsPlain w
 
--- What is of a kind is kept: a raw object's block has its source word, which is 0, a string's has its text, and a list is kept
--- for the block of a list and for that of an element.
+-- What is of a kind is kept: a raw object's block has its source word, which is 0, a string's has its text and a table's its
+-- rows, and a list is kept for the block of a list and for that of an element.
 pub record IsGood (heap : Heap) : Type 0 where
   pub raws : (addr : ℕ) → IsWhole (heap.blocks addr)
   pub unnamed : (addr : ℕ) → IsUnnamed (heap.blocks addr)
   pub strings : (addr : ℕ) → IsString (heap.blocks addr)
   pub lists : (addr : ℕ) → IsList heap.blocks addr
   pub elements : (addr : ℕ) → IsElement heap.blocks addr
+  pub tables : (addr : ℕ) → IsTable (heap.blocks addr)
 
 -- whether the call is served
 abbrev pub built : Call → Bool
@@ -77,6 +79,12 @@ built (calls.Next element) = true
 built (calls.Prev element) = true
 built (calls.Datum element) = true
 built (calls.SetDatum element datum) = true
+built (calls.Table rows size user) = true
+built (calls.Row table row) = true
+built (calls.SetRow table row bytes) = true
+built (calls.Dimensions table) = true
+built (calls.TableUser table) = true
+built (calls.TableDestroy table) = true
 built call = false
 
 -- whether a call that was answered so dooms its transaction: it is a change that was refused
@@ -101,6 +109,9 @@ call_lines heap (calls.InsertAfter element datum) = 35
 call_lines heap (calls.InsertOrdered list datum keys) = 35
 call_lines heap (calls.Delete element) = 30
 call_lines heap (calls.SetDatum element datum) = 2
+call_lines heap (calls.Table rows size user) = 26 + (24 + rows * size) / 64
+call_lines heap (calls.SetRow table row bytes) = 2 + length bytes / 64
+call_lines heap (calls.TableDestroy table) = 24
 call_lines heap call = 0
 
 -- what the row of a call gives, where it is answered

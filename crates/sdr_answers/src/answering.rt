@@ -9,6 +9,7 @@ use crate::lists;
 use crate::page::Page;
 use crate::raws::{free, length, malloc, read, stage, write};
 use crate::strings::{string, string_dup, string_length, string_read};
+use crate::tables;
 use sdr_base::{Objects, Stop};
 use sdr_model::{Call, Reply};
 
@@ -46,6 +47,12 @@ pub fn built(call: &Call) -> bool
             | Call::Prev(_)
             | Call::Datum(_)
             | Call::SetDatum(_, _)
+            | Call::Table(_, _, _)
+            | Call::Row(_, _)
+            | Call::SetRow(_, _, _)
+            | Call::Dimensions(_)
+            | Call::TableUser(_)
+            | Call::TableDestroy(_)
     )
 }
 
@@ -91,6 +98,14 @@ pub fn answer<O: Objects>(o: &mut O, call: &Call, page: &mut Page) -> Result<Rep
         Call::Prev(element) => lists::prev(o, *element, page),
         Call::Datum(element) => lists::datum(o, *element, page),
         Call::SetDatum(element, datum) => lists::set_datum(o, *element, *datum, page),
+        Call::Table(rows, size, user) => tables::table(o, *rows, *size, *user, page),
+        Call::Row(table, row) => tables::row(o, *table, *row, page),
+        Call::SetRow(table, row, bytes) => {
+            tables::set_row(o, *table, *row, bytes.as_slice(), page)
+        }
+        Call::Dimensions(table) => tables::dimensions(o, *table, page),
+        Call::TableUser(table) => tables::table_user(o, *table, page),
+        Call::TableDestroy(table) => tables::table_destroy(o, *table, page),
         _ => unreachable!(),
     }
 }

@@ -4,7 +4,7 @@
 //!    their order, and the blocks stand for the world after it; or it is refused, as its row or the want of a block or of log
 //!    room has it.
 //! 2. It touches no more lines than its transaction may by what it has asked.
-//! 3. So far the calls on raw objects, strings and lists are served.
+//! 3. So far the calls on raw objects, strings, lists and tables are served.
 #![tactic(auto)]
 
 mod answering;
@@ -12,6 +12,7 @@ mod lists;
 mod page;
 mod raws;
 mod strings;
+mod tables;
 
 pub use answering::{answer, built};
 pub use page::{PAGE, Page};
