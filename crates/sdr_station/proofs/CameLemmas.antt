@@ -1,6 +1,6 @@
 -- What a call comes to on a ground.
 use Rattle.std.proofs.Common.{◌≡◌, ◌∙◌, ◌≤◌, ◌⊎◌, ℕ, List, [], Bool, true, false, not, Option, None, Ok, Err, refl, sym, ap, subst}
-use Rattle.sdr_base.specs.KeptHeap.{KeepsRegion, block_in}
+use Rattle.sdr_base.specs.KeptHeap.{KeepsRegion}
 use Rattle.sdr_base.specs.Moves.{KeepsSome}
 use Rattle.sdr_base.specs.Works.{Works}
 use Rattle.sdr_base.specs.declared.refusal.Refusal.{Refusal}
@@ -20,8 +20,8 @@ use Rattle.sdr_model.specs.declared.answer.Reply.TheVariants as replies
 use Rattle.sdr_model.specs.declared.call.Call.{Call}
 use Rattle.sdr_station.proofs.GivingLemmas.{gives_shown}
 use Rattle.sdr_station.proofs.GroundLemmas.{ground_brought, heap_ground, keeps_later}
-use Rattle.sdr_station.proofs.ServingLemmas.{answers_no_doom, brings_answered, brings_quiet, brings_refused, good_of, image_heap, leaves_quiet, no_fault}
-use Rattle.sdr_station.specs.Answering.{Comes, IsGood, built, dooms, most_lines}
+use Rattle.sdr_station.proofs.ServingLemmas.{answers_no_doom, brings_answered, brings_quiet, brings_refused, good_in, image_heap, leaves_quiet, no_fault, served_in}
+use Rattle.sdr_answers.specs.Answering.{Comes, IsGood, built, call_lines, dooms}
 use Rattle.sdr_station.specs.Closing.{moves_left}
 use Rattle.sdr_station.specs.Giving.{Gives}
 use Rattle.sdr_station.specs.Grounded.{Grounded, IsGround, StandsForBoth, StandsInMemory, heap_in}
@@ -63,38 +63,38 @@ module _ {D : Type 0} (told : D → Option (List ℕ)) (moment faults : D → �
 
   -- an answered call
   pub came_answered : (reply : Reply) → Comes call (heap_in before) (heap_in heap) old.shown page (Ok reply)
-      → Works {T = Reply} (image_heap faults) (most_lines call) before heap (Ok reply)
+      → Works {T = Reply} (image_heap faults) (call_lines (heap_in before) call) before heap (Ok reply)
       → CameTo told moment faults may_leave call reply old
       (record { heap = heap; shown = page; stopped = old.stopped; moment = old.moment; restored = old.restored })
   came_answered reply comes' works' =
       let fresh : Held (Opened D) = record old.heap { moves = []; spare = before.spare } in
       let comes = subst (λ (h : Held (Opened D)). Comes call (heap_in h) (heap_in heap) old.shown page (Ok reply)) from comes' in
-      let works = subst (λ (h : Held (Opened D)). Works {T = Reply} (image_heap faults) (most_lines call) h heap (Ok reply)) from works' in
+      let works = subst (λ (h : Held (Opened D)). Works {T = Reply} (image_heap faults) (call_lines (heap_in h) call) h heap (Ok reply)) from works' in
       let quiet : IsQuiet old.heap.cells heap.cells =
       (works.quiet fresh (record { disk = refl; frame = refl; begun = refl; failed = refl }, refl)).0 in
       let new : Grounded D = record { heap = heap; shown = page; stopped = old.stopped; moment = old.moment; restored = old.restored } in
       let some = ground.stands sound in
       let w = some.holds.now going in
       let stands : HeapStandsFor (heap_in fresh) some.for.now.world = record { blocks = w.heap.blocks; roots = w.heap.roots; marks = w.heap.marks } in
-      let ans = comes.each some.for.now.world stands w.whole w.plain in
+      let ans = comes.each some.for.now.world stands (served_in w) in
       let outcome : Outcome = record { moves = heap.moves; after = ans.after; reply = reply } in
       comes_to reply new quiet refl works.cause.later (going ∙ sym (answers_no_doom call reply ans.answered))
-      (gives_shown new some.for.now.world call outcome is ans.row ans.gave (λ _. going) reply refl)
+      (gives_shown new some.for.now.world call outcome is w.whole ans.row ans.gave (λ _. going) reply refl)
       (brings_answered faults old going call is fit before.spare heap page reply comes works)
 
   -- a refused call, which tells these moves, and dooms where it doesn't read
   pub came_refused : (refusal : Refusal) (stop : Stop) → stop ≡ stops.Refused refusal → (left : Held (Opened D))
       → left ≡ record heap { moves = moves_left refusal heap.moves; spare = left.spare } → (reads : Bool) → reads ≡ is_reading call
       → Comes call (heap_in before) (heap_in heap) old.shown page (Err stop)
-      → Works {T = Reply} (image_heap faults) (most_lines call) before heap (Err stop)
+      → Works {T = Reply} (image_heap faults) (call_lines (heap_in before) call) before heap (Err stop)
       → CameTo told moment faults may_leave call (replies.Refused refusal) old
       (record { heap = left; shown = page; stopped = not reads; moment = old.moment; restored = old.restored })
   came_refused refusal stop stop_is left left_is reads reads_is comes' works' =
       let fresh : Held (Opened D) = record old.heap { moves = []; spare = before.spare } in
       let comes = subst (λ (s : Stop). Comes call (heap_in fresh) (heap_in heap) old.shown page (Err s)) stop_is
-          (subst (λ (h : Held (Opened D)). Comes call (heap_in h) (heap_in heap) old.shown page (Err stop)) from comes') in
-      let works = subst (λ (s : Stop). Works {T = Reply} (image_heap faults) (most_lines call) fresh heap (Err s)) stop_is
-          (subst (λ (h : Held (Opened D)). Works {T = Reply} (image_heap faults) (most_lines call) h heap (Err stop)) from works') in
+      (subst (λ (h : Held (Opened D)). Comes call (heap_in h) (heap_in heap) old.shown page (Err stop)) from comes') in
+      let works = subst (λ (s : Stop). Works {T = Reply} (image_heap faults) (call_lines (heap_in fresh) call) fresh heap (Err s)) stop_is
+      (subst (λ (h : Held (Opened D)). Works {T = Reply} (image_heap faults) (call_lines (heap_in h) call) h heap (Err stop)) from works') in
       let quiet : IsQuiet old.heap.cells heap.cells =
       (works.quiet fresh (record { disk = refl; frame = refl; begun = refl; failed = refl }, refl)).0 in
       let new : Grounded D = record {
@@ -120,13 +120,12 @@ module _ {D : Type 0} (old : Grounded D) (ground : IsGround old) (going : old.st
       let w = some.holds.now going in
       subst (λ (h : Held (Opened D)). KeepsSome (KeepsRegion h.size h.cells.bytes)) (sym from) (record { pools = w.pools; keeps = w.keeps })
 
-  -- its raw objects are whole, and no source names them
-  pub good_before : (addr : ℕ) → IsGood (block_in before.cells.bytes addr)
+  -- what is of a kind is kept in it
+  pub good_before : IsGood (heap_in before)
   good_before =
       let some = ground.stands (ground.sound going) in
       let w = some.holds.now going in
-      subst (λ (h : Held (Opened D)). (addr : ℕ) → IsGood (block_in h.cells.bytes addr)) (sym from)
-      (good_of (heap_in old.heap) some.for.now.world w.heap w.whole w.plain)
+      subst (λ (h : Held (Opened D)). IsGood (heap_in h)) (sym from) (good_in old.heap before.spare w)
 
   -- no call on it meets a disk fault
   pub faults_never : (faults : D → ℕ) (new : Held (Opened D)) (lines : ℕ) (stop : Stop)

@@ -23,11 +23,12 @@ use Rattle.sdr_log.specs.Frame.{room_of}
 use Rattle.sdr_log.specs.Logged.{Gives}
 use Rattle.sdr_model.specs.World.{World}
 use Rattle.sdr_model.specs.declared.accounts.Ticket.{Ticket}
-use Rattle.sdr_station.specs.Answering.{IsPlain}
+use Rattle.sdr_answers.specs.Answering.{IsPlain}
 use Rattle.sdr_station.specs.Closing as closing
 use Rattle.sdr_station.specs.Grounded.{Grounded, IsGround, Opens, StandsAtRest, StandsForBoth, StandsInMemory, StandsWithin, heap_in}
 use Rattle.sdr_station.proofs.GroundLemmas.{ground_brought, heap_ground, keeps_later, unmarked}
 use Rattle.sdr_station.proofs.RestLemmas.{fits_rest, put_back_is, whole_rest}
+use Rattle.sdr_station.proofs.StoodLemmas.{stood_of}
 
 -- what the heap stands for within a transaction, its bytes stand for at rest
 pub at_rest_of : {D : Type 0} (h : Held (Opened D)) (shown : List ℕ) (s : State) → s.world.taken ≡ 0 → StandsWithin h shown s
@@ -104,6 +105,7 @@ memory_kept old disk now going = record {
   each = λ v at.
       let w = at.now going in
       let after = at_rest_of old.heap old.shown v.now at.taken w in
+      let within = within_of (kept_ground old disk now).heap (length old.heap.marks) (kept v.now) refl refl w.keeps.size after in
       record {
         for = record { before = kept v.now; now = kept v.now; moves = v.moves };
         holds = record {
@@ -112,7 +114,8 @@ memory_kept old disk now going = record {
           before = after;
           taken = at.taken;
           gave = refl;
-          now = λ _. within_of (kept_ground old disk now).heap (length old.heap.marks) (kept v.now) refl refl w.keeps.size after;
+          stood = stood_of within;
+          now = λ _. within;
           moves = at.moves;
         };
         tells = (refl, refl);
@@ -127,6 +130,7 @@ memory_back old disk now = record {
       let after : StandsAtRest (room_of old.heap.cells.frame) old.heap.cells.begun next =
       subst (λ (s : State). StandsAtRest (room_of old.heap.cells.frame) old.heap.cells.begun s)
       (put_back_is v.before v.now at.before.stands.stands.taken at.taken) at.before in
+      let within = within_of (back_ground old disk now).heap (length old.heap.marks) next refl refl at.size after in
       record {
         for = record { before = next; now = next; moves = v.moves };
         holds = record {
@@ -135,7 +139,8 @@ memory_back old disk now = record {
           before = after;
           taken = at.taken;
           gave = at.before.stands.stands.shown;
-          now = λ _. within_of (back_ground old disk now).heap (length old.heap.marks) next refl refl at.size after;
+          stood = stood_of within;
+          now = λ _. within;
           moves = at.moves;
         };
         tells = (refl, refl);

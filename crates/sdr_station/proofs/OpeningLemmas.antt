@@ -18,8 +18,9 @@ use Rattle.sdr_log.specs.Frame.{room_of}
 use Rattle.sdr_log.specs.declared.frame.Frame.{Frame}
 use Rattle.sdr_model.specs.World.{fresh_world}
 use Rattle.sdr_station.proofs.ClosingLemmas.{within_of}
-use Rattle.sdr_station.proofs.EntryLemmas.{none_named}
-use Rattle.sdr_station.specs.Answering.{IsPlain}
+use Rattle.sdr_station.proofs.StoodLemmas.{stood_of}
+use Rattle.sdr_answers.proofs.EntryLemmas.{none_named}
+use Rattle.sdr_answers.specs.Answering.{IsPlain}
 use Rattle.sdr_station.specs.Grounded.{Grounded, IsGround, StandsAtRest, StandsInMemory}
 use Rattle.sdr_station.specs.Opening.{IsOpen}
 
@@ -64,13 +65,15 @@ open_stands {D} told moment may_leave disk i j count spare o q bytes touched f =
       moment = moment j.disk;
       restored = i.restored;
     } in
+    let within = within_of g.heap count s refl (touched ∙ o.touched) refl rest in
     let memory : StandsInMemory g (record { before = s; now = s; moves = [] }) = record {
       sound = q.failed ∙ o.sound;
       size = ap (λ (b : List ℕ). length b) begun;
       before = subst (λ (b : List ℕ). StandsAtRest room b s) (sym begun) rest;
       taken = refl;
       gave = refl;
-      now = λ _. within_of g.heap count s refl (touched ∙ o.touched) refl rest;
+      stood = stood_of within;
+      now = λ _. within;
       moves = refl;
     } in
     record {

@@ -1,21 +1,27 @@
 -- How many moves a served call has.
-use Rattle.std.proofs.Common.{◌≡◌, ◌≤◌, ◌⊎◌, ℕ, List, subst, true, true≢false, inl, inr, refl, sym, ap, length, length-append, arith}
+use Rattle.std.proofs.Common.{◌≡◌, ◌≤◌, ◌+◌, ◌/◌, ◌++◌, ◌∷◌, ℕ, List, [], false, true, true≢false, inl, inr, refl, sym, ap, ◌∙◌, length, length-append, arith}
+use Rattle.std.proofs.lemmas.List.{length-map}
 use Rattle.std.specs.Prelude.{slice_index}
 use Rattle.sdr_base.specs.declared.moves.Move.{Move}
+use Rattle.sdr_base.specs.declared.moves.Move.TheVariants.{Gave}
 use Rattle.sdr_base.specs.declared.refusal.Refusal.TheVariants as refusals
 use Rattle.sdr_laws.proofs.RowShapes.{row_shape}
 use Rattle.sdr_laws.proofs.Shapes.{Shape}
 use Rattle.sdr_lock.specs.Ground.{Ground, Replied, State, StepsOn}
-use Rattle.sdr_model.specs.RowMoves.{row_moves}
+use Rattle.sdr_model.specs.ListSteps.{as_list}
+use Rattle.sdr_model.specs.Reading.{is_reading}
+use Rattle.sdr_model.specs.RowMoves.{elements_in, row_moves}
 use Rattle.sdr_model.specs.Rows.{ByRow}
 use Rattle.sdr_model.specs.Step.{StopsWith}
 use Rattle.sdr_model.specs.Steps.{Outcome, taken_addresses}
-use Rattle.sdr_model.specs.World.{World}
+use Rattle.sdr_model.specs.World.{World, thing_at}
 use Rattle.sdr_model.specs.declared.answer.Reply.{Reply}
 use Rattle.sdr_model.specs.declared.answer.Reply.TheVariants as replies
 use Rattle.sdr_model.specs.declared.call.Call.{Call}
 use Rattle.sdr_model.specs.declared.call.Call.TheVariants as calls
-use Rattle.sdr_station.specs.Answering.{built}
+use Rattle.sdr_answers.specs.Answering.{built}
+use Rattle.sdr_station.proofs.StoodLemmas.{elements_few}
+use Rattle.sdr_station.specs.Grounded.{HasStood}
 use Rattle.sdr_station.specs.Rooming.{MovesAtMost}
 
 -- a call that stops on its way has no more moves than it would have had
@@ -36,10 +42,10 @@ stops_fewer replies.MediaFault call all moves s =
     omega (arith, none)
 stops_fewer reply call all moves s = absurd s
 
--- what bounds the moves of each row of a call, with whatever addresses, bounds an outcome of its row
-row_at_most : (call : Call) (most : ℕ) → ((w : World) (at : ℕ → ℕ) → length (row_moves w call at) ≤ most) → (w : World) (o : Outcome)
-    → ByRow w o call → length o.moves ≤ most
-row_at_most call most bound w o row = by (row_shape w call o row)
+-- what bounds the moves of each row of a changing call, with whatever addresses, bounds an outcome of its row
+row_at_most : (call : Call) (most : ℕ) (w : World) → (is_reading call ≡ false → (at : ℕ → ℕ) → length (row_moves w call at) ≤ most)
+    → (o : Outcome) → ByRow w o call → length o.moves ≤ most
+row_at_most call most w bound o row = by (row_shape w call o row)
   where
     by : Shape w call o → length o.moves ≤ most
     by (Shape.refuses refusal of_row h) =
@@ -50,39 +56,78 @@ row_at_most call most bound w o row = by (row_shape w call o row)
         omega (arith, none)
     by (Shape.acts a) =
         let same = ap (λ (ms : List Move). length ms) a.row in
-        let few = bound w (slice_index (taken_addresses o.moves)) in
+        let few = bound a.changing (slice_index (taken_addresses o.moves)) in
         omega (arith, same, few)
 
 -- and the call's
-pub moves_at_most : (call : Call) (most : ℕ) → ((w : World) (at : ℕ → ℕ) → length (row_moves w call at) ≤ most) → MovesAtMost call most
-moves_at_most call most bound w o (inl row) = row_at_most call most bound w o row
-moves_at_most call most bound w o (inr s) =
-    let aim = row_at_most call most bound w s.aim s.row in
+moves_at_most : (size : ℕ) (call : Call) (most : ℕ)
+    → ((w : World) → HasStood size w → is_reading call ≡ false → (at : ℕ → ℕ) → length (row_moves w call at) ≤ most) → MovesAtMost size call most
+moves_at_most size call most bound w o stood (inl row) = row_at_most call most w (bound w stood) o row
+moves_at_most size call most bound w o stood (inr s) =
+    let aim = row_at_most call most w (bound w stood) s.aim s.row in
     let fewer = stops_fewer o.reply call s.aim.moves o.moves s.stopped in
     omega (arith, aim, fewer)
 
 -- and those of each step on a ground
-pub steps_at_most : (call : Call) (most : ℕ) → MovesAtMost call most → (base : Ground) (s : State) (o : Replied) → StepsOn base s call o → length o.moves ≤ most
-steps_at_most call most few Ground.NoHeap s o h = elim h.step [
-  | inl d ↦ few s.world _ (inl d.step)
-  | inr r ↦ few s.world _ (inr r.stopped)
+pub steps_at_most : (size : ℕ) (call : Call) (most : ℕ) → MovesAtMost size call most → (base : Ground) (s : State) → HasStood size s.world
+    → (o : Replied) → StepsOn base s call o → length o.moves ≤ most
+steps_at_most size call most few Ground.NoHeap s stood o h = elim h.step [
+  | inl d ↦ few s.world _ stood (inl d.step)
+  | inr r ↦ few s.world _ stood (inr r.stopped)
 ]
-steps_at_most call most few (Ground.OnHeap room P) s o h = few s.world _ h.step
+steps_at_most size call most few (Ground.OnHeap room P) s stood o h = few s.world _ stood h.step
 
--- a call that makes no raw object and frees none has no move
-pub moves_none : (call : Call) → built call ≡ true → ((bytes : ℕ) → call ≡ calls.Malloc bytes → ⊥) → ((addr : ℕ) → call ≡ calls.Free addr → ⊥)
-    → MovesAtMost call 0
-moves_none (calls.Malloc bytes) is makes frees = absurd (makes bytes refl)
-moves_none (calls.Free addr) is makes frees = absurd (frees addr refl)
-moves_none (calls.Length addr) is makes frees = moves_at_most (calls.Length addr) 0 (λ w at. omega arith)
-moves_none (calls.Read addr place count) is makes frees = moves_at_most (calls.Read addr place count) 0 (λ w at. omega arith)
-moves_none (calls.Write addr place bytes) is makes frees = moves_at_most (calls.Write addr place bytes) 0 (λ w at. omega arith)
-moves_none (calls.Stage addr count) is makes frees = moves_at_most (calls.Stage addr count) 0 (λ w at. omega arith)
-moves_none call is makes frees = absurd (true≢false (sym is))
+-- a call that reads has no move
+pub moves_none : (size : ℕ) (call : Call) → is_reading call ≡ true → MovesAtMost size call 0
+moves_none size call reads = moves_at_most size call 0 (λ w stood changes at. absurd (true≢false (sym reads ∙ changes)))
 
--- one that does has a single one
-pub moves_one : (call : Call) → ((bytes : ℕ) × (call ≡ calls.Malloc bytes)) ⊎ ((addr : ℕ) × (call ≡ calls.Free addr)) → MovesAtMost call 1
-moves_one call (inl m) =
-    subst (λ (k : Call). MovesAtMost k 1) (sym m.1) (moves_at_most (calls.Malloc m.0) 1 (λ w at. omega arith))
-moves_one call (inr f) =
-    subst (λ (k : Call). MovesAtMost k 1) (sym f.1) (moves_at_most (calls.Free f.0) 1 (λ w at. omega arith))
+-- a list that goes has a move for each element and one for itself
+pub moves_destroy : (size addr : ℕ) → MovesAtMost size (calls.ListDestroy addr) (size / 16 + 1)
+moves_destroy size addr = moves_at_most size (calls.ListDestroy addr) (size / 16 + 1) (λ w stood changes at.
+    let elements = elements_in (as_list (thing_at w addr)) in
+    let few = elements_few size w addr stood in
+    let all = length-map (elements ++ addr ∷ []) (λ (a : ℕ). Gave a) in
+    let split = length-append elements (addr ∷ []) in
+    omega (arith, few, all, split))
+
+-- any other that is served has one at most
+pub moves_one : (size : ℕ) (call : Call) → built call ≡ true → ((list : ℕ) → call ≡ calls.ListDestroy list → ⊥) → MovesAtMost size call 1
+moves_one size call is other = moves_at_most size call 1 (λ w stood changes at. by w at call is other)
+  where
+    by : (w : World) (at : ℕ → ℕ) (call : Call) → built call ≡ true → ((list : ℕ) → call ≡ calls.ListDestroy list → ⊥)
+        → length (row_moves w call at) ≤ 1
+    by w at (calls.Malloc bytes) is other = omega arith
+    by w at (calls.Free addr) is other = omega arith
+    by w at (calls.Write addr place bytes) is other = omega arith
+    by w at (calls.String text) is other = omega arith
+    by w at (calls.StringDup addr) is other = omega arith
+    by w at (calls.List user) is other = omega arith
+    by w at (calls.ListDestroy list) is other = absurd (other list refl)
+    by w at (calls.SetListUser list user) is other = omega arith
+    by w at (calls.InsertFirst list datum) is other = omega arith
+    by w at (calls.InsertLast list datum) is other = omega arith
+    by w at (calls.InsertBefore element datum) is other = omega arith
+    by w at (calls.InsertAfter element datum) is other = omega arith
+    by w at (calls.InsertOrdered list datum keys) is other = omega arith
+    by w at (calls.Delete element) is other = omega arith
+    by w at (calls.SetDatum element datum) is other = omega arith
+    by w at (calls.Table rows size user) is other = omega arith
+    by w at (calls.SetRow table row bytes) is other = omega arith
+    by w at (calls.TableDestroy table) is other = omega arith
+    by w at (calls.Length addr) is other = omega arith
+    by w at (calls.Read addr place count) is other = omega arith
+    by w at (calls.Stage addr count) is other = omega arith
+    by w at (calls.StringLength addr) is other = omega arith
+    by w at (calls.StringRead addr) is other = omega arith
+    by w at (calls.ListLength list) is other = omega arith
+    by w at (calls.ListUser list) is other = omega arith
+    by w at (calls.Search list datum keys) is other = omega arith
+    by w at (calls.First list) is other = omega arith
+    by w at (calls.Last list) is other = omega arith
+    by w at (calls.Next element) is other = omega arith
+    by w at (calls.Prev element) is other = omega arith
+    by w at (calls.Datum element) is other = omega arith
+    by w at (calls.Row table row) is other = omega arith
+    by w at (calls.Dimensions table) is other = omega arith
+    by w at (calls.TableUser table) is other = omega arith
+    by w at call is other = absurd (true≢false (sym is))

@@ -1,17 +1,12 @@
 -- A call that a heap on an image has answered, as a step of the machine.
-use Rattle.std.proofs.Common.{◌≡◌, ◌∙◌, ◌≤◌, ◌+◌, ◌⊎◌, ℕ, List, [], ◌∷◌, Bool, true, false, true≢false, not, Option, None, Some, Result, Ok, Err, inl, inr, refl, sym, ap, subst, length, arith}
+use Rattle.std.proofs.Common.{◌≡◌, ◌∙◌, ◌≤◌, ◌+◌, ◌⊎◌, ℕ, List, [], Bool, true, false, true≢false, not, Option, None, Some, Result, Ok, Err, inl, inr, refl, sym, ap, subst, length, arith}
 use Rattle.sdr_audit.specs.Standing.{HeapStandsFor}
 use Rattle.sdr_base.proofs.MovesLemmas.{Moves-none}
 use Rattle.sdr_base.specs.KeptHeap.{KeepsRegion}
-use Rattle.sdr_base.proofs.LayoutLemmas.{number_at-layout}
-use Rattle.sdr_base.specs.Blocks as base
-use Rattle.sdr_base.specs.Blocks.{IsKind}
-use Rattle.sdr_base.specs.Raws.{raw_block}
-use Rattle.sdr_base.specs.Stored.{number_at}
 use Rattle.sdr_base.specs.Transaction.{Explains}
-use Rattle.sdr_base.specs.declared.kind.Kind.TheVariants as kinds
 use Rattle.sdr_base.specs.Moves.{Leads, Moves, MovesPools}
 use Rattle.sdr_base.specs.Objects.{Heap}
+use Rattle.sdr_base.specs.Pools.{Pools}
 use Rattle.sdr_base.specs.Works.{Works}
 use Rattle.sdr_base.specs.declared.has_heap.HasHeap.{Ghosts as HeapGhosts}
 use Rattle.sdr_base.specs.declared.moves.Move.{Move}
@@ -42,21 +37,21 @@ use Rattle.sdr_model.specs.Reading.{is_reading}
 use Rattle.sdr_model.specs.Step.{StepTo, is_answer}
 use Rattle.sdr_model.specs.Steps.{Outcome}
 use Rattle.sdr_model.specs.Valid.{IsValid}
-use Rattle.sdr_model.specs.Whole.{IsWhole}
 use Rattle.sdr_model.specs.World.{World, thing_at}
 use Rattle.sdr_model.specs.Zco.{source_on}
 use Rattle.sdr_model.specs.declared.answer.Answer.TheVariants as answers
 use Rattle.sdr_model.specs.declared.answer.Reply.TheVariants as replies
-use Rattle.sdr_station.proofs.DemandLemmas.{asks_more, enough, reading_lines}
-use Rattle.sdr_station.proofs.EntryLemmas.{source_there}
+use Rattle.sdr_answers.proofs.DemandLemmas.{asks_more, enough, reading_lines}
+use Rattle.sdr_answers.proofs.EntryLemmas.{source_there}
+use Rattle.sdr_answers.proofs.GoodLemmas.{good_of}
+use Rattle.sdr_answers.proofs.ListLemmas.{IsSmall}
+use Rattle.sdr_station.proofs.StoodLemmas.{small_in, stood_of}
 use Rattle.sdr_station.proofs.GroundLemmas.{heap_ground}
 use Rattle.sdr_station.proofs.MediaLemmas.{gap_none, misses_none}
-use Rattle.sdr_station.proofs.KindLemmas.{IsRawAt, raw_is_at}
-use Rattle.sdr_station.proofs.RawLemmas.{length_of_raw}
 use Rattle.sdr_station.specs.CrashNow.{crash_now}
-use Rattle.sdr_station.specs.Answering.{Aim, Answered, Comes, IsGood, IsPlain, built, dooms, most_lines}
+use Rattle.sdr_answers.specs.Answering.{Aim, Answered, Comes, IsGood, IsServed, built, dooms, call_lines}
 use Rattle.sdr_station.specs.Closing.{moves_left}
-use Rattle.sdr_station.specs.Grounded.{Grounded, Leaves, StandsAtRest, StandsForBoth, StandsInMemory, StandsSome, StandsWithin, heap_in}
+use Rattle.sdr_station.specs.Grounded.{Grounded, HasStood, Leaves, StandsAtRest, StandsForBoth, StandsInMemory, StandsSome, StandsWithin, heap_in}
 
 -- a heap on an image, as contracts of calls on blocks see it
 abbrev pub image_heap : {D : Type 0} → (D → ℕ) → HeapGhosts (Held (Opened D))
@@ -67,6 +62,19 @@ image_heap faults = record {
   quiet = λ a b. IsQuiet a.cells b.cells × (b.size ≡ a.size);
   moved = λ a b. Moves (KeepsRegion a.size a.cells.bytes) (KeepsRegion b.size b.cells.bytes) a.moves b.moves;
 }
+
+-- calls are served in the world that an open transaction has made
+pub served_in : {D : Type 0} {h : Held (Opened D)} {shown : List ℕ} {s : State} → StandsWithin h shown s → IsServed s.world
+served_in w = record { whole = w.whole; fits = w.fits; plain = w.plain }
+
+-- what is of a kind is kept before a call
+pub good_in : {D : Type 0} (h : Held (Opened D)) (spare : ℕ) {shown : List ℕ} {s : State} → StandsWithin h shown s
+    → IsGood (heap_in (record h { moves = []; spare = spare }))
+good_in h spare {shown} {s} w =
+    let stands = w.heap in
+    good_of (heap_in (record h { moves = []; spare = spare })) s.world
+    (record { blocks = stands.blocks; roots = stands.roots; marks = stands.marks }) (served_in w)
+    (small_in (record h { moves = []; spare = spare }) w.keeps)
 
 -- a reply that answers tells of no want of log room
 not_full : (room : ℕ) (d : Demand) (w : World) (call : Call) (reply : Reply) → is_answer reply ≡ true → MayFillLog room d w call reply
@@ -106,9 +114,9 @@ module _ {D : Type 0} (faults : D → ℕ) (old : Grounded D) (going : old.stopp
 
   -- what stands still of a standing
   stands_on : (new : Grounded D) (v : Standing) → StandsInMemory old v → IsQuiet old.heap.cells new.heap.cells → new.heap.size ≡ old.heap.size → (now : State) → now.world.taken ≡ 0
-      → now.world.shown ≡ new.shown → (new.stopped ≡ false → StandsWithin new.heap new.shown now)
+      → now.world.shown ≡ new.shown → HasStood old.heap.size now.world → (new.stopped ≡ false → StandsWithin new.heap new.shown now)
       → StandsInMemory new (record { before = v.before; now = now; moves = new.heap.moves })
-  stands_on new v at q size now taken gave within = record {
+  stands_on new v at q size now taken gave stood within = record {
     sound = q.failed ∙ at.sound;
     size = ap (λ (bytes : List ℕ). length bytes) q.begun ∙ at.size ∙ sym size;
     before =
@@ -116,6 +124,7 @@ module _ {D : Type 0} (faults : D → ℕ) (old : Grounded D) (going : old.stopp
         (subst (λ (bytes : List ℕ). StandsAtRest (room_of old.heap.cells.frame) bytes v.before) (sym q.begun) at.before);
     taken = taken;
     gave = gave;
+    stood = subst (λ (n : ℕ). HasStood n now.world) (sym size) stood;
     now = within;
     moves = refl;
   }
@@ -154,13 +163,13 @@ module _ {D : Type 0} (faults : D → ℕ) (old : Grounded D) (going : old.stopp
         })
 
     -- the world after an answered call, on this heap
-    within_answered : (reply : Reply) → heap.cells.frame ≡ old.heap.cells.frame → length heap.cells.touched ≤ length old.heap.cells.touched + most_lines call
+    within_answered : (reply : Reply) → heap.cells.frame ≡ old.heap.cells.frame → length heap.cells.touched ≤ length old.heap.cells.touched + call_lines (heap_in fresh_heap) call
         → (ans : Answered v.now.world call (heap_in heap) page reply) → StandsWithin heap page (next ans.after reply)
     within_answered reply frame lines ans =
         let w = at.now going in
         let o : Outcome = record { moves = heap.moves; after = ans.after; reply = reply } in
         let whole = whole_kept v.now.world ans.after call heap.moves reply w.whole ans.fresh (inl ans.row) in
-        let more = enough v.now.demand v.now.world call o is ans.row ans.answered in
+        let more = enough v.now.demand (heap_in fresh_heap) v.now.world call o is (fresh_stands v at) (served_in w) (small_in fresh_heap w.keeps) ans.row ans.answered in
         record {
           pools = lead.after;
           base = refl;
@@ -204,18 +213,19 @@ module _ {D : Type 0} (faults : D → ℕ) (old : Grounded D) (going : old.stopp
 
   -- an answered call brings what its row does
   pub brings_answered : (reply : Reply) → Comes call (heap_in fresh_heap) (heap_in heap) old.shown page (Ok reply)
-      → Works {T = Reply} (image_heap faults) (most_lines call) fresh_heap heap (Ok reply)
+      → Works {T = Reply} (image_heap faults) (call_lines (heap_in fresh_heap) call) fresh_heap heap (Ok reply)
       → Brings StandsInMemory old (record { heap = heap; shown = page; stopped = old.stopped; moment = old.moment; restored = old.restored }) (Calls None call reply)
   brings_answered reply comes works = record {
     each = λ v at.
         let w = at.now going in
-        let ans = comes.each v.now.world (fresh_stands v at) w.whole w.plain in
+        let ans = comes.each v.now.world (fresh_stands v at) (served_in w) in
         let moves = works.moved fresh_heap (Moves-none (KeepsRegion fresh_heap.size fresh_heap.cells.bytes) (KeepsRegion fresh_heap.size fresh_heap.cells.bytes) [] (λ P k. k)) in
         let q = quiet_of works in
         let after = next v at moves ans.after reply in
         record {
           for = record { before = v.before; now = after; moves = heap.moves };
           holds = stands_on (record { heap = heap; shown = page; stopped = old.stopped; moment = old.moment; restored = old.restored }) v at q.0 q.1 after (ans.taken ∙ at.taken) ans.gave
+              (subst (λ (n : ℕ). HasStood n ans.after) q.1 (stood_of (within_answered v at moves reply q.0.frame works.room.most ans)))
               (λ _. within_answered v at moves reply q.0.frame works.room.most ans);
           tells = record {
             steps = steps_to v at moves ans.after reply q.0.frame (inl ans.row)
@@ -243,23 +253,23 @@ module _ {D : Type 0} (faults : D → ℕ) (old : Grounded D) (going : old.stopp
   -- a refused call for which there was log room
   brings_stopped : (refusal : Refusal) (n : ℕ) → moves_left refusal heap.moves ≡ heap.moves
       → ((room : ℕ) (d : Demand) (w : World) → MayFillLog room d w call (replies.Refused refusal))
-      → ((w : World) → HeapStandsFor (heap_in fresh_heap) w → IsWhole w → IsPlain w
+      → ((w : World) → HeapStandsFor (heap_in fresh_heap) w → IsServed w
       → StepTo w (record { moves = heap.moves; after = w; reply = replies.Refused refusal }) call × (is_reading call ≡ true → heap_in heap ≡ heap_in fresh_heap) × (page ≡ old.shown))
       → Moves (KeepsRegion fresh_heap.size fresh_heap.cells.bytes) (KeepsRegion heap.size heap.cells.bytes) [] heap.moves
-      → Works {T = Reply} (image_heap faults) (most_lines call) fresh_heap heap (Err (stops.Refused refusal))
+      → Works {T = Reply} (image_heap faults) (call_lines (heap_in fresh_heap) call) fresh_heap heap (Err (stops.Refused refusal))
       → Brings StandsInMemory old (refused_ground refusal n) (Calls None call (replies.Refused refusal))
   brings_stopped refusal n same full steps moves works = record {
     each = λ v at.
         let w = at.now going in
-        let s = steps v.now.world (fresh_stands v at) w.whole w.plain in
+        let s = steps v.now.world (fresh_stands v at) (served_in w) in
         let q = quiet_of works in
         let after = next v at moves v.now.world (replies.Refused refusal) in
         record {
           for = record { before = v.before; now = after; moves = moves_left refusal heap.moves };
-          holds = stands_on (refused_ground refusal n) v at q.0 q.1 after at.taken (at.gave ∙ sym s.2)
+          holds = stands_on (refused_ground refusal n) v at q.0 q.1 after at.taken (at.gave ∙ sym s.2) at.stood
               (λ going_on.
               let reads = reads_only (is_reading call) going_on in
-              let none = reading_lines call is reads in
+              let none = reading_lines (heap_in fresh_heap) call is reads in
               within_refused v at moves (refused_ground refusal n).heap refusal refl refl refl (s.1 reads) s.2 (omega (arith, works.room.most, none)));
           tells = record {
             steps = subst (λ (ms : List Move). Steps v.now call (record { reply = replies.Refused refusal; moves = ms; after = after })) (sym same)
@@ -280,22 +290,22 @@ module _ {D : Type 0} (faults : D → ℕ) (old : Grounded D) (going : old.stopp
 
   -- a refused call for which there was none
   brings_full : (lines room n : ℕ)
-      → ((w : World) → HeapStandsFor (heap_in fresh_heap) w → IsWhole w → IsPlain w → Aim w call × (is_reading call ≡ false) × (page ≡ old.shown))
-      → Works {T = Reply} (image_heap faults) (most_lines call) fresh_heap heap (Err (stops.Refused (refusals.LogFull lines room)))
+      → ((w : World) → HeapStandsFor (heap_in fresh_heap) w → IsServed w → Aim w call × (is_reading call ≡ false) × (page ≡ old.shown))
+      → Works {T = Reply} (image_heap faults) (call_lines (heap_in fresh_heap) call) fresh_heap heap (Err (stops.Refused (refusals.LogFull lines room)))
       → Brings StandsInMemory old (refused_ground (refusals.LogFull lines room) n)
       (Calls None call (replies.Refused (refusals.LogFull lines room)))
   brings_full lines room n aims works = record {
     each = λ v at.
         let w = at.now going in
         let reply = replies.Refused (refusals.LogFull lines room) in
-        let aim = aims v.now.world (fresh_stands v at) w.whole w.plain in
+        let aim = aims v.now.world (fresh_stands v at) (served_in w) in
         let q = quiet_of works in
         let after = full_state v at reply in
         let f = works.room.full in
-        let more = enough v.now.demand v.now.world call aim.0.to is aim.0.row aim.0.answered in
+        let more = enough v.now.demand (heap_in fresh_heap) v.now.world call aim.0.to is (fresh_stands v at) (served_in w) (small_in fresh_heap w.keeps) aim.0.row aim.0.answered in
         record {
           for = record { before = v.before; now = after; moves = [] };
-          holds = stands_on (refused_ground (refusals.LogFull lines room) n) v at q.0 q.1 after at.taken (at.gave ∙ sym aim.2)
+          holds = stands_on (refused_ground (refusals.LogFull lines room) n) v at q.0 q.1 after at.taken (at.gave ∙ sym aim.2) at.stood
               (λ going_on. absurd (true≢false (ap not (sym aim.1) ∙ going_on)));
           tells = record {
             steps = subst (λ (b : Ground). StepsOn b v.now call (record { reply = reply; moves = []; after = after })) (sym w.base) (record {
@@ -328,13 +338,13 @@ module _ {D : Type 0} (faults : D → ℕ) (old : Grounded D) (going : old.stopp
 
   -- a refused call brings what its step does
   pub brings_refused : (refusal : Refusal) (n : ℕ) → Comes call (heap_in fresh_heap) (heap_in heap) old.shown page (Err (stops.Refused refusal))
-      → Works {T = Reply} (image_heap faults) (most_lines call) fresh_heap heap (Err (stops.Refused refusal))
+      → Works {T = Reply} (image_heap faults) (call_lines (heap_in fresh_heap) call) fresh_heap heap (Err (stops.Refused refusal))
       → Brings StandsInMemory old (refused_ground refusal n) (Calls None call (replies.Refused refusal))
   brings_refused (refusals.LogFull lines room) n comes works =
-      brings_full lines room n (λ w stands whole plain. let r = comes.each w stands whole plain in (r.step.0, r.step.1, r.gave)) works
+      brings_full lines room n (λ w stands served. let r = comes.each w stands served in (r.step.0, r.step.1, r.gave)) works
   brings_refused refusal n comes works =
       brings_stopped refusal n refl (λ room d w. tt)
-      (λ w stands whole plain. let r = comes.each w stands whole plain in (r.step, r.left, r.gave))
+      (λ w stands served. let r = comes.each w stands served in (r.step, r.left, r.gave))
       (works.moved fresh_heap (Moves-none (KeepsRegion fresh_heap.size fresh_heap.cells.bytes) (KeepsRegion fresh_heap.size fresh_heap.cells.bytes) [] (λ P k. k)))
       works
 
@@ -383,29 +393,6 @@ no_fault faults old new lines sound stop works (inr (inl is)) =
 no_fault faults old new lines sound stop works (inr (inr is)) =
     let e = subst (λ (s : Stop). Explains {T = Reply} (transaction_of faults old.cells) (transaction_of faults new.cells) (Err s)) is works.cause.explained in
     true≢false (sym e.0 ∙ sound)
-
--- where a heap stands for a world of served calls, a raw object's block has its source word, which is 0
-pub good_of : (heap : Heap) (w : World) → HeapStandsFor heap w → IsWhole w → IsPlain w → (addr : ℕ) → IsGood (heap.blocks addr)
-good_of heap w s whole plain addr = by (heap.blocks addr) (λ kind. of (raw_is_at heap w addr s whole.valid kind))
-  where
-    of : IsRawAt heap w addr → (bytes : List ℕ) × (heap.blocks addr ≡ Some (raw_block 0 bytes))
-    of r = (r.bytes, r.block ∙ ap (λ (n : ℕ). Some (raw_block n r.bytes)) (ap or_null (plain.unnamed addr)))
-
-    first : (bytes : List ℕ) → number_at 0 (raw_block 0 bytes).bytes ≡ 0
-    first bytes = number_at-layout (0 ∷ []) bytes 0 (omega arith) (omega arith)
-
-    by : (found : Option base.Block) → (IsKind found kinds.Raw → (bytes : List ℕ) × (found ≡ Some (raw_block 0 bytes))) → IsGood found
-    by None raws = record { whole = tt; unnamed = tt }
-    by (Some block) raws = record {
-      whole = λ kind.
-          let r = raws kind in
-          let same : raw_block 0 r.0 ≡ block = cc in
-          subst (λ (b : base.Block). 8 ≤ length b.bytes) same (omega (arith, length_of_raw 0 r.0));
-      unnamed = λ kind.
-          let r = raws kind in
-          let same : raw_block 0 r.0 ≡ block = cc in
-          subst (λ (b : base.Block). number_at 0 b.bytes ≡ 0) same (first r.0);
-    }
 
 -- a reply that answers dooms nothing
 pub answers_no_doom : (call : Call) (reply : Reply) → is_answer reply ≡ true → dooms call reply ≡ false

@@ -18,7 +18,7 @@ use Rattle.sdr_model.specs.declared.answer.Reply.{Reply}
 use Rattle.sdr_model.specs.declared.answer.Reply.TheVariants as replies
 use Rattle.sdr_model.specs.declared.call.Call.{Call}
 use Rattle.sdr_model.specs.declared.event.Event.TheVariants as events
-use Rattle.sdr_station.specs.Answering.{dooms}
+use Rattle.sdr_answers.specs.Answering.{dooms}
 
 -- what isn't kept is put back
 pub settles_back : {T : Type 0} {stands : T → Standing → Type 0} {old new : T} (close : Close) → is_kept close ≡ false

@@ -1,9 +1,11 @@
 -- A heap on an image as the ground of a lock: what it stands for.
-use Rattle.std.specs.Prelude.{◌≡◌, ◌≤◌, ℕ, Bool, false, List, length, Option, Some}
+use Rattle.std.specs.Prelude.{◌≡◌, ◌≤◌, ◌*◌, ℕ, Bool, false, List, length, Option, Some}
 use Rattle.sdr_audit.specs.Standing.{HeapStandsFor, StandsForWhole}
+use Rattle.sdr_base.specs.Entries.{Few}
 use Rattle.sdr_base.specs.KeptHeap.{KeepsRegion, block_in, root_in}
 use Rattle.sdr_base.specs.Objects.{Heap}
 use Rattle.sdr_base.specs.Pools.{Pools}
+use Rattle.sdr_base.specs.declared.line.TheConstants.{LINE, MOST_LINES}
 use Rattle.sdr_disk.specs.Told.{IfTold}
 use Rattle.sdr_heap.specs.Noted.{Held, marked_in}
 use Rattle.sdr_image.specs.Opened.{Opened, Rests}
@@ -14,7 +16,8 @@ use Rattle.sdr_log.specs.Frame.{room_of}
 use Rattle.sdr_log.specs.Log.{put_back_of}
 use Rattle.sdr_model.specs.Fields.{FitsFields}
 use Rattle.sdr_model.specs.Whole.{IsWhole}
-use Rattle.sdr_station.specs.Answering.{IsPlain}
+use Rattle.sdr_model.specs.World.{World}
+use Rattle.sdr_answers.specs.Answering.{IsPlain}
 
 -- the heap; the bytes that the last answered call gave; whether the transaction can only be put back; the disk's moment; and how
 -- many lines opening has put back
@@ -58,15 +61,25 @@ pub record StandsWithin {D : Type 0} (h : Held (Opened D)) (shown : List ℕ) (s
   pub gave : s.world.shown ≡ shown
   pub lines : length h.cells.touched ≤ most_lines s.demand
 
+-- a world that a heap of so many bytes has stood for: it is whole, and its blocks are few
+pub record HasStood (size : ℕ) (w : World) : Type 0 where
+  pub heap : Heap
+  pub same : heap.size ≡ size
+  pub few : Few heap.size heap.blocks
+  pub small : heap.size ≤ LINE * MOST_LINES
+  pub stands : HeapStandsFor heap w
+  pub whole : IsWhole w
+
 -- The heap in memory, whose disk hasn't failed, stands for the states before the transaction and now: the bytes at begin stand
 -- for the one, and for the other the heap does, unless a call was stopped on its way. The moves are the heap's, and the bytes
--- that are shown are those that stand here.
+-- that are shown are those that stand here. A heap of this size has stood for the world now.
 pub record StandsInMemory {D : Type 0} (g : Grounded D) (v : Standing) : Type 0 where
   pub sound : g.heap.cells.failed ≡ false
   pub size : length g.heap.cells.begun ≡ g.heap.size
   pub before : StandsAtRest (room_of g.heap.cells.frame) g.heap.cells.begun v.before
   pub taken : v.now.world.taken ≡ 0
   pub gave : v.now.world.shown ≡ g.shown
+  pub stood : HasStood g.heap.size v.now.world
   pub now : g.stopped ≡ false → StandsWithin g.heap g.shown v.now
   pub moves : v.moves ≡ g.heap.moves
 

@@ -1,4 +1,3 @@
-pub mod Answering
 pub mod Closing
 pub mod CrashNow
 pub mod Giving

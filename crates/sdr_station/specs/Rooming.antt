@@ -9,12 +9,12 @@ use Rattle.sdr_model.specs.Step.{StepTo}
 use Rattle.sdr_model.specs.Steps.{Outcome}
 use Rattle.sdr_model.specs.World.{World}
 use Rattle.sdr_model.specs.declared.call.Call.{Call}
-use Rattle.sdr_station.specs.Grounded.{Grounded}
+use Rattle.sdr_station.specs.Grounded.{Grounded, HasStood}
 use Rattle.sdr_station.specs.Stationed.{Stationed}
 
--- no outcome to which the call may come has more moves
-abbrev pub MovesAtMost : Call → ℕ → Type 0
-MovesAtMost call most = (w : World) (o : Outcome) → StepTo w o call → length o.moves ≤ most
+-- no outcome to which the call may come, in a world that a heap of so many bytes has stood for, has more moves
+abbrev pub MovesAtMost : ℕ → Call → ℕ → Type 0
+MovesAtMost size call most = (w : World) (o : Outcome) → HasStood size w → StepTo w o call → length o.moves ≤ most
 
 -- A room for moves is told: whatever the call that follows comes to, it has no more, and the heap has room for them.
 pub record IsRoom {D : Type 0} (g : Ghosts (Grounded D)) (call : Call) (s : Stationed D) (result : Result ℕ Stop) : Type 0 where

@@ -9,15 +9,14 @@ ghost use Rattle.sdr_lock.specs.Serving.{Brings, Calls, Keeps, KeepsGround, Meet
 ghost use Rattle.sdr_lock.specs.Standing.{Standing};
 ghost use Rattle.sdr_log.specs.Calls.{KeepsDisk};
 ghost use Rattle.sdr_log.specs.Logged.{GivesSame};
-ghost use Rattle.sdr_station.specs.Answering.{built, dooms};
+ghost use Rattle.sdr_answers.specs.Answering.{built, dooms};
 ghost use Rattle.sdr_station.specs.Grounded.{StandsForBoth, StandsInMemory};
 ghost use Rattle.sdr_station.specs.Giving.{Gives};
 ghost use Rattle.sdr_station.specs.Opening.{ExplainsOpen, IsOfAudit, IsOfImage, IsOpen, disk_of};
 
-use crate::calls::{answer, built};
 use crate::closing::{cancel, commit, forget_moves, moment_since};
 use crate::error::{OpenError, Shut};
-use crate::page::Page;
+use sdr_answers::{Page, answer, built};
 use sdr_audit::{AuditError, check};
 use sdr_base::{Move, Stop};
 use sdr_disk::Disk;
@@ -271,6 +270,13 @@ impl<D: Disk> HeapGround<D> {
         ensures told { (v : Standing) → StandsInMemory self.now v → result.now ≡ v.now.world.shown }
     {
         self.shown.as_slice()
+    }
+
+    /// How many bytes the heap region has.
+    pub fn size(&self) -> u64
+        ensures { result ≡ self.now.heap.size }
+    {
+        self.heap.size()
     }
 
     /// How many lines opening has put back.

@@ -1,5 +1,5 @@
 // A transaction on the world that a disk keeps.
-ghost use Rattle.std.specs.Prelude.{◌≡◌, ◌≤◌, ◌<◌, None, true, false, IfErr, IfOk};
+ghost use Rattle.std.specs.Prelude.{◌≡◌, ◌≤◌, ◌<◌, ◌+◌, ◌/◌, None, true, false, IfErr, IfOk};
 ghost use Rattle.sdr_disk.specs.Moments.{AtEach};
 ghost use Rattle.sdr_disk.specs.Told.{IfTold};
 ghost use Rattle.sdr_image.specs.Opening.{MayBeOpened};
@@ -7,7 +7,7 @@ ghost use Rattle.sdr_lock.specs.Crash.{LeavesBefore, LeavesOr, is_kept, keeps_in
 ghost use Rattle.sdr_lock.specs.Nesting.{cancelled, closing, ended, unbegun};
 ghost use Rattle.sdr_log.specs.Calls.{KeepsDisk};
 ghost use Rattle.sdr_log.specs.Logged.{GivesSame};
-ghost use Rattle.sdr_station.specs.Answering.{built};
+ghost use Rattle.sdr_answers.specs.Answering.{built};
 ghost use Rattle.sdr_station.specs.Giving.{Fills, Gives};
 ghost use Rattle.sdr_station.specs.Opening.{ExplainsOpen, IsOpen};
 ghost use Rattle.sdr_station.specs.Rooming.{MovesAtMost, TellsRoom};
@@ -15,7 +15,7 @@ ghost use Rattle.sdr_station.specs.Stationed.{Begins, Closes, ClosesBy, HasRisen
 
 use crate::HeapGround;
 use crate::error::Shut;
-use crate::page::PAGE;
+use sdr_answers::PAGE;
 use sdr_base::{Move, Reason, Refusal, Stop};
 use sdr_disk::Disk;
 use sdr_lock::{Fault, HasGround, Nesting, Serves};
@@ -43,16 +43,19 @@ pub struct Station<D: Disk> {
     failed: Option<u64>,
 }
 
-/// How many moves a call that is served has at most.
-pub fn most_moves(call: &Call) -> u64
+/// How many moves a call that is served has at most, on a heap of so many bytes.
+pub fn most_moves(call: &Call, size: u64) -> u64
     requires { built call.now ≡ true }
-    ensures most { MovesAtMost call.now result }
-    ensures few { result ≤ 1 }
+    ensures most { MovesAtMost size call.now result }
+    ensures few { result ≤ size / 4 + 4 }
 {
-    match call {
-        Call::Malloc(_) | Call::Free(_) => 1,
-        _ => 0,
+    if let Call::ListDestroy(_) = call {
+        return size / 16 + 1;
     }
+    if call.is_reading() {
+        return 0;
+    }
+    1
 }
 
 impl<D: Disk> Model for Station<D> {
@@ -143,7 +146,7 @@ impl<D: Disk> Station<D> {
         if let Some(_) = self.failed {
             return Err(Stop::Failed);
         }
-        Ok(most_moves(call))
+        Ok(most_moves(call, self.ground.size()))
     }
 
     /// Makes a call. Where it gives bytes, they are put at the front of the buffer, and the reply tells how many.

@@ -1,12 +1,11 @@
 // What a heap on an image tells of its calls.
 ghost use Rattle.std.specs.Prelude.{◌≡◌, true};
-ghost use Rattle.sdr_station.specs.Answering.{built};
+ghost use Rattle.sdr_answers.specs.Answering.{built};
 ghost use Rattle.sdr_station.specs.Telling.{BytesAtMost};
 
 use crate::HeapGround;
-use crate::calls::built;
-use crate::page::PAGE;
 use crate::station::most_moves;
+use sdr_answers::{PAGE, built};
 use sdr_base::{Move, NoMemory};
 use sdr_disk::Disk;
 use sdr_lock::{Room, Tells};
@@ -20,6 +19,7 @@ fn most_bytes(call: &Call) -> usize
 {
     match call {
         Call::Read(_, _, count) | Call::Stage(_, count) => (*count).min(PAGE as u64) as usize,
+        Call::StringRead(_) | Call::Row(_, _) => PAGE,
         _ => 0,
     }
 }
@@ -38,7 +38,7 @@ impl<D: Disk> Tells for HeapGround<D> {
             return Err(AllocError);
         }
         Ok(Room {
-            moves: most_moves(call) as usize,
+            moves: most_moves(call, self.size()) as usize,
             bytes: most_bytes(call),
         })
     }

@@ -1,8 +1,8 @@
 use Rattle.std.proofs.Common.{◌∙◌, ap, inl, inr, not, subst}
 use Rattle.sdr_model.specs.declared.answer.Reply.TheVariants as replies
 use Rattle.sdr_station.proofs.CameLemmas.{CameTo, came_answered, came_refused, faults_never, good_before, keeps_before}
-use Rattle.sdr_station.specs.Answering.{most_lines}
-use Rattle.sdr_station.specs.Grounded.{Grounded}
+use Rattle.sdr_answers.specs.Answering.{call_lines}
+use Rattle.sdr_station.specs.Grounded.{Grounded, heap_in}
 use Rattle.sdr_station.proofs.ground.HeapGround.serve.Goals as goal
 
 pub answer-requires-clause-kept : goal.answer-requires-clause-kept
@@ -16,19 +16,19 @@ answer-requires-clause-good g c =
 pub unreachable-requires : goal.unreachable-requires
 unreachable-requires g c =
     faults_never _ c.self.invariant (ap (λ (o : Grounded g.row.D.Denot). o.stopped) c.self.view_is ∙ c.requires.going) c.fresh.new.self c.fresh.ensures.none
-    g.D.Disk.faults c.answer.new.o (most_lines c.args.call.now) c.in-Err-DiskFault.field-0 c.in-Err-DiskFault.ensures.works
+    g.D.Disk.faults c.answer.new.o (call_lines (heap_in c.fresh.new.self) c.args.call.now) c.in-Err-DiskFault.field-0 c.in-Err-DiskFault.ensures.works
     (inl c.in-Err-DiskFault.field-0-is)
 
 pub unreachable-requires-in-Err-MediaFault : goal.unreachable-requires-in-Err-MediaFault
 unreachable-requires-in-Err-MediaFault g c =
     faults_never _ c.self.invariant (ap (λ (o : Grounded g.row.D.Denot). o.stopped) c.self.view_is ∙ c.requires.going) c.fresh.new.self c.fresh.ensures.none
-    g.D.Disk.faults c.answer.new.o (most_lines c.args.call.now) c.in-Err-MediaFault.field-0 c.in-Err-MediaFault.ensures.works
+    g.D.Disk.faults c.answer.new.o (call_lines (heap_in c.fresh.new.self) c.args.call.now) c.in-Err-MediaFault.field-0 c.in-Err-MediaFault.ensures.works
     (inr (inl c.in-Err-MediaFault.field-0-is))
 
 pub unreachable-requires-in-Err-Failed : goal.unreachable-requires-in-Err-Failed
 unreachable-requires-in-Err-Failed g c =
     faults_never _ c.self.invariant (ap (λ (o : Grounded g.row.D.Denot). o.stopped) c.self.view_is ∙ c.requires.going) c.fresh.new.self c.fresh.ensures.none
-    g.D.Disk.faults c.answer.new.o (most_lines c.args.call.now) c.in-Err-Failed.field-0 c.in-Err-Failed.ensures.works
+    g.D.Disk.faults c.answer.new.o (call_lines (heap_in c.fresh.new.self) c.args.call.now) c.in-Err-Failed.field-0 c.in-Err-Failed.ensures.works
     (inr (inr c.in-Err-Failed.field-0-is))
 
 pub returns-in-Ok : goal.returns-in-Ok
@@ -48,7 +48,7 @@ returns-in-Ok g c =
       restored = c.self.inside.restored;
     } in
     let came = came_answered b m f l _ c.self.invariant going c.args.call.now c.requires.built c.in-Ok.ensures.fits c.fresh.new.self
-        c.fresh.ensures.none c.answer.new.o c.answer.new.page reply c.in-Ok.ensures.comes c.in-Ok.ensures.works in
+    c.fresh.ensures.none c.answer.new.o c.answer.new.page reply c.in-Ok.ensures.comes c.in-Ok.ensures.works in
     let at : CameTo b m f l c.args.call.now reply c.args.self.now new =
     subst (λ (o : Grounded D). CameTo b m f l c.args.call.now reply o new) c.self.view_is came in
     record {
@@ -80,8 +80,8 @@ returns-in-Err-Refused g c =
       restored = c.self.inside.restored;
     } in
     let came = came_refused b m f l _ c.self.invariant going c.args.call.now c.requires.built e.ensures.fits c.fresh.new.self
-        c.fresh.ensures.none c.answer.new.o c.answer.new.page e.refusal e.field-0 e.field-0-is c.forget_moves.new.heap
-        c.forget_moves.ensures c.is_reading.result c.is_reading.ensures e.ensures.comes e.ensures.works in
+    c.fresh.ensures.none c.answer.new.o c.answer.new.page e.refusal e.field-0 e.field-0-is c.forget_moves.new.heap
+    c.forget_moves.ensures c.is_reading.result c.is_reading.ensures e.ensures.comes e.ensures.works in
     let at : CameTo b m f l c.args.call.now reply c.args.self.now new =
     subst (λ (o : Grounded D). CameTo b m f l c.args.call.now reply o new) c.self.view_is came in
     record {
@@ -104,7 +104,7 @@ invariant_of-self g c =
     let f = g.D.Disk.faults in
     let going = ap (λ (o : Grounded D). o.stopped) c.self.view_is ∙ c.requires.going in
     let came = came_answered b m f l _ c.self.invariant going c.args.call.now c.requires.built c.in-Ok.ensures.fits c.fresh.new.self
-        c.fresh.ensures.none c.answer.new.o c.answer.new.page c.in-Ok.reply c.in-Ok.ensures.comes c.in-Ok.ensures.works in
+    c.fresh.ensures.none c.answer.new.o c.answer.new.page c.in-Ok.reply c.in-Ok.ensures.comes c.in-Ok.ensures.works in
     came.is_ground
 
 pub invariant_of-self-in-Err-Refused : goal.invariant_of-self-in-Err-Refused
@@ -117,6 +117,6 @@ invariant_of-self-in-Err-Refused g c =
     let going = ap (λ (o : Grounded D). o.stopped) c.self.view_is ∙ c.requires.going in
     let e = c.in-Err-Refused in
     let came = came_refused b m f l _ c.self.invariant going c.args.call.now c.requires.built e.ensures.fits c.fresh.new.self
-        c.fresh.ensures.none c.answer.new.o c.answer.new.page e.refusal e.field-0 e.field-0-is c.forget_moves.new.heap
-        c.forget_moves.ensures c.is_reading.result c.is_reading.ensures e.ensures.comes e.ensures.works in
+    c.fresh.ensures.none c.answer.new.o c.answer.new.page e.refusal e.field-0 e.field-0-is c.forget_moves.new.heap
+    c.forget_moves.ensures c.is_reading.result c.is_reading.ensures e.ensures.comes e.ensures.works in
     came.is_ground

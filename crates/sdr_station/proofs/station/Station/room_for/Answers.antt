@@ -13,5 +13,5 @@ returns-clause-room g c =
       room = room;
       told = refl;
       most = omega (arith, few);
-      enough = λ v at o steps. steps_at_most c.args.call.now room c.most_moves.ensures.most v.now.base v.now o steps;
+      enough = λ v at o steps. steps_at_most _ c.args.call.now room c.most_moves.ensures.most v.now.base v.now ? o steps;
     })

@@ -1,0 +1,156 @@
+-- What a call comes to on a heap that stands for a world.
+use Rattle.std.specs.Prelude.{◌≡◌, ◌+◌, ◌*◌, ◌/◌, ℕ, Bool, true, false, not, List, [], length, ⊤, All, None, Result, Ok, Err}
+use Rattle.sdr_audit.specs.Standing.{HeapStandsFor}
+use Rattle.sdr_audit.specs.Ties.{ties_of}
+use Rattle.sdr_base.specs.Objects.{Heap}
+use Rattle.sdr_base.specs.declared.moves.Move.{Move}
+use Rattle.sdr_base.specs.declared.refusal.Refusal.{Refusal}
+use Rattle.sdr_base.specs.declared.refusal.Refusal.TheVariants as refusals
+use Rattle.sdr_base.specs.declared.stop.Stop.{Stop}
+use Rattle.sdr_base.specs.declared.stop.Stop.TheVariants as stops
+use Rattle.sdr_heap.specs.Raw.{IsUnnamed, IsWhole}
+use Rattle.sdr_laws.specs.Fresh.{AreFresh}
+use Rattle.sdr_list.specs.Kept.{IsElement, IsList, elements_in}
+use Rattle.sdr_model.specs.Blocks.{addresses_of, blocks_of}
+use Rattle.sdr_model.specs.Fields.{FitsFields, IsWord}
+use Rattle.sdr_model.specs.Reading.{is_reading}
+use Rattle.sdr_model.specs.Rows.{ByRow}
+use Rattle.sdr_model.specs.Step.{StepTo, is_answer}
+use Rattle.sdr_model.specs.Steps.{Outcome, taken_addresses}
+use Rattle.sdr_model.specs.Whole as model
+use Rattle.sdr_model.specs.World.{World}
+use Rattle.sdr_model.specs.Zco.{source_on}
+use Rattle.sdr_model.specs.declared.answer.Reply.{Reply}
+use Rattle.sdr_model.specs.declared.answer.Reply.TheVariants as replies
+use Rattle.sdr_model.specs.declared.call.Call.{Call}
+use Rattle.sdr_model.specs.declared.call.Call.TheVariants as calls
+use Rattle.sdr_string.specs.Calls.{IsString}
+use Rattle.sdr_table.specs.Kept.{IsTable}
+
+-- a world that calls which are served leave: there is no ticket, and no source of a raw object
+pub record IsPlain (w : World) : Type 0 where
+  pub inbound : w.accounts.inbound.tickets ≡ []
+  pub outbound : w.accounts.outbound.tickets ≡ []
+  pub unnamed : (raw : ℕ) → source_on w raw ≡ None
+
+-- a world in which calls are served: it is whole, its numbers fit the fields of blocks, and it is plain
+pub record IsServed (w : World) : Type 0 where
+  pub whole : model.IsWhole w
+  pub fits : FitsFields w
+  pub plain : IsPlain w
+
+-- What is of a kind is kept: a raw object's block has its source word, which is 0, a string's has its text and a table's its
+-- rows, and a list is kept for the block of a list and for that of an element.
+pub record IsGood (heap : Heap) : Type 0 where
+  pub raws : (addr : ℕ) → IsWhole (heap.blocks addr)
+  pub unnamed : (addr : ℕ) → IsUnnamed (heap.blocks addr)
+  pub strings : (addr : ℕ) → IsString (heap.blocks addr)
+  pub lists : (addr : ℕ) → IsList heap.blocks addr
+  pub elements : (addr : ℕ) → IsElement heap.blocks addr
+  pub tables : (addr : ℕ) → IsTable (heap.blocks addr)
+
+-- whether the call is served
+abbrev pub built : Call → Bool
+built (calls.Malloc bytes) = true
+built (calls.Free addr) = true
+built (calls.Length addr) = true
+built (calls.Read addr place count) = true
+built (calls.Write addr place bytes) = true
+built (calls.Stage addr count) = true
+built (calls.String text) = true
+built (calls.StringLength addr) = true
+built (calls.StringRead addr) = true
+built (calls.StringDup addr) = true
+built (calls.List user) = true
+built (calls.ListDestroy list) = true
+built (calls.ListLength list) = true
+built (calls.ListUser list) = true
+built (calls.SetListUser list user) = true
+built (calls.InsertFirst list datum) = true
+built (calls.InsertLast list datum) = true
+built (calls.InsertBefore element datum) = true
+built (calls.InsertAfter element datum) = true
+built (calls.InsertOrdered list datum keys) = true
+built (calls.Search list datum keys) = true
+built (calls.Delete element) = true
+built (calls.First list) = true
+built (calls.Last list) = true
+built (calls.Next element) = true
+built (calls.Prev element) = true
+built (calls.Datum element) = true
+built (calls.SetDatum element datum) = true
+built (calls.Table rows size user) = true
+built (calls.Row table row) = true
+built (calls.SetRow table row bytes) = true
+built (calls.Dimensions table) = true
+built (calls.TableUser table) = true
+built (calls.TableDestroy table) = true
+built call = false
+
+-- whether a call that was answered so dooms its transaction: it is a change that was refused
+abbrev pub dooms : Call → Reply → Bool
+dooms call (replies.Refused refusal) = not (is_reading call)
+dooms call reply = false
+
+-- so many lines a call that is served touches at most on this heap
+abbrev pub call_lines : Heap → Call → ℕ
+call_lines heap (calls.Malloc bytes) = 24 + (8 + bytes) / 64
+call_lines heap (calls.Free addr) = 24
+call_lines heap (calls.Write addr place bytes) = 2 + length bytes / 64
+call_lines heap (calls.String text) = 26 + (1 + length text) / 32
+call_lines heap (calls.StringDup addr) = 34
+call_lines heap (calls.List user) = 29
+call_lines heap (calls.ListDestroy list) = 24 * (elements_in (heap.blocks list) + 1)
+call_lines heap (calls.SetListUser list user) = 2
+call_lines heap (calls.InsertFirst list datum) = 35
+call_lines heap (calls.InsertLast list datum) = 35
+call_lines heap (calls.InsertBefore element datum) = 35
+call_lines heap (calls.InsertAfter element datum) = 35
+call_lines heap (calls.InsertOrdered list datum keys) = 35
+call_lines heap (calls.Delete element) = 30
+call_lines heap (calls.SetDatum element datum) = 2
+call_lines heap (calls.Table rows size user) = 26 + (24 + rows * size) / 64
+call_lines heap (calls.SetRow table row bytes) = 2 + length bytes / 64
+call_lines heap (calls.TableDestroy table) = 24
+call_lines heap call = 0
+
+-- what the row of a call gives, where it is answered
+pub record Aim (w : World) (call : Call) : Type 0 where
+  pub to : Outcome
+  pub row : ByRow w to call
+  pub answered : is_answer to.reply ≡ true
+
+-- A call that had no move before is answered by its row, with the heap's moves, of which each takes a block where none was. The
+-- heap stands for the world after it, which shows these bytes.
+pub record Answered (w : World) (call : Call) (new : Heap) (shown : List ℕ) (reply : Reply) : Type 0 where
+  pub after : World
+  pub row : ByRow w (record { moves = new.moves; after = after; reply = reply }) call
+  pub answered : is_answer reply ≡ true
+  pub fresh : AreFresh (addresses_of (blocks_of w)) new.moves
+  pub stands : HeapStandsFor new after
+  pub gave : after.shown ≡ shown
+  pub words : All IsWord (taken_addresses new.moves)
+  pub ties : ties_of after ≡ ties_of w
+  pub accounts : after.accounts ≡ w.accounts
+  pub taken : after.taken ≡ w.taken
+
+-- The call is refused by a step that leaves the world. Where log room is wanting, its row would answer it.
+abbrev pub StepsRefused : World → Call → List Move → Refusal → Type 0
+StepsRefused w call moves (refusals.LogFull lines room) = Aim w call × (is_reading call ≡ false)
+StepsRefused w call moves refusal = StepTo w (record { moves = moves; after = w; reply = replies.Refused refusal }) call
+
+-- The call is refused by such a step. One that reads leaves the heap, and the bytes that are shown stay.
+pub record IsRefused (w : World) (call : Call) (old new : Heap) (was shown : List ℕ) (refusal : Refusal) : Type 0 where
+  pub step : StepsRefused w call new.moves refusal
+  pub left : is_reading call ≡ true → new ≡ old
+  pub gave : shown ≡ was
+
+-- what a call comes to in a world
+abbrev pub ComesIn : World → Call → Heap → Heap → List ℕ → List ℕ → Result Reply Stop → Type 0
+ComesIn w call old new was shown (Ok reply) = Answered w call new shown reply
+ComesIn w call old new was shown (Err (stops.Refused refusal)) = IsRefused w call old new was shown refusal
+ComesIn w call old new was shown (Err stop) = ⊤
+
+-- what a call comes to in each world in which calls are served and for which the heap stood
+pub record Comes (call : Call) (old new : Heap) (was shown : List ℕ) (result : Result Reply Stop) : Type 0 where
+  pub each : (w : World) → HeapStandsFor old w → IsServed w → ComesIn w call old new was shown result

@@ -1,0 +1,202 @@
+-- The bytes that the row of a served call gives.
+use Rattle.std.proofs.Common.{◌≡◌, ◌∙◌, ◌≤◌, ◌<◌, ◌+◌, ◌*◌, ◌++◌, ◌∷◌, ℕ, List, [], Bool, true, false, true≢false, Option, None, Some, MatchBool, MatchOption, length, take, min, nat_lt, nat_le, refl, sym, ap, subst, arith}
+use Rattle.std.specs.Prelude.{IfSome}
+use Rattle.std.proofs.lemmas.Bool.{ltb-false}
+use Rattle.std.proofs.lemmas.Bool.Decides.{nat_tests}
+use Rattle.std.proofs.lemmas.List.{length-take-le}
+use Rattle.sdr_answers.specs.Answering.{built}
+use Rattle.sdr_base.proofs.PartsLemmas.{length-part}
+use Rattle.sdr_base.specs.Parts.{part}
+use Rattle.sdr_base.specs.declared.moves.Move.{Move}
+use Rattle.sdr_base.specs.declared.moves.Move.TheVariants.{Took}
+use Rattle.sdr_base.specs.declared.refusal.Refusal.{Refusal}
+use Rattle.sdr_base.specs.declared.refusal.Refusal.TheVariants as refusals
+use Rattle.sdr_lock.proofs.StepLemmas.{from_option, from_test}
+use Rattle.sdr_lock.specs.Transaction.{bytes_given}
+use Rattle.sdr_model.proofs.TableLemmas.{row-within}
+use Rattle.sdr_model.specs.Limits.{longest_raw, longest_read, longest_string}
+use Rattle.sdr_model.specs.ListSteps.{as_list}
+use Rattle.sdr_model.specs.RawSteps.{FreesThing}
+use Rattle.sdr_model.specs.Rows.{ByRow}
+use Rattle.sdr_model.specs.Steps.{Does, Makes, On, Outcome, Reads, Refuses, Takes, TakesOne, with_thing}
+use Rattle.sdr_model.specs.TableSteps.{as_table}
+use Rattle.sdr_model.specs.Tables.{Table}
+use Rattle.sdr_model.specs.Valid.{IsValidTable, IsValidThing}
+use Rattle.sdr_model.specs.Whole.{IsWhole}
+use Rattle.sdr_model.specs.World.{World, as_raw, as_text, block_at, is_marked, misnamed, spot_of, thing_at}
+use Rattle.sdr_model.specs.Zco.{source_on, uses_of}
+use Rattle.sdr_model.specs.declared.answer.Answer.TheVariants as answers
+use Rattle.sdr_model.specs.declared.answer.Reply.{Reply}
+use Rattle.sdr_model.specs.declared.answer.Reply.TheVariants as replies
+use Rattle.sdr_model.specs.declared.call.Call.{Call}
+use Rattle.sdr_model.specs.declared.call.Call.TheVariants as calls
+use Rattle.sdr_model.specs.declared.things.Thing.{Thing}
+use Rattle.sdr_model.specs.declared.things.Thing.TheVariants as things
+
+-- whether a reply tells of bytes
+abbrev pub tells_bytes : Reply → Bool
+tells_bytes (replies.Bytes count) = true
+tells_bytes reply = false
+
+-- an outcome is refused, or gives no bytes, or gives as many as it tells, up to a count
+pub data Given (o : Outcome) (most : ℕ) : Type 0 where
+  refuses : (refusal : Refusal) → o.reply ≡ replies.Refused refusal → Given o most
+  none : o.after.shown ≡ [] → tells_bytes o.reply ≡ false → Given o most
+  gives : (count : ℕ) → o.reply ≡ replies.Bytes count → length o.after.shown ≡ count → count ≤ most → Given o most
+
+-- so it gives so many at most
+pub given_few : (o : Outcome) (most : ℕ) → Given o most → length (bytes_given (answers.Reply o.reply) o.after.shown) ≤ most
+given_few o most (Given.refuses refusal is) = subst (λ r. length (bytes_given (answers.Reply r) o.after.shown) ≤ most) (sym is) (omega arith)
+given_few o most (Given.none shown untold) = by o.reply
+  where
+    few : length o.after.shown ≤ most
+    few = let none = ap (λ (l : List ℕ). length l) shown in omega (arith, none)
+
+    by : (reply : Reply) → length (bytes_given (answers.Reply reply) o.after.shown) ≤ most
+    by (replies.Refused refusal) = omega arith
+    by replies.MediaFault = omega arith
+    by reply = few
+given_few o most (Given.gives count is long few) =
+    subst (λ r. length (bytes_given (answers.Reply r) o.after.shown) ≤ most) (sym is) (omega (arith, long, few))
+
+-- and where it tells of bytes, it gives as many
+pub given_told : (o : Outcome) (most count : ℕ) → Given o most → o.reply ≡ replies.Bytes count → length o.after.shown ≡ count
+given_told o most count (Given.refuses refusal is) told = absurd (let no : replies.Refused refusal ≡ replies.Bytes count = sym is ∙ told in cc)
+given_told o most count (Given.none shown untold) told = absurd (true≢false (sym (ap tells_bytes told) ∙ untold))
+given_told o most count (Given.gives n is long few) told =
+    let same : replies.Bytes n ≡ replies.Bytes count = sym is ∙ told in
+    let n_is : n ≡ count = cc in
+    long ∙ n_is
+
+-- so many bytes the row of a served call gives at most
+abbrev pub most_given : Call → ℕ
+most_given (calls.Read addr place count) = min count 4096
+most_given (calls.Stage addr count) = min count 4096
+most_given (calls.StringRead addr) = 4096
+most_given (calls.Row table row) = 4096
+most_given call = 0
+
+-- the texts of a whole world are short
+text_short : (w : World) (addr : ℕ) (text : List ℕ) → IsWhole w → as_text (thing_at w addr) ≡ Some text → length text ≤ longest_string
+text_short w addr text whole is = by (thing_at w addr) refl is
+  where
+    by : (found : Option Thing) → thing_at w addr ≡ found → as_text found ≡ Some text → length text ≤ longest_string
+    by (Some (things.Text found)) there is =
+        let valid : length found ≤ longest_string = subst (λ (o : Option Thing). IfSome o IsValidThing) there (whole.valid.things addr) in
+        let same : found ≡ text = cc in
+        subst (λ (t : List ℕ). length t ≤ longest_string) same valid
+    by found there is = absurd (let no : None ≡ Some text = is in cc)
+
+-- and its tables have just their rows
+table_valid : (w : World) (addr : ℕ) (table : Table) → IsWhole w → as_table (thing_at w addr) ≡ Some table → IsValidTable table
+table_valid w addr table whole is = by (thing_at w addr) refl is
+  where
+    by : (found : Option Thing) → thing_at w addr ≡ found → as_table found ≡ Some table → IsValidTable table
+    by (Some (things.Table found)) there is =
+        let valid : IsValidTable found = subst (λ (o : Option Thing). IfSome o IsValidThing) there (whole.valid.things addr) in
+        let same : found ≡ table = cc in
+        subst (λ (t : Table). IsValidTable t) same valid
+    by found there is = absurd (let no : None ≡ Some table = is in cc)
+
+-- what the row of a served call gives
+module _ (w : World) (o : Outcome) where
+  refused : {most : ℕ} (refusal : Refusal) → Refuses w o refusal → Given o most
+  refused refusal h = Given.refuses refusal h.2
+
+  does : {most : ℕ} {moves : List Move} {next : World} {reply : Reply} → tells_bytes reply ≡ false → Does o moves next reply → Given o most
+  does untold h = Given.none (ap (λ (x : World). x.shown) h.1) (ap tells_bytes h.2 ∙ untold)
+
+  reads : {most : ℕ} {reply : Reply} → tells_bytes reply ≡ false → Reads w o [] reply → Given o most
+  reads untold h = Given.none (ap (λ (x : World). x.shown) h.1) (ap tells_bytes h.2 ∙ untold)
+
+  shows : {most : ℕ} (v : World) (bytes : List ℕ) (n : ℕ) → length bytes ≡ n → n ≤ most → Reads v o bytes (replies.Bytes n) → Given o most
+  shows v bytes n long few h = Given.gives n h.2 (ap (λ (x : World). length x.shown) h.1 ∙ long) few
+
+  takes : {most : ℕ} (need : ℕ) (next : ℕ → World) → Takes w o need next (λ addr. replies.At addr) → Given o most
+  takes {most} need next h = by o.moves h
+    where
+      by : (moves : List Move) → TakesOne moves need (λ addr. (o.after ≡ record (next addr) { marks = w.marks ++ addr ∷ []; shown = [] }) × (o.reply ≡ replies.At addr)) → Given o most
+      by (Took n addr ∷ []) t = Given.none (ap (λ (x : World). x.shown) t.1.0) (ap tells_bytes t.1.1)
+      by moves t = absurd t
+
+  makes : {most : ℕ} (need : ℕ) (thing : Thing) → Makes w o need thing → Given o most
+  makes need thing h = takes need (λ addr. with_thing w addr thing) h
+
+  on : {X : Type 0} {goes : X → Type 0} {most : ℕ} (addr : ℕ) (named : Option X) → On w o addr named goes
+      → ((x : X) → named ≡ Some x → goes x → Given o most) → Given o most
+  on addr named h f = from_option named h (λ _ h. refused (misnamed w addr) h) f
+
+  unless : {P : Type 0} {most : ℕ} (b : Bool) (refusal : Refusal) → MatchBool b (Refuses w o refusal) P → (b ≡ false → P → Given o most) → Given o most
+  unless b refusal h f = from_test b h (λ _ h. refused refusal h) f
+
+  where_so : {P : Type 0} {most : ℕ} (b : Bool) (refusal : Refusal) → MatchBool b P (Refuses w o refusal) → (P → Given o most) → Given o most
+  where_so b refusal h f = from_test b h (λ _ p. f p) (λ _ h. refused refusal h)
+
+  frees : (addr : ℕ) (raw text : Option (List ℕ)) → FreesThing w o addr raw text → Given o 0
+  frees addr None None h = refused (misnamed w addr) h
+  frees addr (Some bytes) text h =
+      from_option (source_on w addr) h (λ _ h. does refl h) (λ source _ h. refused (refusals.InUse addr (uses_of w source)) h)
+  frees addr None (Some text) h = does refl h
+
+  few_read : (count : ℕ) → nat_lt longest_read count ≡ false → count ≤ min count 4096
+  few_read count page = grind (arith, nat_tests)
+
+  pub given_row : (call : Call) → built call ≡ true → IsWhole w → ByRow w o call → Given o (most_given call)
+  given_row (calls.Malloc bytes) is whole h =
+      unless (nat_lt longest_raw bytes) (refusals.BadLength bytes longest_raw) h (λ _ h. makes _ _ h)
+  given_row (calls.Free addr) is whole h = frees addr (as_raw (thing_at w addr)) (as_text (thing_at w addr)) h
+  given_row (calls.Length addr) is whole h = on addr (block_at w addr) h (λ b _ h. reads refl h)
+  given_row (calls.Read addr place count) is whole h = on addr (as_raw (thing_at w addr)) h (λ bytes _ h.
+      unless (nat_lt longest_read count) (refusals.BadLength count longest_read) h (λ page h.
+      unless (nat_lt (length bytes) (place + count)) (refusals.OutOfBounds addr place count) h (λ inside h.
+      shows w (part place count bytes) count (length-part place count bytes (ltb-false _ _ inside)) (few_read count page) h)))
+  given_row (calls.Write addr place from) is whole h = on addr (as_raw (thing_at w addr)) h (λ bytes _ h.
+      unless (nat_lt (length bytes) (place + length from)) (refusals.OutOfBounds addr place (length from)) h (λ _ h.
+      where_so (is_marked w addr) (refusals.NotStaged addr) h (λ h. does refl h)))
+  given_row (calls.Stage addr count) is whole h = on addr (as_raw (thing_at w addr)) h (λ bytes _ h.
+      unless (nat_lt longest_read count) (refusals.BadLength count longest_read) h (λ page h.
+      unless (nat_lt (length bytes) count) (refusals.OutOfBounds addr 0 count) h (λ inside h.
+      shows (record w { marks = w.marks ++ addr ∷ [] }) (take count bytes) count (length-take-le count bytes (ltb-false _ _ inside)) (few_read count page) h)))
+  given_row (calls.String text) is whole h =
+      unless (nat_lt longest_string (length text)) (refusals.BadLength (length text) longest_string) h (λ _ h. makes _ _ h)
+  given_row (calls.StringLength addr) is whole h = on addr (as_text (thing_at w addr)) h (λ text _ h. reads refl h)
+  given_row (calls.StringRead addr) is whole h = on addr (as_text (thing_at w addr)) h (λ text there h.
+      let short = text_short w addr text whole there in
+      shows w text (length text) refl (omega (arith, short)) h)
+  given_row (calls.StringDup addr) is whole h = on addr (as_text (thing_at w addr)) h (λ text _ h. makes _ _ h)
+  given_row (calls.List user) is whole h = makes _ _ h
+  given_row (calls.ListDestroy addr) is whole h = on addr (as_list (thing_at w addr)) h (λ row _ h. does refl h)
+  given_row (calls.ListLength addr) is whole h = on addr (as_list (thing_at w addr)) h (λ row _ h. reads refl h)
+  given_row (calls.ListUser addr) is whole h = on addr (as_list (thing_at w addr)) h (λ row _ h. reads refl h)
+  given_row (calls.SetListUser addr user) is whole h = on addr (as_list (thing_at w addr)) h (λ row _ h. does refl h)
+  given_row (calls.InsertFirst addr datum) is whole h = on addr (as_list (thing_at w addr)) h (λ row _ h. takes _ _ h)
+  given_row (calls.InsertLast addr datum) is whole h = on addr (as_list (thing_at w addr)) h (λ row _ h. takes _ _ h)
+  given_row (calls.InsertBefore element datum) is whole h = on element (spot_of w element) h (λ s _ h. takes _ _ h)
+  given_row (calls.InsertAfter element datum) is whole h = on element (spot_of w element) h (λ s _ h. takes _ _ h)
+  given_row (calls.InsertOrdered addr datum by) is whole h = on addr (as_list (thing_at w addr)) h (λ row _ h. takes _ _ h)
+  given_row (calls.Search addr datum by) is whole h = on addr (as_list (thing_at w addr)) h (λ row _ h. reads refl h)
+  given_row (calls.Delete element) is whole h = on element (spot_of w element) h (λ s _ h. does refl h)
+  given_row (calls.First addr) is whole h = on addr (as_list (thing_at w addr)) h (λ row _ h. reads refl h)
+  given_row (calls.Last addr) is whole h = on addr (as_list (thing_at w addr)) h (λ row _ h. reads refl h)
+  given_row (calls.Next element) is whole h = on element (spot_of w element) h (λ s _ h. reads refl h)
+  given_row (calls.Prev element) is whole h = on element (spot_of w element) h (λ s _ h. reads refl h)
+  given_row (calls.Datum element) is whole h = on element (spot_of w element) h (λ s _ h. reads refl h)
+  given_row (calls.SetDatum element datum) is whole h = on element (spot_of w element) h (λ s _ h. does refl h)
+  given_row (calls.Table rows size user) is whole h =
+      unless (nat_lt longest_raw rows) (refusals.BadLength rows longest_raw) h (λ _ h.
+      unless (nat_lt longest_raw size) (refusals.BadLength size longest_raw) h (λ _ h.
+      unless (nat_lt longest_raw (rows * size)) (refusals.BadLength (rows * size) longest_raw) h (λ _ h. makes _ _ h)))
+  given_row (calls.Row addr row) is whole h = on addr (as_table (thing_at w addr)) h (λ table there h.
+      unless (nat_le table.rows row) (refusals.BadRow row table.rows) h (λ inside h.
+      unless (nat_lt longest_read table.size) (refusals.BadLength table.size longest_read) h (λ page h.
+      let valid = table_valid w addr table whole there in
+      let within : table.size * row + table.size ≤ length table.bytes = row-within table.rows table.size row (length table.bytes) (grind (arith, nat_tests)) valid.bytes in
+      let few : table.size ≤ 4096 = grind (arith, nat_tests) in
+      shows w (part (table.size * row) table.size table.bytes) table.size (length-part (table.size * row) table.size table.bytes within) few h)))
+  given_row (calls.SetRow addr row from) is whole h = on addr (as_table (thing_at w addr)) h (λ table _ h.
+      unless (nat_le table.rows row) (refusals.BadRow row table.rows) h (λ _ h.
+      where_so (length from == table.size) (refusals.BadLength (length from) table.size) h (λ h. does refl h)))
+  given_row (calls.Dimensions addr) is whole h = on addr (as_table (thing_at w addr)) h (λ table _ h. reads refl h)
+  given_row (calls.TableUser addr) is whole h = on addr (as_table (thing_at w addr)) h (λ table _ h. reads refl h)
+  given_row (calls.TableDestroy addr) is whole h = on addr (as_table (thing_at w addr)) h (λ table _ h. does refl h)
+  given_row call is whole h = absurd (true≢false (sym is))

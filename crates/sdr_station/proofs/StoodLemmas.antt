@@ -1,0 +1,40 @@
+-- A world that a heap has stood for.
+use Rattle.std.proofs.Common.{◌≡◌, ◌≤◌, ◌*◌, ◌+◌, ℕ, List, Option, None, Some, refl, length, arith}
+use Rattle.std.specs.Prelude.{IfSome}
+use Rattle.std.proofs.lemmas.List.{length-map}
+use Rattle.sdr_answers.proofs.ListLemmas.{IsSmall, few_elements}
+use Rattle.sdr_audit.proofs.ChangeLemmas.{apart}
+use Rattle.sdr_base.proofs.FewLemmas.{region_small}
+use Rattle.sdr_base.specs.KeptHeap.{KeepsRegion}
+use Rattle.sdr_base.specs.Pools.{Pools}
+use Rattle.sdr_heap.specs.Noted.{Held}
+use Rattle.sdr_image.specs.Opened.{Opened}
+use Rattle.sdr_lock.specs.Ground.{State}
+use Rattle.sdr_model.specs.ListSteps.{as_list}
+use Rattle.sdr_model.specs.RowMoves.{elements_in}
+use Rattle.sdr_model.specs.World.{World, thing_at}
+use Rattle.sdr_model.specs.declared.things.Element.{Element}
+use Rattle.sdr_model.specs.declared.things.Thing.{Thing}
+use Rattle.sdr_model.specs.declared.things.Thing.TheVariants as things
+use Rattle.sdr_station.specs.Grounded.{HasStood, StandsWithin, heap_in}
+
+-- a heap region that keeps a heap is of no more bytes than are allowed, with few blocks in use
+pub small_in : {D : Type 0} (h : Held (Opened D)) {pools : Pools} → KeepsRegion h.size h.cells.bytes pools → IsSmall (heap_in h)
+small_in h {pools} keeps = record { few = keeps.few; small = region_small h.size h.cells.bytes pools keeps }
+
+-- a heap that stands for the state of an open transaction has stood for its world
+pub stood_of : {D : Type 0} {h : Held (Opened D)} {shown : List ℕ} {s : State} → StandsWithin h shown s → HasStood h.size s.world
+stood_of {D} {h} w =
+    let small = small_in h w.keeps in
+    record { heap = heap_in h; same = refl; few = small.few; small = small.small; stands = w.heap; whole = w.whole }
+
+-- a list of it has at most one element for 16 bytes of the heap
+pub elements_few : (size : ℕ) (w : World) (addr : ℕ) → HasStood size w → 16 * length (elements_in (as_list (thing_at w addr))) ≤ size
+elements_few size w addr s = by (thing_at w addr) refl
+  where
+    by : (found : Option Thing) → thing_at w addr ≡ found → 16 * length (elements_in (as_list found)) ≤ size
+    by (Some (things.List row)) is =
+        let few = few_elements s.heap addr row (record { few = s.few; small = s.small }) (apart addr (things.List row) s.stands is) in
+        let same = length-map row.elements (λ (e : Element). e.block) in
+        omega (arith, few, same, s.same)
+    by found is = omega arith
