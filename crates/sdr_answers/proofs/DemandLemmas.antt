@@ -99,6 +99,12 @@ enough d heap w call o is s served small row answered = by call is (moves_are_th
     by (calls.TableDestroy table) is moves =
         let one : length o.moves ≡ 1 = ap (λ (ms : List Move). length ms) moves in
         omega (arith, one)
+    by (calls.Catlg name kind object) is moves =
+        let one : length o.moves ≡ 1 = ap (λ (ms : List Move). length ms) moves in
+        omega (arith, one)
+    by (calls.Find name) is moves = omega (arith)
+    by (calls.Uncatlg name) is moves = omega (arith)
+    by (calls.Entry place) is moves = omega (arith)
     by c is moves = absurd (true≢false (sym is))
 
 -- a call that reads touches none
@@ -137,6 +143,10 @@ reading_lines heap (calls.SetRow table row bytes) is reads = absurd (true≢fals
 reading_lines heap (calls.Dimensions table) is reads = refl
 reading_lines heap (calls.TableUser table) is reads = refl
 reading_lines heap (calls.TableDestroy table) is reads = absurd (true≢false (sym reads))
+reading_lines heap (calls.Catlg name kind object) is reads = absurd (true≢false (sym reads))
+reading_lines heap (calls.Find name) is reads = refl
+reading_lines heap (calls.Uncatlg name) is reads = absurd (true≢false (sym reads))
+reading_lines heap (calls.Entry place) is reads = refl
 reading_lines heap call is reads = absurd (true≢false (sym is))
 
 -- no call takes back what was asked

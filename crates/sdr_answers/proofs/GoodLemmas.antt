@@ -1,12 +1,13 @@
 -- What is of a kind is kept where a heap stands for a world in which calls are served.
-use Rattle.std.proofs.Common.{◌≡◌, ◌∙◌, ◌≤◌, ℕ, List, [], ◌∷◌, Option, None, Some, ap, arith, length, subst}
+use Rattle.std.proofs.Common.{◌≡◌, ◌∙◌, ◌≤◌, ℕ, List, [], ◌∷◌, Option, None, Some, ap, arith, length, map, subst}
 use Rattle.sdr_answers.proofs.ListLemmas.{IsSmall, list_is_at}
+use Rattle.sdr_answers.proofs.NameLemmas.{names_kept}
 use Rattle.sdr_answers.proofs.RawLemmas.{IsRawAt, length_of_raw, raw_is_at}
 use Rattle.sdr_answers.proofs.SpotLemmas.{spot_is_at}
 use Rattle.sdr_answers.proofs.TableLemmas.{table_is_at}
 use Rattle.sdr_answers.proofs.TextLemmas.{text_is_at}
 use Rattle.sdr_answers.specs.Answering.{IsGood, IsServed}
-use Rattle.sdr_audit.specs.Rows.{list_row, table_row}
+use Rattle.sdr_audit.specs.Rows.{list_row, name_row, table_row}
 use Rattle.sdr_audit.specs.Standing.{HeapStandsFor}
 use Rattle.sdr_audit.specs.Ties.{or_null}
 use Rattle.sdr_base.proofs.LayoutLemmas.{number_at-layout}
@@ -51,4 +52,5 @@ good_of heap w s served small = record {
   lists = λ addr kind. let l = list_is_at heap w addr s served small kind in record { row = list_row l.row; keeps = l.keeps };
   elements = λ addr kind. let e = spot_is_at heap w addr s served small kind in record { spot = _; is = e.keeps };
   tables = λ addr kind. let t = table_is_at heap w addr s served kind in record { table = table_row t.table; keeps = t.keeps };
+  names = record { names = map name_row w.names; keeps = names_kept heap w s served };
 }

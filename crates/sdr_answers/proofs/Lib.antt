@@ -19,3 +19,5 @@ pub mod ListReading
 pub mod ListChanging
 pub mod TableLemmas
 pub mod TableCalls
+pub mod NameLemmas
+pub mod NameCalls

@@ -93,32 +93,34 @@ module _ {X : Type 0} (w : World) (call : Call) (addr : ℕ) (kind : Kind) (name
 pub moves_made : (moves : List Move) (old new : Heap) → old.moves ≡ [] → Made moves old new → new.moves ≡ moves
 moves_made moves old new unmoved made = ap (λ (h : Heap). h.moves) made.all ∙ ap (λ (ms : List Move). ms ++ moves) unmoved
 
--- what these moves do
-pub record Moved (w : World) (moves : List Move) (old new : Heap) : Type 0 where
-  pub made : Made moves old new
-  pub unmoved : old.moves ≡ []
+-- a call has had these moves: each block that they take begins where none was, and its address fits a word
+pub record HasMoves (w : World) (moves : List Move) (new : Heap) : Type 0 where
+  pub is : new.moves ≡ moves
   pub fresh : AreFresh (addresses_of (blocks_of w)) moves
   pub words : All IsWord (taken_addresses moves)
 
+-- and they are all that it did beside the blocks
+pub record Moved (w : World) (moves : List Move) (old new : Heap) : Type 0 where
+  pub made : Made moves old new
+  pub has : HasMoves w moves new
+
 -- a call with moves was answered
-pub moved_answered : (w w' : World) (call : Call) (moves : List Move) (old new : Heap) (reply : Reply) → Moved w moves old new
+pub moved_answered : (w w' : World) (call : Call) (moves : List Move) (new : Heap) (reply : Reply) → HasMoves w moves new
     → HeapStandsFor new (with_taken_marked w' moves) → ties_of w' ≡ ties_of w → w'.accounts ≡ w.accounts → w'.taken ≡ w.taken
     → ByRow w (record { moves = moves; after = with_taken_marked w' moves; reply = reply }) call → is_answer reply ≡ true
     → Answered w call new [] reply
-moved_answered w w' call moves old new reply m stands ties accounts taken row answered =
-    let is = moves_made moves old new m.unmoved m.made in
-    record {
-      after = with_taken_marked w' moves;
-      row = subst (λ (ms : List Move). ByRow w (record { moves = ms; after = with_taken_marked w' moves; reply = reply }) call) (sym is) row;
-      answered = answered;
-      fresh = subst (λ (ms : List Move). AreFresh (addresses_of (blocks_of w)) ms) (sym is) m.fresh;
-      stands = stands;
-      gave = refl;
-      words = subst (λ (ms : List Move). All IsWord (taken_addresses ms)) (sym is) m.words;
-      ties = ties;
-      accounts = accounts;
-      taken = taken;
-    }
+moved_answered w w' call moves new reply m stands ties accounts taken row answered = record {
+  after = with_taken_marked w' moves;
+  row = subst (λ (ms : List Move). ByRow w (record { moves = ms; after = with_taken_marked w' moves; reply = reply }) call) (sym m.is) row;
+  answered = answered;
+  fresh = subst (λ (ms : List Move). AreFresh (addresses_of (blocks_of w)) ms) (sym m.is) m.fresh;
+  stands = stands;
+  gave = refl;
+  words = subst (λ (ms : List Move). All IsWord (taken_addresses ms)) (sym m.is) m.words;
+  ties = ties;
+  accounts = accounts;
+  taken = taken;
+}
 
 -- no move was made
 pub unmade : (old : Heap) → besides old ≡ besides (with_moves old [])
@@ -134,22 +136,23 @@ unmade old =
     }
 
 pub moved_nothing : (w : World) (old new : Heap) → old.moves ≡ [] → besides new ≡ besides old → Moved w [] old new
-moved_nothing w old new unmoved same = record {
-  made = record { all = same ∙ unmade old };
-  unmoved = unmoved;
-  fresh = tt;
-  words = All-nil IsWord;
-}
+moved_nothing w old new unmoved same =
+    let made : Made [] old new = record { all = same ∙ unmade old } in
+    record { made = made; has = record { is = moves_made [] old new unmoved made; fresh = tt; words = All-nil IsWord } }
 
 -- a block was taken where none was
-pub took_one : (w : World) (need addr : ℕ) (old new : Heap) → HeapStandsFor old w → IsValid w → old.moves ≡ [] → old.blocks addr ≡ None → addr ≢ 0
-    → addr < 2 ^ 32 → Made (Took need addr ∷ []) old new → Moved w (Took need addr ∷ []) old new
-took_one w need addr old new s valid unmoved free nonzero small made = record {
-  made = made;
-  unmoved = unmoved;
+pub took_has : (w : World) (need addr : ℕ) (old new : Heap) → HeapStandsFor old w → IsValid w → old.blocks addr ≡ None → addr ≢ 0
+    → addr < 2 ^ 32 → new.moves ≡ Took need addr ∷ [] → HasMoves w (Took need addr ∷ []) new
+took_has w need addr old new s valid free nonzero small is = record {
+  is = is;
   fresh = (nonzero, none_of old w addr s valid free, tt);
   words = All-cons IsWord addr [] (omega (arith, small)) (All-nil IsWord);
 }
+
+pub took_one : (w : World) (need addr : ℕ) (old new : Heap) → HeapStandsFor old w → IsValid w → old.moves ≡ [] → old.blocks addr ≡ None
+    → addr ≢ 0 → addr < 2 ^ 32 → Made (Took need addr ∷ []) old new → Moved w (Took need addr ∷ []) old new
+took_one w need addr old new s valid unmoved free nonzero small made =
+    record { made = made; has = took_has w need addr old new s valid free nonzero small (moves_made (Took need addr ∷ []) old new unmoved made) }
 
 -- blocks were given back
 pub gave_fresh : (used addrs : List ℕ) → AreFresh used (gave addrs)
@@ -160,13 +163,16 @@ pub gave_takes : (addrs : List ℕ) → taken_addresses (gave addrs) ≡ []
 gave_takes [] = refl
 gave_takes (addr ∷ addrs) = gave_takes addrs
 
-pub gave_back : (w : World) (addrs : List ℕ) (old new : Heap) → old.moves ≡ [] → Made (gave addrs) old new → Moved w (gave addrs) old new
-gave_back w addrs old new unmoved made = record {
-  made = made;
-  unmoved = unmoved;
+pub gave_has : (w : World) (addrs : List ℕ) (new : Heap) → new.moves ≡ gave addrs → HasMoves w (gave addrs) new
+gave_has w addrs new is = record {
+  is = is;
   fresh = gave_fresh (addresses_of (blocks_of w)) addrs;
   words = subst (λ (taken : List ℕ). All IsWord taken) (sym (gave_takes addrs)) (All-nil IsWord);
 }
+
+pub gave_back : (w : World) (addrs : List ℕ) (old new : Heap) → old.moves ≡ [] → Made (gave addrs) old new → Moved w (gave addrs) old new
+gave_back w addrs old new unmoved made =
+    record { made = made; has = gave_has w addrs new (moves_made (gave addrs) old new unmoved made) }
 
 -- moves that take nothing mark nothing
 pub marks_none : (w : World) (moves : List Move) → taken_addresses moves ≡ [] → with_taken_marked w moves ≡ record w { shown = [] }
@@ -180,8 +186,8 @@ pub thing_made : (w : World) (call : Call) (need addr : ℕ) (thing : Thing) (ol
     → ByRow w (record { moves = Took need addr ∷ []; after = with_taken_marked (with_thing w addr thing) (Took need addr ∷ []); reply = replies.At addr }) call
     → Answered w call new [] (replies.At addr)
 thing_made w call need addr thing old new unmoved s valid untied makes row =
-    moved_answered w (with_thing w addr thing) call (Took need addr ∷ []) old new (replies.At addr)
-    (took_one w need addr old new s valid unmoved makes.adds.fresh makes.adds.nonzero makes.adds.small makes.made)
+    moved_answered w (with_thing w addr thing) call (Took need addr ∷ []) new (replies.At addr)
+    (took_one w need addr old new s valid unmoved makes.adds.fresh makes.adds.nonzero makes.adds.small makes.made).has
     (comes need addr old new w thing untied s makes)
     (same_ties w addr (Some thing) (untied_alike (thing_at w addr) _ (subst NoneIsTied (sym (nothing_at addr s makes.adds.fresh)) tt) untied))
     refl refl row refl
@@ -193,7 +199,7 @@ pub thing_changed : (w : World) (call : Call) (addr : ℕ) (thing other : Thing)
     → ByRow w (record { moves = moves; after = with_taken_marked (with_thing w addr other) moves; reply = reply }) call → is_answer reply ≡ true
     → Answered w call new [] reply
 thing_changed w call addr thing other moves reply old new there was is s m change row answered =
-    moved_answered w (with_thing w addr other) call moves old new reply m
+    moved_answered w (with_thing w addr other) call moves new reply m.has
     (changes addr old new w thing other moves there was is s change m.made)
     (same_ties w addr (Some other) (untied_alike (thing_at w addr) _ (subst NoneIsTied (sym there) was) is)) refl refl row answered
 
@@ -204,7 +210,7 @@ pub thing_went : (w : World) (call : Call) (addr : ℕ) (thing : Thing) (moves :
     → ByRow w (record { moves = moves; after = with_taken_marked (without_thing w addr) moves; reply = reply }) call → is_answer reply ≡ true
     → Answered w call new [] reply
 thing_went w call addr thing moves reply old new there was s m change row answered =
-    moved_answered w (without_thing w addr) call moves old new reply m
+    moved_answered w (without_thing w addr) call moves new reply m.has
     (goes addr old new w thing moves there was s change m.made)
     (same_ties w addr None (untied_alike (thing_at w addr) _ (subst NoneIsTied (sym there) was) tt)) refl refl row answered
 

@@ -1,5 +1,5 @@
 -- What a call comes to on a heap that stands for a world.
-use Rattle.std.specs.Prelude.{◌≡◌, ◌+◌, ◌*◌, ◌/◌, ℕ, Bool, true, false, not, List, [], length, ⊤, All, None, Result, Ok, Err}
+use Rattle.std.specs.Prelude.{◌≡◌, ◌+◌, ◌*◌, ◌/◌, ℕ, Bool, true, false, ◌||◌, not, List, [], length, ⊤, All, None, Result, Ok, Err}
 use Rattle.sdr_audit.specs.Standing.{HeapStandsFor}
 use Rattle.sdr_audit.specs.Ties.{ties_of}
 use Rattle.sdr_base.specs.Objects.{Heap}
@@ -8,6 +8,7 @@ use Rattle.sdr_base.specs.declared.refusal.Refusal.{Refusal}
 use Rattle.sdr_base.specs.declared.refusal.Refusal.TheVariants as refusals
 use Rattle.sdr_base.specs.declared.stop.Stop.{Stop}
 use Rattle.sdr_base.specs.declared.stop.Stop.TheVariants as stops
+use Rattle.sdr_cat.specs.Kept.{SomeNames}
 use Rattle.sdr_heap.specs.Raw.{IsUnnamed, IsWhole}
 use Rattle.sdr_laws.specs.Fresh.{AreFresh}
 use Rattle.sdr_list.specs.Kept.{IsElement, IsList, elements_in}
@@ -40,7 +41,7 @@ pub record IsServed (w : World) : Type 0 where
   pub plain : IsPlain w
 
 -- What is of a kind is kept: a raw object's block has its source word, which is 0, a string's has its text and a table's its
--- rows, and a list is kept for the block of a list and for that of an element.
+-- rows, and a list is kept for the block of a list and for that of an element. A catalogue is kept.
 pub record IsGood (heap : Heap) : Type 0 where
   pub raws : (addr : ℕ) → IsWhole (heap.blocks addr)
   pub unnamed : (addr : ℕ) → IsUnnamed (heap.blocks addr)
@@ -48,44 +49,69 @@ pub record IsGood (heap : Heap) : Type 0 where
   pub lists : (addr : ℕ) → IsList heap.blocks addr
   pub elements : (addr : ℕ) → IsElement heap.blocks addr
   pub tables : (addr : ℕ) → IsTable (heap.blocks addr)
+  pub names : SomeNames heap
+
+-- whether the call is one on raw objects
+abbrev pub is_raw_call : Call → Bool
+is_raw_call (calls.Malloc bytes) = true
+is_raw_call (calls.Free addr) = true
+is_raw_call (calls.Length addr) = true
+is_raw_call (calls.Read addr place count) = true
+is_raw_call (calls.Write addr place bytes) = true
+is_raw_call (calls.Stage addr count) = true
+is_raw_call call = false
+
+-- whether it is one on strings
+abbrev pub is_string_call : Call → Bool
+is_string_call (calls.String text) = true
+is_string_call (calls.StringLength addr) = true
+is_string_call (calls.StringRead addr) = true
+is_string_call (calls.StringDup addr) = true
+is_string_call call = false
+
+-- whether it is one on lists or their elements
+abbrev pub is_list_call : Call → Bool
+is_list_call (calls.List user) = true
+is_list_call (calls.ListDestroy list) = true
+is_list_call (calls.ListLength list) = true
+is_list_call (calls.ListUser list) = true
+is_list_call (calls.SetListUser list user) = true
+is_list_call (calls.InsertFirst list datum) = true
+is_list_call (calls.InsertLast list datum) = true
+is_list_call (calls.InsertBefore element datum) = true
+is_list_call (calls.InsertAfter element datum) = true
+is_list_call (calls.InsertOrdered list datum keys) = true
+is_list_call (calls.Search list datum keys) = true
+is_list_call (calls.Delete element) = true
+is_list_call (calls.First list) = true
+is_list_call (calls.Last list) = true
+is_list_call (calls.Next element) = true
+is_list_call (calls.Prev element) = true
+is_list_call (calls.Datum element) = true
+is_list_call (calls.SetDatum element datum) = true
+is_list_call call = false
+
+-- whether it is one on tables
+abbrev pub is_table_call : Call → Bool
+is_table_call (calls.Table rows size user) = true
+is_table_call (calls.Row table row) = true
+is_table_call (calls.SetRow table row bytes) = true
+is_table_call (calls.Dimensions table) = true
+is_table_call (calls.TableUser table) = true
+is_table_call (calls.TableDestroy table) = true
+is_table_call call = false
+
+-- whether it is one on the catalogue
+abbrev pub is_name_call : Call → Bool
+is_name_call (calls.Catlg name kind object) = true
+is_name_call (calls.Find name) = true
+is_name_call (calls.Uncatlg name) = true
+is_name_call (calls.Entry place) = true
+is_name_call call = false
 
 -- whether the call is served
 abbrev pub built : Call → Bool
-built (calls.Malloc bytes) = true
-built (calls.Free addr) = true
-built (calls.Length addr) = true
-built (calls.Read addr place count) = true
-built (calls.Write addr place bytes) = true
-built (calls.Stage addr count) = true
-built (calls.String text) = true
-built (calls.StringLength addr) = true
-built (calls.StringRead addr) = true
-built (calls.StringDup addr) = true
-built (calls.List user) = true
-built (calls.ListDestroy list) = true
-built (calls.ListLength list) = true
-built (calls.ListUser list) = true
-built (calls.SetListUser list user) = true
-built (calls.InsertFirst list datum) = true
-built (calls.InsertLast list datum) = true
-built (calls.InsertBefore element datum) = true
-built (calls.InsertAfter element datum) = true
-built (calls.InsertOrdered list datum keys) = true
-built (calls.Search list datum keys) = true
-built (calls.Delete element) = true
-built (calls.First list) = true
-built (calls.Last list) = true
-built (calls.Next element) = true
-built (calls.Prev element) = true
-built (calls.Datum element) = true
-built (calls.SetDatum element datum) = true
-built (calls.Table rows size user) = true
-built (calls.Row table row) = true
-built (calls.SetRow table row bytes) = true
-built (calls.Dimensions table) = true
-built (calls.TableUser table) = true
-built (calls.TableDestroy table) = true
-built call = false
+built call = is_raw_call call || is_string_call call || is_list_call call || is_table_call call || is_name_call call
 
 -- whether a call that was answered so dooms its transaction: it is a change that was refused
 abbrev pub dooms : Call → Reply → Bool
@@ -112,6 +138,8 @@ call_lines heap (calls.SetDatum element datum) = 2
 call_lines heap (calls.Table rows size user) = 26 + (24 + rows * size) / 64
 call_lines heap (calls.SetRow table row bytes) = 2 + length bytes / 64
 call_lines heap (calls.TableDestroy table) = 24
+call_lines heap (calls.Catlg name kind object) = 30
+call_lines heap (calls.Uncatlg name) = 27
 call_lines heap call = 0
 
 -- what the row of a call gives, where it is answered

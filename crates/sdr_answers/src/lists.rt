@@ -1,17 +1,17 @@
 // The calls on lists and on their elements, as steps of the machine.
-ghost use Rattle.std.specs.Prelude.{◌≡◌, ◌≤◌, ◌+◌, ◌*◌, ◌/◌, []};
-ghost use Rattle.sdr_answers.specs.Answering.{Comes};
+ghost use Rattle.std.specs.Prelude.{[], true, ◌*◌, ◌+◌, ◌/◌, ◌≡◌, ◌≤◌};
+ghost use Rattle.sdr_answers.specs.Answering.{Comes, IsGood, call_lines, is_list_call};
 ghost use Rattle.sdr_answers.specs.Sorting.{Sorts};
 ghost use Rattle.sdr_base.specs.Moves.{KeepsSome};
 ghost use Rattle.sdr_base.specs.Works.{Works};
 ghost use Rattle.sdr_list.specs.Kept.{IsElement, IsList, elements_in};
-ghost use Rattle.sdr_model.specs.Fields.{IsWord};
+ghost use Rattle.sdr_model.specs.Fields.{FitsCall, IsWord};
 ghost use Rattle.sdr_model.specs.declared.call.Call.TheVariants as calls;
 
 use crate::page::Page;
 use sdr_base::{Addr, Objects, Stop};
 use sdr_list::Collation;
-use sdr_model::{Keys, Reply};
+use sdr_model::{Call, Keys, Reply};
 
 // The order that a call names, with the fact that it is one.
 fn collation(keys: Keys) -> Collation<sdr_list::Keys>
@@ -24,7 +24,7 @@ fn collation(keys: Keys) -> Collation<sdr_list::Keys>
 }
 
 // Makes a list.
-pub fn list<O: Objects>(o: &mut O, user: u64, page: &mut Page) -> Result<Reply, Stop>
+fn list<O: Objects>(o: &mut O, user: u64, page: &mut Page) -> Result<Reply, Stop>
     requires kept { KeepsSome (O.keeps o.old) }
     requires spare { 1 ≤ (O.heap o.old).spare }
     requires unmoved { (O.heap o.old).moves ≡ [] }
@@ -38,7 +38,7 @@ pub fn list<O: Objects>(o: &mut O, user: u64, page: &mut Page) -> Result<Reply, 
 }
 
 // Gives a list back with its elements.
-pub fn list_destroy<O: Objects>(o: &mut O, list: Addr, page: &mut Page) -> Result<Reply, Stop>
+fn list_destroy<O: Objects>(o: &mut O, list: Addr, page: &mut Page) -> Result<Reply, Stop>
     requires kept { KeepsSome (O.keeps o.old) }
     requires spare { (O.heap o.old).size / 4 + 4 ≤ (O.heap o.old).spare }
     requires list { IsList (O.heap o.old).blocks list }
@@ -52,7 +52,7 @@ pub fn list_destroy<O: Objects>(o: &mut O, list: Addr, page: &mut Page) -> Resul
 }
 
 // How many elements a list has.
-pub fn list_length<O: Objects>(o: &mut O, list: Addr, page: &mut Page) -> Result<Reply, Stop>
+fn list_length<O: Objects>(o: &mut O, list: Addr, page: &mut Page) -> Result<Reply, Stop>
     requires kept { KeepsSome (O.keeps o.old) }
     requires list { IsList (O.heap o.old).blocks list }
     requires unmoved { (O.heap o.old).moves ≡ [] }
@@ -65,7 +65,7 @@ pub fn list_length<O: Objects>(o: &mut O, list: Addr, page: &mut Page) -> Result
 }
 
 // The user's number of a list.
-pub fn list_user<O: Objects>(o: &mut O, list: Addr, page: &mut Page) -> Result<Reply, Stop>
+fn list_user<O: Objects>(o: &mut O, list: Addr, page: &mut Page) -> Result<Reply, Stop>
     requires kept { KeepsSome (O.keeps o.old) }
     requires list { IsList (O.heap o.old).blocks list }
     requires unmoved { (O.heap o.old).moves ≡ [] }
@@ -78,7 +78,7 @@ pub fn list_user<O: Objects>(o: &mut O, list: Addr, page: &mut Page) -> Result<R
 }
 
 // Sets the user's number of a list.
-pub fn set_list_user<O: Objects>(
+fn set_list_user<O: Objects>(
     o: &mut O,
     list: Addr,
     user: u64,
@@ -97,7 +97,7 @@ pub fn set_list_user<O: Objects>(
 }
 
 // Makes a new first element of a list.
-pub fn insert_first<O: Objects>(
+fn insert_first<O: Objects>(
     o: &mut O,
     list: Addr,
     datum: u64,
@@ -117,7 +117,7 @@ pub fn insert_first<O: Objects>(
 }
 
 // Makes a new last element of a list.
-pub fn insert_last<O: Objects>(
+fn insert_last<O: Objects>(
     o: &mut O,
     list: Addr,
     datum: u64,
@@ -137,7 +137,7 @@ pub fn insert_last<O: Objects>(
 }
 
 // Makes a new element before another.
-pub fn insert_before<O: Objects>(
+fn insert_before<O: Objects>(
     o: &mut O,
     element: Addr,
     datum: u64,
@@ -157,7 +157,7 @@ pub fn insert_before<O: Objects>(
 }
 
 // Makes a new element behind another.
-pub fn insert_after<O: Objects>(
+fn insert_after<O: Objects>(
     o: &mut O,
     element: Addr,
     datum: u64,
@@ -177,7 +177,7 @@ pub fn insert_after<O: Objects>(
 }
 
 // Makes a new element where its key has its place in order.
-pub fn insert_ordered<O: Objects>(
+fn insert_ordered<O: Objects>(
     o: &mut O,
     list: Addr,
     datum: u64,
@@ -198,7 +198,7 @@ pub fn insert_ordered<O: Objects>(
 }
 
 // The first element of an equal key.
-pub fn search<O: Objects>(
+fn search<O: Objects>(
     o: &mut O,
     list: Addr,
     datum: u64,
@@ -217,7 +217,7 @@ pub fn search<O: Objects>(
 }
 
 // Takes an element out of its list.
-pub fn delete<O: Objects>(o: &mut O, element: Addr, page: &mut Page) -> Result<Reply, Stop>
+fn delete<O: Objects>(o: &mut O, element: Addr, page: &mut Page) -> Result<Reply, Stop>
     requires kept { KeepsSome (O.keeps o.old) }
     requires spare { 1 ≤ (O.heap o.old).spare }
     requires element { IsElement (O.heap o.old).blocks element }
@@ -231,7 +231,7 @@ pub fn delete<O: Objects>(o: &mut O, element: Addr, page: &mut Page) -> Result<R
 }
 
 // The first element of a list.
-pub fn first<O: Objects>(o: &mut O, list: Addr, page: &mut Page) -> Result<Reply, Stop>
+fn first<O: Objects>(o: &mut O, list: Addr, page: &mut Page) -> Result<Reply, Stop>
     requires kept { KeepsSome (O.keeps o.old) }
     requires list { IsList (O.heap o.old).blocks list }
     requires unmoved { (O.heap o.old).moves ≡ [] }
@@ -244,7 +244,7 @@ pub fn first<O: Objects>(o: &mut O, list: Addr, page: &mut Page) -> Result<Reply
 }
 
 // The last element of a list.
-pub fn last<O: Objects>(o: &mut O, list: Addr, page: &mut Page) -> Result<Reply, Stop>
+fn last<O: Objects>(o: &mut O, list: Addr, page: &mut Page) -> Result<Reply, Stop>
     requires kept { KeepsSome (O.keeps o.old) }
     requires list { IsList (O.heap o.old).blocks list }
     requires unmoved { (O.heap o.old).moves ≡ [] }
@@ -257,7 +257,7 @@ pub fn last<O: Objects>(o: &mut O, list: Addr, page: &mut Page) -> Result<Reply,
 }
 
 // The element behind another.
-pub fn next<O: Objects>(o: &mut O, element: Addr, page: &mut Page) -> Result<Reply, Stop>
+fn next<O: Objects>(o: &mut O, element: Addr, page: &mut Page) -> Result<Reply, Stop>
     requires kept { KeepsSome (O.keeps o.old) }
     requires element { IsElement (O.heap o.old).blocks element }
     requires unmoved { (O.heap o.old).moves ≡ [] }
@@ -270,7 +270,7 @@ pub fn next<O: Objects>(o: &mut O, element: Addr, page: &mut Page) -> Result<Rep
 }
 
 // The element before another.
-pub fn prev<O: Objects>(o: &mut O, element: Addr, page: &mut Page) -> Result<Reply, Stop>
+fn prev<O: Objects>(o: &mut O, element: Addr, page: &mut Page) -> Result<Reply, Stop>
     requires kept { KeepsSome (O.keeps o.old) }
     requires element { IsElement (O.heap o.old).blocks element }
     requires unmoved { (O.heap o.old).moves ≡ [] }
@@ -283,7 +283,7 @@ pub fn prev<O: Objects>(o: &mut O, element: Addr, page: &mut Page) -> Result<Rep
 }
 
 // An element's datum.
-pub fn datum<O: Objects>(o: &mut O, element: Addr, page: &mut Page) -> Result<Reply, Stop>
+fn datum<O: Objects>(o: &mut O, element: Addr, page: &mut Page) -> Result<Reply, Stop>
     requires kept { KeepsSome (O.keeps o.old) }
     requires element { IsElement (O.heap o.old).blocks element }
     requires unmoved { (O.heap o.old).moves ≡ [] }
@@ -296,7 +296,7 @@ pub fn datum<O: Objects>(o: &mut O, element: Addr, page: &mut Page) -> Result<Re
 }
 
 // Sets an element's datum.
-pub fn set_datum<O: Objects>(
+fn set_datum<O: Objects>(
     o: &mut O,
     element: Addr,
     datum: u64,
@@ -312,4 +312,40 @@ pub fn set_datum<O: Objects>(
     sdr_list::set_datum(o, element, datum)?;
     page.clear();
     Ok(Reply::Done)
+}
+
+// Answers a call on lists or their elements.
+pub fn answer<O: Objects>(o: &mut O, call: &Call, page: &mut Page) -> Result<Reply, Stop>
+    requires kept { KeepsSome (O.keeps o.old) }
+    requires room { (O.heap o.old).size / 4 + 4 ≤ (O.heap o.old).spare }
+    requires good { IsGood (O.heap o.old) }
+    requires unmoved { (O.heap o.old).moves ≡ [] }
+    requires one { is_list_call call.now ≡ true }
+    ensures comes { Comes call.now (O.heap o.old) (O.heap o.new) page.old page.new result }
+    ensures works { Works O.HasHeap (call_lines (O.heap o.old) call.now) o.old o.new result }
+    ensures fits { FitsCall call.now }
+{
+    match call {
+        Call::List(user) => list(o, *user, page),
+        Call::ListDestroy(list) => list_destroy(o, *list, page),
+        Call::ListLength(list) => list_length(o, *list, page),
+        Call::ListUser(list) => list_user(o, *list, page),
+        Call::SetListUser(list, user) => set_list_user(o, *list, *user, page),
+        Call::InsertFirst(list, datum) => insert_first(o, *list, *datum, page),
+        Call::InsertLast(list, datum) => insert_last(o, *list, *datum, page),
+        Call::InsertBefore(element, datum) => insert_before(o, *element, *datum, page),
+        Call::InsertAfter(element, datum) => insert_after(o, *element, *datum, page),
+        Call::InsertOrdered(list, datum, keys) => {
+            insert_ordered(o, *list, *datum, *keys, page)
+        }
+        Call::Search(list, datum, keys) => search(o, *list, *datum, *keys, page),
+        Call::Delete(element) => delete(o, *element, page),
+        Call::First(list) => first(o, *list, page),
+        Call::Last(list) => last(o, *list, page),
+        Call::Next(element) => next(o, *element, page),
+        Call::Prev(element) => prev(o, *element, page),
+        Call::Datum(element) => datum(o, *element, page),
+        Call::SetDatum(element, datum) => set_datum(o, *element, *datum, page),
+        _ => unreachable!(),
+    }
 }

@@ -1,19 +1,19 @@
 // The calls on raw objects, as steps of the machine.
-ghost use Rattle.std.specs.Prelude.{◌≡◌, ◌≤◌, ◌<◌, ◌+◌, ◌/◌, [], ℕ, length, IfErr, OnOk};
+ghost use Rattle.std.specs.Prelude.{IfErr, OnOk, [], length, true, ℕ, ◌+◌, ◌/◌, ◌<◌, ◌≡◌, ◌≤◌};
 ghost use Rattle.sdr_base.specs.Moves.{KeepsSome};
 ghost use Rattle.sdr_base.specs.Works.{Looks, Works};
 ghost use Rattle.sdr_heap.specs.Raw.{IsUnnamed, IsWhole, ReadStops};
-ghost use Rattle.sdr_model.specs.Fields.{AreBytes};
+ghost use Rattle.sdr_model.specs.Fields.{AreBytes, FitsCall};
 ghost use Rattle.sdr_model.specs.declared.call.Call.TheVariants as calls;
-ghost use Rattle.sdr_answers.specs.Answering.{Comes};
+ghost use Rattle.sdr_answers.specs.Answering.{Comes, IsGood, call_lines, is_raw_call};
 
 use crate::page::{PAGE, Page};
 use sdr_base::{Addr, Kind, Objects, Refusal, Stop, expect_kind};
 use sdr_heap::LONGEST_READ;
-use sdr_model::Reply;
+use sdr_model::{Call, Reply};
 
 // Makes a raw object.
-pub fn malloc<O: Objects>(o: &mut O, bytes: u64, page: &mut Page) -> Result<Reply, Stop>
+fn malloc<O: Objects>(o: &mut O, bytes: u64, page: &mut Page) -> Result<Reply, Stop>
     requires kept { KeepsSome (O.keeps o.old) }
     requires spare { 1 ≤ (O.heap o.old).spare }
     requires unmoved { (O.heap o.old).moves ≡ [] }
@@ -26,7 +26,7 @@ pub fn malloc<O: Objects>(o: &mut O, bytes: u64, page: &mut Page) -> Result<Repl
 }
 
 // Gives a raw object that no source names, or a string, back.
-pub fn free<O: Objects>(o: &mut O, addr: Addr, page: &mut Page) -> Result<Reply, Stop>
+fn free<O: Objects>(o: &mut O, addr: Addr, page: &mut Page) -> Result<Reply, Stop>
     requires kept { KeepsSome (O.keeps o.old) }
     requires spare { 1 ≤ (O.heap o.old).spare }
     requires unnamed { IsUnnamed ((O.heap o.old).blocks addr) }
@@ -40,7 +40,7 @@ pub fn free<O: Objects>(o: &mut O, addr: Addr, page: &mut Page) -> Result<Reply,
 }
 
 // The length of a thing.
-pub fn length<O: Objects>(o: &mut O, addr: Addr, page: &mut Page) -> Result<Reply, Stop>
+fn length<O: Objects>(o: &mut O, addr: Addr, page: &mut Page) -> Result<Reply, Stop>
     requires kept { KeepsSome (O.keeps o.old) }
     requires unmoved { (O.heap o.old).moves ≡ [] }
     ensures comes { Comes (calls.Length addr) (O.heap o.old) (O.heap o.new) page.old page.new result }
@@ -89,7 +89,7 @@ fn read_into<O: Objects>(
 }
 
 // Reads bytes of a raw object from a place on.
-pub fn read<O: Objects>(
+fn read<O: Objects>(
     o: &mut O,
     addr: Addr,
     place: u64,
@@ -131,7 +131,7 @@ fn stage_into<O: Objects>(
 }
 
 // Reads the first bytes of a raw object, which may be written in this transaction from now on.
-pub fn stage<O: Objects>(o: &mut O, addr: Addr, count: u64, page: &mut Page) -> Result<Reply, Stop>
+fn stage<O: Objects>(o: &mut O, addr: Addr, count: u64, page: &mut Page) -> Result<Reply, Stop>
     requires kept { KeepsSome (O.keeps o.old) }
     requires whole { IsWhole ((O.heap o.old).blocks addr) }
     requires unmoved { (O.heap o.old).moves ≡ [] }
@@ -146,7 +146,7 @@ pub fn stage<O: Objects>(o: &mut O, addr: Addr, count: u64, page: &mut Page) -> 
 }
 
 // Writes bytes into a raw object from a place on.
-pub fn write<O: Objects>(
+fn write<O: Objects>(
     o: &mut O,
     addr: Addr,
     place: u64,
@@ -163,4 +163,26 @@ pub fn write<O: Objects>(
     sdr_heap::write(o, addr, place, from)?;
     page.clear();
     Ok(Reply::Done)
+}
+
+// Answers a call on raw objects.
+pub fn answer<O: Objects>(o: &mut O, call: &Call, page: &mut Page) -> Result<Reply, Stop>
+    requires kept { KeepsSome (O.keeps o.old) }
+    requires room { (O.heap o.old).size / 4 + 4 ≤ (O.heap o.old).spare }
+    requires good { IsGood (O.heap o.old) }
+    requires unmoved { (O.heap o.old).moves ≡ [] }
+    requires one { is_raw_call call.now ≡ true }
+    ensures comes { Comes call.now (O.heap o.old) (O.heap o.new) page.old page.new result }
+    ensures works { Works O.HasHeap (call_lines (O.heap o.old) call.now) o.old o.new result }
+    ensures fits { FitsCall call.now }
+{
+    match call {
+        Call::Malloc(bytes) => malloc(o, *bytes, page),
+        Call::Free(addr) => free(o, *addr, page),
+        Call::Length(addr) => length(o, *addr, page),
+        Call::Read(addr, place, count) => read(o, *addr, *place, *count, page),
+        Call::Write(addr, place, bytes) => write(o, *addr, *place, bytes.as_slice(), page),
+        Call::Stage(addr, count) => stage(o, *addr, *count, page),
+        _ => unreachable!(),
+    }
 }

@@ -1,19 +1,19 @@
 // The calls on strings, as steps of the machine.
-ghost use Rattle.std.specs.Prelude.{◌≡◌, ◌≤◌, ◌+◌, ◌/◌, [], length};
-ghost use Rattle.sdr_answers.specs.Answering.{Comes};
+ghost use Rattle.std.specs.Prelude.{[], length, true, ◌+◌, ◌/◌, ◌≡◌, ◌≤◌};
+ghost use Rattle.sdr_answers.specs.Answering.{Comes, IsGood, call_lines, is_string_call};
 ghost use Rattle.sdr_base.specs.Moves.{KeepsSome};
 ghost use Rattle.sdr_base.specs.Works.{Works};
-ghost use Rattle.sdr_model.specs.Fields.{AreBytes};
+ghost use Rattle.sdr_model.specs.Fields.{AreBytes, FitsCall};
 ghost use Rattle.sdr_model.specs.declared.call.Call.TheVariants as calls;
 ghost use Rattle.sdr_string.specs.Calls.{IsString};
 
 use crate::page::Page;
 use sdr_base::{Addr, Objects, Stop};
-use sdr_model::Reply;
+use sdr_model::{Call, Reply};
 use sdr_string::LONGEST_STRING;
 
 // Makes a string.
-pub fn string<O: Objects>(o: &mut O, text: &[u8], page: &mut Page) -> Result<Reply, Stop>
+fn string<O: Objects>(o: &mut O, text: &[u8], page: &mut Page) -> Result<Reply, Stop>
     requires kept { KeepsSome (O.keeps o.old) }
     requires spare { 1 ≤ (O.heap o.old).spare }
     requires unmoved { (O.heap o.old).moves ≡ [] }
@@ -27,7 +27,7 @@ pub fn string<O: Objects>(o: &mut O, text: &[u8], page: &mut Page) -> Result<Rep
 }
 
 // The length of a string.
-pub fn string_length<O: Objects>(o: &mut O, addr: Addr, page: &mut Page) -> Result<Reply, Stop>
+fn string_length<O: Objects>(o: &mut O, addr: Addr, page: &mut Page) -> Result<Reply, Stop>
     requires kept { KeepsSome (O.keeps o.old) }
     requires string { IsString ((O.heap o.old).blocks addr) }
     requires unmoved { (O.heap o.old).moves ≡ [] }
@@ -40,7 +40,7 @@ pub fn string_length<O: Objects>(o: &mut O, addr: Addr, page: &mut Page) -> Resu
 }
 
 // Reads a string.
-pub fn string_read<O: Objects>(o: &mut O, addr: Addr, page: &mut Page) -> Result<Reply, Stop>
+fn string_read<O: Objects>(o: &mut O, addr: Addr, page: &mut Page) -> Result<Reply, Stop>
     requires kept { KeepsSome (O.keeps o.old) }
     requires string { IsString ((O.heap o.old).blocks addr) }
     requires unmoved { (O.heap o.old).moves ≡ [] }
@@ -54,7 +54,7 @@ pub fn string_read<O: Objects>(o: &mut O, addr: Addr, page: &mut Page) -> Result
 }
 
 // Makes a string of the same text.
-pub fn string_dup<O: Objects>(o: &mut O, addr: Addr, page: &mut Page) -> Result<Reply, Stop>
+fn string_dup<O: Objects>(o: &mut O, addr: Addr, page: &mut Page) -> Result<Reply, Stop>
     requires kept { KeepsSome (O.keeps o.old) }
     requires spare { 1 ≤ (O.heap o.old).spare }
     requires string { IsString ((O.heap o.old).blocks addr) }
@@ -65,4 +65,24 @@ pub fn string_dup<O: Objects>(o: &mut O, addr: Addr, page: &mut Page) -> Result<
     let copy = sdr_string::dup(o, addr)?;
     page.clear();
     Ok(Reply::At { addr: copy })
+}
+
+// Answers a call on strings.
+pub fn answer<O: Objects>(o: &mut O, call: &Call, page: &mut Page) -> Result<Reply, Stop>
+    requires kept { KeepsSome (O.keeps o.old) }
+    requires room { (O.heap o.old).size / 4 + 4 ≤ (O.heap o.old).spare }
+    requires good { IsGood (O.heap o.old) }
+    requires unmoved { (O.heap o.old).moves ≡ [] }
+    requires one { is_string_call call.now ≡ true }
+    ensures comes { Comes call.now (O.heap o.old) (O.heap o.new) page.old page.new result }
+    ensures works { Works O.HasHeap (call_lines (O.heap o.old) call.now) o.old o.new result }
+    ensures fits { FitsCall call.now }
+{
+    match call {
+        Call::String(text) => string(o, text.as_slice(), page),
+        Call::StringLength(addr) => string_length(o, *addr, page),
+        Call::StringRead(addr) => string_read(o, *addr, page),
+        Call::StringDup(addr) => string_dup(o, *addr, page),
+        _ => unreachable!(),
+    }
 }

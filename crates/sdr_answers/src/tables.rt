@@ -1,18 +1,18 @@
 // The calls on tables, as steps of the machine.
-ghost use Rattle.std.specs.Prelude.{◌≡◌, ◌≤◌, ◌+◌, ◌*◌, ◌/◌, [], length};
-ghost use Rattle.sdr_answers.specs.Answering.{Comes};
+ghost use Rattle.std.specs.Prelude.{[], length, true, ◌*◌, ◌+◌, ◌/◌, ◌≡◌, ◌≤◌};
+ghost use Rattle.sdr_answers.specs.Answering.{Comes, IsGood, call_lines, is_table_call};
 ghost use Rattle.sdr_base.specs.Moves.{KeepsSome};
 ghost use Rattle.sdr_base.specs.Works.{Works};
-ghost use Rattle.sdr_model.specs.Fields.{AreBytes, IsWord};
+ghost use Rattle.sdr_model.specs.Fields.{AreBytes, FitsCall, IsWord};
 ghost use Rattle.sdr_model.specs.declared.call.Call.TheVariants as calls;
 ghost use Rattle.sdr_table.specs.Kept.{IsTable};
 
 use crate::page::{PAGE, Page};
 use sdr_base::{Addr, Objects, Stop};
-use sdr_model::Reply;
+use sdr_model::{Call, Reply};
 
 // Makes a table.
-pub fn table<O: Objects>(o: &mut O, rows: u64, size: u64, user: u64, page: &mut Page) -> Result<Reply, Stop>
+fn table<O: Objects>(o: &mut O, rows: u64, size: u64, user: u64, page: &mut Page) -> Result<Reply, Stop>
     requires kept { KeepsSome (O.keeps o.old) }
     requires spare { 1 ≤ (O.heap o.old).spare }
     requires unmoved { (O.heap o.old).moves ≡ [] }
@@ -26,7 +26,7 @@ pub fn table<O: Objects>(o: &mut O, rows: u64, size: u64, user: u64, page: &mut 
 }
 
 // Reads a row of a table.
-pub fn row<O: Objects>(o: &mut O, table: Addr, row: u64, page: &mut Page) -> Result<Reply, Stop>
+fn row<O: Objects>(o: &mut O, table: Addr, row: u64, page: &mut Page) -> Result<Reply, Stop>
     requires kept { KeepsSome (O.keeps o.old) }
     requires table { IsTable ((O.heap o.old).blocks table) }
     requires unmoved { (O.heap o.old).moves ≡ [] }
@@ -40,7 +40,7 @@ pub fn row<O: Objects>(o: &mut O, table: Addr, row: u64, page: &mut Page) -> Res
 }
 
 // Sets a row of a table.
-pub fn set_row<O: Objects>(o: &mut O, table: Addr, row: u64, from: &[u8], page: &mut Page) -> Result<Reply, Stop>
+fn set_row<O: Objects>(o: &mut O, table: Addr, row: u64, from: &[u8], page: &mut Page) -> Result<Reply, Stop>
     requires kept { KeepsSome (O.keeps o.old) }
     requires table { IsTable ((O.heap o.old).blocks table) }
     requires unmoved { (O.heap o.old).moves ≡ [] }
@@ -54,7 +54,7 @@ pub fn set_row<O: Objects>(o: &mut O, table: Addr, row: u64, from: &[u8], page: 
 }
 
 // How many rows a table has, and the bytes of a row.
-pub fn dimensions<O: Objects>(o: &mut O, table: Addr, page: &mut Page) -> Result<Reply, Stop>
+fn dimensions<O: Objects>(o: &mut O, table: Addr, page: &mut Page) -> Result<Reply, Stop>
     requires kept { KeepsSome (O.keeps o.old) }
     requires table { IsTable ((O.heap o.old).blocks table) }
     requires unmoved { (O.heap o.old).moves ≡ [] }
@@ -67,7 +67,7 @@ pub fn dimensions<O: Objects>(o: &mut O, table: Addr, page: &mut Page) -> Result
 }
 
 // The user's number of a table.
-pub fn table_user<O: Objects>(o: &mut O, table: Addr, page: &mut Page) -> Result<Reply, Stop>
+fn table_user<O: Objects>(o: &mut O, table: Addr, page: &mut Page) -> Result<Reply, Stop>
     requires kept { KeepsSome (O.keeps o.old) }
     requires table { IsTable ((O.heap o.old).blocks table) }
     requires unmoved { (O.heap o.old).moves ≡ [] }
@@ -80,7 +80,7 @@ pub fn table_user<O: Objects>(o: &mut O, table: Addr, page: &mut Page) -> Result
 }
 
 // Gives a table back.
-pub fn table_destroy<O: Objects>(o: &mut O, table: Addr, page: &mut Page) -> Result<Reply, Stop>
+fn table_destroy<O: Objects>(o: &mut O, table: Addr, page: &mut Page) -> Result<Reply, Stop>
     requires kept { KeepsSome (O.keeps o.old) }
     requires spare { 1 ≤ (O.heap o.old).spare }
     requires table { IsTable ((O.heap o.old).blocks table) }
@@ -91,4 +91,28 @@ pub fn table_destroy<O: Objects>(o: &mut O, table: Addr, page: &mut Page) -> Res
     sdr_table::destroy(o, table)?;
     page.clear();
     Ok(Reply::Done)
+}
+
+// Answers a call on tables.
+pub fn answer<O: Objects>(o: &mut O, call: &Call, page: &mut Page) -> Result<Reply, Stop>
+    requires kept { KeepsSome (O.keeps o.old) }
+    requires room { (O.heap o.old).size / 4 + 4 ≤ (O.heap o.old).spare }
+    requires good { IsGood (O.heap o.old) }
+    requires unmoved { (O.heap o.old).moves ≡ [] }
+    requires one { is_table_call call.now ≡ true }
+    ensures comes { Comes call.now (O.heap o.old) (O.heap o.new) page.old page.new result }
+    ensures works { Works O.HasHeap (call_lines (O.heap o.old) call.now) o.old o.new result }
+    ensures fits { FitsCall call.now }
+{
+    match call {
+        Call::Table(rows, size, user) => table(o, *rows, *size, *user, page),
+        Call::Row(table, place) => row(o, *table, *place, page),
+        Call::SetRow(table, row, bytes) => {
+            set_row(o, *table, *row, bytes.as_slice(), page)
+        }
+        Call::Dimensions(table) => dimensions(o, *table, page),
+        Call::TableUser(table) => table_user(o, *table, page),
+        Call::TableDestroy(table) => table_destroy(o, *table, page),
+        _ => unreachable!(),
+    }
 }

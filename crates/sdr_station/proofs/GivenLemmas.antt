@@ -1,9 +1,11 @@
 -- The bytes that the row of a served call gives.
 use Rattle.std.proofs.Common.{◌≡◌, ◌∙◌, ◌≤◌, ◌<◌, ◌+◌, ◌*◌, ◌++◌, ◌∷◌, ℕ, List, [], Bool, true, false, true≢false, Option, None, Some, MatchBool, MatchOption, length, take, min, nat_lt, nat_le, refl, sym, ap, subst, arith}
-use Rattle.std.specs.Prelude.{IfSome}
+use Rattle.std.specs.Prelude.{IfSome, get_or, slice_get}
 use Rattle.std.proofs.lemmas.Bool.{ltb-false}
 use Rattle.std.proofs.lemmas.Bool.Decides.{nat_tests}
 use Rattle.std.proofs.lemmas.List.{length-take-le}
+use Rattle.std.proofs.lemmas.Option.{get_or_from_slice_get, slice_get-map, slice_get_within}
+use Rattle.std.specs.Option.{option_map}
 use Rattle.sdr_answers.specs.Answering.{built}
 use Rattle.sdr_base.proofs.PartsLemmas.{length-part}
 use Rattle.sdr_base.specs.Parts.{part}
@@ -14,14 +16,16 @@ use Rattle.sdr_base.specs.declared.refusal.Refusal.TheVariants as refusals
 use Rattle.sdr_lock.proofs.StepLemmas.{from_option, from_test}
 use Rattle.sdr_lock.specs.Transaction.{bytes_given}
 use Rattle.sdr_model.proofs.TableLemmas.{row-within}
-use Rattle.sdr_model.specs.Limits.{longest_raw, longest_read, longest_string}
+use Rattle.sdr_model.specs.Limits.{is_no_name, longest_name, longest_raw, longest_read, longest_string}
 use Rattle.sdr_model.specs.ListSteps.{as_list}
+use Rattle.sdr_model.specs.NameSteps.{OnName}
+use Rattle.sdr_model.specs.Names.{name_of}
 use Rattle.sdr_model.specs.RawSteps.{FreesThing}
 use Rattle.sdr_model.specs.Rows.{ByRow}
 use Rattle.sdr_model.specs.Steps.{Does, Makes, On, Outcome, Reads, Refuses, Takes, TakesOne, with_thing}
 use Rattle.sdr_model.specs.TableSteps.{as_table}
 use Rattle.sdr_model.specs.Tables.{Table}
-use Rattle.sdr_model.specs.Valid.{IsValidTable, IsValidThing}
+use Rattle.sdr_model.specs.Valid.{IsBetween, IsValidTable, IsValidThing, names_of}
 use Rattle.sdr_model.specs.Whole.{IsWhole}
 use Rattle.sdr_model.specs.World.{World, as_raw, as_text, block_at, is_marked, misnamed, spot_of, thing_at}
 use Rattle.sdr_model.specs.Zco.{source_on, uses_of}
@@ -30,41 +34,38 @@ use Rattle.sdr_model.specs.declared.answer.Reply.{Reply}
 use Rattle.sdr_model.specs.declared.answer.Reply.TheVariants as replies
 use Rattle.sdr_model.specs.declared.call.Call.{Call}
 use Rattle.sdr_model.specs.declared.call.Call.TheVariants as calls
+use Rattle.sdr_model.specs.declared.name.Name.{Name}
 use Rattle.sdr_model.specs.declared.things.Thing.{Thing}
 use Rattle.sdr_model.specs.declared.things.Thing.TheVariants as things
-
--- whether a reply tells of bytes
-abbrev pub tells_bytes : Reply → Bool
-tells_bytes (replies.Bytes count) = true
-tells_bytes reply = false
+use Rattle.sdr_station.specs.Giving.{bytes_told}
 
 -- an outcome is refused, or gives no bytes, or gives as many as it tells, up to a count
 pub data Given (o : Outcome) (most : ℕ) : Type 0 where
   refuses : (refusal : Refusal) → o.reply ≡ replies.Refused refusal → Given o most
-  none : o.after.shown ≡ [] → tells_bytes o.reply ≡ false → Given o most
-  gives : (count : ℕ) → o.reply ≡ replies.Bytes count → length o.after.shown ≡ count → count ≤ most → Given o most
+  none : o.after.shown ≡ [] → bytes_told o.reply ≡ None → Given o most
+  gives : (count : ℕ) → bytes_told o.reply ≡ Some count → length o.after.shown ≡ count → count ≤ most → Given o most
 
--- so it gives so many at most
-pub given_few : (o : Outcome) (most : ℕ) → Given o most → length (bytes_given (answers.Reply o.reply) o.after.shown) ≤ most
-given_few o most (Given.refuses refusal is) = subst (λ r. length (bytes_given (answers.Reply r) o.after.shown) ≤ most) (sym is) (omega arith)
-given_few o most (Given.none shown untold) = by o.reply
+-- no more bytes are given than are shown
+shown_few : (o : Outcome) (most : ℕ) → length o.after.shown ≤ most → length (bytes_given (answers.Reply o.reply) o.after.shown) ≤ most
+shown_few o most few = by o.reply
   where
-    few : length o.after.shown ≤ most
-    few = let none = ap (λ (l : List ℕ). length l) shown in omega (arith, none)
-
     by : (reply : Reply) → length (bytes_given (answers.Reply reply) o.after.shown) ≤ most
     by (replies.Refused refusal) = omega arith
     by replies.MediaFault = omega arith
     by reply = few
-given_few o most (Given.gives count is long few) =
-    subst (λ r. length (bytes_given (answers.Reply r) o.after.shown) ≤ most) (sym is) (omega (arith, long, few))
+
+-- so such an outcome gives so many at most
+pub given_few : (o : Outcome) (most : ℕ) → Given o most → length (bytes_given (answers.Reply o.reply) o.after.shown) ≤ most
+given_few o most (Given.refuses refusal is) = subst (λ r. length (bytes_given (answers.Reply r) o.after.shown) ≤ most) (sym is) (omega arith)
+given_few o most (Given.none shown untold) = shown_few o most (let none = ap (λ (l : List ℕ). length l) shown in omega (arith, none))
+given_few o most (Given.gives count is long few) = shown_few o most (omega (arith, long, few))
 
 -- and where it tells of bytes, it gives as many
-pub given_told : (o : Outcome) (most count : ℕ) → Given o most → o.reply ≡ replies.Bytes count → length o.after.shown ≡ count
-given_told o most count (Given.refuses refusal is) told = absurd (let no : replies.Refused refusal ≡ replies.Bytes count = sym is ∙ told in cc)
-given_told o most count (Given.none shown untold) told = absurd (true≢false (sym (ap tells_bytes told) ∙ untold))
+pub given_told : (o : Outcome) (most count : ℕ) → Given o most → bytes_told o.reply ≡ Some count → length o.after.shown ≡ count
+given_told o most count (Given.refuses refusal is) told = absurd (let no : None ≡ Some count = sym (ap bytes_told is) ∙ told in cc)
+given_told o most count (Given.none shown untold) told = absurd (let no : None ≡ Some count = sym untold ∙ told in cc)
 given_told o most count (Given.gives n is long few) told =
-    let same : replies.Bytes n ≡ replies.Bytes count = sym is ∙ told in
+    let same : Some n ≡ Some count = sym is ∙ told in
     let n_is : n ≡ count = cc in
     long ∙ n_is
 
@@ -74,6 +75,7 @@ most_given (calls.Read addr place count) = min count 4096
 most_given (calls.Stage addr count) = min count 4096
 most_given (calls.StringRead addr) = 4096
 most_given (calls.Row table row) = 4096
+most_given (calls.Entry place) = 4096
 most_given call = 0
 
 -- the texts of a whole world are short
@@ -98,29 +100,39 @@ table_valid w addr table whole is = by (thing_at w addr) refl is
         subst (λ (t : Table). IsValidTable t) same valid
     by found there is = absurd (let no : None ≡ Some table = is in cc)
 
+-- and its names are short
+name_short : (w : World) (place : ℕ) (name : Name) → IsWhole w → slice_get w.names place ≡ Some name → length name.name ≤ longest_name
+name_short w place name whole is =
+    let names = names_of w in
+    let here : slice_get names place ≡ Some name.name = slice_get-map (λ (n : Name). n.name) w.names place ∙ ap (λ (o : Option Name). option_map (λ (n : Name). n.name) o) is in
+    let few : IsBetween 1 longest_name (length (get_or names place [])) = whole.valid.names place [] (slice_get_within names place name.name here) in
+    let same = get_or_from_slice_get names place name.name [] here in
+    subst (λ (l : List ℕ). length l ≤ longest_name) same few.1
+
 -- what the row of a served call gives
 module _ (w : World) (o : Outcome) where
   refused : {most : ℕ} (refusal : Refusal) → Refuses w o refusal → Given o most
   refused refusal h = Given.refuses refusal h.2
 
-  does : {most : ℕ} {moves : List Move} {next : World} {reply : Reply} → tells_bytes reply ≡ false → Does o moves next reply → Given o most
-  does untold h = Given.none (ap (λ (x : World). x.shown) h.1) (ap tells_bytes h.2 ∙ untold)
+  does : {most : ℕ} {moves : List Move} {next : World} {reply : Reply} → bytes_told reply ≡ None → Does o moves next reply → Given o most
+  does untold h = Given.none (ap (λ (x : World). x.shown) h.1) (ap bytes_told h.2 ∙ untold)
 
-  reads : {most : ℕ} {reply : Reply} → tells_bytes reply ≡ false → Reads w o [] reply → Given o most
-  reads untold h = Given.none (ap (λ (x : World). x.shown) h.1) (ap tells_bytes h.2 ∙ untold)
+  reads : {most : ℕ} {reply : Reply} → bytes_told reply ≡ None → Reads w o [] reply → Given o most
+  reads untold h = Given.none (ap (λ (x : World). x.shown) h.1) (ap bytes_told h.2 ∙ untold)
 
-  shows : {most : ℕ} (v : World) (bytes : List ℕ) (n : ℕ) → length bytes ≡ n → n ≤ most → Reads v o bytes (replies.Bytes n) → Given o most
-  shows v bytes n long few h = Given.gives n h.2 (ap (λ (x : World). length x.shown) h.1 ∙ long) few
+  shows : {most : ℕ} {reply : Reply} (v : World) (bytes : List ℕ) (n : ℕ) → bytes_told reply ≡ Some n → length bytes ≡ n → n ≤ most → Reads v o bytes reply → Given o most
+  shows v bytes n told long few h = Given.gives n (ap bytes_told h.2 ∙ told) (ap (λ (x : World). length x.shown) h.1 ∙ long) few
 
-  takes : {most : ℕ} (need : ℕ) (next : ℕ → World) → Takes w o need next (λ addr. replies.At addr) → Given o most
-  takes {most} need next h = by o.moves h
+  takes : {most : ℕ} (need : ℕ) (next : ℕ → World) (reply : ℕ → Reply) → ((addr : ℕ) → bytes_told (reply addr) ≡ None)
+      → Takes w o need next reply → Given o most
+  takes {most} need next reply untold h = by o.moves h
     where
-      by : (moves : List Move) → TakesOne moves need (λ addr. (o.after ≡ record (next addr) { marks = w.marks ++ addr ∷ []; shown = [] }) × (o.reply ≡ replies.At addr)) → Given o most
-      by (Took n addr ∷ []) t = Given.none (ap (λ (x : World). x.shown) t.1.0) (ap tells_bytes t.1.1)
+      by : (moves : List Move) → TakesOne moves need (λ addr. (o.after ≡ record (next addr) { marks = w.marks ++ addr ∷ []; shown = [] }) × (o.reply ≡ reply addr)) → Given o most
+      by (Took n addr ∷ []) t = Given.none (ap (λ (x : World). x.shown) t.1.0) (ap bytes_told t.1.1 ∙ untold addr)
       by moves t = absurd t
 
   makes : {most : ℕ} (need : ℕ) (thing : Thing) → Makes w o need thing → Given o most
-  makes need thing h = takes need (λ addr. with_thing w addr thing) h
+  makes need thing h = takes need (λ addr. with_thing w addr thing) (λ addr. replies.At addr) (λ addr. refl) h
 
   on : {X : Type 0} {goes : X → Type 0} {most : ℕ} (addr : ℕ) (named : Option X) → On w o addr named goes
       → ((x : X) → named ≡ Some x → goes x → Given o most) → Given o most
@@ -138,6 +150,12 @@ module _ (w : World) (o : Outcome) where
       from_option (source_on w addr) h (λ _ h. does refl h) (λ source _ h. refused (refusals.InUse addr (uses_of w source)) h)
   frees addr None (Some text) h = does refl h
 
+  on_name : {P : Type 0} {Q : Name → Type 0} {most : ℕ} (name : List ℕ) → OnName w o name P Q → (P → Given o most)
+      → ((n : Name) → Q n → Given o most) → Given o most
+  on_name name h missing found =
+      unless (is_no_name (length name)) (refusals.BadLength (length name) longest_name) h (λ _ h.
+      from_option (name_of w.names name) h (λ _ p. missing p) (λ n _ q. found n q))
+
   few_read : (count : ℕ) → nat_lt longest_read count ≡ false → count ≤ min count 4096
   few_read count page = grind (arith, nat_tests)
 
@@ -149,31 +167,31 @@ module _ (w : World) (o : Outcome) where
   given_row (calls.Read addr place count) is whole h = on addr (as_raw (thing_at w addr)) h (λ bytes _ h.
       unless (nat_lt longest_read count) (refusals.BadLength count longest_read) h (λ page h.
       unless (nat_lt (length bytes) (place + count)) (refusals.OutOfBounds addr place count) h (λ inside h.
-      shows w (part place count bytes) count (length-part place count bytes (ltb-false _ _ inside)) (few_read count page) h)))
+      shows w (part place count bytes) count refl (length-part place count bytes (ltb-false _ _ inside)) (few_read count page) h)))
   given_row (calls.Write addr place from) is whole h = on addr (as_raw (thing_at w addr)) h (λ bytes _ h.
       unless (nat_lt (length bytes) (place + length from)) (refusals.OutOfBounds addr place (length from)) h (λ _ h.
       where_so (is_marked w addr) (refusals.NotStaged addr) h (λ h. does refl h)))
   given_row (calls.Stage addr count) is whole h = on addr (as_raw (thing_at w addr)) h (λ bytes _ h.
       unless (nat_lt longest_read count) (refusals.BadLength count longest_read) h (λ page h.
       unless (nat_lt (length bytes) count) (refusals.OutOfBounds addr 0 count) h (λ inside h.
-      shows (record w { marks = w.marks ++ addr ∷ [] }) (take count bytes) count (length-take-le count bytes (ltb-false _ _ inside)) (few_read count page) h)))
+      shows (record w { marks = w.marks ++ addr ∷ [] }) (take count bytes) count refl (length-take-le count bytes (ltb-false _ _ inside)) (few_read count page) h)))
   given_row (calls.String text) is whole h =
       unless (nat_lt longest_string (length text)) (refusals.BadLength (length text) longest_string) h (λ _ h. makes _ _ h)
   given_row (calls.StringLength addr) is whole h = on addr (as_text (thing_at w addr)) h (λ text _ h. reads refl h)
   given_row (calls.StringRead addr) is whole h = on addr (as_text (thing_at w addr)) h (λ text there h.
       let short = text_short w addr text whole there in
-      shows w text (length text) refl (omega (arith, short)) h)
+      shows w text (length text) refl refl (omega (arith, short)) h)
   given_row (calls.StringDup addr) is whole h = on addr (as_text (thing_at w addr)) h (λ text _ h. makes _ _ h)
   given_row (calls.List user) is whole h = makes _ _ h
   given_row (calls.ListDestroy addr) is whole h = on addr (as_list (thing_at w addr)) h (λ row _ h. does refl h)
   given_row (calls.ListLength addr) is whole h = on addr (as_list (thing_at w addr)) h (λ row _ h. reads refl h)
   given_row (calls.ListUser addr) is whole h = on addr (as_list (thing_at w addr)) h (λ row _ h. reads refl h)
   given_row (calls.SetListUser addr user) is whole h = on addr (as_list (thing_at w addr)) h (λ row _ h. does refl h)
-  given_row (calls.InsertFirst addr datum) is whole h = on addr (as_list (thing_at w addr)) h (λ row _ h. takes _ _ h)
-  given_row (calls.InsertLast addr datum) is whole h = on addr (as_list (thing_at w addr)) h (λ row _ h. takes _ _ h)
-  given_row (calls.InsertBefore element datum) is whole h = on element (spot_of w element) h (λ s _ h. takes _ _ h)
-  given_row (calls.InsertAfter element datum) is whole h = on element (spot_of w element) h (λ s _ h. takes _ _ h)
-  given_row (calls.InsertOrdered addr datum by) is whole h = on addr (as_list (thing_at w addr)) h (λ row _ h. takes _ _ h)
+  given_row (calls.InsertFirst addr datum) is whole h = on addr (as_list (thing_at w addr)) h (λ row _ h. takes _ _ _ (λ addr. refl) h)
+  given_row (calls.InsertLast addr datum) is whole h = on addr (as_list (thing_at w addr)) h (λ row _ h. takes _ _ _ (λ addr. refl) h)
+  given_row (calls.InsertBefore element datum) is whole h = on element (spot_of w element) h (λ s _ h. takes _ _ _ (λ addr. refl) h)
+  given_row (calls.InsertAfter element datum) is whole h = on element (spot_of w element) h (λ s _ h. takes _ _ _ (λ addr. refl) h)
+  given_row (calls.InsertOrdered addr datum by) is whole h = on addr (as_list (thing_at w addr)) h (λ row _ h. takes _ _ _ (λ addr. refl) h)
   given_row (calls.Search addr datum by) is whole h = on addr (as_list (thing_at w addr)) h (λ row _ h. reads refl h)
   given_row (calls.Delete element) is whole h = on element (spot_of w element) h (λ s _ h. does refl h)
   given_row (calls.First addr) is whole h = on addr (as_list (thing_at w addr)) h (λ row _ h. reads refl h)
@@ -192,11 +210,19 @@ module _ (w : World) (o : Outcome) where
       let valid = table_valid w addr table whole there in
       let within : table.size * row + table.size ≤ length table.bytes = row-within table.rows table.size row (length table.bytes) (grind (arith, nat_tests)) valid.bytes in
       let few : table.size ≤ 4096 = grind (arith, nat_tests) in
-      shows w (part (table.size * row) table.size table.bytes) table.size (length-part (table.size * row) table.size table.bytes within) few h)))
+      shows w (part (table.size * row) table.size table.bytes) table.size refl (length-part (table.size * row) table.size table.bytes within) few h)))
   given_row (calls.SetRow addr row from) is whole h = on addr (as_table (thing_at w addr)) h (λ table _ h.
       unless (nat_le table.rows row) (refusals.BadRow row table.rows) h (λ _ h.
       where_so (length from == table.size) (refusals.BadLength (length from) table.size) h (λ h. does refl h)))
   given_row (calls.Dimensions addr) is whole h = on addr (as_table (thing_at w addr)) h (λ table _ h. reads refl h)
   given_row (calls.TableUser addr) is whole h = on addr (as_table (thing_at w addr)) h (λ table _ h. reads refl h)
   given_row (calls.TableDestroy addr) is whole h = on addr (as_table (thing_at w addr)) h (λ table _ h. does refl h)
+  given_row (calls.Catlg name kind object) is whole h =
+      on_name name h (λ h. takes _ _ _ (λ addr. refl) h) (λ n h. refused (refusals.NameTaken n.object) h)
+  given_row (calls.Find name) is whole h = on_name name h (λ h. refused refusals.NotFound h) (λ n h. reads refl h)
+  given_row (calls.Uncatlg name) is whole h = on_name name h (λ h. refused refusals.NotFound h) (λ n h. does refl h)
+  given_row (calls.Entry place) is whole h =
+      from_option (slice_get w.names place) h (λ _ h. refused refusals.NotFound h) (λ n there h.
+      let short = name_short w place n whole there in
+      shows w n.name (length n.name) refl refl (omega (arith, short)) h)
   given_row call is whole h = absurd (true≢false (sym is))

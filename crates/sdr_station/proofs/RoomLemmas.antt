@@ -1,5 +1,5 @@
 -- How many moves a served call has.
-use Rattle.std.proofs.Common.{◌≡◌, ◌≤◌, ◌+◌, ◌/◌, ◌++◌, ◌∷◌, ℕ, List, [], false, true, true≢false, inl, inr, refl, sym, ap, ◌∙◌, length, length-append, arith}
+use Rattle.std.proofs.Common.{◌≡◌, ◌≤◌, ◌+◌, ◌/◌, ◌++◌, ◌∷◌, ℕ, List, [], Option, None, Some, false, true, true≢false, inl, inr, refl, sym, ap, ◌∙◌, length, length-append, arith}
 use Rattle.std.proofs.lemmas.List.{length-map}
 use Rattle.std.specs.Prelude.{slice_index}
 use Rattle.sdr_base.specs.declared.moves.Move.{Move}
@@ -10,15 +10,17 @@ use Rattle.sdr_laws.proofs.Shapes.{Shape}
 use Rattle.sdr_lock.specs.Ground.{Ground, Replied, State, StepsOn}
 use Rattle.sdr_model.specs.ListSteps.{as_list}
 use Rattle.sdr_model.specs.Reading.{is_reading}
-use Rattle.sdr_model.specs.RowMoves.{elements_in, row_moves}
+use Rattle.sdr_model.specs.RowMoves.{block_of, elements_in, row_moves}
+use Rattle.sdr_model.specs.Names.{name_of}
 use Rattle.sdr_model.specs.Rows.{ByRow}
 use Rattle.sdr_model.specs.Step.{StopsWith}
-use Rattle.sdr_model.specs.Steps.{Outcome, taken_addresses}
+use Rattle.sdr_model.specs.Steps.{Outcome, gave, taken_addresses}
 use Rattle.sdr_model.specs.World.{World, thing_at}
 use Rattle.sdr_model.specs.declared.answer.Reply.{Reply}
 use Rattle.sdr_model.specs.declared.answer.Reply.TheVariants as replies
 use Rattle.sdr_model.specs.declared.call.Call.{Call}
 use Rattle.sdr_model.specs.declared.call.Call.TheVariants as calls
+use Rattle.sdr_model.specs.declared.name.Name.{Name}
 use Rattle.sdr_answers.specs.Answering.{built}
 use Rattle.sdr_station.proofs.StoodLemmas.{elements_few}
 use Rattle.sdr_station.specs.Grounded.{HasStood}
@@ -90,6 +92,11 @@ moves_destroy size addr = moves_at_most size (calls.ListDestroy addr) (size / 16
     let split = length-append elements (addr ∷ []) in
     omega (arith, few, all, split))
 
+-- a name that goes has one at most
+one_name : (found : Option Name) → length (gave (block_of found)) ≤ 1
+one_name None = omega arith
+one_name (Some name) = omega arith
+
 -- any other that is served has one at most
 pub moves_one : (size : ℕ) (call : Call) → built call ≡ true → ((list : ℕ) → call ≡ calls.ListDestroy list → ⊥) → MovesAtMost size call 1
 moves_one size call is other = moves_at_most size call 1 (λ w stood changes at. by w at call is other)
@@ -130,4 +137,8 @@ moves_one size call is other = moves_at_most size call 1 (λ w stood changes at.
     by w at (calls.Row table row) is other = omega arith
     by w at (calls.Dimensions table) is other = omega arith
     by w at (calls.TableUser table) is other = omega arith
+    by w at (calls.Catlg name kind object) is other = omega arith
+    by w at (calls.Uncatlg name) is other = one_name (name_of w.names name)
+    by w at (calls.Find name) is other = omega arith
+    by w at (calls.Entry place) is other = omega arith
     by w at call is other = absurd (true≢false (sym is))

@@ -38,17 +38,19 @@ bytes_at_most call is w o whole (inr s) = few_stopped o call s.aim.moves (most_g
 -- and none where it reads none
 pub bytes_none : (call : Call) → built call ≡ true → ((addr place count : ℕ) → call ≡ calls.Read addr place count → ⊥)
     → ((addr count : ℕ) → call ≡ calls.Stage addr count → ⊥) → ((addr : ℕ) → call ≡ calls.StringRead addr → ⊥)
-    → ((addr row : ℕ) → call ≡ calls.Row addr row → ⊥) → BytesAtMost call 0
-bytes_none call is read stage text row = subst (λ (n : ℕ). BytesAtMost call n) (none call read stage text row) (bytes_at_most call is)
+    → ((addr row : ℕ) → call ≡ calls.Row addr row → ⊥) → ((place : ℕ) → call ≡ calls.Entry place → ⊥) → BytesAtMost call 0
+bytes_none call is read stage text row entry =
+    subst (λ (n : ℕ). BytesAtMost call n) (none call read stage text row entry) (bytes_at_most call is)
   where
     none : (call : Call) → ((addr place count : ℕ) → call ≡ calls.Read addr place count → ⊥)
         → ((addr count : ℕ) → call ≡ calls.Stage addr count → ⊥) → ((addr : ℕ) → call ≡ calls.StringRead addr → ⊥)
-        → ((addr row : ℕ) → call ≡ calls.Row addr row → ⊥) → most_given call ≡ 0
-    none (calls.Read addr place count) read stage text row = absurd (read addr place count refl)
-    none (calls.Stage addr count) read stage text row = absurd (stage addr count refl)
-    none (calls.StringRead addr) read stage text row = absurd (text addr refl)
-    none (calls.Row addr place) read stage text row = absurd (row addr place refl)
-    none call read stage text row = refl
+        → ((addr row : ℕ) → call ≡ calls.Row addr row → ⊥) → ((place : ℕ) → call ≡ calls.Entry place → ⊥) → most_given call ≡ 0
+    none (calls.Read addr place count) read stage text row entry = absurd (read addr place count refl)
+    none (calls.Stage addr count) read stage text row entry = absurd (stage addr count refl)
+    none (calls.StringRead addr) read stage text row entry = absurd (text addr refl)
+    none (calls.Row addr place) read stage text row entry = absurd (row addr place refl)
+    none (calls.Entry place) read stage text row entry = absurd (entry place refl)
+    none call read stage text row entry = refl
 
 -- there is room for whatever the call may come to
 pub holds_any : (size : ℕ) (call : Call) (room : Room) → MovesAtMost size call room.moves → BytesAtMost call room.bytes → (s : State)

@@ -1,14 +1,19 @@
 -- What a call gives of bytes.
-use Rattle.std.specs.Prelude.{◌≡◌, ℕ, false, List, length, take, drop, ⊤}
+use Rattle.std.specs.Prelude.{◌≡◌, ℕ, false, List, length, take, drop, Option, None, Some, IfSome, MatchOption}
 use Rattle.sdr_lock.specs.Standing.{Standing}
 use Rattle.sdr_model.specs.declared.answer.Reply.{Reply}
 use Rattle.sdr_model.specs.declared.answer.Reply.TheVariants as replies
 use Rattle.sdr_station.specs.Grounded.{Grounded, StandsInMemory}
 
+-- how many bytes a reply tells of, if it does: bytes that were read, or a name of the catalogue
+abbrev pub bytes_told : Reply → Option ℕ
+bytes_told (replies.Bytes count) = Some count
+bytes_told (replies.Named count kind addr) = Some count
+bytes_told reply = None
+
 -- where the reply tells of bytes, they are as many as are shown, and no call was stopped
 abbrev pub Gives : {D : Type 0} → Reply → Grounded D → Type 0
-Gives (replies.Bytes count) g = (length g.shown ≡ count) × (g.stopped ≡ false)
-Gives reply g = ⊤
+Gives reply g = IfSome (bytes_told reply) (λ count. (length g.shown ≡ count) × (g.stopped ≡ false))
 
 -- The first so many bytes of a buffer are what the current world shows, and the others stay.
 pub record HasShown {D : Type 0} (g : Grounded D) (count : ℕ) (old new : List ℕ) : Type 0 where
@@ -17,5 +22,4 @@ pub record HasShown {D : Type 0} (g : Grounded D) (count : ℕ) (old new : List 
 
 -- where the reply tells of bytes, they are in the buffer; else it stays
 abbrev pub Fills : {D : Type 0} → Grounded D → Reply → List ℕ → List ℕ → Type 0
-Fills g (replies.Bytes count) old new = HasShown g count old new
-Fills g reply old new = new ≡ old
+Fills g reply old new = MatchOption (bytes_told reply) (new ≡ old) (λ count. HasShown g count old new)

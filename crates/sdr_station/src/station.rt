@@ -168,7 +168,7 @@ impl<D: Disk> Station<D> {
         requires { Gives reply.now self.now.ground }
         ensures { Fills self.now.ground reply.now into.old into.new }
     {
-        if let Reply::Bytes { count: _ } = reply {
+        if let Reply::Bytes { .. } | Reply::Named { .. } = reply {
             let shown = self.ground.shown();
             into[..shown.len()].copy_from_slice(shown);
         }

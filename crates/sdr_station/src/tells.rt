@@ -19,7 +19,7 @@ fn most_bytes(call: &Call) -> usize
 {
     match call {
         Call::Read(_, _, count) | Call::Stage(_, count) => (*count).min(PAGE as u64) as usize,
-        Call::StringRead(_) | Call::Row(_, _) => PAGE,
+        Call::StringRead(_) | Call::Row(_, _) | Call::Entry(_) => PAGE,
         _ => 0,
     }
 }
