@@ -1,5 +1,5 @@
 -- The bytes that the row of a served call gives.
-use Rattle.std.proofs.Common.{◌≡◌, ◌∙◌, ◌≤◌, ◌<◌, ◌+◌, ◌*◌, ◌++◌, ◌∷◌, ℕ, List, [], Bool, true, false, true≢false, Option, None, Some, MatchBool, MatchOption, length, take, min, nat_lt, nat_le, refl, sym, ap, subst, arith}
+use Rattle.std.proofs.Common.{◌≡◌, ◌∙◌, ◌≤◌, ◌+◌, ◌*◌, ◌==◌, ◌++◌, ◌∷◌, ℕ, List, [], Bool, true, false, true≢false, Option, None, Some, MatchBool, length, take, min, nat_lt, nat_le, refl, sym, ap, subst, arith}
 use Rattle.std.specs.Prelude.{IfSome, get_or, slice_get}
 use Rattle.std.proofs.lemmas.Bool.{ltb-false}
 use Rattle.std.proofs.lemmas.Bool.Decides.{nat_tests}
@@ -9,12 +9,11 @@ use Rattle.std.specs.Option.{option_map}
 use Rattle.sdr_answers.specs.Answering.{built}
 use Rattle.sdr_base.proofs.PartsLemmas.{length-part}
 use Rattle.sdr_base.specs.Parts.{part}
-use Rattle.sdr_base.specs.declared.moves.Move.{Move}
-use Rattle.sdr_base.specs.declared.moves.Move.TheVariants.{Took}
 use Rattle.sdr_base.specs.declared.refusal.Refusal.{Refusal}
 use Rattle.sdr_base.specs.declared.refusal.Refusal.TheVariants as refusals
 use Rattle.sdr_lock.proofs.StepLemmas.{from_option, from_test}
 use Rattle.sdr_lock.specs.Transaction.{bytes_given}
+use Rattle.sdr_model.proofs.FewLemmas.{in_takes_one}
 use Rattle.sdr_model.proofs.TableLemmas.{row-within}
 use Rattle.sdr_model.specs.Limits.{is_no_name, longest_name, longest_raw, longest_read, longest_string}
 use Rattle.sdr_model.specs.ListSteps.{as_list}
@@ -22,7 +21,7 @@ use Rattle.sdr_model.specs.NameSteps.{OnName}
 use Rattle.sdr_model.specs.Names.{name_of}
 use Rattle.sdr_model.specs.RawSteps.{FreesThing}
 use Rattle.sdr_model.specs.Rows.{ByRow}
-use Rattle.sdr_model.specs.Steps.{Does, Makes, On, Outcome, Reads, Refuses, Takes, TakesOne, with_thing}
+use Rattle.sdr_model.specs.Steps.{On, Outcome, Reads, Refuses}
 use Rattle.sdr_model.specs.TableSteps.{as_table}
 use Rattle.sdr_model.specs.Tables.{Table}
 use Rattle.sdr_model.specs.Valid.{IsBetween, IsValidTable, IsValidThing, names_of}
@@ -78,6 +77,15 @@ most_given (calls.Row table row) = 4096
 most_given (calls.Entry place) = 4096
 most_given call = 0
 
+-- which is a page at most
+pub given_page : (call : Call) → most_given call ≤ 4096
+given_page (calls.Read addr place count) = omega arith
+given_page (calls.Stage addr count) = omega arith
+given_page (calls.StringRead addr) = omega arith
+given_page (calls.Row table row) = omega arith
+given_page (calls.Entry place) = omega arith
+given_page call = omega arith
+
 -- the texts of a whole world are short
 text_short : (w : World) (addr : ℕ) (text : List ℕ) → IsWhole w → as_text (thing_at w addr) ≡ Some text → length text ≤ longest_string
 text_short w addr text whole is = by (thing_at w addr) refl is
@@ -114,25 +122,11 @@ module _ (w : World) (o : Outcome) where
   refused : {most : ℕ} (refusal : Refusal) → Refuses w o refusal → Given o most
   refused refusal h = Given.refuses refusal h.2
 
-  does : {most : ℕ} {moves : List Move} {next : World} {reply : Reply} → bytes_told reply ≡ None → Does o moves next reply → Given o most
-  does untold h = Given.none (ap (λ (x : World). x.shown) h.1) (ap bytes_told h.2 ∙ untold)
-
-  reads : {most : ℕ} {reply : Reply} → bytes_told reply ≡ None → Reads w o [] reply → Given o most
-  reads untold h = Given.none (ap (λ (x : World). x.shown) h.1) (ap bytes_told h.2 ∙ untold)
+  shows_none : {most : ℕ} {next : World} {reply : Reply} → o.after ≡ next → o.reply ≡ reply → next.shown ≡ [] → bytes_told reply ≡ None → Given o most
+  shows_none after is shown untold = Given.none (ap (λ (x : World). x.shown) after ∙ shown) (ap bytes_told is ∙ untold)
 
   shows : {most : ℕ} {reply : Reply} (v : World) (bytes : List ℕ) (n : ℕ) → bytes_told reply ≡ Some n → length bytes ≡ n → n ≤ most → Reads v o bytes reply → Given o most
   shows v bytes n told long few h = Given.gives n (ap bytes_told h.2 ∙ told) (ap (λ (x : World). length x.shown) h.1 ∙ long) few
-
-  takes : {most : ℕ} (need : ℕ) (next : ℕ → World) (reply : ℕ → Reply) → ((addr : ℕ) → bytes_told (reply addr) ≡ None)
-      → Takes w o need next reply → Given o most
-  takes {most} need next reply untold h = by o.moves h
-    where
-      by : (moves : List Move) → TakesOne moves need (λ addr. (o.after ≡ record (next addr) { marks = w.marks ++ addr ∷ []; shown = [] }) × (o.reply ≡ reply addr)) → Given o most
-      by (Took n addr ∷ []) t = Given.none (ap (λ (x : World). x.shown) t.1.0) (ap bytes_told t.1.1 ∙ untold addr)
-      by moves t = absurd t
-
-  makes : {most : ℕ} (need : ℕ) (thing : Thing) → Makes w o need thing → Given o most
-  makes need thing h = takes need (λ addr. with_thing w addr thing) (λ addr. replies.At addr) (λ addr. refl) h
 
   on : {X : Type 0} {goes : X → Type 0} {most : ℕ} (addr : ℕ) (named : Option X) → On w o addr named goes
       → ((x : X) → named ≡ Some x → goes x → Given o most) → Given o most
@@ -147,8 +141,8 @@ module _ (w : World) (o : Outcome) where
   frees : (addr : ℕ) (raw text : Option (List ℕ)) → FreesThing w o addr raw text → Given o 0
   frees addr None None h = refused (misnamed w addr) h
   frees addr (Some bytes) text h =
-      from_option (source_on w addr) h (λ _ h. does refl h) (λ source _ h. refused (refusals.InUse addr (uses_of w source)) h)
-  frees addr None (Some text) h = does refl h
+      from_option (source_on w addr) h (λ _ h. shows_none h.1 h.2 refl refl) (λ source _ h. refused (refusals.InUse addr (uses_of w source)) h)
+  frees addr None (Some text) h = shows_none h.1 h.2 refl refl
 
   on_name : {P : Type 0} {Q : Name → Type 0} {most : ℕ} (name : List ℕ) → OnName w o name P Q → (P → Given o most)
       → ((n : Name) → Q n → Given o most) → Given o most
@@ -161,49 +155,49 @@ module _ (w : World) (o : Outcome) where
 
   pub given_row : (call : Call) → built call ≡ true → IsWhole w → ByRow w o call → Given o (most_given call)
   given_row (calls.Malloc bytes) is whole h =
-      unless (nat_lt longest_raw bytes) (refusals.BadLength bytes longest_raw) h (λ _ h. makes _ _ h)
+      unless (nat_lt longest_raw bytes) (refusals.BadLength bytes longest_raw) h (λ _ h. in_takes_one o.moves _ _ h (λ addr p. shows_none p.0 p.1 refl refl))
   given_row (calls.Free addr) is whole h = frees addr (as_raw (thing_at w addr)) (as_text (thing_at w addr)) h
-  given_row (calls.Length addr) is whole h = on addr (block_at w addr) h (λ b _ h. reads refl h)
+  given_row (calls.Length addr) is whole h = on addr (block_at w addr) h (λ b _ h. shows_none h.1 h.2 refl refl)
   given_row (calls.Read addr place count) is whole h = on addr (as_raw (thing_at w addr)) h (λ bytes _ h.
       unless (nat_lt longest_read count) (refusals.BadLength count longest_read) h (λ page h.
       unless (nat_lt (length bytes) (place + count)) (refusals.OutOfBounds addr place count) h (λ inside h.
       shows w (part place count bytes) count refl (length-part place count bytes (ltb-false _ _ inside)) (few_read count page) h)))
   given_row (calls.Write addr place from) is whole h = on addr (as_raw (thing_at w addr)) h (λ bytes _ h.
       unless (nat_lt (length bytes) (place + length from)) (refusals.OutOfBounds addr place (length from)) h (λ _ h.
-      where_so (is_marked w addr) (refusals.NotStaged addr) h (λ h. does refl h)))
+      where_so (is_marked w addr) (refusals.NotStaged addr) h (λ h. shows_none h.1 h.2 refl refl)))
   given_row (calls.Stage addr count) is whole h = on addr (as_raw (thing_at w addr)) h (λ bytes _ h.
       unless (nat_lt longest_read count) (refusals.BadLength count longest_read) h (λ page h.
       unless (nat_lt (length bytes) count) (refusals.OutOfBounds addr 0 count) h (λ inside h.
       shows (record w { marks = w.marks ++ addr ∷ [] }) (take count bytes) count refl (length-take-le count bytes (ltb-false _ _ inside)) (few_read count page) h)))
   given_row (calls.String text) is whole h =
-      unless (nat_lt longest_string (length text)) (refusals.BadLength (length text) longest_string) h (λ _ h. makes _ _ h)
-  given_row (calls.StringLength addr) is whole h = on addr (as_text (thing_at w addr)) h (λ text _ h. reads refl h)
+      unless (nat_lt longest_string (length text)) (refusals.BadLength (length text) longest_string) h (λ _ h. in_takes_one o.moves _ _ h (λ addr p. shows_none p.0 p.1 refl refl))
+  given_row (calls.StringLength addr) is whole h = on addr (as_text (thing_at w addr)) h (λ text _ h. shows_none h.1 h.2 refl refl)
   given_row (calls.StringRead addr) is whole h = on addr (as_text (thing_at w addr)) h (λ text there h.
       let short = text_short w addr text whole there in
       shows w text (length text) refl refl (omega (arith, short)) h)
-  given_row (calls.StringDup addr) is whole h = on addr (as_text (thing_at w addr)) h (λ text _ h. makes _ _ h)
-  given_row (calls.List user) is whole h = makes _ _ h
-  given_row (calls.ListDestroy addr) is whole h = on addr (as_list (thing_at w addr)) h (λ row _ h. does refl h)
-  given_row (calls.ListLength addr) is whole h = on addr (as_list (thing_at w addr)) h (λ row _ h. reads refl h)
-  given_row (calls.ListUser addr) is whole h = on addr (as_list (thing_at w addr)) h (λ row _ h. reads refl h)
-  given_row (calls.SetListUser addr user) is whole h = on addr (as_list (thing_at w addr)) h (λ row _ h. does refl h)
-  given_row (calls.InsertFirst addr datum) is whole h = on addr (as_list (thing_at w addr)) h (λ row _ h. takes _ _ _ (λ addr. refl) h)
-  given_row (calls.InsertLast addr datum) is whole h = on addr (as_list (thing_at w addr)) h (λ row _ h. takes _ _ _ (λ addr. refl) h)
-  given_row (calls.InsertBefore element datum) is whole h = on element (spot_of w element) h (λ s _ h. takes _ _ _ (λ addr. refl) h)
-  given_row (calls.InsertAfter element datum) is whole h = on element (spot_of w element) h (λ s _ h. takes _ _ _ (λ addr. refl) h)
-  given_row (calls.InsertOrdered addr datum by) is whole h = on addr (as_list (thing_at w addr)) h (λ row _ h. takes _ _ _ (λ addr. refl) h)
-  given_row (calls.Search addr datum by) is whole h = on addr (as_list (thing_at w addr)) h (λ row _ h. reads refl h)
-  given_row (calls.Delete element) is whole h = on element (spot_of w element) h (λ s _ h. does refl h)
-  given_row (calls.First addr) is whole h = on addr (as_list (thing_at w addr)) h (λ row _ h. reads refl h)
-  given_row (calls.Last addr) is whole h = on addr (as_list (thing_at w addr)) h (λ row _ h. reads refl h)
-  given_row (calls.Next element) is whole h = on element (spot_of w element) h (λ s _ h. reads refl h)
-  given_row (calls.Prev element) is whole h = on element (spot_of w element) h (λ s _ h. reads refl h)
-  given_row (calls.Datum element) is whole h = on element (spot_of w element) h (λ s _ h. reads refl h)
-  given_row (calls.SetDatum element datum) is whole h = on element (spot_of w element) h (λ s _ h. does refl h)
+  given_row (calls.StringDup addr) is whole h = on addr (as_text (thing_at w addr)) h (λ text _ h. in_takes_one o.moves _ _ h (λ addr p. shows_none p.0 p.1 refl refl))
+  given_row (calls.List user) is whole h = in_takes_one o.moves _ _ h (λ addr p. shows_none p.0 p.1 refl refl)
+  given_row (calls.ListDestroy addr) is whole h = on addr (as_list (thing_at w addr)) h (λ row _ h. shows_none h.1 h.2 refl refl)
+  given_row (calls.ListLength addr) is whole h = on addr (as_list (thing_at w addr)) h (λ row _ h. shows_none h.1 h.2 refl refl)
+  given_row (calls.ListUser addr) is whole h = on addr (as_list (thing_at w addr)) h (λ row _ h. shows_none h.1 h.2 refl refl)
+  given_row (calls.SetListUser addr user) is whole h = on addr (as_list (thing_at w addr)) h (λ row _ h. shows_none h.1 h.2 refl refl)
+  given_row (calls.InsertFirst addr datum) is whole h = on addr (as_list (thing_at w addr)) h (λ row _ h. in_takes_one o.moves _ _ h (λ addr p. shows_none p.0 p.1 refl refl))
+  given_row (calls.InsertLast addr datum) is whole h = on addr (as_list (thing_at w addr)) h (λ row _ h. in_takes_one o.moves _ _ h (λ addr p. shows_none p.0 p.1 refl refl))
+  given_row (calls.InsertBefore element datum) is whole h = on element (spot_of w element) h (λ s _ h. in_takes_one o.moves _ _ h (λ addr p. shows_none p.0 p.1 refl refl))
+  given_row (calls.InsertAfter element datum) is whole h = on element (spot_of w element) h (λ s _ h. in_takes_one o.moves _ _ h (λ addr p. shows_none p.0 p.1 refl refl))
+  given_row (calls.InsertOrdered addr datum by) is whole h = on addr (as_list (thing_at w addr)) h (λ row _ h. in_takes_one o.moves _ _ h (λ addr p. shows_none p.0 p.1 refl refl))
+  given_row (calls.Search addr datum by) is whole h = on addr (as_list (thing_at w addr)) h (λ row _ h. shows_none h.1 h.2 refl refl)
+  given_row (calls.Delete element) is whole h = on element (spot_of w element) h (λ s _ h. shows_none h.1 h.2 refl refl)
+  given_row (calls.First addr) is whole h = on addr (as_list (thing_at w addr)) h (λ row _ h. shows_none h.1 h.2 refl refl)
+  given_row (calls.Last addr) is whole h = on addr (as_list (thing_at w addr)) h (λ row _ h. shows_none h.1 h.2 refl refl)
+  given_row (calls.Next element) is whole h = on element (spot_of w element) h (λ s _ h. shows_none h.1 h.2 refl refl)
+  given_row (calls.Prev element) is whole h = on element (spot_of w element) h (λ s _ h. shows_none h.1 h.2 refl refl)
+  given_row (calls.Datum element) is whole h = on element (spot_of w element) h (λ s _ h. shows_none h.1 h.2 refl refl)
+  given_row (calls.SetDatum element datum) is whole h = on element (spot_of w element) h (λ s _ h. shows_none h.1 h.2 refl refl)
   given_row (calls.Table rows size user) is whole h =
       unless (nat_lt longest_raw rows) (refusals.BadLength rows longest_raw) h (λ _ h.
       unless (nat_lt longest_raw size) (refusals.BadLength size longest_raw) h (λ _ h.
-      unless (nat_lt longest_raw (rows * size)) (refusals.BadLength (rows * size) longest_raw) h (λ _ h. makes _ _ h)))
+      unless (nat_lt longest_raw (rows * size)) (refusals.BadLength (rows * size) longest_raw) h (λ _ h. in_takes_one o.moves _ _ h (λ addr p. shows_none p.0 p.1 refl refl))))
   given_row (calls.Row addr row) is whole h = on addr (as_table (thing_at w addr)) h (λ table there h.
       unless (nat_le table.rows row) (refusals.BadRow row table.rows) h (λ inside h.
       unless (nat_lt longest_read table.size) (refusals.BadLength table.size longest_read) h (λ page h.
@@ -213,14 +207,14 @@ module _ (w : World) (o : Outcome) where
       shows w (part (table.size * row) table.size table.bytes) table.size refl (length-part (table.size * row) table.size table.bytes within) few h)))
   given_row (calls.SetRow addr row from) is whole h = on addr (as_table (thing_at w addr)) h (λ table _ h.
       unless (nat_le table.rows row) (refusals.BadRow row table.rows) h (λ _ h.
-      where_so (length from == table.size) (refusals.BadLength (length from) table.size) h (λ h. does refl h)))
-  given_row (calls.Dimensions addr) is whole h = on addr (as_table (thing_at w addr)) h (λ table _ h. reads refl h)
-  given_row (calls.TableUser addr) is whole h = on addr (as_table (thing_at w addr)) h (λ table _ h. reads refl h)
-  given_row (calls.TableDestroy addr) is whole h = on addr (as_table (thing_at w addr)) h (λ table _ h. does refl h)
+      where_so (length from == table.size) (refusals.BadLength (length from) table.size) h (λ h. shows_none h.1 h.2 refl refl)))
+  given_row (calls.Dimensions addr) is whole h = on addr (as_table (thing_at w addr)) h (λ table _ h. shows_none h.1 h.2 refl refl)
+  given_row (calls.TableUser addr) is whole h = on addr (as_table (thing_at w addr)) h (λ table _ h. shows_none h.1 h.2 refl refl)
+  given_row (calls.TableDestroy addr) is whole h = on addr (as_table (thing_at w addr)) h (λ table _ h. shows_none h.1 h.2 refl refl)
   given_row (calls.Catlg name kind object) is whole h =
-      on_name name h (λ h. takes _ _ _ (λ addr. refl) h) (λ n h. refused (refusals.NameTaken n.object) h)
-  given_row (calls.Find name) is whole h = on_name name h (λ h. refused refusals.NotFound h) (λ n h. reads refl h)
-  given_row (calls.Uncatlg name) is whole h = on_name name h (λ h. refused refusals.NotFound h) (λ n h. does refl h)
+      on_name name h (λ h. in_takes_one o.moves _ _ h (λ addr p. shows_none p.0 p.1 refl refl)) (λ n h. refused (refusals.NameTaken n.object) h)
+  given_row (calls.Find name) is whole h = on_name name h (λ h. refused refusals.NotFound h) (λ n h. shows_none h.1 h.2 refl refl)
+  given_row (calls.Uncatlg name) is whole h = on_name name h (λ h. refused refusals.NotFound h) (λ n h. shows_none h.1 h.2 refl refl)
   given_row (calls.Entry place) is whole h =
       from_option (slice_get w.names place) h (λ _ h. refused refusals.NotFound h) (λ n there h.
       let short = name_short w place n whole there in

@@ -6,7 +6,6 @@ use Rattle.sdr_base.specs.KeptHeap.{KeepsRegion}
 use Rattle.sdr_base.specs.Transaction.{Explains}
 use Rattle.sdr_base.specs.Moves.{Leads, Moves, MovesPools}
 use Rattle.sdr_base.specs.Objects.{Heap}
-use Rattle.sdr_base.specs.Pools.{Pools}
 use Rattle.sdr_base.specs.Works.{Works}
 use Rattle.sdr_base.specs.declared.has_heap.HasHeap.{Ghosts as HeapGhosts}
 use Rattle.sdr_base.specs.declared.moves.Move.{Move}
@@ -44,7 +43,6 @@ use Rattle.sdr_model.specs.declared.answer.Reply.TheVariants as replies
 use Rattle.sdr_answers.proofs.DemandLemmas.{asks_more, enough, reading_lines}
 use Rattle.sdr_answers.proofs.EntryLemmas.{source_there}
 use Rattle.sdr_answers.proofs.GoodLemmas.{good_of}
-use Rattle.sdr_answers.proofs.ListLemmas.{IsSmall}
 use Rattle.sdr_station.proofs.StoodLemmas.{small_in, stood_of}
 use Rattle.sdr_station.proofs.GroundLemmas.{heap_ground}
 use Rattle.sdr_station.proofs.MediaLemmas.{gap_none, misses_none}

@@ -1,6 +1,5 @@
 -- A world that a heap has stood for.
-use Rattle.std.proofs.Common.{◌≡◌, ◌≤◌, ◌*◌, ◌+◌, ℕ, List, Option, None, Some, refl, length, arith}
-use Rattle.std.specs.Prelude.{IfSome}
+use Rattle.std.proofs.Common.{◌≡◌, ◌≤◌, ◌*◌, ℕ, List, Option, Some, refl, length, arith}
 use Rattle.std.proofs.lemmas.List.{length-map}
 use Rattle.sdr_answers.proofs.ListLemmas.{IsSmall, few_elements}
 use Rattle.sdr_audit.proofs.ChangeLemmas.{apart}

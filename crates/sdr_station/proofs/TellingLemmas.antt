@@ -1,8 +1,8 @@
 -- Room for whatever a served call may come to.
-use Rattle.std.proofs.Common.{◌≡◌, ◌≤◌, ◌⊎◌, ℕ, List, true, inl, inr, length, refl, subst, arith}
+use Rattle.std.proofs.Common.{◌≡◌, ◌≤◌, ◌⊎◌, ℕ, List, true, ap, inl, inr, length, min, refl, subst, arith}
 use Rattle.sdr_answers.specs.Answering.{built}
 use Rattle.sdr_base.specs.declared.moves.Move.{Move}
-use Rattle.sdr_lock.specs.Ground.{Ground, Replied, State, StepsOn}
+use Rattle.sdr_lock.specs.Ground.{Ground, State, StepsOn}
 use Rattle.sdr_lock.specs.Room.{HoldsAny}
 use Rattle.sdr_lock.specs.Transaction.{bytes_given}
 use Rattle.sdr_lock.specs.declared.tells.Room.{Room}
@@ -14,7 +14,7 @@ use Rattle.sdr_model.specs.declared.answer.Reply.{Reply}
 use Rattle.sdr_model.specs.declared.answer.Reply.TheVariants as replies
 use Rattle.sdr_model.specs.declared.call.Call.{Call}
 use Rattle.sdr_model.specs.declared.call.Call.TheVariants as calls
-use Rattle.sdr_station.proofs.GivenLemmas.{given_few, given_row, most_given}
+use Rattle.sdr_station.proofs.GivenLemmas.{given_few, given_page, given_row, most_given}
 use Rattle.sdr_station.proofs.RoomLemmas.{steps_at_most}
 use Rattle.sdr_station.specs.Grounded.{HasStood}
 use Rattle.sdr_station.specs.Rooming.{MovesAtMost}
@@ -35,7 +35,25 @@ pub bytes_at_most : (call : Call) → built call ≡ true → BytesAtMost call (
 bytes_at_most call is w o whole (inl row) = given_few o (most_given call) (given_row w o call is whole row)
 bytes_at_most call is w o whole (inr s) = few_stopped o call s.aim.moves (most_given call) s.stopped
 
--- and none where it reads none
+-- which is a page at most
+pub bytes_page : (call : Call) → built call ≡ true → BytesAtMost call 4096
+bytes_page call is w o whole step =
+    let few = bytes_at_most call is w o whole step in
+    let page = given_page call in
+    omega (arith, few, page)
+
+-- a read gives no more than it asks for, nor than a page
+pub bytes_read : (call : Call) (count : ℕ) → built call ≡ true
+    → ((addr : ℕ) × (place : ℕ) × (call ≡ calls.Read addr place count)) ⊎ ((addr : ℕ) × (call ≡ calls.Stage addr count))
+    → BytesAtMost call (min count 4096)
+bytes_read call count is reads = subst (λ (n : ℕ). BytesAtMost call n) (asked reads) (bytes_at_most call is)
+  where
+    asked : ((addr : ℕ) × (place : ℕ) × (call ≡ calls.Read addr place count)) ⊎ ((addr : ℕ) × (call ≡ calls.Stage addr count))
+        → most_given call ≡ min count 4096
+    asked (inl r) = ap most_given r.2
+    asked (inr s) = ap most_given s.1
+
+-- and a call that reads none gives none
 pub bytes_none : (call : Call) → built call ≡ true → ((addr place count : ℕ) → call ≡ calls.Read addr place count → ⊥)
     → ((addr count : ℕ) → call ≡ calls.Stage addr count → ⊥) → ((addr : ℕ) → call ≡ calls.StringRead addr → ⊥)
     → ((addr row : ℕ) → call ≡ calls.Row addr row → ⊥) → ((place : ℕ) → call ≡ calls.Entry place → ⊥) → BytesAtMost call 0
