@@ -1,5 +1,5 @@
 -- Calls on the catalogue, as steps.
-use Rattle.std.proofs.Common.{◌≡◌, ◌∙◌, ◌≤◌, ◌<◌, ◌||◌, ◌++◌, ◌⊎◌, ℕ, List, [], ◌∷◌, Bool, true, false, find, map, length, take, nat_lt, MatchOption, Option, None, Some, inl, inr, refl, sym, ap, subst, arith}
+use Rattle.std.proofs.Common.{◌≡◌, ◌∙◌, ◌≤◌, ◌<◌, ◌++◌, ◌⊎◌, ℕ, List, [], ◌∷◌, true, false, find, map, length, take, Option, None, Some, inl, inr, refl, sym, ap, subst, arith}
 use Rattle.std.proofs.lemmas.Bool.Decides.{nat_tests}
 use Rattle.std.proofs.lemmas.List.{map-append}
 use Rattle.std.proofs.lemmas.Option.{get_or_from_slice_get, slice_get-map, slice_get_within}
@@ -30,7 +30,7 @@ use Rattle.sdr_model.specs.Limits.{is_no_name}
 use Rattle.sdr_model.specs.NameSteps.{OnName}
 use Rattle.sdr_model.specs.Names.{name_of, without_name}
 use Rattle.sdr_model.specs.Rows.{ByRow}
-use Rattle.sdr_model.specs.Steps.{Outcome, Refuses}
+use Rattle.sdr_model.specs.Steps.{Outcome}
 use Rattle.sdr_model.specs.Things.{name_need}
 use Rattle.sdr_model.specs.World.{World}
 use Rattle.sdr_model.specs.declared.answer.Reply.TheVariants as replies

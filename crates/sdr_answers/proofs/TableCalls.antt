@@ -1,5 +1,5 @@
 -- Calls on tables, as steps.
-use Rattle.std.proofs.Common.{◌≡◌, ◌∙◌, ◌≤◌, ◌<◌, ◌*◌, ◌==◌, ℕ, List, [], ◌∷◌, Bool, true, false, Option, None, Some, cond, find, inl, nat_le, nat_lt, length, take, refl, sym, ap, subst, arith}
+use Rattle.std.proofs.Common.{◌≡◌, ◌∙◌, ◌<◌, ◌*◌, ◌==◌, ℕ, List, [], ◌∷◌, Bool, true, false, None, Some, cond, inl, nat_le, nat_lt, length, take, refl, sym, ap, subst, arith}
 use Rattle.std.specs.Prelude.{replicate}
 use Rattle.std.proofs.lemmas.Bool.Decides.{nat_tests}
 use Rattle.sdr_answers.proofs.RowLemmas.{full_refused, gave_back, looked, marks_none, misnamed_refused, moved_nothing, row_refused, short_refused, shows, thing_changed, thing_made, thing_went, unmoved_answered}
@@ -7,9 +7,8 @@ use Rattle.sdr_answers.proofs.TableLemmas.{IsTableAt, no_table, table_is_at}
 use Rattle.sdr_answers.specs.Answering.{Answered, IsRefused, IsServed}
 use Rattle.sdr_audit.specs.Rows.{table_row}
 use Rattle.sdr_audit.specs.Standing.{HeapStandsFor, with_taken_marked}
-use Rattle.sdr_base.specs.Blocks.{IsKind}
 use Rattle.sdr_base.specs.Objects.{Heap, Misses}
-use Rattle.sdr_base.specs.Parts.{overwrite, part}
+use Rattle.sdr_base.specs.Parts.{overwrite}
 use Rattle.sdr_base.specs.declared.kind.Kind.TheVariants as kinds
 use Rattle.sdr_base.specs.declared.moves.Move.TheVariants.{Gave, Took}
 use Rattle.sdr_base.specs.declared.refusal.Refusal.{Refusal}
@@ -18,18 +17,17 @@ use Rattle.sdr_base.specs.declared.stop.Stop.TheVariants as stops
 use Rattle.sdr_lock.proofs.WorkLemmas.{on_false, on_some, on_true}
 use Rattle.sdr_model.specs.Limits.{longest_raw, longest_read}
 use Rattle.sdr_model.specs.Rows.{ByRow}
-use Rattle.sdr_model.specs.Steps.{Does, On, Outcome, RefusedIf, with_thing, without_thing}
+use Rattle.sdr_model.specs.Steps.{On, Outcome, RefusedIf, with_thing, without_thing}
 use Rattle.sdr_model.specs.TableSteps.{as_table}
 use Rattle.sdr_model.specs.Tables.{Table}
 use Rattle.sdr_model.specs.Things.{table_need}
 use Rattle.sdr_model.specs.World.{World, thing_at}
-use Rattle.sdr_model.specs.declared.answer.Reply.{Reply}
 use Rattle.sdr_model.specs.declared.answer.Reply.TheVariants as replies
 use Rattle.sdr_model.specs.declared.call.Call.{Call}
 use Rattle.sdr_model.specs.declared.call.Call.TheVariants as calls
 use Rattle.sdr_model.specs.declared.things.Thing.TheVariants as things
 use Rattle.sdr_table.specs.Calls.{CreateStops, DestroyStops, DestroysTable, MakesTable, TellsOfTable}
-use Rattle.sdr_table.specs.Kept.{IsAbove, first_above}
+use Rattle.sdr_table.specs.Kept.{first_above}
 use Rattle.sdr_table.specs.Rows.{IsNoRow, ReadsRow, RowStops, SetStops, SetsRow}
 
 -- a table of zero bytes

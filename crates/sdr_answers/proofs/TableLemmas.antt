@@ -1,5 +1,5 @@
 -- Tables in blocks.
-use Rattle.std.proofs.Common.{◌≡◌, ◌∙◌, ◌≤◌, ◌*◌, ℕ, List, [], ◌∷◌, Bool, true, false, true≢false, Option, None, Some, cond, find, nat_lt, refl, sym, ap, subst, arith}
+use Rattle.std.proofs.Common.{◌≡◌, ◌∙◌, ◌≤◌, ◌*◌, ℕ, [], ◌∷◌, false, Option, None, Some, cond, find, nat_lt, refl, ap, subst, arith}
 use Rattle.std.specs.Prelude.{IfSome}
 use Rattle.std.proofs.lemmas.Bool.Decides.{nat_tests}
 use Rattle.sdr_answers.proofs.KindLemmas.{own_in_use, thing_is_at}
