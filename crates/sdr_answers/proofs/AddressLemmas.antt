@@ -27,7 +27,8 @@ abbrev behind : ℕ → List Element → ℕ → ℕ
 behind prev es zero = prev
 behind prev es (suc place) = element_addr es place
 
-before_is : (prev : ℕ) (es : List Element) (place : ℕ) → place ≤ length es → last_of addr_of prev (take place (map element_row es)) ≡ behind prev es place
+before_is : (prev : ℕ) (es : List Element) (place : ℕ) → place ≤ length es
+    → last_of addr_of prev (take place (map element_row es)) ≡ behind prev es place
 before_is prev es zero le = refl
 before_is prev [] (suc place) le = absurd (omega (arith, le))
 before_is prev (e ∷ es) (suc zero) le = refl
@@ -45,7 +46,8 @@ pub addr_before_is : (es : List Element) (place : ℕ) → place < length es
 addr_before_is es place within = before_is 0 es place (omega (arith, within)) ∙ behind_is es place
 
 -- the last one
-last_is : (prev : ℕ) (e : Element) (es : List Element) → last_of addr_of prev (map element_row (e ∷ es)) ≡ element_addr (e ∷ es) (length es)
+last_is : (prev : ℕ) (e : Element) (es : List Element)
+    → last_of addr_of prev (map element_row (e ∷ es)) ≡ element_addr (e ∷ es) (length es)
 last_is prev e [] = refl
 last_is prev e (f ∷ es) = last_is e.block f es
 
@@ -63,11 +65,14 @@ place_behind_is test (e ∷ es) =
 
 -- the first element whose datum passes
 find_is : (test : ℕ → Bool) (es : List Element)
-    → find (λ (x : ListElement). test x.datum) (map element_row es) ≡ option_map element_row (find (λ (e : Element). test e.datum) es)
+    → find (λ (x : ListElement). test x.datum) (map element_row es)
+    ≡ option_map element_row (find (λ (e : Element). test e.datum) es)
 find_is test [] = refl
 find_is test (e ∷ es) = step (test e.datum) (find_is test es)
   where
-    step : (b : Bool) → find (λ (x : ListElement). test x.datum) (map element_row es) ≡ option_map element_row (find (λ (e : Element). test e.datum) es)
+    step : (b : Bool)
+        → find (λ (x : ListElement). test x.datum) (map element_row es)
+        ≡ option_map element_row (find (λ (e : Element). test e.datum) es)
         → cond b (Some (element_row e)) (find (λ (x : ListElement). test x.datum) (map element_row es))
         ≡ option_map element_row (cond b (Some e) (find (λ (e : Element). test e.datum) es))
     step true rest = refl
@@ -77,12 +82,14 @@ same_addr : (o : Option Element) → blocks.found_addr (option_map element_row o
 same_addr None = refl
 same_addr (Some e) = refl
 
-at_first : (es : List Element) (n : ℕ) (b : Bool) → nat_lt n (length es) ≡ b → steps.addr_of (slice_get es n) ≡ found_addr es (cond b (Some n) None)
+at_first : (es : List Element) (n : ℕ) (b : Bool) → nat_lt n (length es) ≡ b
+    → steps.addr_of (slice_get es n) ≡ found_addr es (cond b (Some n) None)
 at_first es n true within = refl
 at_first es n false past = ap steps.addr_of (slice_get_past es n (ltb-false _ _ past))
 
 pub found_addr_is : (test : ℕ → Bool) (es : List Element)
-    → blocks.found_addr (find (λ (x : ListElement). test x.datum) (map element_row es)) ≡ found_addr es (position (λ (e : Element). test e.datum) es)
+    → blocks.found_addr (find (λ (x : ListElement). test x.datum) (map element_row es)) ≡ found_addr es
+    (position (λ (e : Element). test e.datum) es)
 found_addr_is test es =
     let p = λ (e : Element). test e.datum in
     ap blocks.found_addr (find_is test es) ∙ same_addr (find p es) ∙ ap steps.addr_of (find_at p es)

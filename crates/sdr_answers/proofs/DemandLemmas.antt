@@ -21,15 +21,18 @@ use Rattle.sdr_model.specs.declared.call.Call.TheVariants as calls
 use Rattle.sdr_answers.specs.Answering.{IsServed, built, call_lines}
 
 -- a call that is answered by its row asks for as many lines as it touches
-pub enough : (d : Demand) (heap : Heap) (w : World) (call : Call) (o : Outcome) → built call ≡ true → HeapStandsFor heap w → IsServed w
+pub enough : (d : Demand) (heap : Heap) (w : World) (call : Call) (o : Outcome) → built call ≡ true → HeapStandsFor heap w
+    → IsServed w
     → IsSmall heap → ByRow w o call → is_answer o.reply ≡ true
     → most_lines d + call_lines heap call ≤ most_lines (demand_after d w call o)
-enough d heap w call o is s served small row answered = by call is (moves_are_the_rows w o.after call o.moves o.reply (inl row) answered)
+enough d heap w call o is s served small row answered =
+    by call is (moves_are_the_rows w o.after call o.moves o.reply (inl row) answered)
   where
     at : ℕ → ℕ
     at = slice_index (taken_addresses o.moves)
 
-    by : (c : Call) → built c ≡ true → o.moves ≡ row_moves w c at → most_lines d + call_lines heap c ≤ most_lines (demand_after d w c o)
+    by : (c : Call) → built c ≡ true → o.moves ≡ row_moves w c at
+        → most_lines d + call_lines heap c ≤ most_lines (demand_after d w c o)
     by (calls.Malloc bytes) is moves =
         let one : length o.moves ≡ 1 = ap (λ (ms : List Move). length ms) moves in
         let need : bytes_taken o.moves ≡ 8 + bytes + 0 = ap bytes_taken moves in

@@ -51,7 +51,8 @@ found_entry {X} p (x ∷ xs) sorted e is = step (found_entry p xs parts.1 e) (p 
         let none : finite.find nat_cmp e.0 xs ≡ None = ap (λ k. finite.find nat_cmp k xs) same ∙ above x.0 xs parts.0 in
         absurd (let no : None ≡ Some e.1 = sym none ∙ rest in cc)
 
-    step : (find (λ y. p y.1) xs ≡ Some e → finite.find nat_cmp e.0 xs ≡ Some e.1) → (b : Bool) → cond b (Some x) (find (λ y. p y.1) xs) ≡ Some e
+    step : (find (λ y. p y.1) xs ≡ Some e → finite.find nat_cmp e.0 xs ≡ Some e.1) → (b : Bool)
+        → cond b (Some x) (find (λ y. p y.1) xs) ≡ Some e
         → cond (is_eq (nat_cmp e.0 x.0)) (Some x.1) (finite.find nat_cmp e.0 xs) ≡ Some e.1
     step rest true here =
         let same : x ≡ e = cc in
@@ -89,7 +90,8 @@ source_there w raw addr is = by (find (λ e. names_raw raw e.1) (finite.entries 
         let same : e.0 ≡ addr = cc in
         subst (λ (k : ℕ). Names w raw k) same
         (of e.0 e.1 (passes (λ (x : ℕ × Thing). names_raw raw x.1) (finite.entries w.things) e found)
-        (finite.get-entries w.things e.0 ∙ found_entry (names_raw raw) (finite.entries w.things) (finite.entries_sorted w.things) e found))
+        (finite.get-entries w.things e.0 ∙ found_entry (names_raw raw) (finite.entries w.things) (finite.entries_sorted w.things)
+        e found))
 
 -- no source names a raw object where nothing is
 pub none_named : (w : World) (raw : ℕ) → FitTogether w → thing_at w raw ≡ None → source_on w raw ≡ None
@@ -111,4 +113,5 @@ none_named w raw fits none = by (source_on w raw) refl
     by (Some addr) is =
         let n = source_there w raw addr is in
         absurd (no_subject n.source.length n.source.subject n.named
-        (subst (λ o. IfSome o (λ (source : ZcoSource). HasSubject w source.length source.subject)) (ap as_source n.there) (fits.subjects addr)))
+        (subst (λ o. IfSome o (λ (source : ZcoSource). HasSubject w source.length source.subject)) (ap as_source n.there)
+        (fits.subjects addr)))

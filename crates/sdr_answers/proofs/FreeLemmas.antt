@@ -49,14 +49,16 @@ pub record IsFreeable (heap : Heap) (w : World) (addr : ℕ) : Type 0 where
   pub row : ByRow w (free_outcome w addr) (calls.Free addr)
   pub goes : (new : Heap) → new ≡ with_given heap addr → Changes heap.blocks new.blocks (thing_entries (ties_of w) addr thing) []
 
-one_goes : (heap new : Heap) (addr : ℕ) (x : base.Block) → new ≡ with_given heap addr → Changes heap.blocks new.blocks ((addr, x) ∷ []) []
+one_goes : (heap new : Heap) (addr : ℕ) (x : base.Block) → new ≡ with_given heap addr
+    → Changes heap.blocks new.blocks ((addr, x) ∷ []) []
 one_goes heap new addr x is = record {
   kept = λ rest s.
       subst (λ (b : base.Blocks). Stands b rest) (sym (ap (λ (h : Heap). h.blocks) is)) (went heap.blocks addr x [] rest s);
 }
 
 -- a raw object is
-raw_freeable : (heap : Heap) (w : World) (addr : ℕ) → HeapStandsFor heap w → IsWhole w → IsPlain w → IsKind (heap.blocks addr) kinds.Raw → IsFreeable heap w addr
+raw_freeable : (heap : Heap) (w : World) (addr : ℕ) → HeapStandsFor heap w → IsWhole w → IsPlain w
+    → IsKind (heap.blocks addr) kinds.Raw → IsFreeable heap w addr
 raw_freeable heap w addr s whole plain kind =
     let r = raw_is_at heap w addr s whole.valid kind in
     record {
@@ -64,12 +66,14 @@ raw_freeable heap w addr s whole plain kind =
       there = r.there;
       untied = tt;
       row = subst (λ (t : Option Thing). FreesThing w (free_outcome w addr) addr (as_raw t) (as_text t)) (sym r.there)
-          (on_none _ _ (source_on w addr) (plain.unnamed addr) (refl, marks_none (without_thing w addr) (Gave addr ∷ []) refl, refl));
+          (on_none _ _ (source_on w addr) (plain.unnamed addr)
+          (refl, marks_none (without_thing w addr) (Gave addr ∷ []) refl, refl));
       goes = λ new is. one_goes heap new addr _ is;
     }
 
 -- and a string
-text_freeable : (heap : Heap) (w : World) (addr : ℕ) → HeapStandsFor heap w → IsWhole w → IsKind (heap.blocks addr) kinds.Text → IsFreeable heap w addr
+text_freeable : (heap : Heap) (w : World) (addr : ℕ) → HeapStandsFor heap w → IsWhole w → IsKind (heap.blocks addr) kinds.Text
+    → IsFreeable heap w addr
 text_freeable heap w addr s whole kind =
     let r = text_is_at heap w addr s whole.valid kind in
     record {
@@ -81,7 +85,8 @@ text_freeable heap w addr s whole kind =
       goes = λ new is. one_goes heap new addr _ is;
     }
 
-freeable : (heap : Heap) (w : World) (addr : ℕ) → HeapStandsFor heap w → IsWhole w → IsPlain w → IsRawOrText (heap.blocks addr) → IsFreeable heap w addr
+freeable : (heap : Heap) (w : World) (addr : ℕ) → HeapStandsFor heap w → IsWhole w → IsPlain w → IsRawOrText (heap.blocks addr)
+    → IsFreeable heap w addr
 freeable heap w addr s whole plain (inl raw) = raw_freeable heap w addr s whole plain raw
 freeable heap w addr s whole plain (inr text) = text_freeable heap w addr s whole text
 
@@ -94,12 +99,14 @@ free_answered addr old new w unmoved frees s whole plain =
     (gave_back w (addr ∷ []) old new unmoved (record { all = ap besides frees.given })) (f.goes new frees.given) f.row refl
 
 -- neither a raw object nor a string is where no such block is
-neither_at : (heap : Heap) (w : World) (addr : ℕ) → HeapStandsFor heap w → IsValid w → ¬ IsKind (heap.blocks addr) kinds.Raw → ¬ IsKind (heap.blocks addr) kinds.Text
+neither_at : (heap : Heap) (w : World) (addr : ℕ) → HeapStandsFor heap w → IsValid w → ¬ IsKind (heap.blocks addr) kinds.Raw
+    → ¬ IsKind (heap.blocks addr) kinds.Text
     → (as_raw (thing_at w addr) ≡ None) × (as_text (thing_at w addr) ≡ None)
 neither_at heap w addr s valid raw text = (no_raw heap w addr s valid raw, no_text heap w addr s valid text)
 
 -- the address of neither is refused
-neither_row : (w : World) (addr : ℕ) (refusal : Refusal) → (as_raw (thing_at w addr) ≡ None) × (as_text (thing_at w addr) ≡ None) → refusal ≡ misnamed w addr
+neither_row : (w : World) (addr : ℕ) (refusal : Refusal) → (as_raw (thing_at w addr) ≡ None) × (as_text (thing_at w addr) ≡ None)
+    → refusal ≡ misnamed w addr
     → ByRow w (record { moves = []; after = w; reply = replies.Refused refusal }) (calls.Free addr)
 neither_row w addr refusal none is =
     let o : Outcome = record { moves = []; after = w; reply = replies.Refused refusal } in
@@ -134,7 +141,8 @@ free_refused addr old new w was (refusals.WrongKind bad number) unmoved s whole 
     kind_in (Some told) = told.0
 
     other : (f : Option base.Block) (b : Option Block) → old.blocks addr ≡ f → kind_length f ≡ told_of b → IsNeither f number
-        → (¬ IsKind (old.blocks addr) kinds.Raw) × (¬ IsKind (old.blocks addr) kinds.Text) × (refusals.WrongKind bad number ≡ refusal_for addr b)
+        → (¬ IsKind (old.blocks addr) kinds.Raw) × (¬ IsKind (old.blocks addr) kinds.Text) ×
+        (refusals.WrongKind bad number ≡ refusal_for addr b)
     other None b here same n = absurd n
     other (Some block) None here same n = absurd cc
     other (Some block) (Some b) here same n = (
@@ -144,5 +152,10 @@ free_refused addr old new w was (refusals.WrongKind bad number) unmoved s whole 
     )
 free_refused addr old new w was (refusals.LogFull lines room) unmoved s whole plain m =
     let f = freeable old w addr s whole plain m.0 in
-    full_refused w (calls.Free addr) old new was (refusals.LogFull lines room) refl (record { to = _; row = f.row; answered = refl }) m.1
+    full_refused w (calls.Free addr) old new was (refusals.LogFull lines room) refl (record {
+      to =
+          _;
+      row = f.row;
+      answered = refl;
+    }) m.1
 free_refused addr old new w was refusal unmoved s whole plain m = absurd m.1

@@ -21,7 +21,8 @@ use Rattle.sdr_heap.specs.Raw.{IsUnnamed, IsWhole}
 use Rattle.sdr_model.specs.World.{World}
 
 -- a raw object's block has its source word, which is 0
-raws_good : (heap : Heap) (w : World) → HeapStandsFor heap w → IsServed w → (addr : ℕ) → IsWhole (heap.blocks addr) × IsUnnamed (heap.blocks addr)
+raws_good : (heap : Heap) (w : World) → HeapStandsFor heap w → IsServed w → (addr : ℕ)
+    → IsWhole (heap.blocks addr) × IsUnnamed (heap.blocks addr)
 raws_good heap w s served addr = by (heap.blocks addr) (λ kind. of (raw_is_at heap w addr s served.whole.valid kind))
   where
     of : IsRawAt heap w addr → (bytes : List ℕ) × (heap.blocks addr ≡ Some (raw_block 0 bytes))

@@ -79,18 +79,22 @@ module _ (P : Block → Type 0) where
   all_both (x ∷ xs) ys first second = (first.0, all_both xs ys first.1 second)
 
   -- it holds of the blocks of names and tickets
-  pub loose_all : (w : World) (addr : ℕ) → ((n : Name) → P (name_block n)) → ((t : Ticket) → P (ticket_block t)) → Finds (loose_block w addr)
+  pub loose_all : (w : World) (addr : ℕ) → ((n : Name) → P (name_block n)) → ((t : Ticket) → P (ticket_block t))
+      → Finds (loose_block w addr)
   loose_all w addr name ticket =
       or_finds (block_among addr (map name_block w.names)) (block_among addr (ticket_blocks w.accounts))
       (found_all addr (map name_block w.names) (all_of name_block name w.names))
-      (found_all addr (ticket_blocks w.accounts) (all_both (map ticket_block w.accounts.inbound.tickets) (map ticket_block w.accounts.outbound.tickets)
+      (found_all addr (ticket_blocks w.accounts) (all_both (map ticket_block w.accounts.inbound.tickets)
+      (map ticket_block w.accounts.outbound.tickets)
       (all_of ticket_block ticket w.accounts.inbound.tickets) (all_of ticket_block ticket w.accounts.outbound.tickets)))
 
   -- and of those of the inside of an object
-  pub object_all : (z : ZcoObject) → ((c : Capsule) → P (capsule_block c)) → ((e : Extent) → P (extent_block e)) → AllByRecursion P (object_blocks z)
+  pub object_all : (z : ZcoObject) → ((c : Capsule) → P (capsule_block c)) → ((e : Extent) → P (extent_block e))
+      → AllByRecursion P (object_blocks z)
   object_all z capsule extent =
       all_both (map capsule_block z.headers ++ map extent_block z.extents) (map capsule_block z.trailers)
-      (all_both (map capsule_block z.headers) (map extent_block z.extents) (all_of capsule_block capsule z.headers) (all_of extent_block extent z.extents))
+      (all_both (map capsule_block z.headers) (map extent_block z.extents) (all_of capsule_block capsule z.headers)
+      (all_of extent_block extent z.extents))
       (all_of capsule_block capsule z.trailers)
 
 -- a block is no thing's own
@@ -147,7 +151,8 @@ kind_told None b same = absurd cc
 kind_told (Some block) b same = ap kind_in same
 
 -- and where there is one, there is the world's
-pub block_of_kind : (heap : Heap) (w : World) (addr : ℕ) (kind : Kind) → HeapStandsFor heap w → IsValid w → IsKind (heap.blocks addr) kind
+pub block_of_kind : (heap : Heap) (w : World) (addr : ℕ) (kind : Kind) → HeapStandsFor heap w → IsValid w
+    → IsKind (heap.blocks addr) kind
     → (b : Block) × (block_at w addr ≡ Some b) × (b.kind ≡ kind)
 block_of_kind heap w addr kind s valid is = by (heap.blocks addr) (block_at w addr) refl (block_told heap w addr s valid) is
   where
@@ -165,7 +170,8 @@ thing_is_at heap w addr kind s valid own is =
     subst (λ (k : Kind). ThingAt w addr k) b.2 (own_block_at w addr b.0 b.1 (subst (λ (k : Kind). is_own k ≡ true) (sym b.2) own))
 
 -- a thing's own block is in use
-pub own_in_use : (heap : Heap) (w : World) (addr : ℕ) (thing : Thing) → HeapStandsFor heap w → IsValid w → thing_at w addr ≡ Some thing
+pub own_in_use : (heap : Heap) (w : World) (addr : ℕ) (thing : Thing) → HeapStandsFor heap w → IsValid w
+    → thing_at w addr ≡ Some thing
     → IsKind (heap.blocks addr) (own_block addr thing).kind
 own_in_use heap w addr thing s valid there =
     kind_told (heap.blocks addr) (own_block addr thing)
@@ -173,10 +179,12 @@ own_in_use heap w addr thing s valid there =
 
 -- the address of what isn't of a kind is refused
 pub missed : (heap : Heap) (w : World) (addr : ℕ) (kind : Kind) (refusal : Refusal) → HeapStandsFor heap w → IsValid w
-    → Misses (heap.blocks addr) addr kind (stops.Refused refusal) → (¬ IsKind (heap.blocks addr) kind) × (refusal ≡ misnamed w addr)
+    → Misses (heap.blocks addr) addr kind (stops.Refused refusal)
+    → (¬ IsKind (heap.blocks addr) kind) × (refusal ≡ misnamed w addr)
 missed heap w addr kind refusal s valid = by (heap.blocks addr) (block_at w addr) refusal (block_told heap w addr s valid)
   where
-    by : (found : Option base.Block) (b : Option Block) (r : Refusal) → kind_length found ≡ told_of b → Misses found addr kind (stops.Refused r)
+    by : (found : Option base.Block) (b : Option Block) (r : Refusal) → kind_length found ≡ told_of b
+        → Misses found addr kind (stops.Refused r)
         → (¬ IsKind found kind) × (r ≡ refusal_for addr b)
     by None None (refusals.BadAddress bad) same m = (λ is. is, ap (λ a. refusals.BadAddress a) m.0)
     by None (Some b) r same m = absurd cc
@@ -189,7 +197,8 @@ missed heap w addr kind refusal s valid = by (heap.blocks addr) (block_at w addr
     by (Some block) (Some b) r same m = absurd m
 
 -- no block of the world is where none is in use
-pub no_block : (heap : Heap) (w : World) (addr : ℕ) → HeapStandsFor heap w → IsValid w → heap.blocks addr ≡ None → block_at w addr ≡ None
+pub no_block : (heap : Heap) (w : World) (addr : ℕ) → HeapStandsFor heap w → IsValid w → heap.blocks addr ≡ None
+    → block_at w addr ≡ None
 no_block heap w addr s valid none = untold (block_at w addr) (sym (ap kind_length none) ∙ block_told heap w addr s valid)
   where
     untold : (o : Option Block) → None ≡ told_of o → o ≡ None
@@ -213,7 +222,8 @@ unlisted addr (b ∷ bs) none = step (unlisted addr bs) (b.addr == addr) refl no
 pub none_of : (heap : Heap) (w : World) (addr : ℕ) → HeapStandsFor heap w → IsValid w → heap.blocks addr ≡ None
     → ¬ Contains (addresses_of (blocks_of w)) addr
 none_of heap w addr s valid none listed =
-    let no : None ≡ told_of (block_among addr (blocks_of w)) = sym (ap kind_length none) ∙ told heap.blocks w addr s.blocks valid in
+    let no : None ≡ told_of (block_among addr (blocks_of w)) = sym (ap kind_length none) ∙ told heap.blocks w addr s.blocks valid
+    in
     true≢false (sym (list_any-from_Contains nat_eq_equiv addr (addresses_of (blocks_of w)) listed)
     ∙ unlisted addr (blocks_of w) (untold (block_among addr (blocks_of w)) no))
   where

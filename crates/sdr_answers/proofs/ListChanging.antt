@@ -57,32 +57,41 @@ insert_outcome w list row place datum addr = record {
   reply = replies.At addr;
 }
 
-inserts_row : (w : World) (list : ℕ) (row : SdrList) (place datum addr : ℕ) → Inserts w (insert_outcome w list row place datum addr) list row place datum
+inserts_row : (w : World) (list : ℕ) (row : SdrList) (place datum addr : ℕ)
+    → Inserts w (insert_outcome w list row place datum addr) list row place datum
 inserts_row w list row place datum addr = (refl, (refl, refl))
 
 -- a call on a heap that stands for a world in which it is served
-module _ (old new : Heap) (w : World) (unmoved : old.moves ≡ []) (s : HeapStandsFor old w) (served : IsServed w) (small : IsSmall old) where
+module _ (old new : Heap) (w : World) (unmoved : old.moves ≡ []) (s : HeapStandsFor old w) (served : IsServed w)
+    (small : IsSmall old) where
   -- a list became another, by moves that take nothing
-  list_becomes : (call : Call) (list : ℕ) (row other : SdrList) (moves : List Move) → taken_addresses moves ≡ [] → thing_at w list ≡ Some (things.List row)
-      → Moved w moves old new → Changes old.blocks new.blocks (list_entries list (list_row row)) (list_entries list (list_row other))
-      → ((o : Outcome) → Does o moves (with_thing w list (things.List other)) replies.Done → ByRow w o call) → Answered w call new [] replies.Done
+  list_becomes : (call : Call) (list : ℕ) (row other : SdrList) (moves : List Move) → taken_addresses moves ≡ []
+      → thing_at w list ≡ Some (things.List row)
+      → Moved w moves old new
+      → Changes old.blocks new.blocks (list_entries list (list_row row)) (list_entries list (list_row other))
+      → ((o : Outcome) → Does o moves (with_thing w list (things.List other)) replies.Done → ByRow w o call)
+      → Answered w call new [] replies.Done
   list_becomes call list row other moves none there moved change by_row =
       thing_changed w call list (things.List row) (things.List other) moves replies.Done old new there tt tt s moved change
       (by_row _ (refl, marks_none (with_thing w list (things.List other)) moves none, refl)) refl
 
   -- an element came into a list
   element_came : (call : Call) (list : ℕ) (row : SdrList) (place datum addr : ℕ) → thing_at w list ≡ Some (things.List row)
-      → Adds old.blocks new.blocks addr (list_entries list (list_row row)) (list_entries list (with_element (list_row row) place addr datum))
+      → Adds old.blocks new.blocks addr (list_entries list (list_row row))
+      (list_entries list (with_element (list_row row) place addr datum))
       → Made (Took element_need addr ∷ []) old new → ByRow w (insert_outcome w list row place datum addr) call
       → Answered w call new [] (replies.At addr)
   element_came call list row place datum addr there adds made by_row =
       let same : with_element (list_row row) place addr datum ≡ list_row (inserted_row row place addr datum) =
       ap (λ (es : List ListElement). record { user = row.user; elements = es })
       (sym (map-insert element_row row.elements place (record { block = addr; datum = datum }))) in
-      let change : Changes old.blocks new.blocks (list_entries list (list_row row)) (list_entries list (list_row (inserted_row row place addr datum))) =
+      let change : Changes old.blocks new.blocks (list_entries list (list_row row))
+      (list_entries list (list_row (inserted_row row place addr datum))) =
       subst (λ r. Changes old.blocks new.blocks (list_entries list (list_row row)) (list_entries list r)) same adds.changes in
-      thing_changed w call list (things.List row) (things.List (inserted_row row place addr datum)) (Took element_need addr ∷ []) (replies.At addr) old new
-      there tt tt s (took_one w element_need addr old new s served.whole.valid unmoved adds.fresh adds.nonzero adds.small made) change by_row refl
+      thing_changed w call list (things.List row) (things.List (inserted_row row place addr datum)) (Took element_need addr ∷ [])
+      (replies.At addr) old new
+      there tt tt s (took_one w element_need addr old new s served.whole.valid unmoved adds.fresh adds.nonzero adds.small made)
+      change by_row refl
 
   -- into one that is named, at a place that is found from it
   pub inserted_in : (call : Call) (list : ℕ) (place : _) (place' : SdrList → ℕ) (datum addr : ℕ)
@@ -91,19 +100,23 @@ module _ (old new : Heap) (w : World) (unmoved : old.moves ≡ []) (s : HeapStan
   inserted_in call list place place' datum addr row inserts alike =
       let l = list_is_at old w list s served small inserts.kind in
       element_came call list l.row (place' l.row) datum addr l.there
-      (subst (λ (p : ℕ). Adds old.blocks new.blocks addr (list_entries list (list_row l.row)) (list_entries list (with_element (list_row l.row) p addr datum)))
+      (subst (λ (p : ℕ). Adds old.blocks new.blocks addr (list_entries list (list_row l.row))
+      (list_entries list (with_element (list_row l.row) p addr datum)))
       (alike l.row) (inserts.adds (list_row l.row) l.keeps))
       inserts.made
-      (row _ (on_some _ _ (as_list (thing_at w list)) l.row (ap as_list l.there) (inserts_row w list l.row (place' l.row) datum addr)))
+      (row _ (on_some _ _ (as_list (thing_at w list)) l.row (ap as_list l.there)
+      (inserts_row w list l.row (place' l.row) datum addr)))
 
   -- or beside an element
   pub inserted_beside : (call : Call) (element : ℕ) (place : ℕ → ℕ) (datum addr : ℕ)
-      → ((o : Outcome) → steps.InsertBeside w o element place datum → ByRow w o call) → InsertsBeside element place datum addr old new
+      → ((o : Outcome) → steps.InsertBeside w o element place datum → ByRow w o call)
+      → InsertsBeside element place datum addr old new
       → Answered w call new [] (replies.At addr)
   inserted_beside call element place datum addr row inserts =
       let e = spot_is_at old w element s served small inserts.kind in
       element_came call e.spot.list e.spot.row (place e.spot.place) datum addr e.there (inserts.adds _ e.keeps) inserts.made
-      (row _ (on_some _ _ (spot_of w element) e.spot e.found (inserts_row w e.spot.list e.spot.row (place e.spot.place) datum addr)))
+      (row _ (on_some _ _ (spot_of w element) e.spot e.found
+      (inserts_row w e.spot.list e.spot.row (place e.spot.place) datum addr)))
 
   -- why none came into a list
   pub insert_refused_in : (call : Call) (list : ℕ) (place : SdrList → ℕ) (datum : ℕ) (was : List ℕ) (refusal : Refusal)
@@ -119,7 +132,8 @@ module _ (old new : Heap) (w : World) (unmoved : old.moves ≡ []) (s : HeapStan
       (record {
         after = _;
         reply = _;
-        row = row _ (on_some _ _ (as_list (thing_at w list)) l.row (ap as_list l.there) (inserts_row w list l.row (place l.row) datum 0));
+        row = row _ (on_some _ _ (as_list (thing_at w list)) l.row (ap as_list l.there)
+            (inserts_row w list l.row (place l.row) datum 0));
         answered = refl;
       }) unmoved m.1
 
@@ -137,7 +151,8 @@ module _ (old new : Heap) (w : World) (unmoved : old.moves ≡ []) (s : HeapStan
       (record {
         after = _;
         reply = _;
-        row = row _ (on_some _ _ (spot_of w element) e.spot e.found (inserts_row w e.spot.list e.spot.row (place e.spot.place) datum 0));
+        row = row _ (on_some _ _ (spot_of w element) e.spot e.found
+            (inserts_row w e.spot.list e.spot.row (place e.spot.place) datum 0));
         answered = refl;
       }) unmoved m.1
 
@@ -176,19 +191,25 @@ module _ (old new : Heap) (w : World) (unmoved : old.moves ≡ []) (s : HeapStan
       full_refused w call old new was refusal changing (aim (spot_is_at old w element s served small m.0)) m.1
 
   -- the user's number was set
-  pub user_set : (list user : ℕ) → SetsInList list (λ row. record row { user = user }) old new → Answered w (calls.SetListUser list user) new [] replies.Done
+  pub user_set : (list user : ℕ) → SetsInList list (λ row. record row { user = user }) old new
+      → Answered w (calls.SetListUser list user) new [] replies.Done
   user_set list user sets =
       let l = list_is_at old w list s served small sets.kind in
       list_becomes (calls.SetListUser list user) list l.row (record l.row { user = user }) [] refl l.there
       (moved_nothing w old new unmoved sets.same) (sets.changes (list_row l.row) l.keeps)
       (λ o does. on_some _ _ (as_list (thing_at w list)) l.row (ap as_list l.there) does)
 
-  pub user_refused : (list user : ℕ) (was : List ℕ) (refusal : Refusal) → ChangeStops kinds.List list old new (stops.Refused refusal)
+  pub user_refused : (list user : ℕ) (was : List ℕ) (refusal : Refusal)
+      → ChangeStops kinds.List list old new (stops.Refused refusal)
       → IsRefused w (calls.SetListUser list user) old new was was refusal
   user_refused list user was refusal m =
       change_refused_in (calls.SetListUser list user) list _ was refusal (λ o h. h) refl
       (λ l. record {
-        to = record { moves = []; after = record (with_thing w list (things.List (record l.row { user = user }))) { shown = [] }; reply = replies.Done };
+        to = record {
+          moves = [];
+          after = record (with_thing w list (things.List (record l.row { user = user }))) { shown = [] };
+          reply = replies.Done;
+        };
         row = on_some _ _ (as_list (thing_at w list)) l.row (ap as_list l.there) (refl, refl, refl);
         answered = refl;
       }) m
@@ -201,22 +222,27 @@ module _ (old new : Heap) (w : World) (unmoved : old.moves ≡ []) (s : HeapStan
       → Answered w (calls.SetDatum element datum) new [] replies.Done
   datum_set element datum sets =
       let e = spot_is_at old w element s served small sets.kind in
-      let same : with_datum (list_row e.spot.row) e.spot.place element datum ≡ list_row (datum_row e.spot.row e.spot.place element datum) =
+      let same : with_datum (list_row e.spot.row) e.spot.place element datum ≡ list_row
+      (datum_row e.spot.row e.spot.place element datum) =
       ap (λ (es : List ListElement). record { user = e.spot.row.user; elements = es })
       (sym (map-set element_row e.spot.row.elements e.spot.place (record { block = element; datum = datum }))) in
-      list_becomes (calls.SetDatum element datum) e.spot.list e.spot.row (datum_row e.spot.row e.spot.place element datum) [] refl e.there
+      list_becomes (calls.SetDatum element datum) e.spot.list e.spot.row (datum_row e.spot.row e.spot.place element datum) [] refl
+      e.there
       (moved_nothing w old new unmoved sets.same)
-      (subst (λ r. Changes old.blocks new.blocks (list_entries e.spot.list (list_row e.spot.row)) (list_entries e.spot.list r)) same (sets.changes _ e.keeps))
+      (subst (λ r. Changes old.blocks new.blocks (list_entries e.spot.list (list_row e.spot.row)) (list_entries e.spot.list r))
+      same (sets.changes _ e.keeps))
       (λ o does. on_some _ _ (spot_of w element) e.spot e.found does)
 
-  pub datum_refused : (element datum : ℕ) (was : List ℕ) (refusal : Refusal) → ChangeStops kinds.Element element old new (stops.Refused refusal)
+  pub datum_refused : (element datum : ℕ) (was : List ℕ) (refusal : Refusal)
+      → ChangeStops kinds.Element element old new (stops.Refused refusal)
       → IsRefused w (calls.SetDatum element datum) old new was was refusal
   datum_refused element datum was refusal m =
       change_refused_of (calls.SetDatum element datum) element _ was refusal (λ o h. h) refl
       (λ e. record {
         to = record {
           moves = [];
-          after = record (with_thing w e.spot.list (things.List (datum_row e.spot.row e.spot.place element datum))) { shown = [] };
+          after = record (with_thing w e.spot.list (things.List (datum_row e.spot.row e.spot.place element datum)))
+              { shown = [] };
           reply = replies.Done;
         };
         row = on_some _ _ (spot_of w element) e.spot e.found (refl, refl, refl);
@@ -231,13 +257,17 @@ module _ (old new : Heap) (w : World) (unmoved : old.moves ≡ []) (s : HeapStan
   deleted element deletes =
       let e = spot_is_at old w element s served small deletes.kind in
       let same : without_element (list_row e.spot.row) e.spot.place ≡ list_row (shorter_row e.spot.row e.spot.place) =
-      ap (λ (es : List ListElement). record { user = e.spot.row.user; elements = es }) (sym (map-remove element_row e.spot.row.elements e.spot.place)) in
-      list_becomes (calls.Delete element) e.spot.list e.spot.row (shorter_row e.spot.row e.spot.place) (Gave element ∷ []) refl e.there
+      ap (λ (es : List ListElement). record { user = e.spot.row.user; elements = es })
+      (sym (map-remove element_row e.spot.row.elements e.spot.place)) in
+      list_becomes (calls.Delete element) e.spot.list e.spot.row (shorter_row e.spot.row e.spot.place) (Gave element ∷ []) refl
+      e.there
       (gave_back w (element ∷ []) old new unmoved deletes.made)
-      (subst (λ r. Changes old.blocks new.blocks (list_entries e.spot.list (list_row e.spot.row)) (list_entries e.spot.list r)) same (deletes.changes _ e.keeps))
+      (subst (λ r. Changes old.blocks new.blocks (list_entries e.spot.list (list_row e.spot.row)) (list_entries e.spot.list r))
+      same (deletes.changes _ e.keeps))
       (λ o does. on_some _ _ (spot_of w element) e.spot e.found does)
 
-  pub delete_refused : (element : ℕ) (was : List ℕ) (refusal : Refusal) → ChangeStops kinds.Element element old new (stops.Refused refusal)
+  pub delete_refused : (element : ℕ) (was : List ℕ) (refusal : Refusal)
+      → ChangeStops kinds.Element element old new (stops.Refused refusal)
       → IsRefused w (calls.Delete element) old new was was refusal
   delete_refused element was refusal m =
       change_refused_of (calls.Delete element) element _ was refusal (λ o h. h) refl
@@ -261,7 +291,8 @@ module _ (old new : Heap) (w : World) (unmoved : old.moves ≡ []) (s : HeapStan
       let made : Made (gave (blocks_in list l.row)) old new =
       subst (λ (addrs : List ℕ). Made (gave (addrs ++ list ∷ [])) old new) (map-map addr_of element_row l.row.elements)
       (destroys.made (list_row l.row) l.keeps) in
-      thing_went w (calls.ListDestroy list) list (things.List l.row) (gave (blocks_in list l.row)) replies.Done old new l.there tt s
+      thing_went w (calls.ListDestroy list) list (things.List l.row) (gave (blocks_in list l.row)) replies.Done old new l.there tt
+      s
       (gave_back w (blocks_in list l.row) old new unmoved made) (destroys.changes (list_row l.row) l.keeps)
       (on_some _ _ (as_list (thing_at w list)) l.row (ap as_list l.there)
       (refl, marks_none (without_thing w list) (gave (blocks_in list l.row)) (gave_takes (blocks_in list l.row)), refl)) refl
@@ -269,14 +300,21 @@ module _ (old new : Heap) (w : World) (unmoved : old.moves ≡ []) (s : HeapStan
   pub destroy_refused : (list : ℕ) (was : List ℕ) (refusal : Refusal) → DestroyStops list old new (stops.Refused refusal)
       → IsRefused w (calls.ListDestroy list) old new was was refusal
   destroy_refused list was (refusals.BadAddress bad) m =
-      list_missed old new w unmoved s served small (calls.ListDestroy list) list _ was (refusals.BadAddress bad) m.1 (λ o h. h) m.0
+      list_missed old new w unmoved s served small (calls.ListDestroy list) list _ was (refusals.BadAddress bad) m.1 (λ o h. h)
+      m.0
   destroy_refused list was (refusals.WrongKind bad number) m =
-      list_missed old new w unmoved s served small (calls.ListDestroy list) list _ was (refusals.WrongKind bad number) m.1 (λ o h. h) m.0
+      list_missed old new w unmoved s served small (calls.ListDestroy list) list _ was (refusals.WrongKind bad number) m.1
+      (λ o h. h) m.0
   destroy_refused list was (refusals.LogFull lines room) m = record {
     step =
         let l = list_is_at old w list s served small m.kind in (
           record {
-            to = record { moves = gave (blocks_in list l.row); after = record (without_thing w list) { shown = [] }; reply = replies.Done };
+            to = record {
+              moves = gave (blocks_in list l.row);
+              after = record (without_thing w list) { shown = [] };
+              reply =
+                  replies.Done;
+            };
             row = on_some _ _ (as_list (thing_at w list)) l.row (ap as_list l.there) (refl, refl, refl);
             answered = refl;
           },
@@ -291,7 +329,11 @@ module _ (old new : Heap) (w : World) (unmoved : old.moves ≡ []) (s : HeapStan
   pub list_made : (user addr : ℕ) → MakesThing list_need addr (list_entries addr (record { user = user; elements = [] })) old new
       → Answered w (calls.List user) new [] (replies.At addr)
   list_made user addr makes =
-      thing_made w (calls.List user) list_need addr (things.List (record { user = user; elements = [] })) old new unmoved s served.whole.valid tt makes
+      thing_made w (calls.List user) list_need addr (things.List (record {
+        user =
+            user;
+        elements = [];
+      })) old new unmoved s served.whole.valid tt makes
       (refl, (refl, refl))
 
   pub list_unmade : (user : ℕ) (was : List ℕ) (refusal : Refusal) → OnlyShort list_need old new (stops.Refused refusal)

@@ -43,7 +43,8 @@ pub record IsListAt (heap : Heap) (w : World) (list : ℕ) : Type 0 where
   pub keeps : KeepsList heap.blocks list (list_row row)
 
 -- the elements of a list are few
-pub few_elements : (heap : Heap) (list : ℕ) (row : SdrList) → IsSmall heap → (a : Among heap.blocks (list_entries list (list_row row)))
+pub few_elements : (heap : Heap) (list : ℕ) (row : SdrList) → IsSmall heap
+    → (a : Among heap.blocks (list_entries list (list_row row)))
     → 16 * (1 + length row.elements) ≤ heap.size
 few_elements heap list row small a =
     let between = elements_between list 0 0 (map element_row row.elements) in
@@ -54,7 +55,8 @@ few_elements heap list row small a =
     omega (arith, all, split, chain, same)
 
 fits_row : (row : SdrList) → All FitsElement row.elements → All ElementFits (map element_row row.elements)
-fits_row row all = All-map ElementFits element_row row.elements (λ k d l. let f = all k d l in record { addr = f.block; datum = f.datum })
+fits_row row all =
+    All-map ElementFits element_row row.elements (λ k d l. let f = all k d l in record { addr = f.block; datum = f.datum })
 
 -- the blocks of a list of the world keep it
 pub list_kept : (heap : Heap) (w : World) (list : ℕ) (row : SdrList) → HeapStandsFor heap w → FitsFields w → IsSmall heap
@@ -77,7 +79,8 @@ own_list addr (things.List row) is = (row, refl)
 own_list addr thing is = absurd cc
 
 -- a block in use of the kind of lists is a list's
-pub list_is_at : (heap : Heap) (w : World) (list : ℕ) → HeapStandsFor heap w → IsServed w → IsSmall heap → IsKind (heap.blocks list) kinds.List
+pub list_is_at : (heap : Heap) (w : World) (list : ℕ) → HeapStandsFor heap w → IsServed w → IsSmall heap
+    → IsKind (heap.blocks list) kinds.List
     → IsListAt heap w list
 list_is_at heap w list s served small kind =
     let t = thing_is_at heap w list kinds.List s served.whole.valid refl kind in
@@ -104,12 +107,15 @@ elements_told heap w list s served small = by (heap.blocks list) refl
         → elements_in (Some block) ≤ length (moves.elements_in (as_list (thing_at w list)))
     of_kind block kinds.List here is =
         let l = list_is_at heap w list s served small (subst (λ f. IsKind f kinds.List) (sym here) is) in
-        let told : elements_in (Some block) ≡ length (map element_row l.row.elements) = ap elements_in (sym here) ∙ elements_are l.keeps in
-        let same : length (moves.elements_in (as_list (thing_at w list))) ≡ length (map (λ (e : Element). e.block) l.row.elements) =
+        let told : elements_in (Some block) ≡ length (map element_row l.row.elements) = ap elements_in (sym here) ∙ elements_are
+        l.keeps in
+        let same : length (moves.elements_in (as_list (thing_at w list))) ≡ length (map (λ (e : Element). e.block) l.row.elements)
+        =
         ap (λ o. length (moves.elements_in (as_list o))) l.there in
         omega (arith, told, same, length-map l.row.elements element_row, length-map l.row.elements (λ (e : Element). e.block))
     of_kind block kind here is =
-        let none : elements_in (Some block) ≡ if_list kind (number_at 8 block.bytes) = ap (λ (k : Kind). if_list k (number_at 8 block.bytes)) is in
+        let none : elements_in (Some block) ≡ if_list kind (number_at 8 block.bytes) = ap
+        (λ (k : Kind). if_list k (number_at 8 block.bytes)) is in
         omega (arith, none)
 
     by : (o : Option base.Block) → heap.blocks list ≡ o → elements_in o ≤ length (moves.elements_in (as_list (thing_at w list)))
@@ -117,19 +123,29 @@ elements_told heap w list s served small = by (heap.blocks list) refl
     by (Some block) here = of_kind block block.kind here refl
 
 -- where a list is kept, its elements are few
-pub room_for_list : (heap : Heap) (list : ℕ) → Few heap.size heap.blocks → IsList heap.blocks list → 16 * elements_in (heap.blocks list) ≤ heap.size
+pub room_for_list : (heap : Heap) (list : ℕ) → Few heap.size heap.blocks → IsList heap.blocks list
+    → 16 * elements_in (heap.blocks list) ≤ heap.size
 room_for_list heap list few kept = by (heap.blocks list) refl
   where
-    of_kind : (block : base.Block) (kind : Kind) → heap.blocks list ≡ Some block → block.kind ≡ kind → 16 * elements_in (Some block) ≤ heap.size
+    of_kind : (block : base.Block) (kind : Kind) → heap.blocks list ≡ Some block → block.kind ≡ kind
+        → 16 * elements_in (Some block) ≤ heap.size
     of_kind block kinds.List here is =
         let some = kept (subst (λ f. IsKind f kinds.List) (sym here) is) in
         let keeps = some.keeps in
         let between = elements_between list 0 0 some.row.elements in
         let all = few.few (list_entries list some.row ++ keeps.rest) keeps.stands in
         let told : elements_in (Some block) ≡ length some.row.elements = ap elements_in (sym here) ∙ elements_are keeps in
-        omega (arith, all, told, length-append between keeps.rest, length-linked addr_of (element_block list) 0 0 some.row.elements)
+        omega (
+          arith,
+          all,
+          told,
+          length-append between keeps.rest,
+          length-linked addr_of (element_block list) 0 0
+              some.row.elements,
+        )
     of_kind block kind here is =
-        let none : elements_in (Some block) ≡ if_list kind (number_at 8 block.bytes) = ap (λ (k : Kind). if_list k (number_at 8 block.bytes)) is in
+        let none : elements_in (Some block) ≡ if_list kind (number_at 8 block.bytes) = ap
+        (λ (k : Kind). if_list k (number_at 8 block.bytes)) is in
         omega (arith, none)
 
     by : (o : Option base.Block) → heap.blocks list ≡ o → 16 * elements_in o ≤ heap.size

@@ -60,7 +60,12 @@ pub malloc_refused : (bytes : ℕ) (old new : Heap) (w : World) (was : List ℕ)
 malloc_refused bytes old new w was (refusals.BadLength length most) unmoved s = record {
   step =
       let long : nat_lt longest_raw bytes ≡ true = grind (arith, nat_tests, s.2) in
-      inl (on_true _ _ _ long (ap (λ (h : Heap). h.moves) s.3 ∙ unmoved, refl, λ i. replies.Refused (refusals.BadLength (s.0 i) (s.1 i))));
+      inl (on_true _ _ _ long (
+        ap (λ (h : Heap). h.moves) s.3 ∙ unmoved,
+        refl,
+        λ i. replies.Refused
+            (refusals.BadLength (s.0 i) (s.1 i)),
+      ));
   left = λ reads. s.3;
   gave = refl;
 }

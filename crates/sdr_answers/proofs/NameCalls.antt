@@ -1,5 +1,5 @@
 -- Calls on the catalogue, as steps.
-use Rattle.std.proofs.Common.{◌≡◌, ◌∙◌, ◌≤◌, ◌<◌, ◌||◌, ◌++◌, ◌⊎◌, ℕ, List, [], ◌∷◌, Bool, true, false, find, map, length, take, nat_lt, MatchOption, Option, None, Some, inl, inr, refl, sym, ap, subst, arith}
+use Rattle.std.proofs.Common.{◌≡◌, ◌∙◌, ◌≤◌, ◌<◌, ◌++◌, ◌⊎◌, ℕ, List, [], ◌∷◌, true, false, find, map, length, take, Option, None, Some, inl, inr, refl, sym, ap, subst, arith}
 use Rattle.std.proofs.lemmas.Bool.Decides.{nat_tests}
 use Rattle.std.proofs.lemmas.List.{map-append}
 use Rattle.std.proofs.lemmas.Option.{get_or_from_slice_get, slice_get-map, slice_get_within}
@@ -30,7 +30,7 @@ use Rattle.sdr_model.specs.Limits.{is_no_name}
 use Rattle.sdr_model.specs.NameSteps.{OnName}
 use Rattle.sdr_model.specs.Names.{name_of, without_name}
 use Rattle.sdr_model.specs.Rows.{ByRow}
-use Rattle.sdr_model.specs.Steps.{Outcome, Refuses}
+use Rattle.sdr_model.specs.Steps.{Outcome}
 use Rattle.sdr_model.specs.Things.{name_need}
 use Rattle.sdr_model.specs.World.{World}
 use Rattle.sdr_model.specs.declared.answer.Reply.TheVariants as replies
@@ -51,7 +51,8 @@ abbrev renamed : World → List Name → World
 renamed w names = record w { names = names }
 
 -- the name of an entry is short
-pub entry_short : (heap : Heap) (place : ℕ) (value : ℕ × ℕ × ℕ) (into : List ℕ) → SomeNames heap → ReadsEntry place heap value into → value.0 ≤ 31
+pub entry_short : (heap : Heap) (place : ℕ) (value : ℕ × ℕ × ℕ) (into : List ℕ) → SomeNames heap
+    → ReadsEntry place heap value into → value.0 ≤ 31
 entry_short heap place value into some reads =
     let has = reads.has some.names some.keeps in
     let fits : NameFits has.row =
@@ -78,7 +79,8 @@ module _ (old new : Heap) (w : World) (unmoved : old.moves ≡ []) (s : HeapStan
 
   -- what was found of whichever catalogue is kept is the world's
   lacks_name : (name : List ℕ) → LacksName name old → name_of w.names name ≡ None
-  lacks_name name lacks = none (name_of w.names name) (sym (find_is w.names name) ∙ lacks.lacks (map name_row w.names) (names_kept old w s served))
+  lacks_name name lacks =
+      none (name_of w.names name) (sym (find_is w.names name) ∙ lacks.lacks (map name_row w.names) (names_kept old w s served))
     where
       none : (o : Option Name) → option_map name_row o ≡ None → o ≡ None
       none None is = refl
@@ -100,7 +102,10 @@ module _ (old new : Heap) (w : World) (unmoved : old.moves ≡ []) (s : HeapStan
   find_answered name told same finds =
       let n = has_name name told_of told refl (finds.tells (map name_row w.names) (names_kept old w s served)) in
       let is : (n.0.kind, n.0.object) ≡ told = some_is n.2 in
-      unmoved_answered w (record w { shown = [] }) (calls.Find name) new [] (replies.Pair told.0 told.1) (ap (λ (h : Heap). h.moves) same ∙ unmoved)
+      unmoved_answered w (record w {
+        shown =
+            [];
+      }) (calls.Find name) new [] (replies.Pair told.0 told.1) (ap (λ (h : Heap). h.moves) same ∙ unmoved)
       (on_named _ name _ _ n.0 finds.is n.1 (refl, refl, sym (ap (λ (p : ℕ × ℕ). replies.Pair p.0 p.1) is)))
       refl (shows old new w [] same s) refl refl refl refl
     where
@@ -126,12 +131,15 @@ module _ (old new : Heap) (w : World) (unmoved : old.moves ≡ []) (s : HeapStan
 
   -- the catalogue became another
   names_become : (call : Call) (names : List Name) (rows : List NameRow) (moves : List Move) → rows ≡ map name_row names
-      → Changes old.blocks new.blocks (catalogue_entries (map name_row w.names)) (catalogue_entries rows) → Renamed moves rows old new
+      → Changes old.blocks new.blocks (catalogue_entries (map name_row w.names)) (catalogue_entries rows)
+      → Renamed moves rows old new
       → HeapStandsFor new (with_taken_marked (renamed w names) moves)
   names_become call names rows moves same change words =
-      part_becomes old new w (renamed w names) (catalogue_entries (map name_row w.names)) (catalogue_entries (map name_row names)) moves s
+      part_becomes old new w (renamed w names) (catalogue_entries (map name_row w.names)) (catalogue_entries (map name_row names))
+      moves s
       (names_part w names)
-      (subst (λ (r : List NameRow). Changes old.blocks new.blocks (catalogue_entries (map name_row w.names)) (catalogue_entries r)) same change)
+      (subst (λ (r : List NameRow). Changes old.blocks new.blocks (catalogue_entries (map name_row w.names))
+      (catalogue_entries r)) same change)
       (ap (λ (h : Heap). h.marks) words.all)
       (ap (λ (h : Heap). h.roots) words.all
       ∙ (λ i. with_names (s.roots i) (same i)) ∙ names_roots w names)
@@ -163,15 +171,21 @@ module _ (old new : Heap) (w : World) (unmoved : old.moves ≡ []) (s : HeapStan
       let same : with_last (map name_row w.names) addr name kind object ≡ map name_row (with_name name kind object addr) =
       sym (map-append name_row w.names (record { block = addr; name = name; kind = kind; object = object } ∷ [])) in
       let rows = with_last (map name_row w.names) addr name kind object in
-      moved_answered w (renamed w (with_name name kind object addr)) (calls.Catlg name kind object) (Took name_need addr ∷ []) new replies.Done
-      (took_has w name_need addr old new s served.whole.valid adds.fresh adds.nonzero adds.small (moves_are rows (Took name_need addr ∷ []) words))
-      (names_become (calls.Catlg name kind object) (with_name name kind object addr) rows (Took name_need addr ∷ []) same adds.changes words)
+      moved_answered w (renamed w (with_name name kind object addr)) (calls.Catlg name kind object) (Took name_need addr ∷ []) new
+      replies.Done
+      (took_has w name_need addr old new s served.whole.valid adds.fresh adds.nonzero adds.small
+      (moves_are rows (Took name_need addr ∷ []) words))
+      (names_become (calls.Catlg name kind object) (with_name name kind object addr) rows (Took name_need addr ∷ []) same
+      adds.changes words)
       refl refl refl (catlg_row name kind object addr catalogues.lacks.is (lacks_name name catalogues.lacks)) refl
 
-  pub catlg_refused : (name : List ℕ) (kind object : ℕ) (was : List ℕ) (refusal : Refusal) → CatlgStops name old new (stops.Refused refusal)
+  pub catlg_refused : (name : List ℕ) (kind object : ℕ) (was : List ℕ) (refusal : Refusal)
+      → CatlgStops name old new (stops.Refused refusal)
       → IsRefused w (calls.Catlg name kind object) old new was was refusal
   catlg_refused name kind object was (refusals.BadLength count most) m = record {
-    step = inl (row_refused w (calls.Catlg name kind object) new (refusals.BadLength count most) (ap (λ (h : Heap). h.moves) m.1 ∙ unmoved)
+    step =
+        inl (row_refused w (calls.Catlg name kind object) new (refusals.BadLength count most)
+        (ap (λ (h : Heap). h.moves) m.1 ∙ unmoved)
         (badly_named name count most _ _ m.0));
     left = λ reads. m.1;
     gave = refl;
@@ -180,7 +194,8 @@ module _ (old new : Heap) (w : World) (unmoved : old.moves ≡ []) (s : HeapStan
     step =
         let n = has_name name object_of taken refl (m.0.names_it (map name_row w.names) (names_kept old w s served)) in
         let is : n.0.object ≡ taken = some_is n.2 in
-        inl (row_refused w (calls.Catlg name kind object) new (refusals.NameTaken taken) (ap (λ (h : Heap). h.moves) m.1 ∙ unmoved)
+        inl (row_refused w (calls.Catlg name kind object) new (refusals.NameTaken taken)
+        (ap (λ (h : Heap). h.moves) m.1 ∙ unmoved)
         (on_named _ name _ _ n.0 m.0.is n.1 (refl, refl, sym (ap (λ a. replies.Refused (refusals.NameTaken a)) is))));
     left = λ reads. m.1;
     gave = refl;
@@ -190,7 +205,8 @@ module _ (old new : Heap) (w : World) (unmoved : old.moves ≡ []) (s : HeapStan
       some_is e = cc
   catlg_refused name kind object was refusal m =
       short_refused w (calls.Catlg name kind object) name_need old new was refusal refl
-      (record { after = _; reply = _; row = catlg_row name kind object 0 m.0.is (lacks_name name m.0); answered = refl }) unmoved m.1
+      (record { after = _; reply = _; row = catlg_row name kind object 0 m.0.is (lacks_name name m.0); answered = refl }) unmoved
+      m.1
 
   -- the name that is there
   there_name : (name : List ℕ) (t : IsThere name old) → (n : Name) × (name_of w.names name ≡ Some n) × (n.block ≡ t.addr)
@@ -254,13 +270,17 @@ module _ (old new : Heap) (w : World) (unmoved : old.moves ≡ []) (s : HeapStan
       let count : value.0 ≡ length n.0.name = r.length ∙ ap (λ (row : NameRow). length row.name) (sym n.2) in
       let kind : value.1 ≡ n.0.kind = r.type_number ∙ ap (λ (row : NameRow). row.type_number) (sym n.2) in
       let object : value.2 ≡ n.0.object = r.object ∙ ap (λ (row : NameRow). row.object) (sym n.2) in
-      unmoved_answered w (record w { shown = take value.0 into }) (calls.Entry place) new (take value.0 into) (replies.Named value.0 value.1 value.2)
+      unmoved_answered w (record w {
+        shown =
+            take value.0 into;
+      }) (calls.Entry place) new (take value.0 into) (replies.Named value.0 value.1 value.2)
       (ap (λ (h : Heap). h.moves) same ∙ unmoved)
       (on_some _ _ (slice_get w.names place) n.0 n.1
       (refl, ap (λ (b : List ℕ). record w { shown = b }) name, λ i. replies.Named (count i) (kind i) (object i)))
       refl (shows old new w (take value.0 into) same s) refl refl refl refl
     where
-      at_place : (o : Option Name) (row : NameRow) → option_map name_row o ≡ Some row → (n : Name) × (o ≡ Some n) × (name_row n ≡ row)
+      at_place : (o : Option Name) (row : NameRow) → option_map name_row o ≡ Some row
+          → (n : Name) × (o ≡ Some n) × (name_row n ≡ row)
       at_place None row is = absurd cc
       at_place (Some n) row is = (n, refl, cc)
 

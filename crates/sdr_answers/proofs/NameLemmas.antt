@@ -1,5 +1,5 @@
 -- The catalogue in blocks.
-use Rattle.std.proofs.Common.{◌≡◌, ◌∙◌, ◌+◌, ◌-◌, ◌==◌, ◌++◌, ℕ, suc, List, [], ◌∷◌, Bool, true, false, cond, if◌then◌else◌, find, map, length, get_or, nat_lt, Option, None, Some, refl, sym, ap, subst, arith}
+use Rattle.std.proofs.Common.{◌≡◌, ◌∙◌, ◌-◌, ◌==◌, ◌++◌, ℕ, suc, List, [], ◌∷◌, Bool, true, false, cond, if◌then◌else◌, find, map, length, get_or, nat_lt, Some, refl, sym, ap, subst, arith}
 use Rattle.std.specs.Cmp.Lexicographic.{pointwise}
 use Rattle.std.specs.Option.{option_map}
 use Rattle.std.specs.Prelude.{All, nat_eq, replicate}
@@ -39,7 +39,8 @@ last_root : (w : World) → roots_of w LAST_NAME ≡ last_of name_addr 0 (map na
 unfolding roots_by
 last_root w = refl
 
-fit_names : (ns : List Name) → All FitsName ns → AllByRecursion (λ (n : Name). IsBetween 1 longest_name (length n.name)) ns → All NameFits (map name_row ns)
+fit_names : (ns : List Name) → All FitsName ns → AllByRecursion (λ (n : Name). IsBetween 1 longest_name (length n.name)) ns
+    → All NameFits (map name_row ns)
 fit_names [] fits short = All-nil NameFits
 fit_names (n ∷ ns) fits short =
     let f = All-head FitsName n ns fits in
@@ -62,9 +63,11 @@ names_kept heap w s served =
 
 -- the words of other names
 names_words : (first last first' last' : ℕ) (rest : List ℕ) (word : ℕ)
-    → with_at (with_at (roots_by (first ∷ last ∷ rest)) FIRST_NAME first') LAST_NAME last' word ≡ roots_by (first' ∷ last' ∷ rest) word
+    → with_at (with_at (roots_by (first ∷ last ∷ rest)) FIRST_NAME first') LAST_NAME last' word ≡ roots_by (first' ∷ last' ∷ rest)
+    word
 unfolding with_at roots_by
-names_words first last first' last' rest word = by (word == LAST_NAME) (word == FIRST_NAME) (nat_lt word FIRST_NAME) refl refl refl
+names_words first last first' last' rest word =
+    by (word == LAST_NAME) (word == FIRST_NAME) (nat_lt word FIRST_NAME) refl refl refl
   where
     by : (a b c : Bool) → (word == LAST_NAME) ≡ a → (word == FIRST_NAME) ≡ b → nat_lt word FIRST_NAME ≡ c
         → cond (word == LAST_NAME) last' (cond (word == FIRST_NAME) first'
@@ -88,7 +91,8 @@ names_words first last first' last' rest word = by (word == LAST_NAME) (word == 
         (λ i. cond (one i) last' (cond (two i) first' (cond (three i) 0 (get_or (first ∷ last ∷ rest) (above i) 0))))
         ∙ sym (λ i. cond (three i) 0 (get_or (first' ∷ last' ∷ rest) (above i) 0))
 
-pub names_roots : (w : World) (names : List Name) → with_names (roots_of w) (map name_row names) ≡ roots_of (record w { names = names })
+pub names_roots : (w : World) (names : List Name)
+    → with_names (roots_of w) (map name_row names) ≡ roots_of (record w { names = names })
 names_roots w names = λ i word.
     names_words (first_of name_addr 0 (map name_row w.names)) (last_of name_addr 0 (map name_row w.names))
     (first_of name_addr 0 (map name_row names)) (last_of name_addr 0 (map name_row names))
@@ -100,12 +104,14 @@ find_is [] name = refl
 find_is (n ∷ ns) name = step (pointwise nat_eq name n.name) (find_is ns name)
   where
     step : (b : Bool) → find (is_named name) (map name_row ns) ≡ option_map name_row (name_of ns name)
-        → cond b (Some (name_row n)) (find (is_named name) (map name_row ns)) ≡ option_map name_row (if b then Some n else name_of ns name)
+        → cond b (Some (name_row n)) (find (is_named name) (map name_row ns)) ≡ option_map name_row
+        (if b then Some n else name_of ns name)
     step true rest = refl
     step false rest = rest
 
 -- the entries without that of a name
-pub without_is : (ns : List Name) (name : List ℕ) → blocks.without_name name (map name_row ns) ≡ map name_row (without_name ns name)
+pub without_is : (ns : List Name) (name : List ℕ)
+    → blocks.without_name name (map name_row ns) ≡ map name_row (without_name ns name)
 unfolding blocks.without_name
 without_is [] name = refl
 without_is (n ∷ ns) name = step (pointwise nat_eq name n.name) (without_is ns name)

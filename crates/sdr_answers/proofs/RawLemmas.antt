@@ -29,7 +29,8 @@ raw_zeros bytes =
     ap (λ (n : ℕ). replicate n 0) e
 
 -- bytes of a raw object are read behind its source word
-pub part_of_raw : (named place count : ℕ) (bytes : List ℕ) → part (8 + place) count (raw_block named bytes).bytes ≡ part place count bytes
+pub part_of_raw : (named place count : ℕ) (bytes : List ℕ)
+    → part (8 + place) count (raw_block named bytes).bytes ≡ part place count bytes
 unfolding layout
 part_of_raw named place count bytes =
     let e : 8 + place ≡ suc (suc (suc (suc (suc (suc (suc (suc place))))))) = omega arith in
@@ -75,25 +76,33 @@ pub record IsRawAt (heap : Heap) (w : World) (addr : ℕ) : Type 0 where
   pub there : thing_at w addr ≡ Some (things.Raw bytes)
   pub block : heap.blocks addr ≡ Some (raw_block ((ties_of w).named_by addr) bytes)
 
-pub raw_stands : (heap : Heap) (w : World) (addr : ℕ) (bytes : List ℕ) → HeapStandsFor heap w → thing_at w addr ≡ Some (things.Raw bytes)
+pub raw_stands : (heap : Heap) (w : World) (addr : ℕ) (bytes : List ℕ) → HeapStandsFor heap w
+    → thing_at w addr ≡ Some (things.Raw bytes)
     → IsRawAt heap w addr
 raw_stands heap w addr bytes s there =
     let a = apart addr (things.Raw bytes) s there in
-    record { bytes = bytes; there = there; block = found heap.blocks addr (raw_block ((ties_of w).named_by addr) bytes) [] a.rest a.stands }
+    record {
+      bytes =
+          bytes;
+      there = there;
+      block = found heap.blocks addr (raw_block ((ties_of w).named_by addr) bytes) [] a.rest a.stands;
+    }
 
 own_raw : (addr : ℕ) (thing : Thing) → (own_block addr thing).kind ≡ kinds.Raw → (bytes : List ℕ) × (thing ≡ things.Raw bytes)
 own_raw addr (things.Raw bytes) is = (bytes, refl)
 own_raw addr thing is = absurd cc
 
 -- a block in use of the kind of raw objects is a raw object's
-pub raw_is_at : (heap : Heap) (w : World) (addr : ℕ) → HeapStandsFor heap w → IsValid w → IsKind (heap.blocks addr) kinds.Raw → IsRawAt heap w addr
+pub raw_is_at : (heap : Heap) (w : World) (addr : ℕ) → HeapStandsFor heap w → IsValid w → IsKind (heap.blocks addr) kinds.Raw
+    → IsRawAt heap w addr
 raw_is_at heap w addr s valid kind =
     let t = thing_is_at heap w addr kinds.Raw s valid refl kind in
     let raw = own_raw addr t.thing t.kind_is in
     raw_stands heap w addr raw.0 s (t.there ∙ ap Some raw.1)
 
 -- and where there is none, no raw object is
-pub no_raw : (heap : Heap) (w : World) (addr : ℕ) → HeapStandsFor heap w → IsValid w → ¬ IsKind (heap.blocks addr) kinds.Raw → as_raw (thing_at w addr) ≡ None
+pub no_raw : (heap : Heap) (w : World) (addr : ℕ) → HeapStandsFor heap w → IsValid w → ¬ IsKind (heap.blocks addr) kinds.Raw
+    → as_raw (thing_at w addr) ≡ None
 no_raw heap w addr s valid other = by (thing_at w addr) refl
   where
     by : (o : Option Thing) → thing_at w addr ≡ o → as_raw o ≡ None

@@ -42,7 +42,8 @@ as_misses None addr refusal m = absurd m
 as_misses (Some block) addr refusal m = absurd m
 
 pub misses : (heap : Heap) (w : World) (addr : ℕ) (refusal : Refusal) → HeapStandsFor heap w → IsWhole w
-    → MissesRaw (heap.blocks addr) addr (stops.Refused refusal) ⊥ → (as_raw (thing_at w addr) ≡ None) × (refusal ≡ misnamed w addr)
+    → MissesRaw (heap.blocks addr) addr (stops.Refused refusal) ⊥
+    → (as_raw (thing_at w addr) ≡ None) × (refusal ≡ misnamed w addr)
 misses heap w addr refusal s whole m =
     let miss = missed heap w addr kinds.Raw refusal s whole.valid (as_misses (heap.blocks addr) addr refusal m) in
     (no_raw heap w addr s whole.valid miss.0, miss.1)
@@ -59,8 +60,12 @@ told_of_length w value = record { moves = []; after = record w { shown = [] }; r
 pub length_answered : (addr value : ℕ) (old new : Heap) (w : World) → old.moves ≡ [] → new ≡ old → HasTold (old.blocks addr) value
     → HeapStandsFor old w → IsWhole w → Answered w (calls.Length addr) new [] (replies.Value value)
 length_answered addr value old new w unmoved same told s whole =
-    unmoved_answered w (record w { shown = [] }) (calls.Length addr) new [] (replies.Value value) (ap (λ (h : Heap). h.moves) same ∙ unmoved)
-    (by (old.blocks addr) (block_at w addr) (block_told old w addr s whole.valid) told) refl (shows old new w [] same s) refl refl refl refl
+    unmoved_answered w (record w {
+      shown =
+          [];
+    }) (calls.Length addr) new [] (replies.Value value) (ap (λ (h : Heap). h.moves) same ∙ unmoved)
+    (by (old.blocks addr) (block_at w addr) (block_told old w addr s whole.valid) told) refl (shows old new w [] same s) refl refl
+    refl refl
   where
     kind_in : Option (Kind × ℕ) → Kind
     kind_in None = kinds.Raw
@@ -71,7 +76,8 @@ length_answered addr value old new w unmoved same told s whole =
     count_in (Some told) = told.1
 
     by : (found : Option base.Block) (b : Option Block) → kind_length found ≡ told_of b → HasTold found value
-        → MatchOption b (Refuses w (told_of_length w value) (misnamed w addr)) (λ b. Reads w (told_of_length w value) [] (replies.Value (length_as b.kind b.bytes)))
+        → MatchOption b (Refuses w (told_of_length w value) (misnamed w addr))
+        (λ b. Reads w (told_of_length w value) [] (replies.Value (length_as b.kind b.bytes)))
     by None b same is = absurd is
     by (Some block) None same is = absurd cc
     by (Some block) (Some b) same is = (
@@ -109,24 +115,30 @@ read_bytes heap w addr place count into r has =
     here ∙ part_of_raw ((ties_of w).named_by addr) place count r.bytes
 
 -- so many bytes of a raw object are the world's
-pub room_in : (heap : Heap) (w : World) (addr end : ℕ) (r : IsRawAt heap w addr) → HasRoom (heap.blocks addr) end → end ≤ length r.bytes
+pub room_in : (heap : Heap) (w : World) (addr end : ℕ) (r : IsRawAt heap w addr) → HasRoom (heap.blocks addr) end
+    → end ≤ length r.bytes
 room_in heap w addr end r has =
-    let here : 8 + end ≤ length (raw_block ((ties_of w).named_by addr) r.bytes).bytes = subst (λ found. HasRoom found end) r.block has in
+    let here : 8 + end ≤ length (raw_block ((ties_of w).named_by addr) r.bytes).bytes = subst (λ found. HasRoom found end) r.block
+    has in
     omega (arith, here, length_of_raw ((ties_of w).named_by addr) r.bytes)
 
 -- and no more
-pub no_room_in : (heap : Heap) (w : World) (addr end : ℕ) (r : IsRawAt heap w addr) → Exceeds (heap.blocks addr) end → length r.bytes < end
+pub no_room_in : (heap : Heap) (w : World) (addr end : ℕ) (r : IsRawAt heap w addr) → Exceeds (heap.blocks addr) end
+    → length r.bytes < end
 no_room_in heap w addr end r has =
-    let here : length (raw_block ((ties_of w).named_by addr) r.bytes).bytes < 8 + end = subst (λ found. Exceeds found end) r.block has in
+    let here : length (raw_block ((ties_of w).named_by addr) r.bytes).bytes < 8 + end = subst (λ found. Exceeds found end) r.block
+    has in
     omega (arith, here, length_of_raw ((ties_of w).named_by addr) r.bytes)
 
 -- the row of a read goes on where the thing is a raw object
-pub on_raw : (w : World) (o : Outcome) (addr : ℕ) (bytes : List ℕ) (goes : List ℕ → Type 0) → thing_at w addr ≡ Some (things.Raw bytes) → goes bytes
+pub on_raw : (w : World) (o : Outcome) (addr : ℕ) (bytes : List ℕ) (goes : List ℕ → Type 0)
+    → thing_at w addr ≡ Some (things.Raw bytes) → goes bytes
     → On w o addr (as_raw (thing_at w addr)) goes
 on_raw w o addr bytes goes there holds = on_some _ goes (as_raw (thing_at w addr)) bytes (ap as_raw there) holds
 
 -- and refuses the address of what isn't one
-pub raw_missed : (w : World) (addr : ℕ) (refusal : Refusal) (goes : List ℕ → Type 0) → (as_raw (thing_at w addr) ≡ None) × (refusal ≡ misnamed w addr)
+pub raw_missed : (w : World) (addr : ℕ) (refusal : Refusal) (goes : List ℕ → Type 0)
+    → (as_raw (thing_at w addr) ≡ None) × (refusal ≡ misnamed w addr)
     → On w (record { moves = []; after = w; reply = replies.Refused refusal }) addr (as_raw (thing_at w addr)) goes
 raw_missed w addr refusal goes m = on_none _ goes (as_raw (thing_at w addr)) m.0 (refl, refl, ap (λ r. replies.Refused r) m.1)
 
@@ -157,7 +169,10 @@ read_answered addr place count into old new w unmoved same reads s whole =
     let fits = room_in old w addr (place + count) r reads.inside in
     let inside : nat_lt (length r.bytes) (place + count) ≡ false = grind (arith, nat_tests, fits) in
     let bytes = read_bytes old w addr place count into r reads.bytes in
-    unmoved_answered w (record w { shown = into }) (calls.Read addr place count) new into (replies.Bytes count) (ap (λ (h : Heap). h.moves) same ∙ unmoved)
+    unmoved_answered w (record w {
+      shown =
+          into;
+    }) (calls.Read addr place count) new into (replies.Bytes count) (ap (λ (h : Heap). h.moves) same ∙ unmoved)
     (on_raw w (read_outcome w into count) addr r.bytes _ r.there
     (on_false _ _ _ few (on_false _ _ _ inside (refl, ap (λ (b : List ℕ). record w { shown = b }) bytes, refl))))
     refl (shows old new w into same s) refl refl refl refl
@@ -178,20 +193,24 @@ stage_answered addr count into old new w unmoved marked reads s whole =
     (on_false _ _ _ few (on_false _ _ _ inside
     (refl, ap (λ (b : List ℕ). record w { marks = w.marks ++ addr ∷ []; shown = b }) bytes, refl))))
     refl
-    (subst (λ (h : Heap). HeapStandsFor h after) (sym marked) (record { blocks = s.blocks; roots = s.roots; marks = marked_one old.marks w.marks addr s.marks }))
+    (subst (λ (h : Heap). HeapStandsFor h after) (sym marked)
+    (record { blocks = s.blocks; roots = s.roots; marks = marked_one old.marks w.marks addr s.marks }))
     refl refl refl refl
 
 -- why bytes weren't read
-pub read_refused : (addr place count : ℕ) (old new : Heap) (w : World) (was : List ℕ) (refusal : Refusal) → old.moves ≡ [] → new ≡ old
+pub read_refused : (addr place count : ℕ) (old new : Heap) (w : World) (was : List ℕ) (refusal : Refusal) → old.moves ≡ []
+    → new ≡ old
     → HeapStandsFor old w → IsWhole w → ReadStops (old.blocks addr) addr place count (stops.Refused refusal)
     → IsRefused w (calls.Read addr place count) old new was was refusal
 read_refused addr place count old new w was (refusals.BadLength length most) unmoved same s whole m = record {
   step =
       let r = raw_is_at old w addr s whole.valid m.3 in
       let many : nat_lt longest_read count ≡ true = grind (arith, nat_tests, m.2) in
-      let row = on_raw w (record { moves = []; after = w; reply = replies.Refused (refusals.BadLength length most) }) addr r.bytes _ r.there
+      let row = on_raw w (record { moves = []; after = w; reply = replies.Refused (refusals.BadLength length most) }) addr r.bytes
+      _ r.there
       (on_true _ _ _ many (refl, refl, λ i. replies.Refused (refusals.BadLength (m.0 i) (m.1 i)))) in
-      inl (row_refused w (calls.Read addr place count) new (refusals.BadLength length most) (ap (λ (h : Heap). h.moves) same ∙ unmoved) row);
+      inl (row_refused w (calls.Read addr place count) new (refusals.BadLength length most)
+      (ap (λ (h : Heap). h.moves) same ∙ unmoved) row);
   left = λ reads. same;
   gave = refl;
 }
@@ -201,21 +220,32 @@ read_refused addr place count old new w was (refusals.OutOfBounds bad at asked) 
       let few : nat_lt longest_read count ≡ false = grind (arith, nat_tests, m.3) in
       let above = no_room_in old w addr (place + count) r m.4 in
       let outside : nat_lt (length r.bytes) (place + count) ≡ true = grind (arith, nat_tests, above) in
-      let row = on_raw w (record { moves = []; after = w; reply = replies.Refused (refusals.OutOfBounds bad at asked) }) addr r.bytes _ r.there
-      (on_false _ _ _ few (on_true _ _ _ outside (refl, refl, λ i. replies.Refused (refusals.OutOfBounds (m.0 i) (m.1 i) (m.2 i))))) in
-      inl (row_refused w (calls.Read addr place count) new (refusals.OutOfBounds bad at asked) (ap (λ (h : Heap). h.moves) same ∙ unmoved) row);
+      let row = on_raw w (record { moves = []; after = w; reply = replies.Refused (refusals.OutOfBounds bad at asked) }) addr
+      r.bytes _ r.there
+      (on_false _ _ _ few (on_true _ _ _ outside (
+        refl,
+        refl,
+        λ i. replies.Refused
+            (refusals.OutOfBounds (m.0 i) (m.1 i) (m.2 i)),
+      ))) in
+      inl (row_refused w (calls.Read addr place count) new (refusals.OutOfBounds bad at asked)
+      (ap (λ (h : Heap). h.moves) same ∙ unmoved) row);
   left = λ reads. same;
   gave = refl;
 }
 read_refused addr place count old new w was (refusals.BadAddress bad) unmoved same s whole m = record {
-  step = inl (row_refused w (calls.Read addr place count) new (refusals.BadAddress bad) (ap (λ (h : Heap). h.moves) same ∙ unmoved)
+  step =
+      inl (row_refused w (calls.Read addr place count) new (refusals.BadAddress bad) (ap (λ (h : Heap). h.moves) same ∙ unmoved)
       (raw_missed w addr (refusals.BadAddress bad) _ (misses old w addr (refusals.BadAddress bad) s whole m)));
   left = λ reads. same;
   gave = refl;
 }
 read_refused addr place count old new w was (refusals.WrongKind bad number) unmoved same s whole m = record {
-  step = inl (row_refused w (calls.Read addr place count) new (refusals.WrongKind bad number) (ap (λ (h : Heap). h.moves) same ∙ unmoved)
-      (raw_missed w addr (refusals.WrongKind bad number) _ (misses old w addr (refusals.WrongKind bad number) s whole (other_of (old.blocks addr) m))));
+  step =
+      inl (row_refused w (calls.Read addr place count) new (refusals.WrongKind bad number)
+      (ap (λ (h : Heap). h.moves) same ∙ unmoved)
+      (raw_missed w addr (refusals.WrongKind bad number) _ (misses old w addr (refusals.WrongKind bad number) s whole
+      (other_of (old.blocks addr) m))));
   left = λ reads. same;
   gave = refl;
 }
@@ -234,9 +264,11 @@ stage_refused addr count old new w was (refusals.BadLength length most) unmoved 
   step =
       let r = raw_is_at old w addr s whole.valid m.3 in
       let many : nat_lt longest_read count ≡ true = grind (arith, nat_tests, m.2) in
-      let row = on_raw w (record { moves = []; after = w; reply = replies.Refused (refusals.BadLength length most) }) addr r.bytes _ r.there
+      let row = on_raw w (record { moves = []; after = w; reply = replies.Refused (refusals.BadLength length most) }) addr r.bytes
+      _ r.there
       (on_true _ _ _ many (refl, refl, λ i. replies.Refused (refusals.BadLength (m.0 i) (m.1 i)))) in
-      inl (row_refused w (calls.Stage addr count) new (refusals.BadLength length most) (ap (λ (h : Heap). h.moves) same ∙ unmoved) row);
+      inl (row_refused w (calls.Stage addr count) new (refusals.BadLength length most) (ap (λ (h : Heap). h.moves) same ∙ unmoved)
+      row);
   left = λ reads. same;
   gave = refl;
 }
@@ -246,9 +278,16 @@ stage_refused addr count old new w was (refusals.OutOfBounds bad at asked) unmov
       let few : nat_lt longest_read count ≡ false = grind (arith, nat_tests, m.3) in
       let above = no_room_in old w addr (0 + count) r m.4 in
       let outside : nat_lt (length r.bytes) count ≡ true = grind (arith, nat_tests, above) in
-      let row = on_raw w (record { moves = []; after = w; reply = replies.Refused (refusals.OutOfBounds bad at asked) }) addr r.bytes _ r.there
-      (on_false _ _ _ few (on_true _ _ _ outside (refl, refl, λ i. replies.Refused (refusals.OutOfBounds (m.0 i) (m.1 i) (m.2 i))))) in
-      inl (row_refused w (calls.Stage addr count) new (refusals.OutOfBounds bad at asked) (ap (λ (h : Heap). h.moves) same ∙ unmoved) row);
+      let row = on_raw w (record { moves = []; after = w; reply = replies.Refused (refusals.OutOfBounds bad at asked) }) addr
+      r.bytes _ r.there
+      (on_false _ _ _ few (on_true _ _ _ outside (
+        refl,
+        refl,
+        λ i. replies.Refused
+            (refusals.OutOfBounds (m.0 i) (m.1 i) (m.2 i)),
+      ))) in
+      inl (row_refused w (calls.Stage addr count) new (refusals.OutOfBounds bad at asked)
+      (ap (λ (h : Heap). h.moves) same ∙ unmoved) row);
   left = λ reads. same;
   gave = refl;
 }
@@ -259,8 +298,10 @@ stage_refused addr count old new w was (refusals.BadAddress bad) unmoved same s 
   gave = refl;
 }
 stage_refused addr count old new w was (refusals.WrongKind bad number) unmoved same s whole m = record {
-  step = inl (row_refused w (calls.Stage addr count) new (refusals.WrongKind bad number) (ap (λ (h : Heap). h.moves) same ∙ unmoved)
-      (raw_missed w addr (refusals.WrongKind bad number) _ (misses old w addr (refusals.WrongKind bad number) s whole (other_of (old.blocks addr) m))));
+  step =
+      inl (row_refused w (calls.Stage addr count) new (refusals.WrongKind bad number) (ap (λ (h : Heap). h.moves) same ∙ unmoved)
+      (raw_missed w addr (refusals.WrongKind bad number) _ (misses old w addr (refusals.WrongKind bad number) s whole
+      (other_of (old.blocks addr) m))));
   left = λ reads. same;
   gave = refl;
 }

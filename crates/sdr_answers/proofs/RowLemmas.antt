@@ -34,14 +34,17 @@ use Rattle.sdr_model.specs.declared.call.Call.{Call}
 use Rattle.sdr_model.specs.declared.things.Thing.{Thing}
 
 -- the heap still stands where the world shows other bytes
-pub shows : (old new : Heap) (w : World) (bytes : List ℕ) → new ≡ old → HeapStandsFor old w → HeapStandsFor new (record w { shown = bytes })
+pub shows : (old new : Heap) (w : World) (bytes : List ℕ) → new ≡ old → HeapStandsFor old w
+    → HeapStandsFor new (record w { shown = bytes })
 shows old new w bytes same s =
-    subst (λ (h : Heap). HeapStandsFor h (record w { shown = bytes })) (sym same) (record { blocks = s.blocks; roots = s.roots; marks = s.marks })
+    subst (λ (h : Heap). HeapStandsFor h (record w { shown = bytes })) (sym same)
+    (record { blocks = s.blocks; roots = s.roots; marks = s.marks })
 
 -- a call without moves that was answered
 pub unmoved_answered : (w after : World) (call : Call) (new : Heap) (shown : List ℕ) (reply : Reply) → new.moves ≡ []
     → ByRow w (record { moves = []; after = after; reply = reply }) call → is_answer reply ≡ true → HeapStandsFor new after
-    → after.shown ≡ shown → ties_of after ≡ ties_of w → after.accounts ≡ w.accounts → after.taken ≡ w.taken → Answered w call new shown reply
+    → after.shown ≡ shown → ties_of after ≡ ties_of w → after.accounts ≡ w.accounts → after.taken ≡ w.taken
+    → Answered w call new shown reply
 unmoved_answered w after call new shown reply none row answered stands gave ties accounts taken = record {
   after = after;
   row = subst (λ (ms : List Move). ByRow w (record { moves = ms; after = after; reply = reply }) call) (sym none) row;
@@ -56,7 +59,8 @@ unmoved_answered w after call new shown reply none row answered stands gave ties
 }
 
 -- a call that reads what it names was answered
-pub looked : {X : Type 0} (w : World) (call : Call) (addr : ℕ) (named : Option X) (bytes : X → List ℕ) (say : X → Reply) (x : X) (old new : Heap) (reply : Reply)
+pub looked : {X : Type 0} (w : World) (call : Call) (addr : ℕ) (named : Option X) (bytes : X → List ℕ) (say : X
+    → Reply) (x : X) (old new : Heap) (reply : Reply)
     → ((o : Outcome) → On w o addr named (λ y. Reads w o (bytes y) (say y)) → ByRow w o call) → named ≡ Some x → reply ≡ say x
     → is_answer reply ≡ true → old.moves ≡ [] → new ≡ old → HeapStandsFor old w → Answered w call new (bytes x) reply
 looked w call addr named bytes say x old new reply row is told answered unmoved same s =
@@ -71,7 +75,8 @@ row_refused w call new refusal none row =
     subst (λ (ms : List Move). ByRow w (record { moves = ms; after = w; reply = replies.Refused refusal }) call) (sym none) row
 
 -- a call's address isn't that of what it takes
-module _ {X : Type 0} (w : World) (call : Call) (addr : ℕ) (kind : Kind) (named : Option X) (goes_on : Outcome → X → Type 0) (old new : Heap) (was : List ℕ)
+module _ {X : Type 0} (w : World) (call : Call) (addr : ℕ) (kind : Kind) (named : Option X) (goes_on : Outcome → X → Type 0)
+    (old new : Heap) (was : List ℕ)
     (row : (o : Outcome) → On w o addr named (goes_on o) → ByRow w o call) (none : ¬ IsKind (old.blocks addr) kind → named ≡ None)
     (unmoved : old.moves ≡ []) (same : new ≡ old) (s : HeapStandsFor old w) (valid : IsValid w) where
   by_row : (refusal : Refusal) → Misses (old.blocks addr) addr kind (stops.Refused refusal)
@@ -82,7 +87,8 @@ module _ {X : Type 0} (w : World) (call : Call) (addr : ℕ) (kind : Kind) (name
       (row _ (on_none _ _ named (none miss.0) (refl, refl, ap (λ r. replies.Refused r) miss.1)))
 
   -- so the row refuses it
-  pub misnamed_refused : (refusal : Refusal) → Misses (old.blocks addr) addr kind (stops.Refused refusal) → IsRefused w call old new was was refusal
+  pub misnamed_refused : (refusal : Refusal) → Misses (old.blocks addr) addr kind (stops.Refused refusal)
+      → IsRefused w call old new was was refusal
   misnamed_refused (refusals.BadAddress bad) m =
       record { step = inl (by_row (refusals.BadAddress bad) m); left = λ reads. same; gave = refl }
   misnamed_refused (refusals.WrongKind bad number) m =
@@ -111,7 +117,8 @@ pub moved_answered : (w w' : World) (call : Call) (moves : List Move) (new : Hea
     → Answered w call new [] reply
 moved_answered w w' call moves new reply m stands ties accounts taken row answered = record {
   after = with_taken_marked w' moves;
-  row = subst (λ (ms : List Move). ByRow w (record { moves = ms; after = with_taken_marked w' moves; reply = reply }) call) (sym m.is) row;
+  row = subst (λ (ms : List Move). ByRow w (record { moves = ms; after = with_taken_marked w' moves; reply = reply }) call)
+      (sym m.is) row;
   answered = answered;
   fresh = subst (λ (ms : List Move). AreFresh (addresses_of (blocks_of w)) ms) (sym m.is) m.fresh;
   stands = stands;
@@ -149,10 +156,16 @@ took_has w need addr old new s valid free nonzero small is = record {
   words = All-cons IsWord addr [] (omega (arith, small)) (All-nil IsWord);
 }
 
-pub took_one : (w : World) (need addr : ℕ) (old new : Heap) → HeapStandsFor old w → IsValid w → old.moves ≡ [] → old.blocks addr ≡ None
+pub took_one : (w : World) (need addr : ℕ) (old new : Heap) → HeapStandsFor old w → IsValid w → old.moves ≡ []
+    → old.blocks addr ≡ None
     → addr ≢ 0 → addr < 2 ^ 32 → Made (Took need addr ∷ []) old new → Moved w (Took need addr ∷ []) old new
 took_one w need addr old new s valid unmoved free nonzero small made =
-    record { made = made; has = took_has w need addr old new s valid free nonzero small (moves_made (Took need addr ∷ []) old new unmoved made) }
+    record {
+      made =
+          made;
+      has = took_has w need addr old new s valid free nonzero small
+          (moves_made (Took need addr ∷ []) old new unmoved made);
+    }
 
 -- blocks were given back
 pub gave_fresh : (used addrs : List ℕ) → AreFresh used (gave addrs)
@@ -170,44 +183,56 @@ gave_has w addrs new is = record {
   words = subst (λ (taken : List ℕ). All IsWord taken) (sym (gave_takes addrs)) (All-nil IsWord);
 }
 
-pub gave_back : (w : World) (addrs : List ℕ) (old new : Heap) → old.moves ≡ [] → Made (gave addrs) old new → Moved w (gave addrs) old new
+pub gave_back : (w : World) (addrs : List ℕ) (old new : Heap) → old.moves ≡ [] → Made (gave addrs) old new
+    → Moved w (gave addrs) old new
 gave_back w addrs old new unmoved made =
     record { made = made; has = gave_has w addrs new (moves_made (gave addrs) old new unmoved made) }
 
 -- moves that take nothing mark nothing
-pub marks_none : (w : World) (moves : List Move) → taken_addresses moves ≡ [] → with_taken_marked w moves ≡ record w { shown = [] }
+pub marks_none : (w : World) (moves : List Move) → taken_addresses moves ≡ []
+    → with_taken_marked w moves ≡ record w { shown = [] }
 marks_none w moves none =
     ap (λ (taken : List ℕ). record w { marks = w.marks ++ taken; shown = [] }) none
     ∙ ap (λ (marks : List ℕ). record w { marks = marks; shown = [] }) (append-nil w.marks)
 
 -- a thing of its own was made
-pub thing_made : (w : World) (call : Call) (need addr : ℕ) (thing : Thing) (old new : Heap) → old.moves ≡ [] → HeapStandsFor old w → IsValid w
+pub thing_made : (w : World) (call : Call) (need addr : ℕ) (thing : Thing) (old new : Heap) → old.moves ≡ [] → HeapStandsFor old w
+    → IsValid w
     → IsUntied thing → MakesThing need addr (thing_entries (ties_of w) addr thing) old new
-    → ByRow w (record { moves = Took need addr ∷ []; after = with_taken_marked (with_thing w addr thing) (Took need addr ∷ []); reply = replies.At addr }) call
+    → ByRow w (record {
+      moves = Took need addr ∷ [];
+      after = with_taken_marked (with_thing w addr thing) (Took need addr ∷ []);
+      reply = replies.At addr;
+    }) call
     → Answered w call new [] (replies.At addr)
 thing_made w call need addr thing old new unmoved s valid untied makes row =
     moved_answered w (with_thing w addr thing) call (Took need addr ∷ []) new (replies.At addr)
     (took_one w need addr old new s valid unmoved makes.adds.fresh makes.adds.nonzero makes.adds.small makes.made).has
     (comes need addr old new w thing untied s makes)
-    (same_ties w addr (Some thing) (untied_alike (thing_at w addr) _ (subst NoneIsTied (sym (nothing_at addr s makes.adds.fresh)) tt) untied))
+    (same_ties w addr (Some thing) (untied_alike (thing_at w addr) _
+    (subst NoneIsTied (sym (nothing_at addr s makes.adds.fresh)) tt) untied))
     refl refl row refl
 
 -- a thing became another
-pub thing_changed : (w : World) (call : Call) (addr : ℕ) (thing other : Thing) (moves : List Move) (reply : Reply) (old new : Heap)
+pub thing_changed : (w : World) (call : Call) (addr : ℕ) (thing other : Thing) (moves : List Move) (reply : Reply)
+    (old new : Heap)
     → thing_at w addr ≡ Some thing → IsUntied thing → IsUntied other → HeapStandsFor old w → Moved w moves old new
     → Changes old.blocks new.blocks (thing_entries (ties_of w) addr thing) (thing_entries (ties_of w) addr other)
-    → ByRow w (record { moves = moves; after = with_taken_marked (with_thing w addr other) moves; reply = reply }) call → is_answer reply ≡ true
+    → ByRow w (record { moves = moves; after = with_taken_marked (with_thing w addr other) moves; reply = reply }) call
+    → is_answer reply ≡ true
     → Answered w call new [] reply
 thing_changed w call addr thing other moves reply old new there was is s m change row answered =
     moved_answered w (with_thing w addr other) call moves new reply m.has
     (changes addr old new w thing other moves there was is s change m.made)
-    (same_ties w addr (Some other) (untied_alike (thing_at w addr) _ (subst NoneIsTied (sym there) was) is)) refl refl row answered
+    (same_ties w addr (Some other) (untied_alike (thing_at w addr) _ (subst NoneIsTied (sym there) was) is)) refl refl row
+    answered
 
 -- a thing went
 pub thing_went : (w : World) (call : Call) (addr : ℕ) (thing : Thing) (moves : List Move) (reply : Reply) (old new : Heap)
     → thing_at w addr ≡ Some thing → IsUntied thing → HeapStandsFor old w → Moved w moves old new
     → Changes old.blocks new.blocks (thing_entries (ties_of w) addr thing) []
-    → ByRow w (record { moves = moves; after = with_taken_marked (without_thing w addr) moves; reply = reply }) call → is_answer reply ≡ true
+    → ByRow w (record { moves = moves; after = with_taken_marked (without_thing w addr) moves; reply = reply }) call
+    → is_answer reply ≡ true
     → Answered w call new [] reply
 thing_went w call addr thing moves reply old new there was s m change row answered =
     moved_answered w (without_thing w addr) call moves new reply m.has
@@ -222,8 +247,10 @@ pub record TakesAim (w : World) (call : Call) (need : ℕ) : Type 0 where
   pub answered : is_answer reply ≡ true
 
 -- no block was left for such a call, or no log room
-pub short_refused : (w : World) (call : Call) (need : ℕ) (old new : Heap) (was : List ℕ) (refusal : Refusal) → is_reading call ≡ false
-    → TakesAim w call need → old.moves ≡ [] → OnlyShort need old new (stops.Refused refusal) → IsRefused w call old new was was refusal
+pub short_refused : (w : World) (call : Call) (need : ℕ) (old new : Heap) (was : List ℕ) (refusal : Refusal)
+    → is_reading call ≡ false
+    → TakesAim w call need → old.moves ≡ [] → OnlyShort need old new (stops.Refused refusal)
+    → IsRefused w call old new was was refusal
 short_refused w call need old new was (refusals.NoBlock missing) changing aim unmoved s = record {
   step = inr (record {
     aim = _;
@@ -234,7 +261,8 @@ short_refused w call need old new was (refusals.NoBlock missing) changing aim un
       addr = 0;
       rest = [];
       whole = sym (ap (λ (n : ℕ). Took n 0 ∷ []) s.0);
-      short = ap (λ (h : Heap). h.moves) s.1 ∙ ap (λ (ms : List Move). ms ++ Short need ∷ []) unmoved ∙ sym (ap (λ (n : ℕ). Short n ∷ []) s.0);
+      short = ap (λ (h : Heap). h.moves) s.1 ∙ ap (λ (ms : List Move). ms ++ Short need ∷ []) unmoved ∙ sym
+          (ap (λ (n : ℕ). Short n ∷ []) s.0);
     };
     same = refl;
   });

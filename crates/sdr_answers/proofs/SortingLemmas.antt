@@ -31,19 +31,23 @@ order_is keys.ByBytes order is = ap order_of is
 order_is keys.ByLength order is = ap order_of is
 
 -- the key of a datum
-pub key_is : (heap : Heap) (w : World) → HeapStandsFor heap w → IsValid w → (datum : ℕ) → blocks.sort_key heap.blocks datum ≡ sort_key w datum
+pub key_is : (heap : Heap) (w : World) → HeapStandsFor heap w → IsValid w → (datum : ℕ)
+    → blocks.sort_key heap.blocks datum ≡ sort_key w datum
 key_is heap w s valid datum = by (heap.blocks datum) refl
   where
     raw : IsRawAt heap w datum → blocks.sort_key heap.blocks datum ≡ sort_key w datum
     raw r = ap key_in r.block ∙ key-raw ((ties_of w).named_by datum) r.bytes ∙ sym (ap (λ o. bytes_of (as_raw o)) r.there)
 
-    other : ¬ IsKind (heap.blocks datum) kinds.Raw → key_in (heap.blocks datum) ≡ [] → blocks.sort_key heap.blocks datum ≡ sort_key w datum
+    other : ¬ IsKind (heap.blocks datum) kinds.Raw → key_in (heap.blocks datum) ≡ []
+        → blocks.sort_key heap.blocks datum ≡ sort_key w datum
     other not none = none ∙ sym (ap bytes_of (no_raw heap w datum s valid not))
 
-    of_kind : (block : base.Block) (kind : Kind) → heap.blocks datum ≡ Some block → block.kind ≡ kind → blocks.sort_key heap.blocks datum ≡ sort_key w datum
+    of_kind : (block : base.Block) (kind : Kind) → heap.blocks datum ≡ Some block → block.kind ≡ kind
+        → blocks.sort_key heap.blocks datum ≡ sort_key w datum
     of_kind block kinds.Raw here is = raw (raw_is_at heap w datum s valid (subst (λ f. IsKind f kinds.Raw) (sym here) is))
     of_kind block kind here is =
-        other (λ k. let same : block.kind ≡ kinds.Raw = subst (λ f. IsKind f kinds.Raw) here k in absurd (let no : kind ≡ kinds.Raw = sym is ∙ same in cc))
+        other (λ k. let same : block.kind ≡ kinds.Raw = subst (λ f. IsKind f kinds.Raw) here k in absurd
+        (let no : kind ≡ kinds.Raw = sym is ∙ same in cc))
         (ap key_in here ∙ ap (λ (k : Kind). if_raw k block.bytes) is)
 
     by : (o : Option base.Block) → heap.blocks datum ≡ o → blocks.sort_key heap.blocks datum ≡ sort_key w datum
@@ -55,7 +59,8 @@ pub ordered_place_is : (heap : Heap) (w : World) (order : KeyOrder) (datum : ℕ
     → blocks.ordered_place order heap.blocks datum (list_row row) ≡ ordered_place w order datum row
 ordered_place_is heap w order datum row s valid =
     let key = key_is heap w s valid in
-    place_behind_is (λ other. not (is_gt (order (blocks.sort_key heap.blocks other) (blocks.sort_key heap.blocks datum)))) row.elements
+    place_behind_is (λ other. not (is_gt (order (blocks.sort_key heap.blocks other) (blocks.sort_key heap.blocks datum))))
+    row.elements
     ∙ (λ i. steps.place_behind (λ other. not (is_gt (order (key other i) (key datum i)))) row.elements)
 
 -- the first element of an equal key

@@ -61,14 +61,16 @@ spot_stands heap w element spot s served small found =
     }
 
 -- where no place is found, no block among these is an element's
-none_among : (element : ℕ) (es : List Element) → position (λ e. e.block == element) es ≡ None → block_among element (map element_block es) ≡ None
+none_among : (element : ℕ) (es : List Element) → position (λ e. e.block == element) es ≡ None
+    → block_among element (map element_block es) ≡ None
 none_among element es none = without es (no_position (λ e. e.block == element) es none)
   where
     without : (xs : List Element) → count_by (λ e. e.block == element) xs ≡ 0 → block_among element (map element_block xs) ≡ None
     without [] zero = refl
     without (x ∷ xs) zero = step (without xs) (x.block == element) refl
       where
-        step : (count_by (λ e. e.block == element) xs ≡ 0 → block_among element (map element_block xs) ≡ None) → (b : Bool) → (x.block == element) ≡ b
+        step : (count_by (λ e. e.block == element) xs ≡ 0 → block_among element (map element_block xs) ≡ None) → (b : Bool)
+            → (x.block == element) ≡ b
             → block_among element (map element_block (x ∷ xs)) ≡ None
         step rest true is = absurd (omega (arith, zero, ap weight is, count_by-cons (λ e. e.block == element) x xs))
         step rest false is =
@@ -80,9 +82,11 @@ abbrev IsOther : Block → Type 0
 IsOther b = b.kind ≢ kinds.Element
 
 -- where none is found in a thing, no block inside it is an element's
-other_inside : (element list : ℕ) (thing : Thing) → spot_in_thing element list (Some thing) ≡ None → Finds IsOther (block_among element (inner_blocks thing))
+other_inside : (element list : ℕ) (thing : Thing) → spot_in_thing element list (Some thing) ≡ None
+    → Finds IsOther (block_among element (inner_blocks thing))
 other_inside element list (things.List row) none b is =
-    let gone : None ≡ Some b = sym (none_among element row.elements (unmapped _ (position (λ e. e.block == element) row.elements) none)) ∙ is in absurd cc
+    let gone : None ≡ Some b = sym (none_among element row.elements
+    (unmapped _ (position (λ e. e.block == element) row.elements) none)) ∙ is in absurd cc
   where
     unmapped : {X Y : Type 0} (f : X → Y) (o : Option X) → option_map f o ≡ None → o ≡ None
     unmapped f None e = refl
@@ -106,7 +110,8 @@ other_among element (e ∷ es) none b is =
     neither (Some x) r is = absurd cc
 
 -- a block of the kind of elements is an element's of a list
-spot_of_block : (w : World) (element : ℕ) (b : Block) → block_at w element ≡ Some b → b.kind ≡ kinds.Element → spot_of w element ≢ None
+spot_of_block : (w : World) (element : ℕ) (b : Block) → block_at w element ≡ Some b → b.kind ≡ kinds.Element
+    → spot_of w element ≢ None
 spot_of_block w element b is kind none = by (thing_at w element) is
   where
     others : Finds IsOther (inner_block w element)

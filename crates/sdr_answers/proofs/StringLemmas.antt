@@ -31,7 +31,8 @@ string_outcome w text addr = record {
 }
 
 -- the row of a string that isn't too long
-string_row : (w : World) (text : List ℕ) (addr : ℕ) → length text ≤ longest_string → ByRow w (string_outcome w text addr) (calls.String text)
+string_row : (w : World) (text : List ℕ) (addr : ℕ) → length text ≤ longest_string
+    → ByRow w (string_outcome w text addr) (calls.String text)
 string_row w text addr short =
     let fits : nat_lt longest_string (length text) ≡ false = grind (arith, nat_tests, short) in
     on_false _ _ _ fits (refl, (refl, refl))
@@ -39,7 +40,8 @@ string_row w text addr short =
 pub string_answered : (text : List ℕ) (addr : ℕ) (old new : Heap) (w : World) → old.moves ≡ [] → MakesString text addr old new
     → HeapStandsFor old w → IsServed w → Answered w (calls.String text) new [] (replies.At addr)
 string_answered text addr old new w unmoved makes s served =
-    thing_made w (calls.String text) (text_need (length text)) addr (things.Text text) old new unmoved s served.whole.valid tt makes.makes
+    thing_made w (calls.String text) (text_need (length text)) addr (things.Text text) old new unmoved s served.whole.valid tt
+    makes.makes
     (string_row w text addr makes.short)
 
 pub string_refused : (text : List ℕ) (old new : Heap) (w : World) (was : List ℕ) (refusal : Refusal) → old.moves ≡ []
@@ -47,7 +49,12 @@ pub string_refused : (text : List ℕ) (old new : Heap) (w : World) (was : List 
 string_refused text old new w was (refusals.BadLength count most) unmoved m = record {
   step =
       let long : nat_lt longest_string (length text) ≡ true = grind (arith, nat_tests, m.2) in
-      inl (on_true _ _ _ long (ap (λ (h : Heap). h.moves) m.3 ∙ unmoved, refl, λ i. replies.Refused (refusals.BadLength (m.0 i) (m.1 i))));
+      inl (on_true _ _ _ long (
+        ap (λ (h : Heap). h.moves) m.3 ∙ unmoved,
+        refl,
+        λ i. replies.Refused
+            (refusals.BadLength (m.0 i) (m.1 i)),
+      ));
   left = λ reads. m.3;
   gave = refl;
 }
@@ -55,14 +62,18 @@ string_refused text old new w was refusal unmoved m =
     short_refused w (calls.String text) (text_need (length text)) old new was refusal refl
     (record { after = _; reply = _; row = string_row w text 0 m.0; answered = refl }) unmoved m.1
 
-pub string_length_answered : (addr value : ℕ) (old new : Heap) (w : World) → old.moves ≡ [] → new ≡ old → TellsLength (old.blocks addr) value
+pub string_length_answered : (addr value : ℕ) (old new : Heap) (w : World) → old.moves ≡ [] → new ≡ old
+    → TellsLength (old.blocks addr) value
     → HeapStandsFor old w → IsServed w → Answered w (calls.StringLength addr) new [] (replies.Value value)
 string_length_answered addr value old new w unmoved same told s served =
     let t = text_is_at old w addr s served.whole.valid told.kind in
-    looked w (calls.StringLength addr) addr (as_text (thing_at w addr)) (λ text. []) (λ text. replies.Value (length text)) t.text old new
-    (replies.Value value) (λ o h. h) (ap as_text t.there) (ap (λ n. replies.Value n) (told.tells t.text t.keeps)) refl unmoved same s
+    looked w (calls.StringLength addr) addr (as_text (thing_at w addr)) (λ text. []) (λ text. replies.Value (length text)) t.text
+    old new
+    (replies.Value value) (λ o h. h) (ap as_text t.there) (ap (λ n. replies.Value n) (told.tells t.text t.keeps)) refl unmoved
+    same s
 
-pub string_length_refused : (addr : ℕ) (old new : Heap) (w : World) (was : List ℕ) (refusal : Refusal) → old.moves ≡ [] → new ≡ old
+pub string_length_refused : (addr : ℕ) (old new : Heap) (w : World) (was : List ℕ) (refusal : Refusal) → old.moves ≡ []
+    → new ≡ old
     → HeapStandsFor old w → IsServed w → Misses (old.blocks addr) addr kinds.Text (stops.Refused refusal)
     → IsRefused w (calls.StringLength addr) old new was was refusal
 string_length_refused addr old new w was refusal unmoved same s served m =
@@ -74,9 +85,12 @@ pub string_read_answered : (addr count : ℕ) (into : List ℕ) (old new : Heap)
     → Answered w (calls.StringRead addr) new (take count into) (replies.Bytes count)
 string_read_answered addr count into old new w unmoved same reads s served =
     let t = text_is_at old w addr s served.whole.valid reads.kind in
-    subst (λ (shown : List ℕ). Answered w (calls.StringRead addr) new shown (replies.Bytes count)) (sym (reads.text t.text t.keeps))
-    (looked w (calls.StringRead addr) addr (as_text (thing_at w addr)) (λ text. text) (λ text. replies.Bytes (length text)) t.text old new
-    (replies.Bytes count) (λ o h. h) (ap as_text t.there) (ap (λ n. replies.Bytes n) (reads.tells t.text t.keeps)) refl unmoved same s)
+    subst (λ (shown : List ℕ). Answered w (calls.StringRead addr) new shown (replies.Bytes count))
+    (sym (reads.text t.text t.keeps))
+    (looked w (calls.StringRead addr) addr (as_text (thing_at w addr)) (λ text. text) (λ text. replies.Bytes (length text)) t.text
+    old new
+    (replies.Bytes count) (λ o h. h) (ap as_text t.there) (ap (λ n. replies.Bytes n) (reads.tells t.text t.keeps)) refl unmoved
+    same s)
 
 pub string_read_refused : (addr : ℕ) (old new : Heap) (w : World) (was : List ℕ) (refusal : Refusal) → old.moves ≡ [] → new ≡ old
     → HeapStandsFor old w → IsServed w → Misses (old.blocks addr) addr kinds.Text (stops.Refused refusal)
@@ -90,11 +104,13 @@ dup_row : (w : World) (string : ℕ) (text : List ℕ) (addr : ℕ) → thing_at
     → ByRow w (string_outcome w text addr) (calls.StringDup string)
 dup_row w string text addr there = on_some _ _ (as_text (thing_at w string)) text (ap as_text there) (refl, (refl, refl))
 
-pub string_dup_answered : (string addr : ℕ) (old new : Heap) (w : World) → old.moves ≡ [] → DupsString (old.blocks string) addr old new
+pub string_dup_answered : (string addr : ℕ) (old new : Heap) (w : World) → old.moves ≡ []
+    → DupsString (old.blocks string) addr old new
     → HeapStandsFor old w → IsServed w → Answered w (calls.StringDup string) new [] (replies.At addr)
 string_dup_answered string addr old new w unmoved dups s served =
     let t = text_is_at old w string s served.whole.valid dups.kind in
-    thing_made w (calls.StringDup string) (text_need (length t.text)) addr (things.Text t.text) old new unmoved s served.whole.valid tt
+    thing_made w (calls.StringDup string) (text_need (length t.text)) addr (things.Text t.text) old new unmoved s
+    served.whole.valid tt
     (dups.makes t.text t.keeps).makes (dup_row w string t.text addr t.there)
 
 pub string_dup_refused : (string : ℕ) (old new : Heap) (w : World) (was : List ℕ) (refusal : Refusal) → old.moves ≡ []

@@ -1,5 +1,5 @@
 -- Tables in blocks.
-use Rattle.std.proofs.Common.{◌≡◌, ◌∙◌, ◌≤◌, ◌*◌, ℕ, List, [], ◌∷◌, Bool, true, false, true≢false, Option, None, Some, cond, find, nat_lt, refl, sym, ap, subst, arith}
+use Rattle.std.proofs.Common.{◌≡◌, ◌∙◌, ◌≤◌, ◌*◌, ℕ, [], ◌∷◌, false, Option, None, Some, cond, find, nat_lt, refl, ap, subst, arith}
 use Rattle.std.specs.Prelude.{IfSome}
 use Rattle.std.proofs.lemmas.Bool.Decides.{nat_tests}
 use Rattle.sdr_answers.proofs.KindLemmas.{own_in_use, thing_is_at}
@@ -39,12 +39,14 @@ none_above rows size a b c =
     ∙ ap (λ t. cond t (Some size) (find (nat_lt longest_raw) (rows * size ∷ []))) second
     ∙ ap (λ t. cond t (Some (rows * size)) None) third
 
-own_table : (addr : ℕ) (thing : Thing) → (own_block addr thing).kind ≡ kinds.Table → (table : Table) × (thing ≡ things.Table table)
+own_table : (addr : ℕ) (thing : Thing) → (own_block addr thing).kind ≡ kinds.Table
+    → (table : Table) × (thing ≡ things.Table table)
 own_table addr (things.Table table) is = (table, refl)
 own_table addr thing is = absurd cc
 
 -- a block in use of the kind of tables is a table's
-pub table_is_at : (heap : Heap) (w : World) (addr : ℕ) → HeapStandsFor heap w → IsServed w → IsKind (heap.blocks addr) kinds.Table → IsTableAt heap w addr
+pub table_is_at : (heap : Heap) (w : World) (addr : ℕ) → HeapStandsFor heap w → IsServed w → IsKind (heap.blocks addr) kinds.Table
+    → IsTableAt heap w addr
 table_is_at heap w addr s served kind =
     let t = thing_is_at heap w addr kinds.Table s served.whole.valid refl kind in
     let table = own_table addr t.thing t.kind_is in

@@ -21,7 +21,8 @@ pub record IsTextAt (heap : Heap) (w : World) (addr : ℕ) : Type 0 where
   pub there : thing_at w addr ≡ Some (things.Text text)
   pub keeps : KeepsString (heap.blocks addr) text
 
-pub text_stands : (heap : Heap) (w : World) (addr : ℕ) (text : List ℕ) → HeapStandsFor heap w → IsValid w → thing_at w addr ≡ Some (things.Text text)
+pub text_stands : (heap : Heap) (w : World) (addr : ℕ) (text : List ℕ) → HeapStandsFor heap w → IsValid w
+    → thing_at w addr ≡ Some (things.Text text)
     → IsTextAt heap w addr
 text_stands heap w addr text s valid there =
     let a = apart addr (things.Text text) s there in
@@ -39,14 +40,16 @@ own_text addr (things.Text text) is = (text, refl)
 own_text addr thing is = absurd cc
 
 -- a block in use of the kind of strings is a string's
-pub text_is_at : (heap : Heap) (w : World) (addr : ℕ) → HeapStandsFor heap w → IsValid w → IsKind (heap.blocks addr) kinds.Text → IsTextAt heap w addr
+pub text_is_at : (heap : Heap) (w : World) (addr : ℕ) → HeapStandsFor heap w → IsValid w → IsKind (heap.blocks addr) kinds.Text
+    → IsTextAt heap w addr
 text_is_at heap w addr s valid kind =
     let t = thing_is_at heap w addr kinds.Text s valid refl kind in
     let text = own_text addr t.thing t.kind_is in
     text_stands heap w addr text.0 s valid (t.there ∙ ap Some text.1)
 
 -- and where there is none, no string is
-pub no_text : (heap : Heap) (w : World) (addr : ℕ) → HeapStandsFor heap w → IsValid w → ¬ IsKind (heap.blocks addr) kinds.Text → as_text (thing_at w addr) ≡ None
+pub no_text : (heap : Heap) (w : World) (addr : ℕ) → HeapStandsFor heap w → IsValid w → ¬ IsKind (heap.blocks addr) kinds.Text
+    → as_text (thing_at w addr) ≡ None
 no_text heap w addr s valid other = by (thing_at w addr) refl
   where
     by : (o : Option Thing) → thing_at w addr ≡ o → as_text o ≡ None

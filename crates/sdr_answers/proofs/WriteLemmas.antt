@@ -32,7 +32,12 @@ use Rattle.sdr_answers.specs.Answering.{Answered, IsRefused}
 -- bytes were written into a raw object
 abbrev pub write_outcome : World → ℕ → ℕ → List ℕ → List ℕ → Outcome
 write_outcome w addr place from bytes =
-    record { moves = []; after = with_taken_marked (with_thing w addr (things.Raw (overwrite place from bytes))) []; reply = replies.Done }
+    record {
+      moves =
+          [];
+      after = with_taken_marked (with_thing w addr (things.Raw (overwrite place from bytes))) [];
+      reply = replies.Done;
+    }
 
 -- the row of a write that fits a marked raw object
 pub write_row : (heap : Heap) (w : World) (addr place : ℕ) (from : List ℕ) (r : IsRawAt heap w addr) → HeapStandsFor heap w
@@ -46,7 +51,8 @@ write_row heap w addr place from r s room marked =
     (refl, marks_none (with_thing w addr (things.Raw (overwrite place from r.bytes))) [] refl, refl)))
 
 -- the block of a raw object becomes that of one with other bytes
-raw_changes : (heap new : Heap) (w : World) (addr place : ℕ) (from : List ℕ) (r : IsRawAt heap w addr) → new ≡ with_bytes heap addr (8 + place) from
+raw_changes : (heap new : Heap) (w : World) (addr place : ℕ) (from : List ℕ) (r : IsRawAt heap w addr)
+    → new ≡ with_bytes heap addr (8 + place) from
     → Changes heap.blocks new.blocks (raw_entries addr ((ties_of w).named_by addr) r.bytes)
     (raw_entries addr ((ties_of w).named_by addr) (overwrite place from r.bytes))
 raw_changes heap new w addr place from r is =
@@ -62,16 +68,19 @@ raw_changes heap new w addr place from r is =
     }
 
 -- bytes were written
-pub write_answered : (addr place : ℕ) (from : List ℕ) (old new : Heap) (w : World) → old.moves ≡ [] → WritesRaw addr place from old new
+pub write_answered : (addr place : ℕ) (from : List ℕ) (old new : Heap) (w : World) → old.moves ≡ []
+    → WritesRaw addr place from old new
     → HeapStandsFor old w → IsWhole w → Answered w (calls.Write addr place from) new [] replies.Done
 write_answered addr place from old new w unmoved writes s whole =
     let r = raw_is_at old w addr s whole.valid writes.raw in
-    thing_changed w (calls.Write addr place from) addr (things.Raw r.bytes) (things.Raw (overwrite place from r.bytes)) [] replies.Done old new r.there tt tt s
+    thing_changed w (calls.Write addr place from) addr (things.Raw r.bytes) (things.Raw (overwrite place from r.bytes)) []
+    replies.Done old new r.there tt tt s
     (moved_nothing w old new unmoved (ap besides writes.written)) (raw_changes old new w addr place from r writes.written)
     (write_row old w addr place from r s writes.inside writes.marked) refl
 
 -- why bytes weren't written
-pub write_refused : (addr place : ℕ) (from : List ℕ) (old new : Heap) (w : World) (was : List ℕ) (refusal : Refusal) → old.moves ≡ []
+pub write_refused : (addr place : ℕ) (from : List ℕ) (old new : Heap) (w : World) (was : List ℕ) (refusal : Refusal)
+    → old.moves ≡ []
     → HeapStandsFor old w → IsWhole w → WriteStops (old.blocks addr) addr place (length from) old new (stops.Refused refusal)
     → IsRefused w (calls.Write addr place from) old new was was refusal
 write_refused addr place from old new w was (refusals.OutOfBounds bad at asked) unmoved s whole m = record {
@@ -79,9 +88,11 @@ write_refused addr place from old new w was (refusals.OutOfBounds bad at asked) 
       let r = raw_is_at old w addr s whole.valid m.4 in
       let above = no_room_in old w addr (place + length from) r m.3 in
       let outside : nat_lt (length r.bytes) (place + length from) ≡ true = grind (arith, nat_tests, above) in
-      let row = on_raw w (record { moves = []; after = w; reply = replies.Refused (refusals.OutOfBounds bad at asked) }) addr r.bytes _ r.there
+      let row = on_raw w (record { moves = []; after = w; reply = replies.Refused (refusals.OutOfBounds bad at asked) }) addr
+      r.bytes _ r.there
       (on_true _ _ _ outside (refl, refl, λ i. replies.Refused (refusals.OutOfBounds (m.0 i) (m.1 i) (m.2 i)))) in
-      inl (row_refused w (calls.Write addr place from) new (refusals.OutOfBounds bad at asked) (ap (λ (h : Heap). h.moves) m.5 ∙ unmoved) row);
+      inl (row_refused w (calls.Write addr place from) new (refusals.OutOfBounds bad at asked)
+      (ap (λ (h : Heap). h.moves) m.5 ∙ unmoved) row);
   left = λ reads. m.5;
   gave = refl;
 }
@@ -90,9 +101,12 @@ write_refused addr place from old new w was (refusals.NotStaged bad) unmoved s w
       let r = raw_is_at old w addr s whole.valid m.3 in
       let fits = room_in old w addr (place + length from) r m.2 in
       let inside : nat_lt (length r.bytes) (place + length from) ≡ false = grind (arith, nat_tests, fits) in
-      let row = on_raw w (record { moves = []; after = w; reply = replies.Refused (refusals.NotStaged bad) }) addr r.bytes _ r.there
-      (on_false _ _ _ inside (on_false _ _ _ (sym (s.marks addr) ∙ m.1) (refl, refl, ap (λ a. replies.Refused (refusals.NotStaged a)) m.0))) in
-      inl (row_refused w (calls.Write addr place from) new (refusals.NotStaged bad) (ap (λ (h : Heap). h.moves) m.4 ∙ unmoved) row);
+      let row = on_raw w (record { moves = []; after = w; reply = replies.Refused (refusals.NotStaged bad) }) addr r.bytes _
+      r.there
+      (on_false _ _ _ inside (on_false _ _ _ (sym (s.marks addr) ∙ m.1)
+      (refl, refl, ap (λ a. replies.Refused (refusals.NotStaged a)) m.0))) in
+      inl (row_refused w (calls.Write addr place from) new (refusals.NotStaged bad) (ap (λ (h : Heap). h.moves) m.4 ∙ unmoved)
+      row);
   left = λ reads. m.4;
   gave = refl;
 }
@@ -110,7 +124,9 @@ write_refused addr place from old new w was (refusals.BadAddress bad) unmoved s 
   gave = refl;
 }
 write_refused addr place from old new w was (refusals.WrongKind bad number) unmoved s whole m = record {
-  step = inl (row_refused w (calls.Write addr place from) new (refusals.WrongKind bad number) (ap (λ (h : Heap). h.moves) m.1 ∙ unmoved)
+  step =
+      inl (row_refused w (calls.Write addr place from) new (refusals.WrongKind bad number)
+      (ap (λ (h : Heap). h.moves) m.1 ∙ unmoved)
       (raw_missed w addr (refusals.WrongKind bad number) _ (misses old w addr (refusals.WrongKind bad number) s whole m.0)));
   left = λ reads. m.1;
   gave = refl;

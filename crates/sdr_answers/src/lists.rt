@@ -335,9 +335,7 @@ pub fn answer<O: Objects>(o: &mut O, call: &Call, page: &mut Page) -> Result<Rep
         Call::InsertLast(list, datum) => insert_last(o, *list, *datum, page),
         Call::InsertBefore(element, datum) => insert_before(o, *element, *datum, page),
         Call::InsertAfter(element, datum) => insert_after(o, *element, *datum, page),
-        Call::InsertOrdered(list, datum, keys) => {
-            insert_ordered(o, *list, *datum, *keys, page)
-        }
+        Call::InsertOrdered(list, datum, keys) => { insert_ordered(o, *list, *datum, *keys, page) }
         Call::Search(list, datum, keys) => search(o, *list, *datum, *keys, page),
         Call::Delete(element) => delete(o, *element, page),
         Call::First(list) => first(o, *list, page),

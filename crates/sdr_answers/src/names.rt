@@ -90,9 +90,7 @@ pub fn answer<O: Objects>(o: &mut O, call: &Call, page: &mut Page) -> Result<Rep
     ensures fits { FitsCall call.now }
 {
     match call {
-        Call::Catlg(name, kind, object) => {
-            catlg(o, name.as_slice(), *kind, *object, page)
-        }
+        Call::Catlg(name, kind, object) => { catlg(o, name.as_slice(), *kind, *object, page) }
         Call::Find(name) => find(o, name.as_slice(), page),
         Call::Uncatlg(name) => uncatlg(o, name.as_slice(), page),
         Call::Entry(place) => entry(o, *place, page),

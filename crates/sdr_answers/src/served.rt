@@ -25,10 +25,7 @@ pub fn is_string_call(call: &Call) -> bool
 {
     matches!(
         call,
-        Call::String(_)
-            | Call::StringLength(_)
-            | Call::StringRead(_)
-            | Call::StringDup(_)
+        Call::String(_) | Call::StringLength(_) | Call::StringRead(_) | Call::StringDup(_)
     )
 }
 
@@ -80,10 +77,7 @@ pub fn is_name_call(call: &Call) -> bool
 {
     matches!(
         call,
-        Call::Catlg(_, _, _)
-            | Call::Find(_)
-            | Call::Uncatlg(_)
-            | Call::Entry(_)
+        Call::Catlg(_, _, _) | Call::Find(_) | Call::Uncatlg(_) | Call::Entry(_)
     )
 }
 

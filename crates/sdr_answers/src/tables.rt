@@ -12,7 +12,13 @@ use sdr_base::{Addr, Objects, Stop};
 use sdr_model::{Call, Reply};
 
 // Makes a table.
-fn table<O: Objects>(o: &mut O, rows: u64, size: u64, user: u64, page: &mut Page) -> Result<Reply, Stop>
+fn table<O: Objects>(
+    o: &mut O,
+    rows: u64,
+    size: u64,
+    user: u64,
+    page: &mut Page,
+) -> Result<Reply, Stop>
     requires kept { KeepsSome (O.keeps o.old) }
     requires spare { 1 ≤ (O.heap o.old).spare }
     requires unmoved { (O.heap o.old).moves ≡ [] }
@@ -40,7 +46,13 @@ fn row<O: Objects>(o: &mut O, table: Addr, row: u64, page: &mut Page) -> Result<
 }
 
 // Sets a row of a table.
-fn set_row<O: Objects>(o: &mut O, table: Addr, row: u64, from: &[u8], page: &mut Page) -> Result<Reply, Stop>
+fn set_row<O: Objects>(
+    o: &mut O,
+    table: Addr,
+    row: u64,
+    from: &[u8],
+    page: &mut Page,
+) -> Result<Reply, Stop>
     requires kept { KeepsSome (O.keeps o.old) }
     requires table { IsTable ((O.heap o.old).blocks table) }
     requires unmoved { (O.heap o.old).moves ≡ [] }
@@ -107,9 +119,7 @@ pub fn answer<O: Objects>(o: &mut O, call: &Call, page: &mut Page) -> Result<Rep
     match call {
         Call::Table(rows, size, user) => table(o, *rows, *size, *user, page),
         Call::Row(table, place) => row(o, *table, *place, page),
-        Call::SetRow(table, row, bytes) => {
-            set_row(o, *table, *row, bytes.as_slice(), page)
-        }
+        Call::SetRow(table, row, bytes) => { set_row(o, *table, *row, bytes.as_slice(), page) }
         Call::Dimensions(table) => dimensions(o, *table, page),
         Call::TableUser(table) => table_user(o, *table, page),
         Call::TableDestroy(table) => table_destroy(o, *table, page),

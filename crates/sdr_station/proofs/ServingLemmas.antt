@@ -167,7 +167,9 @@ module _ {D : Type 0} (faults : D → ℕ) (old : Grounded D) (going : old.stopp
         let w = at.now going in
         let o : Outcome = record { moves = heap.moves; after = ans.after; reply = reply } in
         let whole = whole_kept v.now.world ans.after call heap.moves reply w.whole ans.fresh (inl ans.row) in
-        let more = enough v.now.demand (heap_in fresh_heap) v.now.world call o is (fresh_stands v at) (served_in w) (small_in fresh_heap w.keeps) ans.row ans.answered in
+        let more =
+        enough v.now.demand (heap_in fresh_heap) v.now.world call o is (fresh_stands v at) (served_in w)
+        (small_in fresh_heap w.keeps) ans.row ans.answered in
         record {
           pools = lead.after;
           base = refl;
@@ -300,7 +302,9 @@ module _ {D : Type 0} (faults : D → ℕ) (old : Grounded D) (going : old.stopp
         let q = quiet_of works in
         let after = full_state v at reply in
         let f = works.room.full in
-        let more = enough v.now.demand (heap_in fresh_heap) v.now.world call aim.0.to is (fresh_stands v at) (served_in w) (small_in fresh_heap w.keeps) aim.0.row aim.0.answered in
+        let more =
+        enough v.now.demand (heap_in fresh_heap) v.now.world call aim.0.to is (fresh_stands v at) (served_in w)
+        (small_in fresh_heap w.keeps) aim.0.row aim.0.answered in
         record {
           for = record { before = v.before; now = after; moves = [] };
           holds = stands_on (refused_ground (refusals.LogFull lines room) n) v at q.0 q.1 after at.taken (at.gave ∙ sym aim.2) at.stood
