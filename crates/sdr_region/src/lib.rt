@@ -1,0 +1,12 @@
+//! An audit of the structure of a heap region: whether its bytes keep a heap, and else what is wrong first, and where.
+//!
+//! Each step has its own order in which things are looked at, and tells the first that is wrong. A step stands on those before it.
+//!
+//! 1. The control words have values that they may have (`check_control`).
+#![tactic(auto)]
+
+mod control;
+mod error;
+
+pub use control::{Edges, check_control};
+pub use error::{AuditError, Why};
