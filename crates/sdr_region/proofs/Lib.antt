@@ -1,1 +1,5 @@
 pub mod AuditLemmas
+pub mod EdgeLemmas
+pub mod FollowLemmas
+pub mod SmallLemmas
+pub mod WalkLemmas

@@ -1,19 +1,16 @@
 -- What an audit asks of the start bits.
 use Rattle.std.specs.Prelude.{◌≡◌, ◌≤◌, ◌<◌, ◌==◌, ◌+◌, ◌-◌, ◌*◌, ◌^◌, ◌&&◌, ◌||◌, ℕ, Bool, true, false, cond, List, get_or, sum_by}
-use Rattle.std.specs.List.{list_any, range_with_len}
+use Rattle.std.specs.List.{range_with_len}
+use Rattle.std.specs.Option.{option_map_or}
 use Rattle.sdr_base.specs.Pools.{PoolBlock}
 use Rattle.sdr_base.specs.declared.control.TheConstants.{START}
 use Rattle.sdr_base.specs.declared.line.TheConstants.{START_BITS, WORD}
 use Rattle.sdr_region.specs.Control.{control_word}
-
--- whether a block in use, whose leader stands so far before its address, begins at a place
-abbrev pub begins_at : ℕ → ℕ → PoolBlock → Bool
-begins_at frame place block = block.used && block.addr == place + frame
+use Rattle.sdr_region.specs.Spots.{begun_at}
 
 -- whether a block in use begins with a word of the region
 abbrev pub begins_with : List PoolBlock → List PoolBlock → ℕ → Bool
-begins_with small large word =
-    list_any (begins_at WORD (WORD * word)) small || list_any (begins_at (2 * WORD) (WORD * word)) large
+begins_with small large word = option_map_or (λ (block : PoolBlock). block.used) (begun_at small large (WORD * word)) false
 
 -- the byte of the start bits of eight words: that of the first word is the highest
 abbrev pub bits_byte : List PoolBlock → List PoolBlock → ℕ → ℕ

@@ -2,5 +2,9 @@ pub mod Auditing
 pub mod Bits
 pub mod Content
 pub mod Control
+pub mod Found
 pub mod Free
+pub mod Labels
+pub mod Spots
 pub mod Walk
+pub mod Walked

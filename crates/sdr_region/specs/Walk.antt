@@ -15,16 +15,16 @@ abbrev pub last_kind : ℕ
 last_kind = 13
 
 -- whether the leader at a place is that of a block in use
-abbrev pub is_led : List ℕ → ℕ → Bool
-is_led bytes place = not (leader_kind place bytes == 0)
+abbrev pub is_used_at : List ℕ → ℕ → Bool
+is_used_at bytes place = not (leader_kind place bytes == 0)
 
 -- the small block whose leader stands at a place
 abbrev pub small_at : List ℕ → ℕ → PoolBlock
-small_at bytes place = record { addr = place + WORD; words = leader_words place bytes; used = is_led bytes place }
+small_at bytes place = record { addr = place + WORD; words = leader_words place bytes; used = is_used_at bytes place }
 
 -- the large block whose leader stands at a place
 abbrev pub large_at : List ℕ → ℕ → PoolBlock
-large_at bytes place = record { addr = place + 2 * WORD; words = leader_words place bytes; used = is_led bytes place }
+large_at bytes place = record { addr = place + 2 * WORD; words = leader_words place bytes; used = is_used_at bytes place }
 
 -- whether a small block may begin at a place: its kind has a number, it has 1 to 64 words, and it ends where the small blocks
 -- end or before
@@ -107,25 +107,33 @@ abbrev pub first_wrong : (PoolBlock → Bool) → ℕ → List PoolBlock → Opt
 first_wrong right frame blocks =
     option_map (λ (block : PoolBlock). block.addr - frame) (find (λ block. not (right block)) blocks)
 
--- the place of the upper of the first two free blocks that touch
-abbrev pub first_touching : List PoolBlock → Option ℕ
-first_touching [] = None
-first_touching (block ∷ []) = None
-first_touching (block ∷ other ∷ blocks) =
-    cond (not block.used && not other.used) (Some (other.addr - 2 * WORD)) (first_touching (other ∷ blocks))
+-- the place of the upper of the first two free large blocks that touch, where one stands before them that is free or not
+abbrev pub touching_after : Bool → List PoolBlock → Option ℕ
+touching_after free [] = None
+touching_after free (block ∷ blocks) =
+    cond (free && not block.used) (Some (block.addr - 2 * WORD)) (touching_after (not block.used) blocks)
 
 -- the place of the block at high, where it is free
 abbrev pub free_edge : List PoolBlock → Option ℕ
 free_edge [] = None
 free_edge (block ∷ blocks) = cond block.used None (Some (block.addr - 2 * WORD))
 
--- Where blocks that follow one another are wrong first: one with fewer words than its length needs, or a small one in use with
--- more; then a free one with a length; then two free large ones that touch; then a free one at high.
+-- the first of these blocks that has fewer words than its length needs, or is small, in use, and has more
+abbrev pub first_unfit : List ℕ → List PoolBlock → List PoolBlock → Option ℕ
+first_unfit bytes small large =
+    option_or (first_wrong (small_holds bytes) WORD small) (first_wrong (large_holds bytes) (2 * WORD) large)
+
+-- the first of these blocks that is free and has a length
+abbrev pub first_full : List ℕ → List PoolBlock → List PoolBlock → Option ℕ
+first_full bytes small large =
+    option_or (first_wrong (is_empty bytes WORD) WORD small) (first_wrong (is_empty bytes (2 * WORD)) (2 * WORD) large)
+
+-- Where blocks that follow one another are wrong first: a length that doesn't fit; then a free one with a length; then two free
+-- large ones that touch; then a free one at high.
 abbrev pub wrong_block : List ℕ → List PoolBlock → List PoolBlock → Option ℕ
 wrong_block bytes small large =
-    option_or (option_or (first_wrong (small_holds bytes) WORD small) (first_wrong (large_holds bytes) (2 * WORD) large))
-    (option_or (option_or (first_wrong (is_empty bytes WORD) WORD small) (first_wrong (is_empty bytes (2 * WORD)) (2 * WORD) large))
-    (option_or (first_touching large) (free_edge large)))
+    option_or (option_or (option_or (first_unfit bytes small large) (first_full bytes small large)) (touching_after false large))
+    (free_edge large)
 
 -- the blocks of both pools follow one another, and each is right
 pub record AreBlocks (bytes : List ℕ) (small large : List PoolBlock) : Type 0 where

@@ -5,8 +5,13 @@
 //! 1. The control words have values that they may have (`check_control`).
 #![tactic(auto)]
 
+mod blocks;
 mod control;
 mod error;
+mod findings;
+mod label;
+mod spot;
 
 pub use control::{Edges, check_control};
 pub use error::{AuditError, Why};
+pub use spot::Spot;
