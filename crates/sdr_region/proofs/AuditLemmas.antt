@@ -1,5 +1,5 @@
 -- Steps of an audit one after another.
-use Rattle.std.proofs.Common.{◌≡◌, ◌∙◌, ◌≤◌, ◌<◌, ◌+◌, ℕ, List, arith, inl, inr, subst, sym}
+use Rattle.std.proofs.Common.{◌≡◌, ◌∙◌, ◌≤◌, ◌<◌, ◌+◌, ℕ, List, false, arith, inl, inr, refl, subst, sym}
 use Rattle.std.specs.Result.{IsErrAnd}
 use Rattle.std.proofs.lemmas.Bool.{cases_lt}
 use Rattle.std.specs.Prelude.{Ok, Err, Result}
@@ -56,3 +56,26 @@ words_before {bytes} {bytes'} {word} P same before here other below = elim (case
       let e : word ≡ other = omega (arith, more, below) in
       subst (λ (n : ℕ). P bytes n) e (subst (λ (x : List ℕ). P x word) same here)
 ]
+
+-- no step leaves all, where nothing has failed
+pub audits_none : {S : Type 0} {bytes : S → List ℕ} {transaction : S → Transaction} {keeps : S → S → Type 0} {a : S} → keeps a a → (transaction a).failed ≡ false →
+    Audits {T = Unit {0}} bytes transaction keeps a a (Ok tt)
+audits_none {a = a} still sound = record {
+  bytes = refl;
+  touched = refl;
+  room = refl;
+  cause = record { later = omega arith; explained = (sound, sound) };
+  quiet = still;
+}
+
+-- a reading that answered, as a step that answered
+pub reads_audit : {S T U : Type 0} {bytes : S → List ℕ} {transaction : S → Transaction} {keeps : S → S → Type 0} {a b : S} {v : T} {u : U} → bytes b ≡ bytes a →
+    TouchesNone {T = T} (transaction a) (transaction b) (Ok v) → HasReason {T = T} (transaction a) (transaction b) (Ok v) → keeps a b →
+    Audits {T = U} bytes transaction keeps a b (Ok u)
+reads_audit same room cause quiet = record {
+  bytes = same;
+  touched = room.touched;
+  room = room.room;
+  cause = record { later = cause.later; explained = cause.explained };
+  quiet = quiet;
+}

@@ -1,5 +1,6 @@
 pub mod AuditLemmas
 pub mod EdgeLemmas
 pub mod FollowLemmas
+pub mod LargeLemmas
 pub mod SmallLemmas
 pub mod WalkLemmas

@@ -13,8 +13,8 @@ use Rattle.sdr_region.specs.Auditing.{edges_of}
 use Rattle.sdr_region.specs.Control.{ControlIsRight, control_word}
 use Rattle.sdr_region.specs.declared.control.Edges.{Edges}
 use Rattle.sdr_region.proofs.EdgeLemmas.{in_order}
-use Rattle.sdr_region.specs.Found.{with_found}
-use Rattle.sdr_region.specs.Labels.{IsLabel, is_led, label_empty, label_fits, label_spot}
+use Rattle.sdr_region.specs.Found.{no_findings, with_found}
+use Rattle.sdr_region.specs.Labels.{IsLabel, fits_small, is_led, label_empty, label_spot}
 use Rattle.sdr_region.specs.Spots.{AreSpots, begun_at, begun_in}
 use Rattle.sdr_region.specs.Walk.{SmallFollow, first_wrong, is_empty, is_small_at, small_at, small_holds}
 use Rattle.sdr_region.specs.Walked.{SmallWalked}
@@ -33,7 +33,7 @@ module _ (bytes : List ℕ) (place : ℕ) (label : Label) (is : IsLabel bytes pl
   abbrev fits_by : ℕ → ℕ → ℕ → Bool
   fits_by kind words count = nat_le (words_for count) words && (not (not (kind == 0)) || words_for count == words)
 
-  fits : label_fits true label ≡ small_holds bytes block
+  fits : fits_small label ≡ small_holds bytes block
   fits =
       (λ i. fits_by (is.kind i) (is.words i) (is.length i))
       ∙ ap (λ (n : ℕ). fits_by (leader_kind place bytes) (leader_words place bytes) (leader_length n bytes)) (sym back)
@@ -76,11 +76,11 @@ module _ (bytes : List ℕ) (place : ℕ) (label : Label) (is : IsLabel bytes pl
 
   -- the walk goes on behind a small block
   pub small_walked : {found found' : Findings} {told : List Spot} {here : Spot} → SmallWalked bytes place found told → is_small_at bytes place ≡ true →
-      {fit empty_is : Bool} → fit ≡ label_fits true label → empty_is ≡ label_empty label →
+      {fit empty_is : Bool} → fit ≡ fits_small label → empty_is ≡ label_empty label →
       found'.unfit ≡ with_found found.unfit fit place → found'.full ≡ with_found found.full empty_is place →
-      found'.touching ≡ found.touching → found'.edge ≡ found.edge → here ≡ label_spot label →
+      found'.touching ≡ found.touching → found'.edge ≡ found.edge → found'.after_free ≡ found.after_free → here ≡ label_spot label →
       SmallWalked bytes (place + 8 * (1 + label.words)) found' (set told (place / 8) here)
-  small_walked {found} {found'} {told} {here} w small {fit} {empty_is} fit_is is_empty_is unfit full touching edge spot_is =
+  small_walked {found} {found'} {told} {here} w small {fit} {empty_is} fit_is is_empty_is unfit full touching edge free spot_is =
       let ends = leb-true _ _ (and_parts _ _ small).1 in
       record {
         done = w.done ++ (block ∷ []);
@@ -94,6 +94,7 @@ module _ (bytes : List ℕ) (place : ℕ) (label : Label) (is : IsLabel bytes pl
           full = wrong_more (is_empty bytes 8) found.full found'.full w.done empty_is (is_empty_is ∙ empty) w.findings.full full;
           touching = touching ∙ w.findings.touching;
           edge = edge ∙ w.findings.edge;
+          after_free = free ∙ w.findings.after_free;
         };
         spots =
             let none : (other : ℕ) → place ≤ other → begun_in 8 w.done other ≡ None = λ other behind. small_ends bytes w.done (control_word bytes START) place other w.follow behind in
@@ -111,3 +112,18 @@ small_more bytes place {edges} right is whole more =
     let high = o.high in
     let end = o.end in
     omega (arith, low, low_whole, high, end, whole, more)
+
+-- before any small block nothing is found
+pub small_begins : (bytes : List ℕ) {edges : Edges} {found : Findings} {told : List Spot} → ControlIsRight bytes → edges ≡ edges_of bytes → found ≡ no_findings →
+    AreSpots [] [] told → SmallWalked bytes edges.start found told
+small_begins bytes {edges} {found} {told} right is none clear =
+    let o = in_order bytes right in
+    subst (λ (e : Edges). SmallWalked bytes e.start found told) (sym is)
+    (subst (λ (f : Findings). SmallWalked bytes (control_word bytes START) f told) (sym none) (record {
+      done = [];
+      follow = refl;
+      whole = o.start_whole;
+      within = o.low;
+      findings = record { unfit = refl; full = refl; touching = refl; edge = refl; after_free = refl };
+      spots = clear;
+    }))

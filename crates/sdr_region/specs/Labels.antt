@@ -20,10 +20,13 @@ is_led label = not (label.kind == 0)
 abbrev pub label_spot : Label → Spot
 label_spot label = cond (is_led label) spots.Used spots.Free
 
--- whether the block has the words that its length needs, and a small one in use no more
-abbrev pub label_fits : Bool → Label → Bool
-label_fits is_small label =
-    nat_le (words_for label.length) label.words && (not is_small || (not (is_led label) || words_for label.length == label.words))
+-- whether the block has the words that its length needs
+abbrev pub has_enough : Label → Bool
+has_enough label = nat_le (words_for label.length) label.words
+
+-- whether a small block has the words that its length needs, and no more where it is in use
+abbrev pub fits_small : Label → Bool
+fits_small label = has_enough label && (not (is_led label) || words_for label.length == label.words)
 
 -- whether a free block has length 0
 abbrev pub label_empty : Label → Bool

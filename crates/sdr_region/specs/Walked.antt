@@ -20,6 +20,7 @@ pub record AreFindings (bytes : List ℕ) (small large : List PoolBlock) (found 
   pub full : found.full ≡ first_full bytes small large
   pub touching : found.touching ≡ touching_after false large
   pub edge : found.edge ≡ free_edge large
+  pub after_free : found.after_free ≡ is_last_free false large
 
 -- small blocks follow one another up to a place, of which so much was found
 pub record SmallWalked (bytes : List ℕ) (place : ℕ) (found : Findings) (told : List Spot) : Type 0 where
@@ -30,15 +31,14 @@ pub record SmallWalked (bytes : List ℕ) (place : ℕ) (found : Findings) (told
   pub findings : AreFindings bytes done [] found
   pub spots : AreSpots done [] told
 
--- large blocks follow one another up to a place behind all small ones, of which so much was found; the last one is free or not
-pub record LargeWalked (bytes : List ℕ) (place : ℕ) (is_free : Bool) (found : Findings) (told : List Spot) : Type 0 where
+-- large blocks follow one another up to a place behind all small ones, of which so much was found
+pub record LargeWalked (bytes : List ℕ) (place : ℕ) (found : Findings) (told : List Spot) : Type 0 where
   pub small : List PoolBlock
   pub below : SmallFollow bytes (control_word bytes START) small (control_word bytes LOW)
   pub done : List PoolBlock
   pub follow : LargeFollow bytes (control_word bytes HIGH) done place
   pub whole : place % WORD ≡ 0
   pub within : place ≤ length bytes
-  pub last : is_free ≡ is_last_free false done
   pub findings : AreFindings bytes small done found
   pub spots : AreSpots small done told
 

@@ -1,9 +1,9 @@
 // What the leader of a block tells, as it stands.
-ghost use Rattle.std.specs.Prelude.{◌≡◌, ◌+◌, ◌*◌, ◌≤◌, ◌<◌, ◌^◌, cond, length, nat_le, not, true, false, ◌==◌, ◌&&◌, ◌||◌, IfOk};
+ghost use Rattle.std.specs.Prelude.{◌≡◌, ◌+◌, ◌*◌, ◌≤◌, ◌<◌, ◌^◌, cond, length, nat_le, not, ◌==◌, ◌&&◌, ◌||◌, IfOk};
 ghost use Rattle.sdr_base.specs.Rules.{words_for};
 ghost use Rattle.sdr_base.specs.Stored.{leader_kind, leader_length, leader_words};
 ghost use Rattle.sdr_base.specs.Transaction.{HasReason, TouchesNone};
-ghost use Rattle.sdr_region.specs.Labels.{IsLabel, is_led, label_empty, label_fits, label_spot};
+ghost use Rattle.sdr_region.specs.Labels.{IsLabel, fits_small, has_enough, is_led, label_empty, label_spot};
 
 use crate::spot::Spot;
 use byteorder::{BigEndian, ByteOrder};
@@ -61,14 +61,14 @@ impl Label {
 
     /// Whether the words of a small block are those that its length needs, or more where it is free.
     pub fn fits_small(&self) -> bool
-        ensures { result ≡ label_fits true self.now }
+        ensures { result ≡ fits_small self.now }
     {
         self.need() <= self.words && (!self.is_used() || self.need() == self.words)
     }
 
     /// Whether a large block has the words that its length needs.
     pub fn fits_large(&self) -> bool
-        ensures { result ≡ label_fits false self.now }
+        ensures { result ≡ has_enough self.now }
     {
         self.need() <= self.words
     }

@@ -3,6 +3,7 @@
 //! Each step has its own order in which things are looked at, and tells the first that is wrong. A step stands on those before it.
 //!
 //! 1. The control words have values that they may have (`check_control`).
+//! 2. The blocks of both pools follow one another, and each has the words that its length needs (`check_blocks`).
 #![tactic(auto)]
 
 mod blocks;
@@ -12,6 +13,7 @@ mod findings;
 mod label;
 mod spot;
 
+pub use blocks::check_blocks;
 pub use control::{Edges, check_control};
 pub use error::{AuditError, Why};
 pub use spot::Spot;

@@ -2,6 +2,7 @@ use Rattle.std.proofs.Common.{◌≡◌, ◌∙◌, ◌≤◌, ◌<◌, ◌+◌,
 use Rattle.sdr_region.proofs.EdgeLemmas.{in_order}
 use Rattle.sdr_region.proofs.SmallLemmas.{small_more, small_walked}
 use Rattle.sdr_region.specs.declared.control.Edges.{Edges}
+use Rattle.sdr_region.specs.declared.findings.Findings.{Findings}
 use Rattle.sdr_region.proofs.blocks.find_small.Goals as goal
 
 pub read_label-requires : goal.read_label-requires
@@ -36,4 +37,6 @@ pub returns-clause-walked : goal.returns-clause-walked
 returns-clause-walked g c =
     small_walked (g.C.Cells.bytes c.args.c.now) c.args.place c.in_ok-label.label c.in_ok-label.ensures.given c.requires.walked
     (sym (c.is_small.ensures (g.C.Cells.bytes c.args.c.now) c.in_ok-label.ensures.given (sym (ap (λ (e : Edges). e.low) c.requires.edges))) ∙ c.if-not-is_small.false)
-    c.fits_small.ensures c.is_empty.ensures c.or_wrong-found.ensures c.or_wrong-found-2.ensures refl refl c.spot.ensures
+    refl refl (ap (λ (f : Findings). f.unfit) c.note_small.ensures) (ap (λ (f : Findings). f.full) c.note_small.ensures)
+    (ap (λ (f : Findings). f.touching) c.note_small.ensures) (ap (λ (f : Findings). f.edge) c.note_small.ensures)
+    (ap (λ (f : Findings). f.after_free) c.note_small.ensures) c.spot.ensures
