@@ -1,4 +1,5 @@
 pub mod AuditLemmas
+pub mod BitsLemmas
 pub mod EdgeLemmas
 pub mod FollowLemmas
 pub mod LargeLemmas

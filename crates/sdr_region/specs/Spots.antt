@@ -1,5 +1,5 @@
 -- What begins with each word of a heap region.
-use Rattle.std.specs.Prelude.{◌≡◌, ◌<◌, ◌==◌, ◌+◌, ◌*◌, ℕ, cond, List, length, get_or, Option, None, Some, find}
+use Rattle.std.specs.Prelude.{◌≡◌, ◌<◌, ◌==◌, ◌+◌, ◌*◌, ℕ, Bool, true, false, cond, List, length, get_or, Option, None, Some, find}
 use Rattle.std.specs.Option.{option_or}
 use Rattle.sdr_base.specs.Pools.{PoolBlock}
 use Rattle.sdr_base.specs.declared.line.TheConstants.{WORD}
@@ -23,3 +23,12 @@ spot_of (Some block) = cond block.used spots.Used spots.Free
 abbrev pub AreSpots : List PoolBlock → List PoolBlock → List Spot → Type 0
 AreSpots small large told =
     (word : ℕ) → word < length told → get_or told word spots.Nothing ≡ spot_of (begun_at small large (WORD * word))
+
+-- whether a word is told that a block in use begins with it
+abbrev pub is_used_spot : Spot → Bool
+is_used_spot spots.Used = true
+is_used_spot spot = false
+
+-- whether a word is told so, by its number; behind the region none is
+abbrev pub is_told_used : List Spot → ℕ → Bool
+is_told_used told word = is_used_spot (get_or told word spots.Nothing)

@@ -4,8 +4,10 @@
 //!
 //! 1. The control words have values that they may have (`check_control`).
 //! 2. The blocks of both pools follow one another, and each has the words that its length needs (`check_blocks`).
+//! 3. The start bits tell just where blocks in use begin (`check_bits`).
 #![tactic(auto)]
 
+mod bits;
 mod blocks;
 mod control;
 mod error;
@@ -13,6 +15,7 @@ mod findings;
 mod label;
 mod spot;
 
+pub use bits::check_bits;
 pub use blocks::check_blocks;
 pub use control::{Edges, check_control};
 pub use error::{AuditError, Why};
