@@ -12,7 +12,7 @@ ghost use Rattle.sdr_region.specs.Walked.{AllFound};
 
 use crate::control::Edges;
 use crate::error::{AuditError, Why};
-use crate::spot::Spot;
+use crate::spot::{Spot, is_used};
 use sdr_base::{Cells, LINE, START_BITS};
 
 // The value where a block in use begins with a word, and else 0.
@@ -20,10 +20,7 @@ fn weight(spots: &[Spot], word: u64, value: u8) -> u8
     ensures is { result ≡ cond (is_told_used spots.now word) value 0 }
     ensures most { result ≤ value }
 {
-    match spots.get(word as usize) {
-        Some(Spot::Used) => value,
-        _ => 0,
-    }
+    if is_used(spots, word) { value } else { 0 }
 }
 
 // The byte of the start bits of eight words.
