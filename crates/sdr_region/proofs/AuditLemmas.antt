@@ -2,7 +2,7 @@
 use Rattle.std.proofs.Common.{◌≡◌, ◌∙◌, ◌≤◌, ◌<◌, ◌+◌, ℕ, List, false, arith, inl, inr, refl, subst, sym}
 use Rattle.std.specs.Result.{IsErrAnd}
 use Rattle.std.proofs.lemmas.Bool.{cases_lt}
-use Rattle.std.specs.Prelude.{Ok, Err, Result}
+use Rattle.std.specs.Prelude.{Ok, Err, IfErr, Result}
 use Rattle.sdr_base.proofs.TransactionLemmas.{reason_then}
 use Rattle.sdr_base.specs.Transaction.{HasReason, Transaction, TouchesNone}
 use Rattle.sdr_base.specs.declared.stop.Stop.{Stop}
@@ -79,3 +79,8 @@ reads_audit same room cause quiet = record {
   cause = record { later = cause.later; explained = cause.explained };
   quiet = quiet;
 }
+
+-- what holds of an error holds of the same error of another step
+pub error_same : {T : Type 0} (P : AuditError → Type 0) {e : AuditError} (r : Result T AuditError) → IsErrAnd r (λ x. x ≡ e) → P e → IfErr r P
+error_same P (Ok value) is holds = absurd is
+error_same P (Err x) is holds = subst P (sym is) holds

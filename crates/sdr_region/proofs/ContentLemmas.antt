@@ -11,7 +11,7 @@ use Rattle.sdr_base.specs.declared.control.TheConstants.{HIGH, LOW, START}
 use Rattle.sdr_region.proofs.BitsLemmas.{spots_of}
 use Rattle.sdr_region.proofs.EdgeLemmas.{in_order}
 use Rattle.sdr_region.proofs.FollowLemmas.{large_begins, small_ends}
-use Rattle.sdr_region.proofs.SpacedLemmas.{Spaced, all_before, around, before_next, large_spaced, none_some, small_spaced}
+use Rattle.sdr_region.proofs.SpacedLemmas.{Spaced, all_before, around, before_next, large_spaced, none_some, nothing, small_spaced}
 use Rattle.sdr_region.proofs.WalkLemmas.{option_or-none}
 use Rattle.sdr_region.specs.Content.{ContentIsRight, FilledBefore, IsWrongContent, frame_at, is_filled, is_filled_at}
 use Rattle.sdr_region.specs.Control.{ControlIsRight, control_word}
@@ -307,3 +307,33 @@ module _ (bytes : List ℕ) (told : List Spot) (word : ℕ) (right : ControlIsRi
                 },
               )
         ]
+
+-- before any place at which blocks may begin there is none
+pub filled_none : (bytes : List ℕ) → ControlIsRight bytes → FilledBefore bytes 0
+filled_none bytes right =
+    let o = in_order bytes right in
+    record {
+      below = λ small large are.
+          nothing 8 (λ block. is_filled bytes 8 block ≡ true) small (control_word bytes START) (control_word bytes LOW)
+          (small_spaced bytes small (control_word bytes START) (control_word bytes LOW) are.follow.below o.start_whole);
+      above = λ small large are.
+          nothing 16 (λ block. is_filled bytes 16 block ≡ true) large (control_word bytes HIGH) (length bytes)
+          (large_spaced bytes large (control_word bytes HIGH) (length bytes) are.follow.above o.high_whole);
+    }
+
+-- where the contents of all that begin before the end are right, all are
+pub content_right : (bytes : List ℕ) (place : ℕ) → ControlIsRight bytes → FilledBefore bytes place → length bytes ≤ place → (small large : List PoolBlock) →
+    AreBlocks bytes small large → ContentIsRight bytes small large
+content_right bytes place right before end small large are =
+    let o = in_order bytes right in
+    let high = o.high in
+    let last = o.end in
+    record {
+      below =
+          all_before 8 (λ block. is_filled bytes 8 block ≡ true) small (control_word bytes START) (control_word bytes LOW) place
+          (small_spaced bytes small (control_word bytes START) (control_word bytes LOW) are.follow.below o.start_whole) (omega (arith, high, last, end))
+          (before.below small large are);
+      above =
+          all_before 16 (λ block. is_filled bytes 16 block ≡ true) large (control_word bytes HIGH) (length bytes) place
+          (large_spaced bytes large (control_word bytes HIGH) (length bytes) are.follow.above o.high_whole) end (before.above small large are);
+    }

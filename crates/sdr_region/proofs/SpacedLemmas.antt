@@ -114,3 +114,9 @@ around frame P (first ∷ blocks) from to place block (at, aligned, (next, later
                 ])) a.all;
           }
     ]
+
+-- none begins before the region
+pub nothing : (frame : ℕ) (P : PoolBlock → Type 0) (blocks : List PoolBlock) (from to : ℕ) → Spaced frame blocks from to → AllBefore frame P blocks 0
+nothing frame P [] from to s = All-nil (IfBefore frame P 0)
+nothing frame P (block ∷ blocks) from to (at, aligned, (next, later, more)) =
+    All-cons (IfBefore frame P 0) block blocks (λ below. absurd (omega (arith, below, at))) (nothing frame P blocks next to more)
