@@ -83,11 +83,7 @@ fn check_spot<C: Cells>(
 /// Checks the contents of the blocks in use that were found, each by itself: its length, the lengths in it, small values and zeros,
 /// by its kind's layout and limits. What is wrong first is told by the block's address. It reads the first 96 bytes of each block,
 /// and takes no memory.
-pub fn check_content<C: Cells>(
-    c: &mut C,
-    edges: &Edges,
-    spots: &[Spot],
-) -> Result<(), AuditError>
+pub fn check_content<C: Cells>(c: &mut C, edges: &Edges, spots: &[Spot]) -> Result<(), AuditError>
     requires region { IsRegionSize (length (C.bytes c.old)) }
     requires right { ControlIsRight (C.bytes c.old) }
     requires edges { edges.now ≡ edges_of (C.bytes c.old) }

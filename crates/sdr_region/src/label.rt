@@ -49,7 +49,11 @@ impl Label {
     pub fn spot(&self) -> Spot
         ensures { result ≡ label_spot self.now }
     {
-        if self.is_used() { Spot::Used } else { Spot::Free }
+        if self.is_used() {
+            Spot::Used
+        } else {
+            Spot::Free
+        }
     }
 
     /// How many words its length needs.

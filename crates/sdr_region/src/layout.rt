@@ -68,10 +68,7 @@ fn is_hash(count: u64, first: &[u8]) -> bool
         return false;
     }
     let buckets = field(first, 1);
-    has_key(field(first, 0))
-        && 1 <= buckets
-        && buckets <= MOST_BUCKETS
-        && count == 24 + 8 * buckets
+    has_key(field(first, 0)) && 1 <= buckets && buckets <= MOST_BUCKETS && count == 24 + 8 * buckets
 }
 
 // Whether an entry of the catalogue may have so many bytes and begin with these.

@@ -7,12 +7,10 @@ ghost use Rattle.sdr_region.specs.Spots.{is_told_used};
 pub enum Spot {
     /// No block does.
     Nothing,
-    /// A free block, which no list has reached yet.
+    /// A free block.
     Free,
     /// A block in use.
     Used,
-    /// A free block that a list has reached.
-    Listed,
 }
 
 /// Whether a word is told that a block in use begins with it. Behind the region none does.
