@@ -1,0 +1,9 @@
+pub mod AuditLemmas
+pub mod BitsLemmas
+pub mod ContentLemmas
+pub mod EdgeLemmas
+pub mod FollowLemmas
+pub mod LargeLemmas
+pub mod SmallLemmas
+pub mod SpacedLemmas
+pub mod WalkLemmas

@@ -1,0 +1,11 @@
+use Rattle.std.proofs.Common.{arith, refl}
+use Rattle.sdr_region.proofs.AuditLemmas.{audits_none}
+use Rattle.sdr_region.proofs.SmallLemmas.{small_begins}
+use Rattle.sdr_region.proofs.blocks.walk_small.Goals as goal
+
+pub loop-place-init : goal.loop-place-init
+loop-place-init g c = record {
+  walked = small_begins (g.C.Cells.bytes c.args.c.now) c.requires.right c.requires.edges c.requires.none c.requires.clear;
+  audits = audits_none (g.met.C.Cells.quiet_refl c.args.c.now) c.requires.sound;
+  long = refl;
+}

@@ -1,0 +1,10 @@
+pub mod Auditing
+pub mod Bits
+pub mod Content
+pub mod Control
+pub mod Found
+pub mod Free
+pub mod Labels
+pub mod Spots
+pub mod Walk
+pub mod Walked
