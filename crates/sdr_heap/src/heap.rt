@@ -93,6 +93,13 @@ impl<C: Cells> Heap<C> {
         self.marks.clear();
     }
 
+    /// The bytes of the heap region.
+    pub fn size(&self) -> u64
+        ensures { result ≡ self.now.size }
+    {
+        self.size
+    }
+
     /// The moves since they were forgotten last.
     pub fn moves(&self) -> &[Move]
         ensures { result.now ≡ self.now.moves }

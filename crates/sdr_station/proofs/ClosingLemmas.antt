@@ -3,6 +3,7 @@ use Rattle.std.proofs.Common.{◌≡◌, ◌∙◌, ◌≤◌, ◌⊎◌, ℕ, L
 use Rattle.std.specs.Prelude.{replicate, is_some, max}
 use Rattle.sdr_audit.proofs.RestLemmas.{begins, ends}
 use Rattle.sdr_base.specs.KeptHeap.{block_in}
+use Rattle.sdr_base.specs.Causes.{Rose}
 use Rattle.sdr_base.specs.Entries.{Few}
 use Rattle.sdr_base.specs.Transaction.{Explains, IfRefused, Transaction}
 use Rattle.sdr_base.specs.declared.stop.Stop.{Stop}
@@ -12,13 +13,11 @@ use Rattle.sdr_disk.specs.Told.{IfTold}
 use Rattle.sdr_heap.proofs.FewLemmas.{block_in-few}
 use Rattle.sdr_heap.specs.Noted.{Held, marked_in}
 use Rattle.sdr_image.specs.Changed.{GivesEither}
-use Rattle.sdr_image.specs.Opened.{Opened, Rests}
-use Rattle.sdr_lock.proofs.GroundLemmas.{gaps_same}
-use Rattle.sdr_lock.specs.Gaps.{no_gaps}
-use Rattle.sdr_lock.specs.Crash.{LeavesBefore, LeavesEither}
+use Rattle.sdr_image.specs.Opened.{Opened, Rests, transaction_of}
+use Rattle.sdr_lock.specs.Crash.{LeavesBefore, LeavesEither, LeavesOr}
 use Rattle.sdr_lock.specs.Demand.{most_lines}
-use Rattle.sdr_lock.specs.Ground.{State, kept, put_back}
-use Rattle.sdr_lock.specs.Serving.{Brings, Keeps, KeepsGround, PutsBack, shown_in}
+use Rattle.sdr_lock.specs.Ground.{Ground, HasHeap, State, kept, put_back}
+use Rattle.sdr_lock.specs.Serving.{Brings, Keeps, KeepsGround, MeetsFault, PutsBack, shown_in}
 use Rattle.sdr_lock.specs.Standing.{Standing}
 use Rattle.sdr_log.specs.Frame.{room_of}
 use Rattle.sdr_log.specs.Logged.{Gives}
@@ -26,8 +25,8 @@ use Rattle.sdr_model.specs.World.{World}
 use Rattle.sdr_model.specs.declared.accounts.Ticket.{Ticket}
 use Rattle.sdr_answers.specs.Answering.{IsPlain}
 use Rattle.sdr_station.specs.Closing as closing
-use Rattle.sdr_station.specs.Grounded.{Grounded, Opens, StandsAtRest, StandsForBoth, StandsWithin, heap_in}
-use Rattle.sdr_station.proofs.GroundLemmas.{heap_ground, unmarked}
+use Rattle.sdr_station.specs.Grounded.{Grounded, IsGround, Opens, StandsAtRest, StandsForBoth, StandsInMemory, StandsWithin, heap_in}
+use Rattle.sdr_station.proofs.GroundLemmas.{ground_brought, heap_ground, keeps_later, unmarked}
 use Rattle.sdr_station.proofs.RestLemmas.{fits_rest, put_back_is, whole_rest}
 
 -- what the heap stands for within a transaction, its bytes stand for at rest
@@ -81,11 +80,75 @@ no_ticket w ticket none =
 
 -- the ground whose transaction was kept on a disk
 abbrev pub kept_ground : {D : Type 0} → Grounded D → D → ℕ → Grounded D
-kept_ground old disk now = record { heap = closing.committed old.heap disk; shown = []; stopped = false; moment = now }
+kept_ground old disk now = record {
+  heap = closing.committed old.heap disk;
+  shown = [];
+  stopped = false;
+  moment = now;
+  restored = old.restored;
+}
 
 -- and the one whose transaction was put back
 abbrev pub back_ground : {D : Type 0} → Grounded D → D → ℕ → Grounded D
-back_ground old disk now = record { heap = closing.put_back old.heap disk; shown = []; stopped = false; moment = now }
+back_ground old disk now = record {
+  heap = closing.put_back old.heap disk;
+  shown = [];
+  stopped = false;
+  moment = now;
+  restored = old.restored;
+}
+
+-- what is kept in memory
+pub memory_kept : {D : Type 0} (old : Grounded D) (disk : D) (now : ℕ) → old.stopped ≡ false → Brings StandsInMemory old (kept_ground old disk now) Keeps
+memory_kept old disk now going = record {
+  each = λ v at.
+      let w = at.now going in
+      let after = at_rest_of old.heap old.shown v.now at.taken w in
+      record {
+        for = record { before = kept v.now; now = kept v.now; moves = v.moves };
+        holds = record {
+          sound = at.sound;
+          size = w.keeps.size;
+          before = after;
+          taken = at.taken;
+          now = λ _. within_of (kept_ground old disk now).heap (length old.heap.marks) (kept v.now) refl refl w.keeps.size after;
+          moves = at.moves;
+        };
+        tells = (refl, refl);
+      };
+}
+
+-- what is put back in memory
+pub memory_back : {D : Type 0} (old : Grounded D) (disk : D) (now : ℕ) → Brings StandsInMemory old (back_ground old disk now) PutsBack
+memory_back old disk now = record {
+  each = λ v at.
+      let next = put_back v.before v.now in
+      let after : StandsAtRest (room_of old.heap.cells.frame) old.heap.cells.begun next =
+      subst (λ (s : State). StandsAtRest (room_of old.heap.cells.frame) old.heap.cells.begun s)
+      (put_back_is v.before v.now at.before.stands.stands.taken at.taken) at.before in
+      record {
+        for = record { before = next; now = next; moves = v.moves };
+        holds = record {
+          sound = at.sound;
+          size = at.size;
+          before = after;
+          taken = at.taken;
+          now = λ _. within_of (back_ground old disk now).heap (length old.heap.marks) next refl refl at.size after;
+          moves = at.moves;
+        };
+        tells = (refl, refl);
+      };
+}
+
+-- what a close that was answered leaves of a ground
+pub record ClosesTo {D : Type 0} (told : D → Option (List ℕ)) (moment faults : D → ℕ) (may_leave : D → ℕ → List ℕ → Type 0) (may_keep : Bool)
+    (P : Standing → Standing → Type 0) (old new : Grounded D) : Type 0 where
+  pub memory : Brings StandsInMemory old new P
+  pub brings : Brings (λ g v. StandsForBoth told moment may_leave g v) old new P
+  pub sound : new.heap.cells.failed ≡ false
+  pub keeps : KeepsGround (heap_ground told moment faults may_leave) false old new
+  pub any_moment : LeavesOr may_keep (heap_ground told moment faults may_leave) old new
+  pub is_ground : IsGround new
 
 some_of : (o : Option (List ℕ)) → is_some o ≡ true → (x : List ℕ) × (o ≡ Some x)
 some_of None is = absurd (true≢false (sym is))
@@ -108,52 +171,21 @@ module _ {D : Type 0} (told : D → Option (List ℕ)) (moment : D → ℕ) (fau
       let was = at.moment_is x.0 x.1 in
       omega (arith, is, was, e.later)
 
-  -- it stands for what is kept
-  pub brings_kept : old.stopped ≡ false
-      → (Rests told moment may_leave old.heap.cells → Rests told moment may_leave (kept_ground old disk now).heap.cells)
-      → Brings (λ g v. StandsForBoth told moment may_leave g v) old (kept_ground old disk now) Keeps
-  brings_kept going rests = record {
+  -- what closes in memory closes on a disk that rests
+  pub brings_closed : {P : Standing → Standing → Type 0} (new : Grounded D) → new.heap.cells.disk ≡ disk → new.moment ≡ now
+      → (Rests told moment may_leave old.heap.cells → Rests told moment may_leave new.heap.cells)
+      → Brings StandsInMemory old new P → Brings (λ g v. StandsForBoth told moment may_leave g v) old new P
+  brings_closed new on at_now rests brings = record {
     each = λ v at.
-        let w = at.now going in
-        let after = at_rest_of old.heap old.shown v.now at.taken w in
+        let s = brings.each v at.memory in
         record {
-          for = record { before = kept v.now; now = kept v.now; moves = v.moves };
+          for = s.for;
           holds = record {
-            sound = at.sound;
             rests = rests at.rests;
-            moment_is = here v at;
-            size = w.keeps.size;
-            before = after;
-            taken = at.taken;
-            now = λ _. within_of (kept_ground old disk now).heap (length old.heap.marks) (kept v.now) refl refl w.keeps.size after;
-            moves = at.moves;
+            moment_is = λ y t. at_now ∙ here v at y (ap told (sym on) ∙ t) ∙ ap moment (sym on);
+            memory = s.holds;
           };
-          tells = (refl, refl);
-        };
-  }
-
-  -- it stands for what is put back
-  pub brings_back : (Rests told moment may_leave old.heap.cells → Rests told moment may_leave (back_ground old disk now).heap.cells)
-      → Brings (λ g v. StandsForBoth told moment may_leave g v) old (back_ground old disk now) PutsBack
-  brings_back rests = record {
-    each = λ v at.
-        let next = put_back v.before v.now in
-        let after : StandsAtRest (room_of old.heap.cells.frame) old.heap.cells.begun next =
-        subst (λ (s : State). StandsAtRest (room_of old.heap.cells.frame) old.heap.cells.begun s)
-        (put_back_is v.before v.now at.before.stands.stands.taken at.taken) at.before in
-        record {
-          for = record { before = next; now = next; moves = v.moves };
-          holds = record {
-            sound = at.sound;
-            rests = rests at.rests;
-            moment_is = here v at;
-            size = at.size;
-            before = after;
-            taken = at.taken;
-            now = λ _. within_of (back_ground old disk now).heap (length old.heap.marks) next refl refl at.size after;
-            moves = at.moves;
-          };
-          tells = (refl, refl);
+          tells = s.tells;
         };
   }
 
@@ -188,7 +220,7 @@ module _ {D : Type 0} (told : D → Option (List ℕ)) (moment : D → ℕ) (fau
       heap = old.heap.cells.begun;
       back = also image p;
       room = room_of old.heap.cells.frame;
-      stands = at.before;
+      stands = at.memory.before;
     });
   }
 
@@ -199,27 +231,49 @@ module _ {D : Type 0} (told : D → Option (List ℕ)) (moment : D → ℕ) (fau
   leaves_either new on at_now going also = record {
     each = λ v at. at_each new on at_now v (λ image. Opens image v.before ⊎ Opens image (kept v.now)) at
         (λ image p. elim (also image p) [
-          | inl begun ↦ inl (record { heap = old.heap.cells.begun; back = begun; room = room_of old.heap.cells.frame; stands = at.before })
+          | inl begun ↦ inl (record { heap = old.heap.cells.begun; back = begun; room = room_of old.heap.cells.frame; stands = at.memory.before })
           | inr bytes ↦ inr (record {
             heap = old.heap.cells.bytes;
             back = bytes;
             room = room_of old.heap.cells.frame;
-            stands = at_rest_of old.heap old.shown v.now at.taken (at.now going);
+            stands = at_rest_of old.heap old.shown v.now at.memory.taken (at.memory.now going);
           })
         ]);
   }
 
--- what a ground keeps that stands for something where it did
-pub keeps_brought : {D : Type 0} (told : D → Option (List ℕ)) (moment faults : D → ℕ) (may_leave : D → ℕ → List ℕ → Type 0)
-    (P : Standing → Standing → Type 0) (old new : Grounded D) → old.heap.cells.failed ≡ false
-    → faults old.heap.cells.disk ≤ faults new.heap.cells.disk
-    → Brings (λ g v. StandsForBoth told moment may_leave g v) old new P → KeepsGround (heap_ground told moment faults may_leave) false old new
-keeps_brought told moment faults may_leave P old new sound later brings = record {
-  later = later;
-  gaps = gaps_same no_gaps;
-  media = refl;
-  lasts = λ n lasts _. let some = lasts sound in let s = brings.each some.for some.holds in record { for = s.for; holds = s.holds };
-}
+  -- what a close leaves of a ground on which it was brought
+  closes_to : {keeps : Bool} {Q : Standing → Standing → Type 0} (new : Grounded D) → new.heap.cells.disk ≡ disk → new.moment ≡ now
+      → new.heap.cells.failed ≡ false → IsGround old → faults old.heap.cells.disk ≤ faults disk
+      → (Rests told moment may_leave old.heap.cells → Rests told moment may_leave new.heap.cells) → Brings StandsInMemory old new Q
+      → LeavesOr keeps (heap_ground told moment faults may_leave) old new → ClosesTo told moment faults may_leave keeps Q old new
+  closes_to new on at_now still ground later rests brings leaves = record {
+    memory = brings;
+    brings = brings_closed new on at_now rests brings;
+    sound = still;
+    keeps = keeps_later told moment faults may_leave old new (subst (λ (d : D). faults old.heap.cells.disk ≤ faults d) (sym on) later);
+    any_moment = leaves;
+    is_ground = ground_brought old new ground sound still brings;
+  }
+
+  -- a transaction that is kept
+  pub closes_kept : (new : Grounded D) → new ≡ kept_ground old disk now → IsGround old → old.stopped ≡ false
+      → faults old.heap.cells.disk ≤ faults disk
+      → (Rests told moment may_leave old.heap.cells → Rests told moment may_leave (kept_ground old disk now).heap.cells)
+      → ((image : List ℕ) → P image → GivesEither old.heap.cells.begun old.heap.cells.bytes image)
+      → ClosesTo told moment faults may_leave true Keeps old new
+  closes_kept new same ground going later rests also =
+      subst (λ (n : Grounded D). ClosesTo told moment faults may_leave true Keeps old n) (sym same)
+      (closes_to (kept_ground old disk now) refl refl sound ground later rests (memory_kept old disk now going)
+      (leaves_either (kept_ground old disk now) refl refl going also))
+
+  -- a transaction that is put back
+  pub closes_back : (new : Grounded D) → new ≡ back_ground old disk now → IsGround old → faults old.heap.cells.disk ≤ faults disk
+      → (Rests told moment may_leave old.heap.cells → Rests told moment may_leave (back_ground old disk now).heap.cells)
+      → ((image : List ℕ) → P image → Gives old.heap.cells.begun image) → ClosesTo told moment faults may_leave false PutsBack old new
+  closes_back new same ground later rests also =
+      subst (λ (n : Grounded D). ClosesTo told moment faults may_leave false PutsBack old n) (sym same)
+      (closes_to (back_ground old disk now) refl refl sound ground later rests (memory_back old disk now)
+      (leaves_back (back_ground old disk now) refl refl also))
 
 -- where a close is stopped, the disk has failed
 pub stop_fails : (old new : Transaction) (s : Stop) → Explains {T = Unit {0}} old new (Err s) → IfRefused {T = Unit {0}} (Err s) (λ _. ⊥)
@@ -229,13 +283,28 @@ stop_fails old new stops.DiskFault explained none = explained.1
 stop_fails old new stops.MediaFault explained none = absurd explained
 stop_fails old new stops.Failed explained none = explained.1
 
--- a ground whose disk has failed lasts for nothing
-pub keeps_failed : {D : Type 0} (told : D → Option (List ℕ)) (moment faults : D → ℕ) (may_leave : D → ℕ → List ℕ → Type 0)
-    (old new : Grounded D) → new.heap.cells.failed ≡ true → faults old.heap.cells.disk ≤ faults new.heap.cells.disk
-    → KeepsGround (heap_ground told moment faults may_leave) false old new
-keeps_failed told moment faults may_leave old new failed later = record {
-  later = later;
-  gaps = gaps_same no_gaps;
-  media = refl;
-  lasts = λ n lasts sound. absurd (true≢false (sym failed ∙ sound));
+-- where a close is stopped on a disk that hasn't failed, the disk fails in it
+pub meets_fault : {D : Type 0} (told : D → Option (List ℕ)) (moment faults : D → ℕ) (may_leave : D → ℕ → List ℕ → Type 0) (old new : Grounded D)
+    (cells : Opened D) (s : Stop) → new.heap.cells.disk ≡ cells.disk → old.heap.cells.failed ≡ false
+    → Explains {T = Unit {0}} (transaction_of faults old.heap.cells) (transaction_of faults cells) (Err s)
+    → IfRefused {T = Unit {0}} (Err s) (λ _. ⊥) → MeetsFault (heap_ground told moment faults may_leave) old new
+meets_fault {D} told moment faults may_leave old new cells s same sound explained none = record {
+  heap = λ v at. subst (λ (b : Ground). HasHeap b) (sym at.memory.before.base) tt;
+  cause = subst (λ (d : D). Rose (faults old.heap.cells.disk) (faults d)) (sym same) (rose s explained none);
 }
+  where
+    rose : (s : Stop) → Explains {T = Unit {0}} (transaction_of faults old.heap.cells) (transaction_of faults cells) (Err s)
+        → IfRefused {T = Unit {0}} (Err s) (λ _. ⊥) → Rose (faults old.heap.cells.disk) (faults cells.disk)
+    rose (stops.Refused refusal) explained none = absurd none
+    rose stops.DiskFault explained none = explained.2
+    rose stops.MediaFault explained none = absurd explained
+    rose stops.Failed explained none = absurd (true≢false (sym explained.0 ∙ sound))
+
+-- a ground whose disk has failed stands for nothing in memory, and so anything is brought and left
+pub brings_failed : {D : Type 0} {P : Standing → Standing → Type 0} (old new : Grounded D) → old.heap.cells.failed ≡ true
+    → Brings StandsInMemory old new P
+brings_failed old new failed = record { each = λ v at. absurd (true≢false (sym failed ∙ at.sound)) }
+
+pub leaves_failed : {D : Type 0} (told : D → Option (List ℕ)) (moment faults : D → ℕ) (may_leave : D → ℕ → List ℕ → Type 0) (old new : Grounded D)
+    → old.heap.cells.failed ≡ true → LeavesBefore (heap_ground told moment faults may_leave) old new
+leaves_failed told moment faults may_leave old new failed = record { each = λ v at. absurd (true≢false (sym failed ∙ at.memory.sound)) }

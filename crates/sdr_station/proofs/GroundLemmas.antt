@@ -1,12 +1,15 @@
 -- A heap on an image as a ground.
-use Rattle.std.proofs.Common.{◌≡◌, ◌∙◌, ◌/◌, ◌%◌, ◌==◌, ◌&&◌, ℕ, List, suc, zero, true, false, Bool, Option, None, refl, ap}
-use Rattle.std.specs.Prelude.{replicate, get_or}
+use Rattle.std.proofs.Common.{◌≡◌, ◌∙◌, ◌≤◌, ◌/◌, ◌%◌, ◌==◌, ◌&&◌, ℕ, List, suc, zero, true, false, true≢false, Bool, Option, None, refl, sym, ap}
+use Rattle.std.specs.Prelude.{replicate, get_or, ⊤}
 use Rattle.sdr_base.specs.declared.line.TheConstants.{WORD}
 use Rattle.sdr_heap.specs.Noted.{marked_in}
+use Rattle.sdr_lock.proofs.GroundLemmas.{gaps_same}
 use Rattle.sdr_lock.specs.Gaps.{no_gaps}
+use Rattle.sdr_lock.specs.Serving.{Brings, KeepsGround}
+use Rattle.sdr_lock.specs.Standing.{Standing}
 use Rattle.sdr_lock.specs.declared.has_ground.HasGround.{Ghosts}
 use Rattle.sdr_station.specs.CrashNow.{crash_now}
-use Rattle.sdr_station.specs.Grounded.{Grounded, Lasts, Leaves, Opens, StandsForBoth}
+use Rattle.sdr_station.specs.Grounded.{Grounded, IsGround, Leaves, Opens, StandsForBoth, StandsInMemory}
 
 -- a heap on an image as a ground, where the disk is told so
 abbrev pub heap_ground : {D : Type 0} → (D → Option (List ℕ)) → (D → ℕ) → (D → ℕ) → (D → ℕ → List ℕ → Type 0) → Ghosts (Grounded D)
@@ -16,7 +19,7 @@ heap_ground told moment faults may_leave = record {
   faults = λ g. faults g.heap.cells.disk;
   gaps = λ _. no_gaps;
   told = λ _. None;
-  lasts = λ g _. Lasts told moment may_leave g;
+  lasts = λ g _. ⊤;
   left = λ g m image. Leaves told may_leave g.heap.cells.disk m image;
   opens = λ image s. Opens image s;
   crash_now = λ g v image at left. crash_now told moment may_leave g v image at left;
@@ -35,3 +38,28 @@ never false = refl
 -- nothing is marked where all marks were taken off
 pub unmarked : (n addr : ℕ) → marked_in (replicate n false) addr ≡ false
 unmarked n addr = ap (λ b. (addr % WORD == 0) && b) (none_of n (addr / WORD)) ∙ never (addr % WORD == 0)
+
+-- where the heap in memory stood for something, and what it stands for follows, the new one is a ground
+pub ground_brought : {D : Type 0} {P : Standing → Standing → Type 0} (old new : Grounded D) → IsGround old → old.heap.cells.failed ≡ false
+    → new.heap.cells.failed ≡ false → Brings StandsInMemory old new P → IsGround new
+ground_brought old new is was sound brings =
+    let some = is.stands was in
+    let s = brings.each some.for some.holds in
+    record { sound = λ _. sound; stands = λ _. record { for = s.for; holds = s.holds } }
+
+-- where the disk has failed, a stopped ground is one
+pub ground_failed : {D : Type 0} (g : Grounded D) → g.stopped ≡ true → g.heap.cells.failed ≡ true → IsGround g
+ground_failed g stopped failed = record {
+  sound = λ going. absurd (true≢false (sym stopped ∙ going));
+  stands = λ sound. absurd (true≢false (sym failed ∙ sound));
+}
+
+-- what a ground keeps whose disk counts no fewer faults
+pub keeps_later : {D : Type 0} (told : D → Option (List ℕ)) (moment faults : D → ℕ) (may_leave : D → ℕ → List ℕ → Type 0) (old new : Grounded D)
+    → faults old.heap.cells.disk ≤ faults new.heap.cells.disk → KeepsGround (heap_ground told moment faults may_leave) false old new
+keeps_later told moment faults may_leave old new later = record {
+  later = later;
+  gaps = gaps_same no_gaps;
+  media = refl;
+  lasts = λ n lasts. tt;
+}

@@ -4,4 +4,7 @@ pub mod RestLemmas
 pub mod MediaLemmas
 pub mod ServingLemmas
 pub mod OpeningLemmas
+pub mod GivingLemmas
+pub mod CameLemmas
+pub mod RoomLemmas
 pub mod StationLemmas

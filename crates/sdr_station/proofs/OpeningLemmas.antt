@@ -13,12 +13,14 @@ use Rattle.sdr_image.specs.Opened.{IsQuiet, Opened}
 use Rattle.sdr_image.specs.Opening.{IsOpened}
 use Rattle.sdr_laws.proofs.FreshWorlds.{fresh_fits}
 use Rattle.sdr_lock.specs.Ground.{Ground, State, resting}
+use Rattle.sdr_log.specs.Calls.{PutsBack}
 use Rattle.sdr_log.specs.Frame.{room_of}
+use Rattle.sdr_log.specs.declared.frame.Frame.{Frame}
 use Rattle.sdr_model.specs.World.{fresh_world}
 use Rattle.sdr_station.proofs.ClosingLemmas.{within_of}
 use Rattle.sdr_answers.proofs.EntryLemmas.{none_named}
 use Rattle.sdr_answers.specs.Answering.{IsPlain}
-use Rattle.sdr_station.specs.Grounded.{Grounded, StandsAtRest}
+use Rattle.sdr_station.specs.Grounded.{Grounded, IsGround, StandsAtRest, StandsInMemory}
 use Rattle.sdr_station.specs.Opening.{IsOpen}
 
 -- a world without things has no ticket and no source
@@ -48,6 +50,7 @@ pub open_stands : {D : Type 0} (told : D → Option (List ℕ)) (moment : D → 
       shown = [];
       stopped = false;
       moment = moment j.disk;
+      restored = i.restored;
     })
 open_stands {D} told moment may_leave disk i j count spare o q bytes touched f =
     let room = room_of j.frame in
@@ -59,6 +62,15 @@ open_stands {D} told moment may_leave disk i j count spare o q bytes touched f =
       shown = [];
       stopped = false;
       moment = moment j.disk;
+      restored = i.restored;
+    } in
+    let memory : StandsInMemory g (record { before = s; now = s; moves = [] }) = record {
+      sound = q.failed ∙ o.sound;
+      size = ap (λ (b : List ℕ). length b) begun;
+      before = subst (λ (b : List ℕ). StandsAtRest room b s) (sym begun) rest;
+      taken = refl;
+      now = λ _. within_of g.heap count s refl (touched ∙ o.touched) refl rest;
+      moves = refl;
     } in
     record {
       lines = f.lines;
@@ -67,14 +79,17 @@ open_stands {D} told moment may_leave disk i j count spare o q bytes touched f =
       going = refl;
       sound = q.failed ∙ o.sound;
       gives = λ x is. o.heap x is ∙ ap (λ (b : List ℕ). Some b) f.is;
+      back = λ x is y tells.
+          subst (λ (r : Frame). PutsBack r i.restored x y) (sym q.frame) (o.back x is y (sym (ap told q.disk) ∙ tells));
+      memory = memory;
       stands = λ may. record {
-        sound = q.failed ∙ o.sound;
         rests = rests_same told moment may_leave i j q (o.rests may);
         moment_is = λ x is. refl;
-        size = ap (λ (b : List ℕ). length b) begun;
-        before = subst (λ (b : List ℕ). StandsAtRest room b s) (sym begun) rest;
-        taken = refl;
-        now = λ _. within_of g.heap count s refl (touched ∙ o.touched) refl rest;
-        moves = refl;
+        memory = memory;
       };
     }
+
+-- what was opened is a ground
+pub open_ground : {D : Type 0} (told : D → Option (List ℕ)) (moment : D → ℕ) (may_leave : D → ℕ → List ℕ → Type 0) (disk : D) (g : Grounded D)
+    → IsOpen told moment may_leave disk g → IsGround g
+open_ground told moment may_leave disk g o = record { sound = λ _. o.sound; stands = λ _. record { for = _; holds = o.memory } }

@@ -51,7 +51,7 @@ use Rattle.sdr_station.proofs.MediaLemmas.{gap_none, misses_none}
 use Rattle.sdr_station.specs.CrashNow.{crash_now}
 use Rattle.sdr_answers.specs.Answering.{Aim, Answered, Comes, IsGood, IsServed, built, dooms, call_lines}
 use Rattle.sdr_station.specs.Closing.{moves_left}
-use Rattle.sdr_station.specs.Grounded.{Grounded, Leaves, StandsAtRest, StandsForBoth, StandsSome, StandsWithin, heap_in}
+use Rattle.sdr_station.specs.Grounded.{Grounded, Leaves, StandsAtRest, StandsForBoth, StandsInMemory, StandsSome, StandsWithin, heap_in}
 
 -- a heap on an image, as contracts of calls on blocks see it
 abbrev pub image_heap : {D : Type 0} → (D → ℕ) → HeapGhosts (Held (Opened D))
@@ -101,15 +101,14 @@ still_unnamed w w' raw ties valid none = by (source_on w' raw) refl
         absurd (let no : None ≡ Some _ = sym gone ∙ n.there in cc)
 
 -- A call on a heap that stood for a standing, and has not stopped.
-module _ {D : Type 0} (told : D → Option (List ℕ)) (moment faults : D → ℕ) (may_leave : D → ℕ → List ℕ → Type 0)
-    (old : Grounded D) (going : old.stopped ≡ false) (call : Call) (is : built call ≡ true) (fit : FitsCall call) (spare : ℕ)
+module _ {D : Type 0} (faults : D → ℕ) (old : Grounded D) (going : old.stopped ≡ false) (call : Call) (is : built call ≡ true) (fit : FitsCall call) (spare : ℕ)
     (heap : Held (Opened D)) (page : List ℕ) where
   -- the heap before the call, with no moves
   abbrev pub fresh_heap : Held (Opened D)
   fresh_heap = record old.heap { moves = []; spare = spare }
 
   -- it stands for the same world
-  fresh_stands : (v : Standing) → StandsForBoth told moment may_leave old v → HeapStandsFor (heap_in fresh_heap) v.now.world
+  fresh_stands : (v : Standing) → StandsInMemory old v → HeapStandsFor (heap_in fresh_heap) v.now.world
   fresh_stands v at = let s = (at.now going).heap in record { blocks = s.blocks; roots = s.roots; marks = s.marks }
 
   -- what was quiet since then was quiet
@@ -118,14 +117,11 @@ module _ {D : Type 0} (told : D → Option (List ℕ)) (moment faults : D → �
   quiet_of works = works.quiet fresh_heap (record { disk = refl; frame = refl; begun = refl; failed = refl }, refl)
 
   -- what stands still of a standing
-  stands_on : (new : Grounded D) (v : Standing) → StandsForBoth told moment may_leave old v → new.moment ≡ old.moment
-      → IsQuiet old.heap.cells new.heap.cells → new.heap.size ≡ old.heap.size → (now : State) → now.world.taken ≡ 0
+  stands_on : (new : Grounded D) (v : Standing) → StandsInMemory old v → IsQuiet old.heap.cells new.heap.cells → new.heap.size ≡ old.heap.size → (now : State) → now.world.taken ≡ 0
       → (new.stopped ≡ false → StandsWithin new.heap new.shown now)
-      → StandsForBoth told moment may_leave new (record { before = v.before; now = now; moves = new.heap.moves })
-  stands_on new v at same q size now taken within = record {
+      → StandsInMemory new (record { before = v.before; now = now; moves = new.heap.moves })
+  stands_on new v at q size now taken within = record {
     sound = q.failed ∙ at.sound;
-    rests = rests_same told moment may_leave old.heap.cells new.heap.cells q at.rests;
-    moment_is = λ x tells. same ∙ at.moment_is x (sym (ap told q.disk) ∙ tells) ∙ sym (ap moment q.disk);
     size = ap (λ (bytes : List ℕ). length bytes) q.begun ∙ at.size ∙ sym size;
     before =
         subst (λ (f : Frame). StandsAtRest (room_of f) new.heap.cells.begun v.before) (sym q.frame)
@@ -135,7 +131,7 @@ module _ {D : Type 0} (told : D → Option (List ℕ)) (moment faults : D → �
     moves = refl;
   }
 
-  module _ (v : Standing) (at : StandsForBoth told moment may_leave old v)
+  module _ (v : Standing) (at : StandsInMemory old v)
       (moves : Moves (KeepsRegion fresh_heap.size fresh_heap.cells.bytes) (KeepsRegion heap.size heap.cells.bytes) [] heap.moves) where
     lead : Leads (KeepsRegion heap.size heap.cells.bytes) (at.now going).pools moves.more
     lead = moves.lead (at.now going).pools (at.now going).keeps
@@ -222,7 +218,7 @@ module _ {D : Type 0} (told : D → Option (List ℕ)) (moment faults : D → �
   -- an answered call brings what its row does
   pub brings_answered : (reply : Reply) → Comes call (heap_in fresh_heap) (heap_in heap) old.shown page (Ok reply)
       → Works {T = Reply} (image_heap faults) (call_lines (heap_in fresh_heap) call) fresh_heap heap (Ok reply)
-      → Brings (λ g v. StandsForBoth told moment may_leave g v) old (record { heap = heap; shown = page; stopped = old.stopped; moment = old.moment }) (Calls None call reply)
+      → Brings StandsInMemory old (record { heap = heap; shown = page; stopped = old.stopped; moment = old.moment; restored = old.restored }) (Calls None call reply)
   brings_answered reply comes works = record {
     each = λ v at.
         let w = at.now going in
@@ -232,7 +228,7 @@ module _ {D : Type 0} (told : D → Option (List ℕ)) (moment faults : D → �
         let after = next v at moves ans.after reply in
         record {
           for = record { before = v.before; now = after; moves = heap.moves };
-          holds = stands_on (record { heap = heap; shown = page; stopped = old.stopped; moment = old.moment }) v at refl q.0 q.1 after (ans.taken ∙ at.taken)
+          holds = stands_on (record { heap = heap; shown = page; stopped = old.stopped; moment = old.moment; restored = old.restored }) v at q.0 q.1 after (ans.taken ∙ at.taken)
               (λ _. within_answered v at moves reply q.0.frame works.room.most ans);
           tells = record {
             steps = steps_to v at moves ans.after reply q.0.frame (inl ans.row)
@@ -250,6 +246,7 @@ module _ {D : Type 0} (told : D → Option (List ℕ)) (moment faults : D → �
     shown = page;
     stopped = not (is_reading call);
     moment = old.moment;
+    restored = old.restored;
   }
 
   reads_only : (b : Bool) → not b ≡ false → b ≡ true
@@ -263,7 +260,7 @@ module _ {D : Type 0} (told : D → Option (List ℕ)) (moment faults : D → �
       → StepTo w (record { moves = heap.moves; after = w; reply = replies.Refused refusal }) call × (is_reading call ≡ true → heap_in heap ≡ heap_in fresh_heap) × (page ≡ old.shown))
       → Moves (KeepsRegion fresh_heap.size fresh_heap.cells.bytes) (KeepsRegion heap.size heap.cells.bytes) [] heap.moves
       → Works {T = Reply} (image_heap faults) (call_lines (heap_in fresh_heap) call) fresh_heap heap (Err (stops.Refused refusal))
-      → Brings (λ g v. StandsForBoth told moment may_leave g v) old (refused_ground refusal n) (Calls None call (replies.Refused refusal))
+      → Brings StandsInMemory old (refused_ground refusal n) (Calls None call (replies.Refused refusal))
   brings_stopped refusal n same full steps moves works = record {
     each = λ v at.
         let w = at.now going in
@@ -272,7 +269,7 @@ module _ {D : Type 0} (told : D → Option (List ℕ)) (moment faults : D → �
         let after = next v at moves v.now.world (replies.Refused refusal) in
         record {
           for = record { before = v.before; now = after; moves = moves_left refusal heap.moves };
-          holds = stands_on (refused_ground refusal n) v at refl q.0 q.1 after at.taken
+          holds = stands_on (refused_ground refusal n) v at q.0 q.1 after at.taken
               (λ going_on.
               let reads = reads_only (is_reading call) going_on in
               let none = reading_lines (heap_in fresh_heap) call is reads in
@@ -287,7 +284,7 @@ module _ {D : Type 0} (told : D → Option (List ℕ)) (moment faults : D → �
   }
 
   -- the state after a call for which there was no log room
-  abbrev pub full_state : (v : Standing) → StandsForBoth told moment may_leave old v → Reply → State
+  abbrev pub full_state : (v : Standing) → StandsInMemory old v → Reply → State
   full_state v at reply = record {
     world = v.now.world;
     base = Ground.OnHeap (room_of heap.cells.frame) (at.now going).pools;
@@ -298,7 +295,7 @@ module _ {D : Type 0} (told : D → Option (List ℕ)) (moment faults : D → �
   brings_full : (lines room n : ℕ)
       → ((w : World) → HeapStandsFor (heap_in fresh_heap) w → IsServed w → Aim w call × (is_reading call ≡ false))
       → Works {T = Reply} (image_heap faults) (call_lines (heap_in fresh_heap) call) fresh_heap heap (Err (stops.Refused (refusals.LogFull lines room)))
-      → Brings (λ g v. StandsForBoth told moment may_leave g v) old (refused_ground (refusals.LogFull lines room) n)
+      → Brings StandsInMemory old (refused_ground (refusals.LogFull lines room) n)
       (Calls None call (replies.Refused (refusals.LogFull lines room)))
   brings_full lines room n aims works = record {
     each = λ v at.
@@ -313,7 +310,7 @@ module _ {D : Type 0} (told : D → Option (List ℕ)) (moment faults : D → �
         (small_in fresh_heap w.keeps) aim.0.row aim.0.answered in
         record {
           for = record { before = v.before; now = after; moves = [] };
-          holds = stands_on (refused_ground (refusals.LogFull lines room) n) v at refl q.0 q.1 after at.taken
+          holds = stands_on (refused_ground (refusals.LogFull lines room) n) v at q.0 q.1 after at.taken
               (λ going_on. absurd (true≢false (ap not (sym aim.1) ∙ going_on)));
           tells = record {
             steps = subst (λ (b : Ground). StepsOn b v.now call (record { reply = reply; moves = []; after = after })) (sym w.base) (record {
@@ -347,7 +344,7 @@ module _ {D : Type 0} (told : D → Option (List ℕ)) (moment faults : D → �
   -- a refused call brings what its step does
   pub brings_refused : (refusal : Refusal) (n : ℕ) → Comes call (heap_in fresh_heap) (heap_in heap) old.shown page (Err (stops.Refused refusal))
       → Works {T = Reply} (image_heap faults) (call_lines (heap_in fresh_heap) call) fresh_heap heap (Err (stops.Refused refusal))
-      → Brings (λ g v. StandsForBoth told moment may_leave g v) old (refused_ground refusal n) (Calls None call (replies.Refused refusal))
+      → Brings StandsInMemory old (refused_ground refusal n) (Calls None call (replies.Refused refusal))
   brings_refused (refusals.LogFull lines room) n comes works =
       brings_full lines room n (λ w stands served. (comes.each w stands served).step) works
   brings_refused refusal n comes works =
@@ -355,6 +352,24 @@ module _ {D : Type 0} (told : D → Option (List ℕ)) (moment faults : D → �
       (λ w stands served. let r = comes.each w stands served in (r.step, r.left, r.gave))
       (works.moved fresh_heap (Moves-none (KeepsRegion fresh_heap.size fresh_heap.cells.bytes) (KeepsRegion fresh_heap.size fresh_heap.cells.bytes) [] (λ P k. k)))
       works
+
+-- what a call brings in memory it brings on its disk, where the disk is quiet and the moment the same
+pub brings_quiet : {D : Type 0} (told : D → Option (List ℕ)) (moment : D → ℕ) (may_leave : D → ℕ → List ℕ → Type 0)
+    {P : Standing → Standing → Type 0} (old new : Grounded D) → IsQuiet old.heap.cells new.heap.cells → new.moment ≡ old.moment
+    → Brings StandsInMemory old new P → Brings (λ g v. StandsForBoth told moment may_leave g v) old new P
+brings_quiet told moment may_leave old new q same brings = record {
+  each = λ v at.
+      let s = brings.each v at.memory in
+      record {
+        for = s.for;
+        holds = record {
+          rests = rests_same told moment may_leave old.heap.cells new.heap.cells q at.rests;
+          moment_is = λ x tells. same ∙ at.moment_is x (sym (ap told q.disk) ∙ tells) ∙ sym (ap moment q.disk);
+          memory = s.holds;
+        };
+        tells = s.tells;
+      };
+}
 
 -- where the disk is the same and its moment too, a crash leaves the state before
 pub leaves_quiet : {D : Type 0} (told : D → Option (List ℕ)) (moment faults : D → ℕ) (may_leave : D → ℕ → List ℕ → Type 0) (old new : Grounded D)
@@ -390,10 +405,9 @@ answers_no_doom call (replies.Refused refusal) is = absurd (true≢false (sym is
 answers_no_doom call reply is = refl
 
 -- a call that is served tells of no media
-pub gap_brought : {D : Type 0} (told : D → Option (List ℕ)) (moment : D → ℕ) (may_leave : D → ℕ → List ℕ → Type 0) (old new : Grounded D)
-    (call : Call) (reply : Reply) → built call ≡ true → old.stopped ≡ false → StandsSome told moment may_leave old
-    → Brings (λ g v. StandsForBoth told moment may_leave g v) old new (Calls None call reply) → HasGapCause (answers.Reply reply) no_gaps no_gaps
-gap_brought told moment may_leave old new call reply is going some brings =
+pub gap_brought : {D : Type 0} (old new : Grounded D) (call : Call) (reply : Reply) → built call ≡ true → old.stopped ≡ false → StandsSome old
+    → Brings StandsInMemory old new (Calls None call reply) → HasGapCause (answers.Reply reply) no_gaps no_gaps
+gap_brought old new call reply is going some brings =
     let v = some.for in
     let s = brings.each v some.holds in
     let steps =

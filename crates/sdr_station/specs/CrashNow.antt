@@ -11,8 +11,8 @@ module _ {D : Type 0} (told : D → Option (List ℕ)) (moment : D → ℕ) (may
       → Leaves told may_leave g.heap.cells.disk g.moment image → Opens image v.before
   crash_now g v image at l = record {
     heap = g.heap.cells.begun;
-    back = rests_leaves told moment may_leave g.heap.cells at.sound at.rests l.bytes l.tells image
+    back = rests_leaves told moment may_leave g.heap.cells at.memory.sound at.rests l.bytes l.tells image
         (subst (λ (m : ℕ). may_leave g.heap.cells.disk m image) (at.moment_is l.bytes l.tells) l.left);
     room = room_of g.heap.cells.frame;
-    stands = at.before;
+    stands = at.memory.before;
   }

@@ -16,12 +16,14 @@ use Rattle.sdr_model.specs.Fields.{FitsFields}
 use Rattle.sdr_model.specs.Whole.{IsWhole}
 use Rattle.sdr_answers.specs.Answering.{IsPlain}
 
--- the heap; the bytes that the last answered call gave; whether the transaction can only be put back; and the disk's moment
+-- the heap; the bytes that the last answered call gave; whether the transaction can only be put back; the disk's moment; and how
+-- many lines opening has put back
 pub record Grounded (D : Type 0) : Type 0 where
   pub heap : Held (Opened D)
   pub shown : List ℕ
   pub stopped : Bool
   pub moment : ℕ
+  pub restored : ℕ
 
 -- the blocks, the control words, the marks and the moves of a heap on an image
 abbrev pub heap_in : {D : Type 0} → Held (Opened D) → Heap
@@ -56,29 +58,33 @@ pub record StandsWithin {D : Type 0} (h : Held (Opened D)) (shown : List ℕ) (s
   pub gave : s.world.shown ≡ shown
   pub lines : length h.cells.touched ≤ most_lines s.demand
 
--- A heap on an image whose disk hasn't failed stands for the states before the transaction and now: the bytes at begin stand
--- for the one, and for the other the heap does, unless a call was stopped on its way. The disk rests, and the moves are the
--- heap's.
-pub record StandsForBoth {D : Type 0} (told : D → Option (List ℕ)) (moment : D → ℕ) (may_leave : D → ℕ → List ℕ → Type 0)
-    (g : Grounded D) (v : Standing) : Type 0 where
+-- The heap in memory, whose disk hasn't failed, stands for the states before the transaction and now: the bytes at begin stand
+-- for the one, and for the other the heap does, unless a call was stopped on its way. The moves are the heap's.
+pub record StandsInMemory {D : Type 0} (g : Grounded D) (v : Standing) : Type 0 where
   pub sound : g.heap.cells.failed ≡ false
-  pub rests : Rests told moment may_leave g.heap.cells
-  pub moment_is : IfTold (told g.heap.cells.disk) (λ _. g.moment ≡ moment g.heap.cells.disk)
   pub size : length g.heap.cells.begun ≡ g.heap.size
   pub before : StandsAtRest (room_of g.heap.cells.frame) g.heap.cells.begun v.before
   pub taken : v.now.world.taken ≡ 0
   pub now : g.stopped ≡ false → StandsWithin g.heap g.shown v.now
   pub moves : v.moves ≡ g.heap.moves
 
--- it stands for something
-pub record StandsSome {D : Type 0} (told : D → Option (List ℕ)) (moment : D → ℕ) (may_leave : D → ℕ → List ℕ → Type 0)
-    (g : Grounded D) : Type 0 where
-  pub for : Standing
-  pub holds : StandsForBoth told moment may_leave g for
+-- A heap on an image stands for the states before the transaction and now: it does so in memory, and the disk rests.
+pub record StandsForBoth {D : Type 0} (told : D → Option (List ℕ)) (moment : D → ℕ) (may_leave : D → ℕ → List ℕ → Type 0)
+    (g : Grounded D) (v : Standing) : Type 0 where
+  pub rests : Rests told moment may_leave g.heap.cells
+  pub moment_is : IfTold (told g.heap.cells.disk) (λ _. g.moment ≡ moment g.heap.cells.disk)
+  pub memory : StandsInMemory g v
 
--- a heap on an image lasts where it stands for something, unless the disk has failed
-abbrev pub Lasts : {D : Type 0} → (D → Option (List ℕ)) → (D → ℕ) → (D → ℕ → List ℕ → Type 0) → Grounded D → Type 0
-Lasts told moment may_leave g = g.heap.cells.failed ≡ false → StandsSome told moment may_leave g
+-- the heap in memory stands for something
+pub record StandsSome {D : Type 0} (g : Grounded D) : Type 0 where
+  pub for : Standing
+  pub holds : StandsInMemory g for
+
+-- What a ground keeps: unless the disk has failed, the heap in memory stands for something; and where the disk has failed, the
+-- transaction can only be put back.
+pub record IsGround {D : Type 0} (g : Grounded D) : Type 0 where
+  pub sound : g.stopped ≡ false → g.heap.cells.failed ≡ false
+  pub stands : g.heap.cells.failed ≡ false → StandsSome g
 
 -- what a crash at a moment may leave of a disk that tells its bytes
 pub record Leaves {D : Type 0} (told : D → Option (List ℕ)) (may_leave : D → ℕ → List ℕ → Type 0) (disk : D) (m : ℕ)

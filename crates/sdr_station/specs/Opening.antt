@@ -8,16 +8,17 @@ use Rattle.sdr_base.specs.Causes.{Rose}
 use Rattle.sdr_base.specs.FreshHeap.{fresh_heap}
 use Rattle.sdr_base.specs.Pools.{fresh_pools}
 use Rattle.sdr_base.specs.declared.line.TheConstants.{LEAST_LINES, MOST_LINES}
-use Rattle.sdr_disk.specs.Told.{IfTold}
+use Rattle.sdr_disk.specs.Told.{Both, IfTold}
 use Rattle.sdr_image.specs.Opening.{MayBeOpened}
 use Rattle.sdr_image.specs.declared.error.ImageError.{ImageError}
 use Rattle.sdr_image.specs.declared.error.ImageError.TheVariants as images
 use Rattle.sdr_lock.specs.Ground.{Ground, resting}
 use Rattle.sdr_lock.specs.Standing.{Standing, standing_at}
+use Rattle.sdr_log.specs.Calls.{PutsBack}
 use Rattle.sdr_log.specs.Frame.{room_of}
 use Rattle.sdr_log.specs.Log.{put_back_of}
 use Rattle.sdr_model.specs.World.{fresh_world}
-use Rattle.sdr_station.specs.Grounded.{Grounded, StandsForBoth}
+use Rattle.sdr_station.specs.Grounded.{Grounded, StandsForBoth, StandsInMemory}
 use Rattle.sdr_station.specs.declared.error.OpenError.{OpenError}
 use Rattle.sdr_station.specs.declared.error.OpenError.TheVariants as errors
 use Rattle.sdr_station.specs.declared.error.Shut.{Shut}
@@ -26,8 +27,8 @@ use Rattle.sdr_station.specs.declared.error.Shut.{Shut}
 abbrev pub fresh_standing : ℕ → ℕ → Standing
 fresh_standing room lines = standing_at (resting (fresh_world (32 * lines)) (Ground.OnHeap room (fresh_pools lines))) []
 
--- A heap was opened: the disk gives a fresh one, for whose world it stands where nothing was pending on the disk, or a recovery
--- was stopped.
+-- A heap was opened: the disk gives a fresh one, and so many lines of its open batches were put back. The heap in memory stands
+-- for the fresh world; so does the heap on its disk, where nothing was pending on the disk, or a recovery was stopped.
 pub record IsOpen {D : Type 0} (told : D → Option (List ℕ)) (moment : D → ℕ) (may_leave : D → ℕ → List ℕ → Type 0)
     (disk : D) (g : Grounded D) : Type 0 where
   pub lines : ℕ
@@ -36,6 +37,8 @@ pub record IsOpen {D : Type 0} (told : D → Option (List ℕ)) (moment : D → 
   pub going : g.stopped ≡ false
   pub sound : g.heap.cells.failed ≡ false
   pub gives : IfTold (told disk) (λ x. put_back_of x ≡ Some (fresh_heap lines))
+  pub back : Both (told disk) (told g.heap.cells.disk) (PutsBack g.heap.cells.frame g.restored)
+  pub memory : StandsInMemory g (fresh_standing (room_of g.heap.cells.frame) lines)
   pub stands : IfTold (told disk) (λ x. MayBeOpened x (may_leave disk (moment disk)))
       → StandsForBoth told moment may_leave g (fresh_standing (room_of g.heap.cells.frame) lines)
 

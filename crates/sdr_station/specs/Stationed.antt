@@ -1,11 +1,11 @@
 -- A station: what its calls and events do.
-use Rattle.std.specs.Prelude.{◌≡◌, ◌==◌, ℕ, Bool, false, ⊤, Option, None, Some, Result, Ok, Err, nat_le, MatchBool, MatchOption}
+use Rattle.std.specs.Prelude.{◌≡◌, ◌==◌, ℕ, Bool, true, false, ⊤, Option, None, Some, Result, Ok, Err, nat_le, MatchBool, MatchOption}
 use Rattle.sdr_base.specs.declared.refusal.Refusal.TheVariants as refusals
 use Rattle.sdr_base.specs.declared.stop.Stop.{Stop}
 use Rattle.sdr_base.specs.declared.stop.Stop.TheVariants as stops
 use Rattle.sdr_lock.specs.Crash.{LeavesOr, is_kept}
 use Rattle.sdr_lock.specs.Nesting.{Inner, closing, deepened, nested, noted, unbegun}
-use Rattle.sdr_lock.specs.Serving.{Brings, Calls, MeetsFault, Settles, shown_in}
+use Rattle.sdr_lock.specs.Serving.{Brings, Calls, KeepsGround, MeetsFault, Settles, shown_in}
 use Rattle.sdr_lock.specs.Standing.{Standing}
 use Rattle.sdr_lock.specs.declared.has_ground.HasGround.{Ghosts}
 use Rattle.sdr_lock.specs.declared.nesting.Nesting.{Nesting}
@@ -17,7 +17,8 @@ use Rattle.sdr_model.specs.declared.answer.Reply.{Reply}
 use Rattle.sdr_model.specs.declared.answer.Reply.TheVariants as replies
 use Rattle.sdr_model.specs.declared.call.Call.{Call}
 use Rattle.sdr_model.specs.declared.event.Event.{Event}
-use Rattle.sdr_station.specs.Grounded.{Grounded}
+use Rattle.sdr_station.specs.Grounded.{Grounded, StandsInMemory}
+use Rattle.sdr_station.specs.declared.error.Shut.{Shut}
 use Rattle.sdr_station.specs.declared.station.Closed.{Closed}
 use Rattle.sdr_station.specs.declared.station.Closed.TheVariants as closed
 
@@ -33,6 +34,11 @@ pub record IsStation {D : Type 0} (ground : Grounded D) (nesting : Nesting) (fai
   pub going : failed ≡ None → nesting.doom ≡ None → ground.stopped ≡ false
   pub idle : failed ≡ None → nesting.depth ≡ 0 → nesting.doom ≡ None
   pub sound : failed ≡ None → ground.heap.cells.failed ≡ false
+
+-- the disk of a station that was opened, or of what is left where none was
+abbrev pub disk_under : {D : Type 0} → Result (Stationed D) (Shut D) → D
+disk_under (Ok s) = s.ground.heap.cells.disk
+disk_under (Err shut) = shut.disk
 
 -- the answer to an inner close, as a depth
 abbrev pub HasRisen : Answer → Result Closed Stop → Type 0
@@ -61,9 +67,12 @@ Begins old new result =
 
 -- A call in a transaction that isn't doomed is a step, and is noted.
 pub record Says {D : Type 0} (g : Ghosts (Grounded D)) (call : Call) (reply : Reply) (old new : Stationed D) : Type 0 where
+  pub memory : Brings StandsInMemory old.ground new.ground (Calls None call reply)
   pub steps : Brings g.stands old.ground new.ground (Calls None call reply)
   pub nesting : new.nesting ≡ noted call reply old.nesting
   pub failed : new.failed ≡ None
+  pub restored : new.ground.restored ≡ old.ground.restored
+  pub keeps : KeepsGround g true old.ground new.ground
 
 -- what a call does: it is a step, or is refused where the transaction is doomed, or fails after a disk fault
 abbrev pub SaysOr : {D : Type 0} → Ghosts (Grounded D) → Call → Reply → Stationed D → Stationed D → Type 0
@@ -81,15 +90,32 @@ closed_as closes.Exited = closed.Exited
 closed_as (closes.Cancelled reason) = closed.Cancelled reason
 closed_as closes.Faulted = closed.Exited
 
+-- a transaction that closed so was kept or put back, and is told so
+pub record ClosesWell {D : Type 0} (g : Ghosts (Grounded D)) (close : Close) (old new : Stationed D) (told : Closed)
+    : Type 0 where
+  pub is_told : told ≡ closed_as close
+  pub memory : Brings StandsInMemory old.ground new.ground (Settles close)
+  pub settles : Brings g.stands old.ground new.ground (Settles close)
+  pub failed : new.failed ≡ None
+
+-- the disk failed as a transaction closed, whose moment is kept
+pub record ClosesFailing {D : Type 0} (g : Ghosts (Grounded D)) (old new : Stationed D) (stop : Stop) : Type 0 where
+  pub is_fault : stop ≡ stops.DiskFault
+  pub fault : MeetsFault g old.ground new.ground
+  pub failed : new.failed ≡ Some (g.moment new.ground)
+
 -- an outermost close: the transaction is kept or put back, and told so, or the disk failed
 abbrev pub ClosesWith : {D : Type 0} → Ghosts (Grounded D) → Close → Stationed D → Stationed D → Result Closed Stop → Type 0
-ClosesWith g close old new (Ok told) = (told ≡ closed_as close) × Brings g.stands old.ground new.ground (Settles close) × (new.failed ≡ None)
-ClosesWith g close old new (Err stop) = (stop ≡ stops.DiskFault) × MeetsFault g old.ground new.ground × (new.failed ≡ Some (g.moment new.ground))
+ClosesWith g close old new (Ok told) = ClosesWell g close old new told
+ClosesWith g close old new (Err stop) = ClosesFailing g old new stop
 
 -- an outermost close, after which no transaction has begun
-pub record Closes {D : Type 0} (g : Ghosts (Grounded D)) (close : Close) (old new : Stationed D) (result : Result Closed Stop) : Type 0 where
+pub record Closes {D : Type 0} (g : Ghosts (Grounded D)) (close : Close) (old new : Stationed D)
+    (result : Result Closed Stop) : Type 0 where
   pub closes : ClosesWith g close old new result
   pub nesting : new.nesting ≡ unbegun
+  pub restored : new.ground.restored ≡ old.ground.restored
+  pub keeps : KeepsGround g false old.ground new.ground
   pub any_moment : LeavesOr (is_kept close) g old.ground new.ground
 
 -- an inner close: one less deep
@@ -100,7 +126,8 @@ pub record Rises {D : Type 0} (inner : Inner) (old new : Stationed D) (result : 
   pub after : new ≡ record old { nesting = inner.after }
 
 -- what an end, a cancel or an exit does
-abbrev pub ClosesBy : {D : Type 0} → Ghosts (Grounded D) → Event → (Nesting → Inner) → Stationed D → Stationed D → Result Closed Stop → Type 0
+abbrev pub ClosesBy : {D : Type 0} → Ghosts (Grounded D) → Event → (Nesting → Inner) → Stationed D → Stationed D
+    → Result Closed Stop → Type 0
 ClosesBy g event inner old new result =
     MatchOption old.failed
     (MatchBool (nat_le old.nesting.depth 1)
@@ -112,5 +139,6 @@ ClosesBy g event inner old new result =
 abbrev pub LooksAt : {D : Type 0} → Ghosts (Grounded D) → ℕ → Stationed D → Result Bool Stop → Type 0
 LooksAt g ticket s result =
     MatchOption s.failed
-    ((result ≡ Err (stops.Refused (refusals.BadTicket ticket))) × ((v : Standing) → g.stands s.ground v → shown_in v.before.world ticket ≡ None))
+    ((result ≡ Err (stops.Refused (refusals.BadTicket ticket)))
+    × ((v : Standing) → g.stands s.ground v → shown_in v.before.world ticket ≡ None))
     (λ moment. result ≡ Err stops.Failed)

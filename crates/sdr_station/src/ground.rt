@@ -1,15 +1,17 @@
 // A heap on an image as the ground of a lock.
-ghost use Rattle.std.specs.Prelude.{◌≡◌, ◌≤◌, None, false, true, length, IfErr, IfOk, OnErr, OnOk};
+ghost use Rattle.std.specs.Prelude.{◌≡◌, ◌≤◌, ◌⊎◌, ◌↔◌, None, false, true, length, IfErr, IfOk, IsErrOf, OnErr, OnOk};
 ghost use Rattle.sdr_disk.specs.Moments.{AtEach};
 ghost use Rattle.sdr_disk.specs.Told.{IfTold};
 ghost use Rattle.sdr_image.specs.Opening.{MayBeOpened};
 ghost use Rattle.sdr_lock.specs.Crash.{LeavesBefore, LeavesEither};
+ghost use Rattle.sdr_lock.specs.Gaps.{HasGapCause, no_gaps};
 ghost use Rattle.sdr_lock.specs.Serving.{Brings, Calls, Keeps, KeepsGround, MeetsFault, PutsBack};
 ghost use Rattle.sdr_lock.specs.Standing.{Standing};
 ghost use Rattle.sdr_log.specs.Calls.{KeepsDisk};
 ghost use Rattle.sdr_log.specs.Logged.{GivesSame};
 ghost use Rattle.sdr_answers.specs.Answering.{built, dooms};
-ghost use Rattle.sdr_station.specs.Grounded.{Lasts, StandsForBoth};
+ghost use Rattle.sdr_station.specs.Grounded.{StandsForBoth, StandsInMemory};
+ghost use Rattle.sdr_station.specs.Giving.{Gives};
 ghost use Rattle.sdr_station.specs.Opening.{ExplainsOpen, IsOfAudit, IsOfImage, IsOpen, disk_of};
 
 use crate::closing::{cancel, commit, forget_moves, moment_since};
@@ -21,7 +23,7 @@ use sdr_disk::Disk;
 use sdr_heap::Heap;
 use sdr_image::{Image, ImageError};
 use sdr_lock::{Fault, Halt, HasGround, Serves};
-use sdr_model::{Call, Reply};
+use sdr_model::{Answer, Call, Reply};
 use std::alloc::Global;
 use std::marker::Model;
 
@@ -36,21 +38,34 @@ pub struct HeapGround<D: Disk> {
     stopped: bool,
     /// The disk's moment.
     moment: u64,
+    /// How many lines opening has put back.
+    restored: u64,
 }
 
 impl<D: Disk> Model for HeapGround<D> {
-    ghost use Rattle.std.specs.Prelude.{◌≡◌, false};
-    ghost use Rattle.sdr_station.specs.Grounded.{Grounded};
+    ghost use Rattle.sdr_station.specs.Grounded.{Grounded, IsGround};
 
     ghost Value = { Grounded D };
 
-    ghost view = { λ s. record { heap = s.heap; shown = s.shown; stopped = s.stopped; moment = s.moment } };
+    ghost view = { λ s. record {
+      heap = s.heap;
+      shown = s.shown;
+      stopped = s.stopped;
+      moment = s.moment;
+      restored = s.restored;
+    } };
 
-    ghost invariant = { λ s. s.stopped ≡ false → s.heap.cells.failed ≡ false };
+    ghost invariant = { λ s. IsGround {D = D} (record {
+      heap = s.heap;
+      shown = s.shown;
+      stopped = s.stopped;
+      moment = s.moment;
+      restored = s.restored;
+    }) };
 }
 
 impl<D: Disk> HasGround for HeapGround<D> {
-    ghost use Rattle.std.specs.Prelude.{None};
+    ghost use Rattle.std.specs.Prelude.{None, ⊤};
     ghost use Rattle.sdr_lock.specs.Gaps.{no_gaps};
     ghost use Rattle.sdr_station.specs.Grounded as grounded;
     ghost use Rattle.sdr_station.specs.CrashNow as laws;
@@ -65,7 +80,7 @@ impl<D: Disk> HasGround for HeapGround<D> {
 
     ghost told = { λ _. None };
 
-    ghost lasts = { λ g _. grounded.Lasts D.bytes D.moment D.may_leave g };
+    ghost lasts = { λ _ _. ⊤ };
 
     ghost left = { λ g m image. grounded.Leaves D.bytes D.may_leave g.heap.cells.disk m image };
 
@@ -119,6 +134,7 @@ impl<D: Disk> HeapGround<D> {
                 });
             }
         };
+        let restored = image.restored();
         if let Err(why) = check(&mut image) {
             return Err(Shut {
                 why: of_audit(why),
@@ -132,6 +148,7 @@ impl<D: Disk> HeapGround<D> {
                 shown: Page::new(),
                 stopped: false,
                 moment,
+                restored,
             }),
             Err(shut) => Err(Shut {
                 why: OpenError::NoMemory,
@@ -143,12 +160,14 @@ impl<D: Disk> HeapGround<D> {
     /// Makes a call that is served, in a transaction in which none was stopped. Where a changing call is refused, the
     /// transaction can only be put back.
     pub fn serve(&mut self, call: &Call) -> Reply
-        requires lasts { Lasts D.bytes D.moment D.may_leave self.old }
         requires going { self.old.stopped ≡ false }
         requires built { built call.now ≡ true }
+        ensures memory { Brings StandsInMemory self.old self.new (Calls None call.now result) }
         ensures answered { Brings ⟦<HeapGround<D> as HasGround>⟧.stands self.old self.new (Calls None call.now result) }
         ensures stopped { self.new.stopped ≡ dooms call.now result }
+        ensures gives { Gives result self.new }
         ensures sound { self.new.heap.cells.failed ≡ false }
+        ensures restored { self.new.restored ≡ self.old.restored }
         ensures keeps { KeepsGround ⟦<HeapGround<D> as HasGround>⟧ true self.old self.new }
         ensures any_moment { LeavesBefore ⟦<HeapGround<D> as HasGround>⟧ self.old self.new }
     {
@@ -169,9 +188,11 @@ impl<D: Disk> HeapGround<D> {
     /// Keeps the open transaction, in which no call was stopped.
     pub fn save(&mut self) -> Result<(), Fault>
         requires going { self.old.stopped ≡ false }
+        ensures memory { OnOk result (Brings StandsInMemory self.old self.new Keeps) }
         ensures kept { OnOk result (Brings ⟦<HeapGround<D> as HasGround>⟧.stands self.old self.new Keeps) }
         ensures going { OnOk result (self.new.stopped ≡ false) }
         ensures sound { OnOk result (self.new.heap.cells.failed ≡ false) }
+        ensures restored { self.new.restored ≡ self.old.restored }
         ensures fault { OnErr result (MeetsFault ⟦<HeapGround<D> as HasGround>⟧ self.old self.new) }
         ensures keeps { KeepsGround ⟦<HeapGround<D> as HasGround>⟧ false self.old self.new }
         ensures any_moment { LeavesEither ⟦<HeapGround<D> as HasGround>⟧ self.old self.new }
@@ -193,9 +214,11 @@ impl<D: Disk> HeapGround<D> {
 
     /// Puts back what was before the open transaction.
     pub fn restore(&mut self) -> Result<(), Fault>
+        ensures memory { OnOk result (Brings StandsInMemory self.old self.new PutsBack) }
         ensures put_back { OnOk result (Brings ⟦<HeapGround<D> as HasGround>⟧.stands self.old self.new PutsBack) }
         ensures going { OnOk result (self.old.heap.cells.failed ≡ false → self.new.stopped ≡ false) }
         ensures sound { OnOk result (self.new.heap.cells.failed ≡ self.old.heap.cells.failed) }
+        ensures restored { self.new.restored ≡ self.old.restored }
         ensures fault { OnErr result (MeetsFault ⟦<HeapGround<D> as HasGround>⟧ self.old self.new) }
         ensures keeps { KeepsGround ⟦<HeapGround<D> as HasGround>⟧ false self.old self.new }
         ensures any_moment { LeavesBefore ⟦<HeapGround<D> as HasGround>⟧ self.old self.new }
@@ -212,7 +235,9 @@ impl<D: Disk> HeapGround<D> {
                 self.stopped = true;
                 Err(Fault)
             }
-            Err(_) => Ok(()),
+            Err(Stop::Failed) => Ok(()),
+            Err(Stop::MediaFault) => unreachable!(),
+            Err(Stop::Refused(_)) => unreachable!(),
         }
     }
 
@@ -225,14 +250,22 @@ impl<D: Disk> HeapGround<D> {
             shown: _,
             stopped: _,
             moment: _,
+            restored: _,
         } = self;
         heap.into_cells().into_disk()
+    }
+
+    /// The bytes of the heap region.
+    pub fn size(&self) -> u64
+        ensures { result ≡ self.now.heap.size }
+    {
+        self.heap.size()
     }
 
     /// The moves of the last call.
     pub fn moves(&self) -> &[Move]
         ensures moves { result.now ≡ self.now.heap.moves }
-        ensures told { (v : Standing) → StandsForBoth D.bytes D.moment D.may_leave self.now v → result.now ≡ v.moves }
+        ensures told { (v : Standing) → StandsInMemory self.now v → result.now ≡ v.moves }
     {
         self.heap.moves()
     }
@@ -241,10 +274,17 @@ impl<D: Disk> HeapGround<D> {
     pub fn shown(&self) -> &[u8]
         ensures shown { result.now ≡ self.now.shown }
         ensures few { length result.now ≤ 4096 }
-        ensures told { (v : Standing) → StandsForBoth D.bytes D.moment D.may_leave self.now v → self.now.stopped ≡ false
+        ensures told { (v : Standing) → StandsInMemory self.now v → self.now.stopped ≡ false
             → result.now ≡ v.now.world.shown }
     {
         self.shown.as_slice()
+    }
+
+    /// How many lines opening has put back.
+    pub fn restored(&self) -> u64
+        ensures { result ≡ self.now.restored }
+    {
+        self.restored
     }
 }
 
@@ -253,14 +293,33 @@ impl<D: Disk> Serves for HeapGround<D> {
         self.moment
     }
 
-    fn call(&mut self, call: &Call) -> Result<Reply, Halt> {
+    // Want of memory comes just where a call was stopped, or where it isn't served yet.
+    fn call(&mut self, call: &Call) -> Result<Reply, Halt>
+        ensures answered { IfOk result (λ reply.
+            Brings ⟦<HeapGround<D> as HasGround>⟧.stands self.old self.new (Calls None call.now reply)) }
+        ensures gap { IfOk result (λ reply. HasGapCause (Answer.Reply reply) no_gaps no_gaps) }
+        ensures memory { IsErrOf result Halt.Memory → self.new ≡ self.old }
+        ensures stopped { IsErrOf result Halt.Memory
+            ↔ ((self.old.stopped ≡ true) ⊎ (built call.now ≡ false)) }
+        ensures fault { IsErrOf result Halt.Fault → MeetsFault ⟦<HeapGround<D> as HasGround>⟧ self.old self.new }
+        ensures keeps { KeepsGround ⟦<HeapGround<D> as HasGround>⟧ true self.old self.new }
+        ensures any_moment { LeavesBefore ⟦<HeapGround<D> as HasGround>⟧ self.old self.new }
+    {
         if self.stopped || !built(call) {
             return Err(Halt::Memory);
         }
         Ok(self.serve(call))
     }
 
-    fn keep(&mut self) -> Result<(), Halt> {
+    // Want of memory comes just where a call was stopped.
+    fn keep(&mut self) -> Result<(), Halt>
+        ensures kept { OnOk result (Brings ⟦<HeapGround<D> as HasGround>⟧.stands self.old self.new Keeps) }
+        ensures memory { IsErrOf result Halt.Memory → self.new ≡ self.old }
+        ensures stopped { IsErrOf result Halt.Memory ↔ (self.old.stopped ≡ true) }
+        ensures fault { IsErrOf result Halt.Fault → MeetsFault ⟦<HeapGround<D> as HasGround>⟧ self.old self.new }
+        ensures keeps { KeepsGround ⟦<HeapGround<D> as HasGround>⟧ false self.old self.new }
+        ensures any_moment { LeavesEither ⟦<HeapGround<D> as HasGround>⟧ self.old self.new }
+    {
         if self.stopped {
             return Err(Halt::Memory);
         }

@@ -1,11 +1,18 @@
 // A transaction on the world that a disk keeps.
-ghost use Rattle.std.specs.Prelude.{◌≡◌, ◌<◌, None, true, false, length, take, IfErr, IfOk};
-ghost use Rattle.sdr_lock.specs.Crash.{is_kept};
+ghost use Rattle.std.specs.Prelude.{◌≡◌, ◌≤◌, ◌<◌, ◌+◌, ◌/◌, None, true, false, IfErr, IfOk};
+ghost use Rattle.sdr_disk.specs.Moments.{AtEach};
+ghost use Rattle.sdr_disk.specs.Told.{IfTold};
+ghost use Rattle.sdr_image.specs.Opening.{MayBeOpened};
+ghost use Rattle.sdr_lock.specs.Crash.{LeavesBefore, LeavesOr, is_kept, keeps_in};
 ghost use Rattle.sdr_lock.specs.Nesting.{cancelled, closing, ended, unbegun};
+ghost use Rattle.sdr_log.specs.Calls.{KeepsDisk};
+ghost use Rattle.sdr_log.specs.Logged.{GivesSame};
 ghost use Rattle.sdr_answers.specs.Answering.{built};
-ghost use Rattle.sdr_station.specs.Grounded.{Lasts};
+ghost use Rattle.sdr_station.specs.Giving.{Fills, Gives};
+ghost use Rattle.sdr_model.specs.World.{World};
 ghost use Rattle.sdr_station.specs.Opening.{ExplainsOpen, IsOpen};
-ghost use Rattle.sdr_station.specs.Stationed.{Begins, Closes, ClosesBy, HasRisen, LooksAt, SaysOr, closed_as};
+ghost use Rattle.sdr_station.specs.Rooming.{HasFewElements, MovesAtMost, TellsRoom};
+ghost use Rattle.sdr_station.specs.Stationed.{Begins, Closes, ClosesBy, HasRisen, LooksAt, SaysOr, closed_as, disk_under};
 
 use crate::HeapGround;
 use crate::error::Shut;
@@ -37,6 +44,21 @@ pub struct Station<D: Disk> {
     failed: Option<u64>,
 }
 
+// How many moves a call that is served has at most on a heap region of so many bytes.
+fn most_moves(call: &Call, size: u64) -> u64
+    requires { built call.now ≡ true }
+    ensures most { (w : World) → HasFewElements size w → MovesAtMost w call.now result }
+    ensures few { result ≤ size / 4 + 4 }
+{
+    if call.is_reading() {
+        return 0;
+    }
+    match call {
+        Call::ListDestroy(_) => size / 16 + 1,
+        _ => 1,
+    }
+}
+
 impl<D: Disk> Model for Station<D> {
     ghost use Rattle.sdr_station.specs.Stationed.{IsStation, Stationed};
 
@@ -53,13 +75,19 @@ impl<D: Disk> Station<D> {
         ensures opened { IfOk result (λ s. IsOpen D.bytes D.moment D.may_leave disk s.ground) }
         ensures idle { IfOk result (λ s. (s.nesting ≡ unbegun) × (s.failed ≡ None)) }
         ensures why { IfErr result (λ shut. ExplainsOpen (D.bytes disk) (D.faults disk) (D.faults shut.disk) shut.why) }
+        ensures disk { KeepsDisk D.size D.bytes disk (disk_under result) }
+        ensures later { D.faults disk ≤ D.faults (disk_under result) }
+        ensures any_moment { IfTold (D.bytes disk) (λ x. MayBeOpened x (D.may_leave disk (D.moment disk))
+            → AtEach D.moment D.may_leave disk (disk_under result) (GivesSame x)) }
     {
-        let ground = HeapGround::open(alloc, disk)?;
-        Ok(Station {
-            ground,
-            nesting: Nesting::none(),
-            failed: None,
-        })
+        match HeapGround::open(alloc, disk) {
+            Ok(ground) => Ok(Station {
+                ground,
+                nesting: Nesting::none(),
+                failed: None,
+            }),
+            Err(shut) => Err(shut),
+        }
     }
 
     /// Whether a ticket is granted. So far no world has one.
@@ -86,6 +114,13 @@ impl<D: Disk> Station<D> {
         ground.into_disk()
     }
 
+    /// How deep the transaction is nested: 0 where none has begun.
+    pub fn depth(&self) -> u64
+        ensures { result ≡ self.now.nesting.depth }
+    {
+        self.nesting.depth
+    }
+
     /// Begins a transaction, or one inside it, and answers the depth. It is refused at the greatest, which dooms.
     pub fn begin(&mut self) -> Result<u64, Stop>
         ensures { Begins self.old self.new result }
@@ -103,28 +138,52 @@ impl<D: Disk> Station<D> {
         }
     }
 
-    /// Makes a call, and fills the buffer with the bytes that it gives.
+    /// How many moves the call that follows can have at most, which are no more than the heap has room for. Where the
+    /// transaction is doomed, it has none.
+    pub fn room_for(&mut self, call: &Call) -> Result<u64, Stop>
+        requires { built call.now ≡ true }
+        ensures room { TellsRoom ⟦<HeapGround<D> as HasGround>⟧ call.now self.old result }
+        ensures same { self.new ≡ self.old }
+    {
+        if let Some(_) = self.failed {
+            return Err(Stop::Failed);
+        }
+        Ok(most_moves(call, self.ground.size()))
+    }
+
+    /// Makes a call. Where it gives bytes, they are put at the front of the buffer, and the reply tells how many.
     pub fn call(&mut self, call: &Call, into: &mut [u8; PAGE]) -> Reply
         requires begun { 0 < self.old.nesting.depth }
         requires built { built call.now ≡ true }
-        requires lasts { Lasts D.bytes D.moment D.may_leave self.old.ground }
         ensures says { SaysOr ⟦<HeapGround<D> as HasGround>⟧ call.now result self.old self.new }
-        ensures shown { take (length self.new.ground.shown) into.new ≡ self.new.ground.shown }
-        ensures lasts { Lasts D.bytes D.moment D.may_leave self.new.ground }
+        ensures depth { self.new.nesting.depth ≡ self.old.nesting.depth }
+        ensures fills { Fills self.new.ground result into.old into.new }
+        ensures any_moment { LeavesBefore ⟦<HeapGround<D> as HasGround>⟧ self.old.ground self.new.ground }
     {
         let reply = self.reply(call);
-        let shown = self.ground.shown();
-        into[..shown.len()].copy_from_slice(shown);
+        self.fill(&reply, into);
         reply
+    }
+
+    // Puts the bytes of which the reply tells into the buffer.
+    fn fill(&self, reply: &Reply, into: &mut [u8; PAGE])
+        requires { Gives reply.now self.now.ground }
+        ensures { Fills self.now.ground reply.now into.old into.new }
+    {
+        if let Reply::Bytes { count: _ } = reply {
+            let shown = self.ground.shown();
+            into[..shown.len()].copy_from_slice(shown);
+        }
     }
 
     // Makes a call.
     fn reply(&mut self, call: &Call) -> Reply
         requires begun { 0 < self.old.nesting.depth }
         requires built { built call.now ≡ true }
-        requires lasts { Lasts D.bytes D.moment D.may_leave self.old.ground }
         ensures says { SaysOr ⟦<HeapGround<D> as HasGround>⟧ call.now result self.old self.new }
-        ensures lasts { Lasts D.bytes D.moment D.may_leave self.new.ground }
+        ensures depth { self.new.nesting.depth ≡ self.old.nesting.depth }
+        ensures gives { Gives result self.new.ground }
+        ensures any_moment { LeavesBefore ⟦<HeapGround<D> as HasGround>⟧ self.old.ground self.new.ground }
     {
         if let Some(moment) = self.failed {
             return Reply::Failed { moment };
@@ -137,7 +196,7 @@ impl<D: Disk> Station<D> {
         reply
     }
 
-    /// The moves of the last call.
+    /// The moves of the last call that was made. One that is refused `Doomed` or answered `Failed` isn't.
     pub fn moves(&self) -> &[Move]
         ensures { result.now ≡ self.now.ground.heap.moves }
     {
@@ -149,6 +208,13 @@ impl<D: Disk> Station<D> {
         ensures { result ≡ self.now.ground.moment }
     {
         self.ground.moment()
+    }
+
+    /// How many lines opening has put back.
+    pub fn restored(&self) -> u64
+        ensures { result ≡ self.now.ground.restored }
+    {
+        self.ground.restored()
     }
 
     // Keeps the transaction.
@@ -219,7 +285,9 @@ impl<D: Disk> Station<D> {
     /// doomed.
     pub fn end(&mut self) -> Result<Closed, Stop>
         requires begun { 0 < self.old.nesting.depth }
-        ensures { ClosesBy ⟦<HeapGround<D> as HasGround>⟧ Event.End ended self.old self.new result }
+        ensures closes { ClosesBy ⟦<HeapGround<D> as HasGround>⟧ Event.End ended self.old self.new result }
+        ensures any_moment { LeavesOr (keeps_in self.old.nesting Event.End) ⟦<HeapGround<D> as HasGround>⟧
+            self.old.ground self.new.ground }
     {
         if self.failed.is_some() {
             return Err(Stop::Failed);
@@ -233,7 +301,8 @@ impl<D: Disk> Station<D> {
     /// Cancels the transaction. An inner cancel dooms it.
     pub fn cancel(&mut self) -> Result<Closed, Stop>
         requires begun { 0 < self.old.nesting.depth }
-        ensures { ClosesBy ⟦<HeapGround<D> as HasGround>⟧ Event.Cancel cancelled self.old self.new result }
+        ensures closes { ClosesBy ⟦<HeapGround<D> as HasGround>⟧ Event.Cancel cancelled self.old self.new result }
+        ensures any_moment { LeavesBefore ⟦<HeapGround<D> as HasGround>⟧ self.old.ground self.new.ground }
     {
         if self.failed.is_some() {
             return Err(Stop::Failed);
@@ -247,7 +316,8 @@ impl<D: Disk> Station<D> {
     /// Ends the transaction, which was to change nothing.
     pub fn exit(&mut self) -> Result<Closed, Stop>
         requires begun { 0 < self.old.nesting.depth }
-        ensures { ClosesBy ⟦<HeapGround<D> as HasGround>⟧ Event.Exit ended self.old self.new result }
+        ensures closes { ClosesBy ⟦<HeapGround<D> as HasGround>⟧ Event.Exit ended self.old self.new result }
+        ensures any_moment { LeavesBefore ⟦<HeapGround<D> as HasGround>⟧ self.old.ground self.new.ground }
     {
         if self.failed.is_some() {
             return Err(Stop::Failed);

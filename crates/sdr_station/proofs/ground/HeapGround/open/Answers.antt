@@ -3,7 +3,7 @@ use Rattle.sdr_disk.specs.Moments.{AtEach}
 use Rattle.sdr_heap.specs.Noted.{Held}
 use Rattle.sdr_image.specs.Opened.{Opened}
 use Rattle.sdr_log.specs.Logged.{GivesSame}
-use Rattle.sdr_station.proofs.OpeningLemmas.{open_stands}
+use Rattle.sdr_station.proofs.OpeningLemmas.{open_ground, open_stands}
 use Rattle.sdr_station.specs.Grounded.{Grounded}
 use Rattle.sdr_station.specs.Opening.{IsOpen}
 use Rattle.sdr_station.proofs.ground.HeapGround.open.Goals as goal
@@ -21,9 +21,14 @@ returns-in-Ok-new-clause-opened g c =
     let m = g.D.Disk.moment in
     let l = g.D.Disk.may_leave in
     let made = c.in-Ok-new.ensures.made in
-    let new : Grounded D = record { heap = c.in-Ok-new.heap; shown = c.new-in-Ok-new.result; stopped = false; moment = c.now-moment.result } in
     subst (λ (n : Grounded D). IsOpen b m l c.args.disk n)
-    (λ i. record { heap = sym made i; shown = sym c.new-in-Ok-new.ensures i; stopped = false; moment = sym c.now-moment.ensures.moment i })
+    (λ i. record {
+      heap = sym made i;
+      shown = sym c.new-in-Ok-new.ensures i;
+      stopped = false;
+      moment = sym c.now-moment.ensures.moment i;
+      restored = sym c.restored-restored.ensures i;
+    })
     (open_stands b m l c.args.disk c.in-Ok.image c.check.new.c _ _ c.in-Ok.ensures.opened c.check.ensures.quiet c.check.ensures.bytes c.check.ensures.touched c.in_default.ensures.fresh)
 
 pub returns-in-Ok-new-clause-any_moment : goal.returns-in-Ok-new-clause-any_moment
@@ -37,3 +42,20 @@ returns-in-Err-new-clause-any_moment g c x is may =
     let D = g.row.D.Denot in
     subst (λ (d : D). AtEach g.D.Disk.moment g.D.Disk.may_leave c.args.disk d (GivesSame x))
     (sym (c.into_disk-in-Err-new.ensures.disk ∙ ap (λ (i : Opened D). i.disk) c.in-Err-new.ensures.back ∙ c.check.ensures.quiet.disk)) (c.in-Ok.ensures.any_moment x is may)
+
+pub invariant_of-result : goal.invariant_of-result
+invariant_of-result g c =
+    let D = g.row.D.Denot in
+    let b = g.D.Disk.bytes in
+    let m = g.D.Disk.moment in
+    let l = g.D.Disk.may_leave in
+    let made = c.in-Ok-new.ensures.made in
+    open_ground b m l c.args.disk _ (subst (λ (n : Grounded D). IsOpen b m l c.args.disk n)
+    (λ i. record {
+      heap = sym made i;
+      shown = sym c.new-in-Ok-new.ensures i;
+      stopped = false;
+      moment = sym c.now-moment.ensures.moment i;
+      restored = sym c.restored-restored.ensures i;
+    })
+    (open_stands b m l c.args.disk c.in-Ok.image c.check.new.c _ _ c.in-Ok.ensures.opened c.check.ensures.quiet c.check.ensures.bytes c.check.ensures.touched c.in_default.ensures.fresh))

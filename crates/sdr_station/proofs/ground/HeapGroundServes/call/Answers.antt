@@ -2,7 +2,7 @@ use Rattle.std.proofs.Common.{◌≡◌, false, subst, sym}
 use Rattle.sdr_lock.proofs.GroundLemmas.{leaves_same}
 use Rattle.sdr_station.proofs.GroundLemmas.{heap_ground}
 use Rattle.sdr_station.proofs.ServingLemmas.{gap_brought}
-use Rattle.sdr_station.specs.Grounded.{Grounded}
+use Rattle.sdr_station.specs.Grounded.{Grounded, IsGround}
 use Rattle.sdr_station.proofs.ground.HeapGroundServes.call.Goals as goal
 
 pub returns-then-self-clause-any_moment : goal.returns-then-self-clause-any_moment
@@ -11,12 +11,7 @@ returns-then-self-clause-any_moment g c =
 
 pub returns-clause-gap : goal.returns-clause-gap
 returns-clause-gap g c =
-    let D = g.row.D.Denot in
-    let b = g.D.Disk.bytes in
-    let m = g.D.Disk.moment in
-    let l = g.D.Disk.may_leave in
-    let going : c.args.self.now.stopped ≡ false = subst (λ (o : Grounded D). o.stopped ≡ false) c.self.view_is c.if-self.false in
-    let sound : c.args.self.now.heap.cells.failed ≡ false =
-    subst (λ (o : Grounded D). o.heap.cells.failed ≡ false) c.self.view_is (c.self.invariant c.if-self.false) in
-    gap_brought b m l c.args.self.now c.serve.new.self c.args.call.now c.serve.result (sym c.if-not-built.ensures) going (c.requires sound)
-    c.serve.ensures.answered
+    let ground : IsGround c.args.self.now = subst (λ (o : Grounded g.row.D.Denot). IsGround o) c.self.view_is c.self.invariant in
+    let going : c.args.self.now.stopped ≡ false = subst (λ (o : Grounded g.row.D.Denot). o.stopped ≡ false) c.self.view_is c.if-self.false in
+    gap_brought c.args.self.now c.serve.new.self c.args.call.now c.serve.result (sym c.if-not-built.ensures) going (ground.stands (ground.sound going))
+    c.serve.ensures.memory

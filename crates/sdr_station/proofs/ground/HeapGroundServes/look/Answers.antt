@@ -9,7 +9,7 @@ returns-clause-shown g c = record {
   each = λ v at. record {
     for = v;
     holds = at;
-    tells = record { shown = sym (no_ticket v.before.world c.args._ticket at.before.plain); still = record { before = refl; now = refl } };
+    tells = record { shown = sym (no_ticket v.before.world c.args._ticket at.memory.before.plain); still = record { before = refl; now = refl } };
   };
 }
 

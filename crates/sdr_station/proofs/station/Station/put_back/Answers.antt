@@ -13,8 +13,15 @@ returns-in-Ok g c =
     let old : Stationed D = record { ground = c.self.inside.ground; nesting = c.self.inside.nesting; failed = c.self.inside.failed } in
     let new : Stationed D = record { ground = c.restore.new.self; nesting = c.none-self-inside.result; failed = c.self.inside.failed } in
     subst (λ (o : Stationed D). Closes h close o new (Ok c.args.told)) c.self.view_is (record {
-      closes = (c.requires.told, settles_back h close old.ground new.ground c.requires.unkept c.in-Ok.ensures.put_back, ap (λ (s : Stationed D). s.failed) c.self.view_is ∙ c.requires.sound);
+      closes = record {
+        is_told = c.requires.told;
+        memory = settles_back close c.requires.unkept c.in-Ok.ensures.memory;
+        settles = settles_back close c.requires.unkept c.in-Ok.ensures.put_back;
+        failed = ap (λ (s : Stationed D). s.failed) c.self.view_is ∙ c.requires.sound;
+      };
       nesting = c.none-self-inside.ensures;
+      restored = c.in-Ok.ensures.restored;
+      keeps = c.in-Ok.ensures.keeps;
       any_moment = leaves_unkept h close old.ground new.ground c.requires.unkept c.in-Ok.ensures.any_moment;
     })
 
@@ -26,7 +33,9 @@ returns-in-Err g c =
     let old : Stationed D = record { ground = c.self.inside.ground; nesting = c.self.inside.nesting; failed = c.self.inside.failed } in
     let new : Stationed D = record { ground = c.restore.new.self; nesting = c.none-self-inside-in-Err.result; failed = Some c.moment.result } in
     subst (λ (o : Stationed D). Closes h close o new (Err stops.DiskFault)) c.self.view_is (record {
-      closes = (refl, c.in-Err.ensures.fault, ap (λ (m : ℕ). Some m) c.moment.ensures);
+      closes = record { is_fault = refl; fault = c.in-Err.ensures.fault; failed = ap (λ (m : ℕ). Some m) c.moment.ensures };
       nesting = c.none-self-inside-in-Err.ensures;
+      restored = c.in-Err.ensures.restored;
+      keeps = c.in-Err.ensures.keeps;
       any_moment = leaves_unkept h close old.ground new.ground c.requires.unkept c.in-Err.ensures.any_moment;
     })

@@ -1,20 +1,12 @@
 use Rattle.std.proofs.Common.{◌≡◌, ◌∙◌, ap, arith, sym, subst}
+use Rattle.sdr_lock.proofs.GroundLemmas.{leaves_same}
 use Rattle.sdr_lock.proofs.WorkLemmas.{on_none}
+use Rattle.sdr_lock.specs.Crash.{LeavesBefore}
 use Rattle.sdr_lock.specs.declared.nesting.Nesting.{Nesting}
 use Rattle.sdr_station.proofs.GroundLemmas.{heap_ground}
 use Rattle.sdr_station.proofs.StationLemmas.{noted_depth, undoomed_noted}
-use Rattle.sdr_station.specs.Grounded.{Lasts}
 use Rattle.sdr_station.specs.Stationed.{SaysOr, Stationed}
 use Rattle.sdr_station.proofs.station.Station.reply.Goals as goal
-
-pub serve-reply-requires-clause-lasts : goal.serve-reply-requires-clause-lasts
-serve-reply-requires-clause-lasts g c =
-    subst (λ (s : Stationed g.row.D.Denot). Lasts g.D.Disk.bytes g.D.Disk.moment g.D.Disk.may_leave s.ground) (sym c.self.view_is) c.requires.lasts
-
-pub returns-clause-lasts : goal.returns-clause-lasts
-returns-clause-lasts g c =
-    c.serve-reply.ensures.keeps.lasts 0
-    (subst (λ (s : Stationed g.row.D.Denot). Lasts g.D.Disk.bytes g.D.Disk.moment g.D.Disk.may_leave s.ground) (sym c.self.view_is) c.requires.lasts)
 
 pub returns-clause-says : goal.returns-clause-says
 returns-clause-says g c =
@@ -24,7 +16,14 @@ returns-clause-says g c =
     let new : Stationed D = record { ground = c.serve-reply.new.self; nesting = c.note.new.self; failed = c.self.inside.failed } in
     subst (λ (s : Stationed D). SaysOr h c.args.call.now c.serve-reply.result s new) c.self.view_is
     (on_none _ _ c.self.inside.failed c.in_default.is (on_none _ _ c.self.inside.nesting.doom c.in_default-doom.is
-    (record { steps = c.serve-reply.ensures.answered; nesting = c.note.ensures; failed = c.in_default.is })))
+    (record {
+      memory = c.serve-reply.ensures.memory;
+      steps = c.serve-reply.ensures.answered;
+      nesting = c.note.ensures;
+      failed = c.in_default.is;
+      restored = c.serve-reply.ensures.restored;
+      keeps = c.serve-reply.ensures.keeps;
+    })))
 
 pub invariant_of-self : goal.invariant_of-self
 invariant_of-self g c =
@@ -39,3 +38,18 @@ invariant_of-self g c =
           absurd (omega (arith, same, here, zero, c.requires.begun));
       sound = λ sound. c.serve-reply.ensures.sound;
     }
+
+pub returns-in-Some-clause-any_moment : goal.returns-in-Some-clause-any_moment
+returns-in-Some-clause-any_moment g c =
+    let h = heap_ground g.D.Disk.bytes g.D.Disk.moment g.D.Disk.faults g.D.Disk.may_leave in
+    leaves_same h c.args.self.now.ground
+
+pub returns-in-Some-doom-clause-any_moment : goal.returns-in-Some-doom-clause-any_moment
+returns-in-Some-doom-clause-any_moment g c =
+    let h = heap_ground g.D.Disk.bytes g.D.Disk.moment g.D.Disk.faults g.D.Disk.may_leave in
+    leaves_same h c.args.self.now.ground
+
+pub returns-clause-any_moment : goal.returns-clause-any_moment
+returns-clause-any_moment g c =
+    let h = heap_ground g.D.Disk.bytes g.D.Disk.moment g.D.Disk.faults g.D.Disk.may_leave in
+    subst (λ (s : Stationed g.row.D.Denot). LeavesBefore h s.ground c.serve-reply.new.self) c.self.view_is c.serve-reply.ensures.any_moment

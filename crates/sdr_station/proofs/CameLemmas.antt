@@ -1,0 +1,135 @@
+-- What a call comes to on a ground.
+use Rattle.std.proofs.Common.{◌≡◌, ◌∙◌, ◌≤◌, ◌⊎◌, ℕ, List, [], Bool, true, false, not, Option, None, Ok, Err, refl, sym, ap, subst}
+use Rattle.sdr_base.specs.KeptHeap.{KeepsRegion}
+use Rattle.sdr_base.specs.Moves.{KeepsSome}
+use Rattle.sdr_base.specs.Works.{Works}
+use Rattle.sdr_base.specs.declared.refusal.Refusal.{Refusal}
+use Rattle.sdr_base.specs.declared.stop.Stop.{Stop}
+use Rattle.sdr_base.specs.declared.stop.Stop.TheVariants as stops
+use Rattle.sdr_audit.specs.Standing.{HeapStandsFor}
+use Rattle.sdr_heap.specs.Noted.{Held}
+use Rattle.sdr_image.specs.Opened.{IsQuiet, Opened}
+use Rattle.sdr_lock.proofs.GroundLemmas.{keeps_more}
+use Rattle.sdr_lock.specs.Crash.{LeavesBefore}
+use Rattle.sdr_lock.specs.Serving.{Brings, Calls, KeepsGround}
+use Rattle.sdr_model.specs.Fields.{FitsCall}
+use Rattle.sdr_model.specs.Reading.{is_reading}
+use Rattle.sdr_model.specs.Steps.{Outcome}
+use Rattle.sdr_model.specs.declared.answer.Reply.{Reply}
+use Rattle.sdr_model.specs.declared.answer.Reply.TheVariants as replies
+use Rattle.sdr_model.specs.declared.call.Call.{Call}
+use Rattle.sdr_station.proofs.GivingLemmas.{gives_shown}
+use Rattle.sdr_station.proofs.GroundLemmas.{ground_brought, heap_ground, keeps_later}
+use Rattle.sdr_station.proofs.ServingLemmas.{answers_no_doom, brings_answered, brings_quiet, brings_refused, good_in, image_heap, leaves_quiet, no_fault, served_in}
+use Rattle.sdr_answers.specs.Answering.{Comes, IsGood, built, call_lines, dooms}
+use Rattle.sdr_station.specs.Closing.{moves_left}
+use Rattle.sdr_station.specs.Giving.{Gives}
+use Rattle.sdr_station.specs.Grounded.{Grounded, IsGround, StandsForBoth, StandsInMemory, heap_in}
+
+-- what a call came to on a ground
+pub record CameTo {D : Type 0} (told : D → Option (List ℕ)) (moment faults : D → ℕ) (may_leave : D → ℕ → List ℕ → Type 0) (call : Call)
+    (reply : Reply) (old new : Grounded D) : Type 0 where
+  pub memory : Brings StandsInMemory old new (Calls None call reply)
+  pub answered : Brings (λ g v. StandsForBoth told moment may_leave g v) old new (Calls None call reply)
+  pub stopped : new.stopped ≡ dooms call reply
+  pub gives : Gives reply new
+  pub sound : new.heap.cells.failed ≡ false
+  pub keeps : KeepsGround (heap_ground told moment faults may_leave) true old new
+  pub any_moment : LeavesBefore (heap_ground told moment faults may_leave) old new
+  pub is_ground : IsGround new
+
+-- A served call on a ground in which none was stopped, from this heap before it, without moves.
+module _ {D : Type 0} (told : D → Option (List ℕ)) (moment faults : D → ℕ) (may_leave : D → ℕ → List ℕ → Type 0) (old : Grounded D)
+    (ground : IsGround old) (going : old.stopped ≡ false) (call : Call) (is : built call ≡ true) (fit : FitsCall call)
+    (before : Held (Opened D)) (from : before ≡ record old.heap { moves = []; spare = before.spare })
+    (heap : Held (Opened D)) (page : List ℕ) where
+  sound : old.heap.cells.failed ≡ false
+  sound = ground.sound going
+
+  -- what it brings in memory, it comes to
+  comes_to : (reply : Reply) (new : Grounded D) → IsQuiet old.heap.cells new.heap.cells → new.moment ≡ old.moment
+      → faults old.heap.cells.disk ≤ faults new.heap.cells.disk → new.stopped ≡ dooms call reply → Gives reply new
+      → Brings StandsInMemory old new (Calls None call reply) → CameTo told moment faults may_leave call reply old new
+  comes_to reply new quiet same later stopped gives memory = record {
+    memory = memory;
+    answered = brings_quiet told moment may_leave old new quiet same memory;
+    stopped = stopped;
+    gives = gives;
+    sound = quiet.failed ∙ sound;
+    keeps = keeps_more (heap_ground told moment faults may_leave) (keeps_later told moment faults may_leave old new later);
+    any_moment = leaves_quiet told moment faults may_leave old new quiet.disk same;
+    is_ground = ground_brought old new ground sound (quiet.failed ∙ sound) memory;
+  }
+
+  -- an answered call
+  pub came_answered : (reply : Reply) → Comes call (heap_in before) (heap_in heap) old.shown page (Ok reply)
+      → Works {T = Reply} (image_heap faults) (call_lines (heap_in before) call) before heap (Ok reply)
+      → CameTo told moment faults may_leave call reply old
+      (record { heap = heap; shown = page; stopped = old.stopped; moment = old.moment; restored = old.restored })
+  came_answered reply comes' works' =
+      let fresh : Held (Opened D) = record old.heap { moves = []; spare = before.spare } in
+      let comes = subst (λ (h : Held (Opened D)). Comes call (heap_in h) (heap_in heap) old.shown page (Ok reply)) from comes' in
+      let works = subst (λ (h : Held (Opened D)). Works {T = Reply} (image_heap faults) (call_lines (heap_in h) call) h heap (Ok reply)) from works' in
+      let quiet : IsQuiet old.heap.cells heap.cells =
+      (works.quiet fresh (record { disk = refl; frame = refl; begun = refl; failed = refl }, refl)).0 in
+      let new : Grounded D = record { heap = heap; shown = page; stopped = old.stopped; moment = old.moment; restored = old.restored } in
+      let some = ground.stands sound in
+      let w = some.holds.now going in
+      let stands : HeapStandsFor (heap_in fresh) some.for.now.world = record { blocks = w.heap.blocks; roots = w.heap.roots; marks = w.heap.marks } in
+      let ans = comes.each some.for.now.world stands (served_in w) in
+      let outcome : Outcome = record { moves = heap.moves; after = ans.after; reply = reply } in
+      comes_to reply new quiet refl works.cause.later (going ∙ sym (answers_no_doom call reply ans.answered))
+      (gives_shown new some.for.now.world w.whole.valid call outcome is ans.row ans.gave (λ _. going) reply refl)
+      (brings_answered faults old going call is fit before.spare heap page reply comes works)
+
+  -- a refused call, which tells these moves, and dooms where it doesn't read
+  pub came_refused : (refusal : Refusal) (stop : Stop) → stop ≡ stops.Refused refusal → (left : Held (Opened D))
+      → left ≡ record heap { moves = moves_left refusal heap.moves; spare = left.spare } → (reads : Bool) → reads ≡ is_reading call
+      → Comes call (heap_in before) (heap_in heap) old.shown page (Err stop)
+      → Works {T = Reply} (image_heap faults) (call_lines (heap_in before) call) before heap (Err stop)
+      → CameTo told moment faults may_leave call (replies.Refused refusal) old
+      (record { heap = left; shown = page; stopped = not reads; moment = old.moment; restored = old.restored })
+  came_refused refusal stop stop_is left left_is reads reads_is comes' works' =
+      let fresh : Held (Opened D) = record old.heap { moves = []; spare = before.spare } in
+      let comes = subst (λ (s : Stop). Comes call (heap_in fresh) (heap_in heap) old.shown page (Err s)) stop_is
+          (subst (λ (h : Held (Opened D)). Comes call (heap_in h) (heap_in heap) old.shown page (Err stop)) from comes') in
+      let works = subst (λ (s : Stop). Works {T = Reply} (image_heap faults) (call_lines (heap_in fresh) call) fresh heap (Err s)) stop_is
+          (subst (λ (h : Held (Opened D)). Works {T = Reply} (image_heap faults) (call_lines (heap_in h) call) h heap (Err stop)) from works') in
+      let quiet : IsQuiet old.heap.cells heap.cells =
+      (works.quiet fresh (record { disk = refl; frame = refl; begun = refl; failed = refl }, refl)).0 in
+      let new : Grounded D = record {
+        heap = record heap { moves = moves_left refusal heap.moves; spare = left.spare };
+        shown = page;
+        stopped = not (is_reading call);
+        moment = old.moment;
+        restored = old.restored;
+      } in
+      let came : CameTo told moment faults may_leave call (replies.Refused refusal) old new =
+      comes_to (replies.Refused refusal) new quiet refl works.cause.later refl tt
+      (brings_refused faults old going call is fit before.spare heap page refusal left.spare comes works) in
+      subst (λ (g : Grounded D). CameTo told moment faults may_leave call (replies.Refused refusal) old g)
+      (λ i. record { heap = sym left_is i; shown = page; stopped = not (sym reads_is i); moment = old.moment; restored = old.restored }) came
+
+-- The heap before a served call on a ground in which none was stopped, without moves.
+module _ {D : Type 0} (old : Grounded D) (ground : IsGround old) (going : old.stopped ≡ false) (before : Held (Opened D))
+    (from : before ≡ record old.heap { moves = []; spare = before.spare }) where
+  -- there is a heap in it
+  pub keeps_before : KeepsSome (KeepsRegion before.size before.cells.bytes)
+  keeps_before =
+      let some = ground.stands (ground.sound going) in
+      let w = some.holds.now going in
+      subst (λ (h : Held (Opened D)). KeepsSome (KeepsRegion h.size h.cells.bytes)) (sym from) (record { pools = w.pools; keeps = w.keeps })
+
+  -- what is of a kind is kept in it
+  pub good_before : IsGood (heap_in before)
+  good_before =
+      let some = ground.stands (ground.sound going) in
+      let w = some.holds.now going in
+      subst (λ (h : Held (Opened D)). IsGood (heap_in h)) (sym from) (good_in old.heap before.spare w)
+
+  -- no call on it meets a disk fault
+  pub faults_never : (faults : D → ℕ) (new : Held (Opened D)) (lines : ℕ) (stop : Stop)
+      → Works {T = Reply} (image_heap faults) lines before new (Err stop)
+      → (stop ≡ stops.DiskFault) ⊎ (stop ≡ stops.MediaFault) ⊎ (stop ≡ stops.Failed) → ⊥
+  faults_never faults new lines stop works is =
+      no_fault faults before new lines (ap (λ (h : Held (Opened D)). h.cells.failed) from ∙ ground.sound going) stop works is

@@ -1,0 +1,18 @@
+//! Tests of `sdr_station`, as rows of literals, on disks in memory.
+//!
+//! 1. A row is what is asked of a station, and what it says then. Its literals come from worked rows and from the rules, and
+//!    not from the code.
+//! 2. A function plays rows in a loop, with one call of what is tested in it, and answers the first row that got something
+//!    else. A test wants that there is none.
+//! 3. Here stands what no clause says: that calls succeed with ample memory, which addresses the pools come to in numbers, and
+//!    which calls the disk gets in which order.
+#![tactic(auto)]
+
+#[cfg(test)]
+mod fault_tests;
+#[cfg(test)]
+mod pool_tests;
+#[cfg(test)]
+mod refusal_tests;
+#[cfg(test)]
+mod steps;
