@@ -205,8 +205,11 @@ module _ (old new : Heap) (w : World) (unmoved : old.moves ≡ []) (s : HeapStan
   user_refused list user was refusal m =
       change_refused_in (calls.SetListUser list user) list _ was refusal (λ o h. h) refl
       (λ l. record {
-        to = record { moves = []; after = record (with_thing w list (things.List (record l.row { user = user }))) { shown = [] };
-            reply = replies.Done };
+        to = record {
+          moves = [];
+          after = record (with_thing w list (things.List (record l.row { user = user }))) { shown = [] };
+          reply = replies.Done;
+        };
         row = on_some _ _ (as_list (thing_at w list)) l.row (ap as_list l.there) (refl, refl, refl);
         answered = refl;
       }) m
@@ -306,8 +309,12 @@ module _ (old new : Heap) (w : World) (unmoved : old.moves ≡ []) (s : HeapStan
     step =
         let l = list_is_at old w list s served small m.kind in (
           record {
-            to = record { moves = gave (blocks_in list l.row); after = record (without_thing w list) { shown = [] }; reply =
-                replies.Done };
+            to = record {
+              moves = gave (blocks_in list l.row);
+              after = record (without_thing w list) { shown = [] };
+              reply =
+                  replies.Done;
+            };
             row = on_some _ _ (as_list (thing_at w list)) l.row (ap as_list l.there) (refl, refl, refl);
             answered = refl;
           },
@@ -322,8 +329,11 @@ module _ (old new : Heap) (w : World) (unmoved : old.moves ≡ []) (s : HeapStan
   pub list_made : (user addr : ℕ) → MakesThing list_need addr (list_entries addr (record { user = user; elements = [] })) old new
       → Answered w (calls.List user) new [] (replies.At addr)
   list_made user addr makes =
-      thing_made w (calls.List user) list_need addr (things.List (record { user =
-          user; elements = [] })) old new unmoved s served.whole.valid tt makes
+      thing_made w (calls.List user) list_need addr (things.List (record {
+        user =
+            user;
+        elements = [];
+      })) old new unmoved s served.whole.valid tt makes
       (refl, (refl, refl))
 
   pub list_unmade : (user : ℕ) (was : List ℕ) (refusal : Refusal) → OnlyShort list_need old new (stops.Refused refusal)

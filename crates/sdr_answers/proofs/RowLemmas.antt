@@ -160,9 +160,12 @@ pub took_one : (w : World) (need addr : ℕ) (old new : Heap) → HeapStandsFor 
     → old.blocks addr ≡ None
     → addr ≢ 0 → addr < 2 ^ 32 → Made (Took need addr ∷ []) old new → Moved w (Took need addr ∷ []) old new
 took_one w need addr old new s valid unmoved free nonzero small made =
-    record { made =
-        made; has = took_has w need addr old new s valid free nonzero small
-        (moves_made (Took need addr ∷ []) old new unmoved made) }
+    record {
+      made =
+          made;
+      has = took_has w need addr old new s valid free nonzero small
+          (moves_made (Took need addr ∷ []) old new unmoved made);
+    }
 
 -- blocks were given back
 pub gave_fresh : (used addrs : List ℕ) → AreFresh used (gave addrs)
@@ -196,8 +199,11 @@ marks_none w moves none =
 pub thing_made : (w : World) (call : Call) (need addr : ℕ) (thing : Thing) (old new : Heap) → old.moves ≡ [] → HeapStandsFor old w
     → IsValid w
     → IsUntied thing → MakesThing need addr (thing_entries (ties_of w) addr thing) old new
-    → ByRow w (record { moves = Took need addr ∷ []; after = with_taken_marked (with_thing w addr thing) (Took need addr ∷ []);
-    reply = replies.At addr }) call
+    → ByRow w (record {
+      moves = Took need addr ∷ [];
+      after = with_taken_marked (with_thing w addr thing) (Took need addr ∷ []);
+      reply = replies.At addr;
+    }) call
     → Answered w call new [] (replies.At addr)
 thing_made w call need addr thing old new unmoved s valid untied makes row =
     moved_answered w (with_thing w addr thing) call (Took need addr ∷ []) new (replies.At addr)
