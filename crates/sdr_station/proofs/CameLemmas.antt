@@ -92,9 +92,9 @@ module _ {D : Type 0} (told : D → Option (List ℕ)) (moment faults : D → �
   came_refused refusal stop stop_is left left_is reads reads_is comes' works' =
       let fresh : Held (Opened D) = record old.heap { moves = []; spare = before.spare } in
       let comes = subst (λ (s : Stop). Comes call (heap_in fresh) (heap_in heap) old.shown page (Err s)) stop_is
-          (subst (λ (h : Held (Opened D)). Comes call (heap_in h) (heap_in heap) old.shown page (Err stop)) from comes') in
+      (subst (λ (h : Held (Opened D)). Comes call (heap_in h) (heap_in heap) old.shown page (Err stop)) from comes') in
       let works = subst (λ (s : Stop). Works {T = Reply} (image_heap faults) (call_lines (heap_in fresh) call) fresh heap (Err s)) stop_is
-          (subst (λ (h : Held (Opened D)). Works {T = Reply} (image_heap faults) (call_lines (heap_in h) call) h heap (Err stop)) from works') in
+      (subst (λ (h : Held (Opened D)). Works {T = Reply} (image_heap faults) (call_lines (heap_in h) call) h heap (Err stop)) from works') in
       let quiet : IsQuiet old.heap.cells heap.cells =
       (works.quiet fresh (record { disk = refl; frame = refl; begun = refl; failed = refl }, refl)).0 in
       let new : Grounded D = record {

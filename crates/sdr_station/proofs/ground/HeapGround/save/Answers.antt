@@ -40,7 +40,7 @@ returns-in-Ok g c =
     let at_now = at.ensures.moment ∙ ap (λ (h : Held (Opened D)). max old.moment (m h.cells.disk)) at.ensures.same in
     let sound : old.heap.cells.failed ≡ false = e.cause.explained.0 in
     let closed = closes_kept b m f l old disk at.result at_now sound e.disk.tells _ (e.any_moment sound) new is c.self.invariant going
-        e.cause.later (λ rests. subst (λ (h : Held (Opened D)). Rests b m l h.cells) e.ended (e.rests rests)) (λ image p. p) in
+    e.cause.later (λ rests. subst (λ (h : Held (Opened D)). Rests b m l h.cells) e.ended (e.rests rests)) (λ image p. p) in
     let all : ClosesTo b m f l true Keeps c.args.self.now new = subst (λ (o : Grounded D). ClosesTo b m f l true Keeps o new) c.self.view_is closed in
     record {
       memory = all.memory;
@@ -115,7 +115,7 @@ invariant_of-self g c =
     let at_now = at.ensures.moment ∙ ap (λ (h : Held (Opened D)). max old.moment (m h.cells.disk)) at.ensures.same in
     let sound : old.heap.cells.failed ≡ false = e.cause.explained.0 in
     let closed = closes_kept b m f l old disk at.result at_now sound e.disk.tells _ (e.any_moment sound) new is c.self.invariant going
-        e.cause.later (λ rests. subst (λ (h : Held (Opened D)). Rests b m l h.cells) e.ended (e.rests rests)) (λ image p. p) in
+    e.cause.later (λ rests. subst (λ (h : Held (Opened D)). Rests b m l h.cells) e.ended (e.rests rests)) (λ image p. p) in
     closed.is_ground
 
 pub returns-in-Err-clause-fault : goal.returns-in-Err-clause-fault

@@ -48,7 +48,7 @@ returns-in-Ok g c =
       restored = c.self.inside.restored;
     } in
     let came = came_answered b m f l _ c.self.invariant going c.args.call.now c.requires.built c.in-Ok.ensures.fits c.fresh.new.self
-        c.fresh.ensures.none c.answer.new.o c.answer.new.page reply c.in-Ok.ensures.comes c.in-Ok.ensures.works in
+    c.fresh.ensures.none c.answer.new.o c.answer.new.page reply c.in-Ok.ensures.comes c.in-Ok.ensures.works in
     let at : CameTo b m f l c.args.call.now reply c.args.self.now new =
     subst (λ (o : Grounded D). CameTo b m f l c.args.call.now reply o new) c.self.view_is came in
     record {
@@ -80,8 +80,8 @@ returns-in-Err-Refused g c =
       restored = c.self.inside.restored;
     } in
     let came = came_refused b m f l _ c.self.invariant going c.args.call.now c.requires.built e.ensures.fits c.fresh.new.self
-        c.fresh.ensures.none c.answer.new.o c.answer.new.page e.refusal e.field-0 e.field-0-is c.forget_moves.new.heap
-        c.forget_moves.ensures c.is_reading.result c.is_reading.ensures e.ensures.comes e.ensures.works in
+    c.fresh.ensures.none c.answer.new.o c.answer.new.page e.refusal e.field-0 e.field-0-is c.forget_moves.new.heap
+    c.forget_moves.ensures c.is_reading.result c.is_reading.ensures e.ensures.comes e.ensures.works in
     let at : CameTo b m f l c.args.call.now reply c.args.self.now new =
     subst (λ (o : Grounded D). CameTo b m f l c.args.call.now reply o new) c.self.view_is came in
     record {
@@ -104,7 +104,7 @@ invariant_of-self g c =
     let f = g.D.Disk.faults in
     let going = ap (λ (o : Grounded D). o.stopped) c.self.view_is ∙ c.requires.going in
     let came = came_answered b m f l _ c.self.invariant going c.args.call.now c.requires.built c.in-Ok.ensures.fits c.fresh.new.self
-        c.fresh.ensures.none c.answer.new.o c.answer.new.page c.in-Ok.reply c.in-Ok.ensures.comes c.in-Ok.ensures.works in
+    c.fresh.ensures.none c.answer.new.o c.answer.new.page c.in-Ok.reply c.in-Ok.ensures.comes c.in-Ok.ensures.works in
     came.is_ground
 
 pub invariant_of-self-in-Err-Refused : goal.invariant_of-self-in-Err-Refused
@@ -117,6 +117,6 @@ invariant_of-self-in-Err-Refused g c =
     let going = ap (λ (o : Grounded D). o.stopped) c.self.view_is ∙ c.requires.going in
     let e = c.in-Err-Refused in
     let came = came_refused b m f l _ c.self.invariant going c.args.call.now c.requires.built e.ensures.fits c.fresh.new.self
-        c.fresh.ensures.none c.answer.new.o c.answer.new.page e.refusal e.field-0 e.field-0-is c.forget_moves.new.heap
-        c.forget_moves.ensures c.is_reading.result c.is_reading.ensures e.ensures.comes e.ensures.works in
+    c.fresh.ensures.none c.answer.new.o c.answer.new.page e.refusal e.field-0 e.field-0-is c.forget_moves.new.heap
+    c.forget_moves.ensures c.is_reading.result c.is_reading.ensures e.ensures.comes e.ensures.works in
     came.is_ground
