@@ -3,7 +3,7 @@ use Rattle.std.specs.Cmp.Lexicographic.{pointwise}
 use Rattle.std.proofs.lemmas.Iterator.{YieldsList-from_slice}
 use Rattle.std.proofs.lemmas.Iterator.Search.{position_from_yields_List}
 use Rattle.sdr_words.proofs.VerbLemmas.{position-map}
-use Rattle.sdr_words.proofs.verb.place_in.Goals as goal
+use Rattle.sdr_words.proofs.verb.place_among.Goals as goal
 
 pub returns : goal.returns
 returns c =
