@@ -4,13 +4,14 @@ use Rattle.sdr_base.specs.Causes.{Rose}
 use Rattle.sdr_base.specs.Media.{Told}
 use Rattle.sdr_lock.specs.Core.{AreInTime, Core, CoreStep, Log, RunsCore, first_core}
 use Rattle.sdr_lock.specs.Crash.{IsCrashSafe, OpensAfter, done_by, is_sound, keeps_by}
-use Rattle.sdr_lock.specs.Ground.{State, resting}
+use Rattle.sdr_lock.specs.Ground.{Ground, State, resting}
 use Rattle.sdr_lock.specs.Machine.{Made}
 use Rattle.sdr_lock.specs.Legal.{IsAfter, IsLegal}
 use Rattle.sdr_lock.specs.Serving.{Asks, Leads, Locked, StandsFor, Stood, StoodFor, machine_at, made_by}
 use Rattle.sdr_lock.specs.Standing.{Standing}
 use Rattle.sdr_lock.specs.declared.came.Came.{Came}
 use Rattle.sdr_lock.specs.declared.has_ground.HasGround.{Ghosts}
+use Rattle.sdr_model.specs.World.{fresh_world}
 use Rattle.sdr_model.specs.declared.event.Event.{Event}
 use Rattle.sdr_model.specs.declared.journal.Entry.{Entry}
 use Rattle.sdr_base.specs.declared.moves.Move.{Move}
@@ -32,6 +33,10 @@ pub record Begins : Type 0 where
   pub first : State
   pub start : ℕ
   pub faults : ℕ
+
+-- without a heap, a thing or a daemon
+abbrev pub bare_begins : Begins
+bare_begins = record { told = None; daemons = []; first = resting (fresh_world 0) Ground.NoHeap; start = 0; faults = 0 }
 
 -- The ground is where the run begins: it stands for the first state, in which no transaction is open, and at each moment since
 -- the first a crash left what opens to that state.

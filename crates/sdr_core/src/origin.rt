@@ -1,7 +1,13 @@
 // What a core begins from.
-ghost use Rattle.sdr_core.specs.CoreKept.{Begins};
+ghost use Rattle.sdr_core.specs.CoreKept.{Begins, bare_begins};
+
+use std::marker::Brand;
 
 /// What the facts of a core begin from. The caller that makes one picks it.
 pub trait Origin {
     ghost begins: { Begins };
+}
+
+impl Origin for Brand {
+    ghost begins = { bare_begins };
 }

@@ -7,7 +7,7 @@ use Rattle.sdr_base.specs.Written.{AppendsPart}
 use Rattle.sdr_core.proofs.RunLemmas.{runs_more}
 use Rattle.sdr_core.specs.CoreKept.{Begins, BeginsOn, IsRunOf, Kept, Makes, core_at}
 use Rattle.sdr_core.specs.Leaving.{LastsOn, RunLeads}
-use Rattle.sdr_dry.proofs.ScheduleLemmas.{follows-push, run_text-push}
+use Rattle.sdr_dry.proofs.ScheduleLemmas.{run_text-push}
 use Rattle.sdr_dry.specs.Schedule.{Follows, MakesEvent, daemons_of, run_text}
 use Rattle.sdr_lock.specs.Core.{Core, CoreStep, Log, RunsCore, first_core}
 use Rattle.sdr_lock.specs.Leaving.{AllLeave}

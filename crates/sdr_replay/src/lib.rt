@@ -8,5 +8,7 @@
 #![tactic(auto)]
 
 mod playing;
+mod replaying;
 
 pub use playing::{Ran, play};
+pub use replaying::replay;

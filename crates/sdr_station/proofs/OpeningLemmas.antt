@@ -6,6 +6,7 @@ use Rattle.std.specs.Ordering.{nat_cmp}
 use Rattle.sdr_audit.proofs.FreshLemmas.{fresh_stands_whole}
 use Rattle.sdr_audit.specs.Checking.{IsFresh}
 use Rattle.sdr_audit.specs.Standing.{StandsForWhole}
+use Rattle.sdr_base.proofs.FreshHeapLemmas.{length-fresh_heap}
 use Rattle.sdr_base.specs.FreshHeap.{fresh_heap}
 use Rattle.sdr_base.specs.Pools.{fresh_pools}
 use Rattle.sdr_image.proofs.OpenedLemmas.{rests_same}
@@ -80,6 +81,7 @@ open_stands {D} told moment may_leave disk i j count spare o q bytes touched f =
       lines = f.lines;
       least = f.least;
       most = f.most;
+      long = ap (λ (b : List ℕ). length b) (bytes ∙ f.is) ∙ length-fresh_heap f.lines f.least;
       going = refl;
       sound = q.failed ∙ o.sound;
       gives = λ x is. o.heap x is ∙ ap (λ (b : List ℕ). Some b) f.is;

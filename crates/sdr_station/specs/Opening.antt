@@ -34,6 +34,7 @@ pub record IsOpen {D : Type 0} (told : D → Option (List ℕ)) (moment : D → 
   pub lines : ℕ
   pub least : LEAST_LINES ≤ lines
   pub most : lines ≤ MOST_LINES
+  pub long : g.heap.size ≡ 64 * lines
   pub going : g.stopped ≡ false
   pub sound : g.heap.cells.failed ≡ false
   pub gives : IfTold (told disk) (λ x. put_back_of x ≡ Some (fresh_heap lines))
