@@ -1,0 +1,9 @@
+mod KeptLemmas
+mod ItemLemmas
+mod OpenedLemmas
+mod MadeLemmas
+mod WalkLemmas
+mod FindLemmas
+mod LinkLemmas
+mod AddLemmas
+mod OutLemmas
