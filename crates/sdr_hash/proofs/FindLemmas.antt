@@ -12,15 +12,16 @@ use Rattle.sdr_base.specs.Words.{HasWord}
 use Rattle.sdr_base.specs.declared.kind.Kind.TheVariants as kinds
 use Rattle.sdr_base.specs.declared.stop.Stop.{Stop}
 use Rattle.sdr_hash.specs.Buckets.{bucket_of, has_key, items_by}
+use Rattle.sdr_hash.specs.Changes.{SomePlace}
 use Rattle.sdr_hash.specs.Calls.{CountsEntries, FindsKey, HasKey, IsKeyOf, IsNoKeyOf, LacksKey, told_of}
 use Rattle.sdr_hash.specs.Kept.{IsHash, KeepsHash, SomeHash}
-use Rattle.sdr_hash.specs.Opened.{FrontsBucket, KeepsBucket, SomeBucket}
+use Rattle.sdr_hash.specs.Opened.{FrontsBucket, IsOpened, KeepsBucket, SomeBucket}
 use Rattle.sdr_hash.specs.Walks.{IsFirst, Searches}
 use Rattle.sdr_hash.specs.declared.bucket.Link.{Link}
 use Rattle.sdr_hash.specs.declared.searching.Place.{Place}
 use Rattle.sdr_hash.proofs.ItemLemmas.{KeepsItem, value_is}
-use Rattle.sdr_hash.proofs.KeptLemmas.{buckets_is, entries_is, few_entries, key_length_is}
-use Rattle.sdr_hash.proofs.OpenedLemmas.{keeps_bucket}
+use Rattle.sdr_hash.proofs.KeptLemmas.{buckets_is, entries_is, few_entries, hash_words, key_length_is}
+use Rattle.sdr_hash.proofs.OpenedLemmas.{keeps_bucket, opened}
 use Rattle.sdr_hash.proofs.WalkLemmas.{here}
 
 -- the bucket of a key is one of the hash's
@@ -67,8 +68,16 @@ module _ {b : Blocks} {hash size : ℕ} {key : List ℕ} {front : Link} (f : Fro
   pub some_bucket : SomeHash b hash → SomeBucket b front (length key)
   some_bucket s = record { bucket = items_by s.row key; keeps = bucket_for s.row s.keeps }
 
+  -- what is known of the bucket of the key
+  pub opened_for : (row : HashRow) → KeepsHash b hash row → IsOpened (length key) front.field (hash_words row) (items_by row key)
+  opened_for row k =
+      let p = bucket_of (length row.buckets) key in
+      subst (λ n. IsOpened n front.field (hash_words row) (items_by row key)) (sym (f.is.long row k))
+      (subst (λ field. IsOpened row.key_length field (hash_words row) (items_by row key)) (sym (f.field row k))
+      (opened row p k.fits (few_entries k few small) (bucket_below key k)))
+
   -- it has the key
-  found_item : {place : Place} → Searches b front key (Some place) → (row : HashRow) → (k : KeepsHash b hash row) →
+  pub found_item : {place : Place} → Searches b front key (Some place) → (row : HashRow) → (k : KeepsHash b hash row) →
       IsFirst key front (items_by row key) place
   found_item s row k = s.searched (items_by row key) (bucket_for row k)
 
@@ -82,13 +91,22 @@ module _ {b : Blocks} {hash size : ℕ} {key : List ℕ} {front : Link} (f : Fro
         ∙ ap (λ (v : ℕ). Some v) (sym (value_is e (subst (λ p. HasWord (b p) 1 value) i.at_addr h)));
   }
 
-  pub has : {place : Place} → Searches b front key (Some place) → HasKey b hash key
+  unfoldable pub has : {place : Place} → Searches b front key (Some place) → HasKey b hash key
   has {place} s = record {
     is = f.is;
     addr = place.addr;
     here = λ row k.
         let i = found_item s row k in
         ap (told_of (λ item. item.addr)) (first_is i) ∙ ap (λ (v : ℕ). Some v) (sym i.at_addr);
+  }
+
+  -- the place of the key is some entry's
+  pub some_place : {place : Place} → Searches b front key (Some place) → SomeHash b hash → SomePlace b front place
+  some_place s k = record {
+    key = key;
+    bucket = items_by k.row key;
+    keeps = bucket_for k.row k.keeps;
+    is = s.searched (items_by k.row key) (bucket_for k.row k.keeps);
   }
 
   -- or it hasn't

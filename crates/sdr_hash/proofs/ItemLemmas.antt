@@ -1,10 +1,11 @@
 -- What an entry's block says.
-use Rattle.std.proofs.Common.{◌≡◌, ℕ, ◌+◌, ◌<◌, ◌^◌, ◌≤◌, List, [], ◌∷◌, ◌++◌, length, drop, Bool, Option, Some, refl, sym, ap, ◌∙◌, arith, subst}
+use Rattle.std.proofs.Common.{◌≡◌, ℕ, ◌+◌, ◌<◌, ◌^◌, ◌≤◌, List, [], ◌∷◌, ◌++◌, length, take, drop, Bool, Option, Some, refl, sym, ap, ◌∙◌, arith, subst}
 use Rattle.std.specs.Bool.{Decides}
 use Rattle.std.specs.Cmp.{unsigned_Decides}
 use Rattle.std.specs.Cmp.Lexicographic.{pointwise}
 use Rattle.std.specs.Prelude.{nat_eq, true, false}
-use Rattle.std.proofs.lemmas.List.{take_all}
+use Rattle.std.proofs.Math.ListN.{drop_of_length-le}
+use Rattle.std.proofs.lemmas.List.{append-nil, take_all}
 use Rattle.std.proofs.lemmas.Slice.Eq.{slice_eq-Decides}
 use Rattle.sdr_base.specs.Blocks.{Block, HasBytes, Reaches}
 use Rattle.sdr_base.specs.Hashes.{HashItem, item_block}
@@ -66,3 +67,12 @@ pub answered : {found : Option Block} {answer : Bool} (key : List ℕ) → Compa
     KeepsItem found (length key) item next → has_key key item ≡ answer
 answered key c item next k =
     sym (c.is ∙ ap (λ (l : List ℕ). pointwise nat_eq l key) (key_is k (length key) refl c.has) ∙ turned item.key key)
+
+-- the words of an entry in front, and its key behind them
+pub entry_is : (next value : ℕ) (key front behind rest : List ℕ) (n : ℕ) → front ≡ layout (next ∷ value ∷ []) [] → behind ≡ key → length rest ≤ n →
+    take 16 (front ++ rest) ++ (behind ++ drop n (drop 16 (front ++ rest))) ≡ layout (next ∷ value ∷ []) key
+unfolding layout
+entry_is next value key front behind rest n f b short =
+    ap (λ (l : List ℕ). take 16 (l ++ rest) ++ (behind ++ drop n (drop 16 (l ++ rest)))) f
+    ∙ ap (λ (l : List ℕ). layout (next ∷ value ∷ []) (behind ++ l)) (drop_of_length-le rest {i = n} short)
+    ∙ ap (layout (next ∷ value ∷ [])) (append-nil behind ∙ b)

@@ -7,3 +7,6 @@ mod FindLemmas
 mod LinkLemmas
 mod AddLemmas
 mod OutLemmas
+mod ChangeLemmas
+mod GiveLemmas
+mod DestroyLemmas

@@ -62,6 +62,7 @@ opened row p fits few less =
     let l = length-hash_words row in
     let most = fits.shape.count.few in
     record {
+      short = fits.shape.key.short;
       behind = omega arith;
       inside = omega (arith, l, less);
       few = omega (arith, l, most);

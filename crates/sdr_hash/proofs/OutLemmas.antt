@@ -50,20 +50,28 @@ length-removed {bucket = bucket} f =
     let b = length-append f.before (f.item ∷ f.behind) in omega (arith, r, a, w, b)
 
 -- what stands behind those before it
-abbrev from_it : List HashItem → HashItem → List HashItem → Entries → Entries
+abbrev pub from_it : List HashItem → HashItem → List HashItem → Entries → Entries
 from_it xs x ys rest =
     (x.addr, item_block 0 (first_of item_addr 0 ys) x) ∷ (linked item_addr item_block (last_of item_addr 0 xs) 0 ys ++ rest)
 
--- the bucket is cut at it
-cut : {b : Blocks} (hash : ℕ) (words : List ℕ) (xs : List HashItem) (x : HashItem) (ys : List HashItem) (rest : Entries) →
-    Stands b (opened_entries hash words (xs ++ (x ∷ ys)) ++ rest) → Stands b (part_entries hash words x.addr xs (from_it xs x ys rest))
-cut {b} hash words xs x ys rest s =
-    subst (λ (es : Entries). Stands b ((hash, words_block words) ∷ es))
-    (ap (λ (es : Entries). es ++ rest) (linked-around item_addr item_block 0 0 xs x ys)
+-- a bucket at one of its entries
+around : (xs : List HashItem) (x : HashItem) (ys : List HashItem) (rest : Entries) →
+    bucket_entries (xs ++ (x ∷ ys)) ++ rest ≡ linked item_addr item_block 0 x.addr xs ++ from_it xs x ys rest
+around xs x ys rest =
+    ap (λ (es : Entries). es ++ rest) (linked-around item_addr item_block 0 0 xs x ys)
     ∙ append_assoc (linked item_addr item_block 0 x.addr xs)
     ((x.addr, item_block 0 (first_of item_addr 0 ys) x) ∷ linked item_addr item_block x.addr 0 ys) rest
     ∙ ap (λ (es : Entries). linked item_addr item_block 0 x.addr xs ++ ((x.addr, item_block 0 (first_of item_addr 0 ys) x) ∷ (es ++ rest)))
-    (any_previous x.addr (last_of item_addr 0 xs) 0 ys)) s
+    (any_previous x.addr (last_of item_addr 0 xs) 0 ys)
+
+-- the bucket is cut at it, and joined
+pub cut : {b : Blocks} (hash : ℕ) (words : List ℕ) (xs : List HashItem) (x : HashItem) (ys : List HashItem) (rest : Entries) →
+    Stands b (opened_entries hash words (xs ++ (x ∷ ys)) ++ rest) → Stands b (part_entries hash words x.addr xs (from_it xs x ys rest))
+cut {b} hash words xs x ys rest s = subst (λ (es : Entries). Stands b ((hash, words_block words) ∷ es)) (around xs x ys rest) s
+
+pub joined : {b : Blocks} (hash : ℕ) (words : List ℕ) (xs : List HashItem) (x : HashItem) (ys : List HashItem) (rest : Entries) →
+    Stands b (part_entries hash words x.addr xs (from_it xs x ys rest)) → Stands b (opened_entries hash words (xs ++ (x ∷ ys)) ++ rest)
+joined {b} hash words xs x ys rest s = subst (λ (es : Entries). Stands b ((hash, words_block words) ∷ es)) (sym (around xs x ys rest)) s
 
 -- the whole call, read
 module _ (front : Link) (place : Place) (next count : ℕ) (old : Heap) (h : HasWord (old.blocks place.addr) 0 next)

@@ -10,6 +10,7 @@ use Rattle.sdr_hash.specs.Buckets.{bucket_of}
 use Rattle.sdr_hash.specs.Calls.{IsKeyOf}
 use Rattle.sdr_hash.specs.Kept.{ItemFits, KeepsHash}
 use Rattle.sdr_hash.specs.declared.bucket.Link.{Link}
+use Rattle.sdr_hash.specs.declared.hash.TheConstants.{LONGEST_KEY}
 
 -- the block of a hash of these words
 abbrev pub words_block : List ℕ → Block
@@ -23,8 +24,10 @@ opened_entries hash words bucket = (hash, words_block words) ∷ bucket_entries 
 abbrev pub with_front : List ℕ → ℕ → List HashItem → ℕ → List ℕ
 with_front words field bucket count = set (set words field (first_of item_addr 0 bucket)) 2 count
 
--- the bucket's word is among those of the hash behind the count, and the entries fit
+-- the keys are of a length that is allowed, the bucket's word is among those of the hash behind the count, and the
+-- entries fit
 pub record IsOpened (key_length field : ℕ) (words : List ℕ) (bucket : List HashItem) : Type 0 where
+  pub short : key_length ≤ LONGEST_KEY
   pub behind : 3 ≤ field
   pub inside : field < length words
   pub few : length words < 2 ^ 32

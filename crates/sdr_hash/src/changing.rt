@@ -10,7 +10,6 @@ ghost use Rattle.sdr_hash.specs.Opened.{SomeBucket};
 
 use crate::bucket::{Link, front_of};
 use crate::entry::take_entry;
-use crate::hash::LONGEST_KEY;
 use crate::searching::{KEY_FROM, Place, search};
 use sdr_base::layout::{hash as hash_words, hash_entry as words};
 use sdr_base::{Addr, Objects, Refusal, Stop, set_word, word};
@@ -40,7 +39,6 @@ pub fn insert<O: Objects>(o: &mut O, hash: Addr, key: &[u8], value: u64) -> Resu
 fn add_first<O: Objects>(o: &mut O, front: Link, key: &[u8], value: u64) -> Result<(), Stop>
     requires kept { KeepsSome (O.keeps o.old) }
     requires spare { 1 ≤ (O.heap o.old).spare }
-    requires short { length key.now ≤ LONGEST_KEY }
     requires bucket { SomeBucket (O.heap o.old).blocks front (length key.now) }
     ensures added { OnOk result (AddsFirst front key.now value (O.heap o.old) (O.heap o.new)) }
     ensures refused { IfErr result

@@ -1,5 +1,5 @@
 // New entries.
-ghost use Rattle.std.specs.Prelude.{◌≡◌, ◌≤◌, ◌+◌, ◌/◌, [], ◌∷◌, length, take, IfOk, IfErr};
+ghost use Rattle.std.specs.Prelude.{◌≡◌, ◌≤◌, ◌+◌, ◌/◌, [], ◌∷◌, length, IfOk, IfErr};
 ghost use Rattle.sdr_base.specs.Moves.{KeepsSome};
 ghost use Rattle.sdr_base.specs.Objects.{OnlyShort};
 ghost use Rattle.sdr_base.specs.Words.{TakesBytes, layout};
@@ -25,17 +25,17 @@ pub fn take_entry<O: Objects>(o: &mut O, next: Addr, value: u64, key: &[u8]) -> 
     ensures works { Works O.HasHeap
         (26 + (KEY_FROM + length key.now) / 32) o.old o.new result }
 {
-    let bytes = entry_bytes(next, value, key);
-    take_bytes(o, Kind::HashEntry, &bytes[..KEY_FROM + key.len()])
+    let mut buffer = [0; KEY_FROM + LONGEST_KEY];
+    let bytes = &mut buffer[..KEY_FROM + key.len()];
+    fill(next, value, key, bytes);
+    take_bytes(o, Kind::HashEntry, bytes)
 }
 
-// The bytes of an entry, and zeros behind them.
-fn entry_bytes(next: Addr, value: u64, key: &[u8]) -> [u8; KEY_FROM + LONGEST_KEY]
-    requires short { length key.now ≤ LONGEST_KEY }
-    ensures { take (KEY_FROM + length key.now) result ≡ layout (next ∷ value ∷ []) key.now }
+// Fills a buffer with the bytes of an entry.
+fn fill(next: Addr, value: u64, key: &[u8], into: &mut [u8])
+    requires long { length into.old ≡ KEY_FROM + length key.now }
+    ensures { into.new ≡ layout (next ∷ value ∷ []) key.now }
 {
-    let mut bytes = [0; KEY_FROM + LONGEST_KEY];
-    BigEndian::write_u64_into(&[next, value], &mut bytes[..KEY_FROM]);
-    bytes[KEY_FROM..KEY_FROM + key.len()].copy_from_slice(key);
-    bytes
+    BigEndian::write_u64_into(&[next, value], &mut into[..KEY_FROM]);
+    into[KEY_FROM..].copy_from_slice(key);
 }

@@ -24,6 +24,13 @@ bucket_of-requires-clause-few g c =
     let n = buckets_is k.keeps (rw c.hash_word.ensures.looks.same at c.in_ok-buckets.ensures.given) in
     let few = k.keeps.fits.shape.count.few in omega (arith, n, few)
 
+pub overflow_add-result : goal.overflow_add-result
+overflow_add-result g c =
+    let k = c.requires.hash c.in_ok-want.ensures.found in
+    let n = buckets_is k.keeps (rw c.hash_word.ensures.looks.same at c.in_ok-buckets.ensures.given) in
+    let few = k.keeps.fits.shape.count.few in
+    let below = c.bucket_of.ensures.below in omega (arith, n, few, below)
+
 pub returns-clause-found : goal.returns-clause-found
 returns-clause-found g c =
     fronts c.in_ok-want.want c.in_ok-buckets.buckets c.bucket_of.result c.args.key.now _ c.in_ok-want.ensures.found c.in_ok-want.ensures.given

@@ -15,6 +15,9 @@ word-requires-clause-inside g c = front_reaches c.requires.bucket.keeps c.args.f
 pub word-requires-2-clause-inside : goal.word-requires-2-clause-inside
 word-requires-2-clause-inside g c = rw c.word.ensures.looks.same (hash_there c.requires.bucket.keeps)
 
+pub take_entry-requires-clause-short : goal.take_entry-requires-clause-short
+take_entry-requires-clause-short g c = c.requires.bucket.keeps.opened.short
+
 pub set_word-requires-clause-inside : goal.set_word-requires-clause-inside
 set_word-requires-clause-inside g c =
     let n = rw c.word.ensures.looks.same at c.in_ok-count.ensures.given in

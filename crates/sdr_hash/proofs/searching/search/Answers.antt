@@ -16,6 +16,9 @@ loop-i-init g c = record {
 pub returns-then-addr-eq0-clause-found : goal.returns-then-addr-eq0-clause-found
 returns-then-addr-eq0-clause-found g c = found_none c.loop-i.invariant.walks c.if-addr-eq0.true
 
+pub has_key-requires-clause-short : goal.has_key-requires-clause-short
+has_key-requires-clause-short g c = c.requires.bucket.keeps.opened.short
+
 pub has_key-requires-clause-inside : goal.has_key-requires-clause-inside
 has_key-requires-clause-inside g c =
     rw c.loop-i.invariant.looks.same

@@ -7,6 +7,6 @@ use Rattle.sdr_hash.proofs.searching.search.Given as goal
 
 abbrev pub invariant-loop-i : goal.invariant-loop-i
 invariant-loop-i g l = record {
-  walks : Walks (g.O.HasHeap.heap l.fn.o).blocks l.initial.link l.key l.link l.addr l.i;
+  walks : Walks (g.O.HasHeap.heap l.fn.o).blocks l.fn.front l.key l.link l.addr l.i;
   looks : Looks {T = ℕ} g.O.HasHeap l.fn.o l.o (Ok 0);
 }
