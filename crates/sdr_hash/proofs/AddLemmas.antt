@@ -1,7 +1,6 @@
 -- A new entry comes in front of a bucket.
-use Rattle.std.proofs.Common.{◌≡◌, ℕ, ◌+◌, ◌*◌, ◌≤◌, ◌<◌, ◌^◌, List, [], ◌∷◌, ◌++◌, length, set, get_or, Some, refl, sym, ap, ◌∙◌, arith, subst}
+use Rattle.std.proofs.Common.{◌≡◌, ℕ, ◌+◌, ◌*◌, ◌<◌, ◌^◌, List, [], ◌∷◌, ◌++◌, length, set, Some, sym, ap, ◌∙◌, arith, subst}
 use Rattle.std.proofs.lemmas.List.{length-set}
-use Rattle.byteorder.specs.Endian.{big_bytes}
 use Rattle.sdr_base.specs.Blocks.{Blocks, Reaches, with_block}
 use Rattle.sdr_base.specs.Entries.{Entries, Stands}
 use Rattle.sdr_base.specs.Hashes.{HashItem, bucket_entries, item_addr, item_block}
@@ -17,7 +16,7 @@ use Rattle.sdr_base.proofs.StandingLemmas.{came, found}
 use Rattle.sdr_base.proofs.WritingLemmas.{reaches, word_set}
 use Rattle.sdr_hash.specs.Calls.{new_item}
 use Rattle.sdr_hash.specs.Changes.{AddsFirst}
-use Rattle.sdr_hash.specs.Opened.{IsOpened, KeepsBucket, SomeBucket, opened_entries, with_front, words_block}
+use Rattle.sdr_hash.specs.Opened.{IsOpened, KeepsBucket, SomeBucket, opened_entries, words_block}
 use Rattle.sdr_hash.specs.declared.bucket.Link.{Link}
 use Rattle.sdr_hash.proofs.LinkLemmas.{any_previous}
 use Rattle.sdr_hash.proofs.WalkLemmas.{count_is, front_is}

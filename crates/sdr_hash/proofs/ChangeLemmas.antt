@@ -1,10 +1,9 @@
 -- What a change of one bucket is for its hash.
-use Rattle.std.proofs.Common.{◌≡◌, ℕ, ◌+◌, ◌-◌, ◌*◌, ◌≤◌, ◌<◌, ◌^◌, true, false, cond, List, [], ◌∷◌, ◌++◌, length, map, set, get_or, Some, None, refl, sym, ap, ◌∙◌, arith, subst, length-append}
+use Rattle.std.proofs.Common.{◌≡◌, ℕ, ◌+◌, ◌-◌, ◌*◌, ◌≤◌, ◌<◌, true, false, cond, List, [], ◌∷◌, ◌++◌, length, map, set, get_or, Some, None, sym, ap, ◌∙◌, arith, subst, length-append}
 use Rattle.std.specs.Prelude.{find, sum_by}
 use Rattle.std.proofs.Math.Seq.{map-set_same}
 use Rattle.std.proofs.lemmas.List.{length-set}
-use Rattle.sdr_base.specs.Blocks.{Block, Blocks, Reaches}
-use Rattle.sdr_base.specs.Entries.{Changes, Entries, Few, Stands}
+use Rattle.sdr_base.specs.Entries.{Changes, Few, Stands}
 use Rattle.sdr_base.specs.Hashes.{HashItem, HashRow, hash_entries, item_addr, item_block}
 use Rattle.sdr_base.specs.Linked.{first_of, last_of, linked}
 use Rattle.sdr_base.specs.Making.{besides}
@@ -17,20 +16,18 @@ use Rattle.sdr_base.specs.declared.stop.Stop.TheVariants.{Refused, DiskFault, Me
 use Rattle.sdr_base.proofs.HeapLemmas.{heap_blocks}
 use Rattle.sdr_base.proofs.LinkedLemmas.{first-append}
 use Rattle.sdr_base.proofs.WritingLemmas.{word_set}
-use Rattle.sdr_hash.specs.Buckets.{bucket_of, has_key, items_by, removed, revised, with_items, with_value}
+use Rattle.sdr_hash.specs.Buckets.{bucket_of, has_key, items_by, removed, revised, with_items}
 use Rattle.sdr_hash.specs.Calls.{ChangeStops, HasKey, InsertsKey, InsertStops, LacksKey, RemovesKey, RevisesKey, new_item}
-use Rattle.sdr_hash.specs.Changes.{AddsFirst, SomePlace, TakesOut}
-use Rattle.sdr_hash.specs.Kept.{KeepsHash, SomeHash}
-use Rattle.sdr_hash.specs.Opened.{FrontsBucket, IsOpened, opened_entries, with_front, words_block}
+use Rattle.sdr_hash.specs.Changes.{AddsFirst, TakesOut}
+use Rattle.sdr_hash.specs.Kept.{KeepsHash}
+use Rattle.sdr_hash.specs.Opened.{FrontsBucket, opened_entries, with_front, words_block}
 use Rattle.sdr_hash.specs.Walks.{IsFirst, Searches}
 use Rattle.sdr_hash.specs.declared.bucket.Link.{Link}
 use Rattle.sdr_hash.specs.declared.searching.Place.{Place}
 use Rattle.sdr_hash.proofs.FindLemmas.{bucket_below, bucket_for, has, opened_for}
-use Rattle.sdr_hash.proofs.ItemLemmas.{item_reaches}
 use Rattle.sdr_hash.proofs.KeptLemmas.{hash_words}
 use Rattle.sdr_hash.proofs.OpenedLemmas.{closed, count_with, with_bucket, words_with}
-use Rattle.sdr_hash.proofs.OutLemmas.{cut, from_it, joined, length-removed}
-use Rattle.sdr_hash.proofs.WalkLemmas.{here}
+use Rattle.sdr_hash.proofs.OutLemmas.{cut, joined, length-removed}
 
 -- the words of the hash stay, where a bucket keeps its first entry and has as many
 words_same : (row : HashRow) (p : ℕ) (items : List HashItem) → p < length row.buckets → length items ≡ length (get_or row.buckets p []) →

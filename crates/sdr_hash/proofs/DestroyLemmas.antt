@@ -1,5 +1,5 @@
 -- The entries of a hash are given back bucket by bucket, and then the hash.
-use Rattle.std.proofs.Common.{◌≡◌, ℕ, ◌+◌, ◌-◌, ◌*◌, ◌≤◌, ◌<◌, ◌^◌, Bool, true, List, [], ◌∷◌, ◌++◌, length, map, take, drop, get_or, Option, Some, None, refl, sym, ap, ◌∙◌, arith, subst, append_assoc, append-nil, length-append}
+use Rattle.std.proofs.Common.{◌≡◌, ℕ, ◌+◌, ◌-◌, ◌*◌, ◌≤◌, ◌<◌, Bool, true, List, [], ◌∷◌, ◌++◌, length, map, take, drop, get_or, Option, Some, None, refl, sym, ap, ◌∙◌, arith, subst, append_assoc, append-nil, length-append}
 use Rattle.std.specs.Prelude.{flat_map, sum_by}
 use Rattle.std.proofs.lemmas.Grind.{flat_map-append}
 use Rattle.std.proofs.lemmas.List.{drop_more, length-map, map-append, take-append-drop, take_all, take_more}
@@ -22,10 +22,10 @@ use Rattle.sdr_base.specs.declared.stop.Stop.TheVariants.{Refused, DiskFault, Me
 use Rattle.sdr_base.proofs.HeapLemmas.{given_blocks}
 use Rattle.sdr_base.proofs.StandingLemmas.{found, went}
 use Rattle.sdr_base.proofs.WritingLemmas.{reaches}
-use Rattle.sdr_hash.specs.Destroying.{BucketsLeft, DestroysHash, DestroyStops, GivesBuckets, addrs_in, entries_in, if_hash}
+use Rattle.sdr_hash.specs.Destroying.{DestroysHash, DestroyStops, GivesBuckets, addrs_in, entries_in, if_hash}
 use Rattle.sdr_hash.specs.Giving.{GivesBucket, GiveStops, Gone, OpenedAt, SomeOpened}
 use Rattle.sdr_hash.specs.Kept.{HashFits, KeepsHash, SomeHash}
-use Rattle.sdr_hash.specs.Opened.{IsOpened, opened_entries, words_block}
+use Rattle.sdr_hash.specs.Opened.{IsOpened}
 use Rattle.sdr_hash.specs.declared.bucket.Link.{Link}
 use Rattle.sdr_hash.proofs.KeptLemmas.{buckets_is, entries_is, few_entries, hash_words}
 use Rattle.sdr_hash.proofs.OpenedLemmas.{opened}

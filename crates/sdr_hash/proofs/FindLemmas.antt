@@ -1,25 +1,24 @@
 -- What is found of a key in a hash.
-use Rattle.std.proofs.Common.{◌≡◌, ◌≢◌, ℕ, ◌%◌, ◌*◌, ◌<◌, ◌≤◌, List, ◌∷◌, length, ◌+◌, Bool, true, cond, Option, Some, None, sum, sym, ap, ◌∙◌, arith, subst}
+use Rattle.std.proofs.Common.{◌≡◌, ◌≢◌, ℕ, ◌*◌, ◌<◌, ◌≤◌, List, ◌∷◌, length, ◌+◌, cond, Option, Some, None, sum, sym, ap, ◌∙◌, arith, subst}
 use Rattle.std.specs.Prelude.{find, IfOk, OnOk, Result, Ok, Err}
 use Rattle.std.specs.Option.{option_or}
 use Rattle.std.proofs.lemmas.List.Folds.{find-append}
 use Rattle.std.proofs.lemmas.Nat.{mod_below}
 use Rattle.sdr_base.specs.Blocks.{Blocks, IsKind}
 use Rattle.sdr_base.specs.Entries.{Few}
-use Rattle.sdr_base.specs.Hashes.{HashItem, HashRow, item_addr}
-use Rattle.sdr_base.specs.Linked.{first_of}
+use Rattle.sdr_base.specs.Hashes.{HashItem, HashRow}
 use Rattle.sdr_base.specs.Words.{HasWord}
 use Rattle.sdr_base.specs.declared.kind.Kind.TheVariants as kinds
 use Rattle.sdr_base.specs.declared.stop.Stop.{Stop}
 use Rattle.sdr_hash.specs.Buckets.{bucket_of, has_key, items_by}
 use Rattle.sdr_hash.specs.Changes.{SomePlace}
-use Rattle.sdr_hash.specs.Calls.{CountsEntries, FindsKey, HasKey, IsKeyOf, IsNoKeyOf, LacksKey, told_of}
-use Rattle.sdr_hash.specs.Kept.{IsHash, KeepsHash, SomeHash}
+use Rattle.sdr_hash.specs.Calls.{CountsEntries, FindsKey, HasKey, IsNoKeyOf, LacksKey, told_of}
+use Rattle.sdr_hash.specs.Kept.{KeepsHash, SomeHash}
 use Rattle.sdr_hash.specs.Opened.{FrontsBucket, IsOpened, KeepsBucket, SomeBucket}
 use Rattle.sdr_hash.specs.Walks.{IsFirst, Searches}
 use Rattle.sdr_hash.specs.declared.bucket.Link.{Link}
 use Rattle.sdr_hash.specs.declared.searching.Place.{Place}
-use Rattle.sdr_hash.proofs.ItemLemmas.{KeepsItem, value_is}
+use Rattle.sdr_hash.proofs.ItemLemmas.{value_is}
 use Rattle.sdr_hash.proofs.KeptLemmas.{buckets_is, entries_is, few_entries, hash_words, key_length_is}
 use Rattle.sdr_hash.proofs.OpenedLemmas.{keeps_bucket, opened}
 use Rattle.sdr_hash.proofs.WalkLemmas.{here}

@@ -1,5 +1,5 @@
 -- The entries of a bucket are given back.
-use Rattle.std.proofs.Common.{◌≡◌, ◌≢◌, inl, inr, ℕ, ◌+◌, ◌-◌, ◌*◌, ◌≤◌, ◌<◌, List, [], ◌∷◌, ◌++◌, length, refl, sym, ap, ◌∙◌, arith, subst, length-append}
+use Rattle.std.proofs.Common.{◌≡◌, ◌≢◌, inl, inr, ℕ, ◌+◌, ◌*◌, ◌≤◌, ◌<◌, List, [], ◌∷◌, length, refl, sym, ap, ◌∙◌, arith, subst, length-append}
 use Rattle.std.proofs.lemmas.List.Elements.{All-head, All-tail}
 use Rattle.std.specs.Prelude.{All, None, Some, ◌⊎◌}
 use Rattle.sdr_base.specs.Blocks.{Blocks, Reaches}
@@ -8,18 +8,16 @@ use Rattle.sdr_base.specs.Hashes.{HashItem, bucket_entries, item_addr, item_bloc
 use Rattle.sdr_base.specs.Linked.{first_of}
 use Rattle.sdr_base.specs.Objects.{Heap, OnlyUnmoved, with_given}
 use Rattle.sdr_base.specs.Words.{HasWord}
-use Rattle.sdr_base.specs.declared.kind.Kind.TheVariants as kinds
 use Rattle.sdr_base.specs.declared.refusal.Refusal.TheVariants.{LogFull}
 use Rattle.sdr_base.specs.declared.stop.Stop.{Stop}
 use Rattle.sdr_base.specs.declared.stop.Stop.TheVariants.{Refused, DiskFault, MediaFault, Failed}
 use Rattle.sdr_base.proofs.StandingLemmas.{at-nowhere, moved}
-use Rattle.sdr_hash.specs.Giving.{Gives, GivesBucket, GiveStops, Gone, OpenedAt, SomeOpened}
+use Rattle.sdr_hash.specs.Giving.{Gives, GivesBucket, GiveStops, OpenedAt, SomeOpened}
 use Rattle.sdr_hash.specs.Kept.{ItemFits}
 use Rattle.sdr_hash.specs.Opened.{KeepsBucket, words_block}
 use Rattle.sdr_hash.specs.declared.bucket.Link.{Link}
 use Rattle.sdr_hash.proofs.ItemLemmas.{KeepsItem, item_reaches, next_is}
 use Rattle.sdr_hash.proofs.WalkLemmas.{first_fits, front_is, front_reaches}
-use Rattle.sdr_list.specs.Giving.{Part}
 use Rattle.sdr_list.proofs.GivingLemmas.{NotDone, part_begun, part_found, part_given, part_made, part_more, part_some, part_spare, part_stands}
 
 -- no block stands at 0

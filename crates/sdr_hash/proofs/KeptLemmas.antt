@@ -1,9 +1,9 @@
 -- What the words of a hash's block say of the hash that is kept there.
-use Rattle.std.proofs.Common.{◌≡◌, ℕ, suc, ◌+◌, ◌*◌, ◌≤◌, ◌<◌, ◌^◌, List, [], ◌∷◌, ◌++◌, length, map, Option, Some, refl, ap, arith, length-append}
+use Rattle.std.proofs.Common.{◌≡◌, ℕ, ◌+◌, ◌*◌, ◌≤◌, ◌<◌, ◌^◌, List, [], ◌∷◌, ◌++◌, length, map, Some, refl, arith, length-append}
 use Rattle.std.specs.Prelude.{flat_map, sum_by}
 use Rattle.std.proofs.lemmas.List.{length-map}
 use Rattle.std.proofs.lemmas.List.Sums.{sum_by-cons}
-use Rattle.sdr_base.specs.Blocks.{Block, Blocks, Reaches}
+use Rattle.sdr_base.specs.Blocks.{Blocks, Reaches}
 use Rattle.sdr_base.specs.Entries.{Few}
 use Rattle.sdr_base.specs.Hashes.{HashItem, HashRow, bucket_entries, hash_block, hash_entries, item_addr, item_block}
 use Rattle.sdr_base.specs.Linked.{first_of}
@@ -12,7 +12,7 @@ use Rattle.sdr_base.specs.declared.kind.Kind.TheVariants as kinds
 use Rattle.sdr_base.proofs.LinkedLemmas.{length-linked}
 use Rattle.sdr_base.proofs.StandingLemmas.{found}
 use Rattle.sdr_base.proofs.WritingLemmas.{reaches, word_is}
-use Rattle.sdr_hash.specs.Kept.{HashFits, KeepsHash}
+use Rattle.sdr_hash.specs.Kept.{KeepsHash}
 
 -- the words of a hash's block
 abbrev pub hash_words : HashRow → List ℕ

@@ -1,5 +1,5 @@
 -- A hash is opened at one bucket, and closed when that one has changed.
-use Rattle.std.proofs.Common.{◌≡◌, ℕ, zero, suc, ◌+◌, ◌≤◌, ◌<◌, ◌^◌, List, [], ◌∷◌, ◌++◌, length, map, set, get_or, refl, sym, ap, ◌∙◌, arith, subst, append_assoc}
+use Rattle.std.proofs.Common.{◌≡◌, ℕ, zero, suc, ◌+◌, ◌<◌, ◌^◌, List, [], ◌∷◌, ◌++◌, length, map, set, get_or, refl, sym, ap, ◌∙◌, arith, subst, append_assoc}
 use Rattle.std.specs.Prelude.{All, flat_map, sum_by}
 use Rattle.std.proofs.lemmas.List.{get_or-map, map-set, length-set}
 use Rattle.std.proofs.lemmas.List.Elements.{All-get_or}

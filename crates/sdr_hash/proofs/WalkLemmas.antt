@@ -1,11 +1,11 @@
 -- A bucket is walked, entry by entry.
-use Rattle.std.proofs.Common.{inl, inr, ◌≡◌, ◌≢◌, ℕ, ◌+◌, ◌*◌, ◌≤◌, ◌<◌, ◌^◌, List, [], ◌∷◌, ◌++◌, length, Bool, true, false, cond, refl, sym, ap, ◌∙◌, arith, subst, append_assoc, append-nil, length-append}
+use Rattle.std.proofs.Common.{inl, inr, ◌≡◌, ◌≢◌, ℕ, ◌+◌, ◌*◌, ◌≤◌, ◌<◌, ◌^◌, List, [], ◌∷◌, ◌++◌, length, true, false, cond, refl, sym, ap, ◌∙◌, arith, subst, append_assoc, append-nil, length-append}
 use Rattle.std.specs.Prelude.{All, Option, Some, None, find, get_or, ◌⊎◌}
 use Rattle.std.specs.Option.{option_or}
 use Rattle.std.proofs.lemmas.List.Elements.{All-head, All-tail}
 use Rattle.std.proofs.lemmas.List.Folds.{find-append}
-use Rattle.sdr_base.specs.Blocks.{Block, Blocks, Reaches}
-use Rattle.sdr_base.specs.Entries.{Entries, Few, Stands}
+use Rattle.sdr_base.specs.Blocks.{Blocks, Reaches}
+use Rattle.sdr_base.specs.Entries.{Few, Stands}
 use Rattle.sdr_base.specs.Hashes.{HashItem, bucket_entries, item_addr, item_block}
 use Rattle.sdr_base.specs.Linked.{first_of}
 use Rattle.sdr_base.specs.Words.{HasWord}
@@ -16,8 +16,8 @@ use Rattle.sdr_base.proofs.StandingLemmas.{at-nowhere, found}
 use Rattle.sdr_base.proofs.WritingLemmas.{reaches, word_is}
 use Rattle.sdr_hash.specs.Buckets.{has_key}
 use Rattle.sdr_hash.specs.Kept.{ItemFits}
-use Rattle.sdr_hash.specs.Opened.{IsOpened, KeepsBucket, SomeBucket, opened_entries, words_block}
-use Rattle.sdr_hash.specs.Walks.{Compares, IsFirst, Searches, Walked, Walks, link_behind}
+use Rattle.sdr_hash.specs.Opened.{KeepsBucket, SomeBucket, opened_entries, words_block}
+use Rattle.sdr_hash.specs.Walks.{Compares, Searches, Walked, Walks, link_behind}
 use Rattle.sdr_hash.specs.declared.bucket.Link.{Link}
 use Rattle.sdr_hash.specs.declared.searching.Place.{Place}
 use Rattle.sdr_hash.proofs.ItemLemmas.{KeepsItem, answered, item_reaches, next_is}

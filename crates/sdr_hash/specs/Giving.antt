@@ -1,5 +1,5 @@
 -- A bucket that is given back, the first entry first.
-use Rattle.std.specs.Prelude.{◌≡◌, ◌≤◌, ◌+◌, ◌-◌, ℕ, List, [], ◌∷◌, ◌++◌, length, map, Result, Ok, Err}
+use Rattle.std.specs.Prelude.{◌≡◌, ◌≤◌, ◌+◌, ◌-◌, ℕ, List, ◌∷◌, ◌++◌, length, map, Result, Ok, Err}
 use Rattle.sdr_base.specs.Blocks.{Blocks}
 use Rattle.sdr_base.specs.Entries.{Entries, Stands}
 use Rattle.sdr_base.specs.Hashes.{HashItem, item_addr, item_block}

@@ -1,5 +1,5 @@
 -- The entries go one by one.
-use Rattle.std.proofs.Common.{inl, inr, refl, arith, rules}
+use Rattle.std.proofs.Common.{inl, inr, arith, rules}
 use Rattle.sdr_base.proofs.WorksLemmas.{looks_works, works_more, works_ok, works_then}
 use Rattle.sdr_hash.specs.Giving.{GiveStops}
 use Rattle.sdr_hash.proofs.GiveLemmas.{cursor_reaches, ended, onward, opened_reaches, spare_left, start, stopped}

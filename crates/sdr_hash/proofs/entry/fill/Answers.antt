@@ -1,5 +1,5 @@
 -- The words, and the key behind them.
-use Rattle.std.proofs.Common.{◌+◌, length, drop, ◌∙◌, arith, length-append, length-drop}
+use Rattle.std.proofs.Common.{drop, ◌∙◌, arith, length-append, length-drop}
 use Rattle.sdr_base.proofs.ObjectsLemmas.{layout-words}
 use Rattle.sdr_hash.proofs.ItemLemmas.{entry_is}
 use Rattle.sdr_hash.proofs.entry.fill.Goals as goal

@@ -1,7 +1,5 @@
 -- The entry is where the search ended.
 use Rattle.std.proofs.lemmas.Result.{IfOk-weaker}
-use Rattle.sdr_base.proofs.WritingLemmas.{reaches_less}
-use Rattle.std.proofs.Common.{arith}
 use Rattle.sdr_hash.proofs.FindLemmas.{finds, lacks, some_bucket, some_place}
 use Rattle.sdr_hash.proofs.OutLemmas.{place_reaches}
 use Rattle.sdr_hash.proofs.searching.retrieve.Goals as goal

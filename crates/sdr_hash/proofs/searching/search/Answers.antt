@@ -1,5 +1,5 @@
 -- The bucket is walked until the key is found.
-use Rattle.std.proofs.Common.{ℕ, refl, arith, rules, ◌∙◌}
+use Rattle.std.proofs.Common.{ℕ, refl, arith}
 use Rattle.sdr_base.proofs.WorksLemmas.{looks_ok, looks_on}
 use Rattle.sdr_hash.proofs.WalkLemmas.{begun, found_here, found_no_more, found_none, front_reaches, passes, reaches_here}
 use Rattle.sdr_hash.proofs.searching.search.Goals as goal
