@@ -74,9 +74,9 @@ pub record LacksKey (blocks : Blocks) (hash : ℕ) (key : List ℕ) : Type 0 whe
   pub lacks : (row : HashRow) → KeepsHash blocks hash row → item_of row key ≡ None
 
 -- why a key isn't found: it has no bucket, or it isn't there; or a fault
-abbrev pub RetrieveStops : Blocks → ℕ → List ℕ → Stop → Type 0
-RetrieveStops blocks hash key (Refused refusals.NotFound) = LacksKey blocks hash key
-RetrieveStops blocks hash key stop = LacksBucket blocks hash key stop
+abbrev pub FindStops : Blocks → ℕ → List ℕ → Stop → Type 0
+FindStops blocks hash key (Refused refusals.NotFound) = LacksKey blocks hash key
+FindStops blocks hash key stop = LacksBucket blocks hash key stop
 
 -- a new entry
 abbrev pub new_item : ℕ → List ℕ → ℕ → HashItem

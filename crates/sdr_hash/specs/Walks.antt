@@ -5,7 +5,7 @@ use Rattle.sdr_base.specs.Blocks.{Block, Blocks, HasBytes}
 use Rattle.sdr_base.specs.Hashes.{HashItem, item_addr}
 use Rattle.sdr_base.specs.Linked.{first_of}
 use Rattle.sdr_hash.specs.Buckets.{has_key}
-use Rattle.sdr_hash.specs.Opened.{KeepsBucket}
+use Rattle.sdr_hash.specs.Opened.{FrontsBucket, KeepsBucket}
 use Rattle.sdr_hash.specs.declared.bucket.Link.{Link}
 use Rattle.sdr_hash.specs.declared.searching.Place.{Place}
 
@@ -47,6 +47,11 @@ Searched key front bucket (Some place) = IsFirst key front bucket place
 -- so it is in whichever bucket is kept
 pub record Searches (blocks : Blocks) (front : Link) (key : List ℕ) (found : Option Place) : Type 0 where
   pub searched : (bucket : List HashItem) → KeepsBucket blocks front (length key) bucket → Searched key front bucket found
+
+-- this is the link to the first entry of a key's bucket, and the place of the key in it
+pub record Locates (blocks : Blocks) (hash : ℕ) (key : List ℕ) (at : Link × Place) : Type 0 where
+  pub fronts : FrontsBucket blocks hash key at.0
+  pub found : Searches blocks at.0 key (Some at.1)
 
 -- the key in an entry's block was compared with another
 pub record Compares (found : Option Block) (key : List ℕ) (answer : Bool) : Type 0 where

@@ -10,7 +10,7 @@ ghost use Rattle.sdr_hash.specs.Opened.{SomeBucket};
 
 use crate::bucket::{Link, front_of};
 use crate::entry::take_entry;
-use crate::searching::{KEY_FROM, Place, search};
+use crate::searching::{KEY_FROM, Place, locate, search};
 use sdr_base::layout::{hash as hash_words, hash_entry as words};
 use sdr_base::{Addr, Objects, Refusal, Stop, set_word, word};
 
@@ -62,11 +62,8 @@ pub fn revise<O: Objects>(o: &mut O, hash: Addr, key: &[u8], value: u64) -> Resu
     ensures refused { IfErr result (ChangeStops hash key.now (O.heap o.old) (O.heap o.new)) }
     ensures works { Works O.HasHeap 2 o.old o.new result }
 {
-    let front = front_of(o, hash, key)?;
-    match search(o, front, key)? {
-        None => Err(Stop::Refused(Refusal::NotFound)),
-        Some(place) => set_word(o, place.addr, words::VALUE, value),
-    }
+    let (_, place) = locate(o, hash, key)?;
+    set_word(o, place.addr, words::VALUE, value)
 }
 
 /// Takes a key out of a hash. What its value names stays.
@@ -78,11 +75,8 @@ pub fn remove<O: Objects>(o: &mut O, hash: Addr, key: &[u8]) -> Result<(), Stop>
     ensures refused { IfErr result (ChangeStops hash key.now (O.heap o.old) (O.heap o.new)) }
     ensures works { Works O.HasHeap 28 o.old o.new result }
 {
-    let front = front_of(o, hash, key)?;
-    match search(o, front, key)? {
-        None => Err(Stop::Refused(Refusal::NotFound)),
-        Some(place) => take_out(o, front, place),
-    }
+    let (front, place) = locate(o, hash, key)?;
+    take_out(o, front, place)
 }
 
 // Takes an entry out of the bucket that begins at a link, and gives it back.

@@ -4,10 +4,10 @@ ghost use Rattle.sdr_base.specs.Blocks.{UsesRange};
 ghost use Rattle.sdr_base.specs.Moves.{KeepsSome};
 ghost use Rattle.sdr_base.specs.Objects.{OnlyFault};
 ghost use Rattle.sdr_base.specs.Works.{Looks};
-ghost use Rattle.sdr_hash.specs.Calls.{FindsKey, RetrieveStops};
+ghost use Rattle.sdr_hash.specs.Calls.{FindsKey, FindStops};
 ghost use Rattle.sdr_hash.specs.Kept.{IsHash};
 ghost use Rattle.sdr_hash.specs.Opened.{SomeBucket};
-ghost use Rattle.sdr_hash.specs.Walks.{Compares, Searches};
+ghost use Rattle.sdr_hash.specs.Walks.{Compares, Locates, Searches};
 
 use crate::bucket::{Link, front_of};
 use crate::hash::LONGEST_KEY;
@@ -32,13 +32,25 @@ pub fn retrieve<O: Objects>(o: &mut O, hash: Addr, key: &[u8]) -> Result<u64, St
     requires kept { KeepsSome (O.keeps o.old) }
     requires hash { IsHash (O.heap o.old).blocks hash }
     ensures found { IfOk result (FindsKey (O.heap o.old).blocks hash key.now) }
-    ensures refused { IfErr result (RetrieveStops (O.heap o.old).blocks hash key.now) }
+    ensures refused { IfErr result (FindStops (O.heap o.old).blocks hash key.now) }
+    ensures looks { Looks O.HasHeap o.old o.new result }
+{
+    let (_, place) = locate(o, hash, key)?;
+    word(o, place.addr, words::VALUE)
+}
+
+// Where the bucket of a key begins, and where in it the key's entry is.
+pub fn locate<O: Objects>(o: &mut O, hash: Addr, key: &[u8]) -> Result<(Link, Place), Stop>
+    requires kept { KeepsSome (O.keeps o.old) }
+    requires hash { IsHash (O.heap o.old).blocks hash }
+    ensures located { IfOk result (Locates (O.heap o.old).blocks hash key.now) }
+    ensures refused { IfErr result (FindStops (O.heap o.old).blocks hash key.now) }
     ensures looks { Looks O.HasHeap o.old o.new result }
 {
     let front = front_of(o, hash, key)?;
     match search(o, front, key)? {
         None => Err(Stop::Refused(Refusal::NotFound)),
-        Some(place) => word(o, place.addr, words::VALUE),
+        Some(place) => Ok((front, place)),
     }
 }
 

@@ -1,32 +1,21 @@
--- The entry is where the search ended.
+-- The value is in the key's entry.
+use Rattle.std.proofs.Common.{arith}
 use Rattle.std.proofs.lemmas.Result.{IfOk-weaker}
-use Rattle.sdr_hash.proofs.FindLemmas.{finds, lacks, some_bucket, some_place}
+use Rattle.sdr_base.proofs.WritingLemmas.{reaches_less}
+use Rattle.sdr_hash.proofs.FindLemmas.{finds, some_place}
 use Rattle.sdr_hash.proofs.OutLemmas.{place_reaches}
 use Rattle.sdr_hash.proofs.searching.retrieve.Goals as goal
 
-pub search-requires-clause-bucket : goal.search-requires-clause-bucket
-search-requires-clause-bucket g c =
-    let f = c.in_ok-front.ensures.found in
-    rw c.front_of.ensures.looks.same
-    (some_bucket f (g.met.O.Objects.few c.args.o.now c.requires.kept) (g.met.O.Objects.small c.args.o.now c.requires.kept)
-    (c.requires.hash f.is.kind))
-
 pub word-requires-clause-inside : goal.word-requires-clause-inside
 word-requires-clause-inside g c =
-    let f = c.in_ok-front.ensures.found in
-    let s = rw (c.front_of.ensures.looks.same, c.in-Some.is) at c.in_ok-search.ensures.found in
-    rw (c.search.ensures.looks.same, c.front_of.ensures.looks.same)
-    (place_reaches (some_place f (g.met.O.Objects.few c.args.o.now c.requires.kept) (g.met.O.Objects.small c.args.o.now c.requires.kept) s
-    (c.requires.hash f.is.kind)))
+    let l = c.in_ok-place.ensures.located in
+    rw c.locate.ensures.looks.same
+    (place_reaches (some_place l.fronts (g.met.O.Objects.few c.args.o.now c.requires.kept)
+    (g.met.O.Objects.small c.args.o.now c.requires.kept) l.found (c.requires.hash l.fronts.is.kind)))
 
-pub returns-in-None-clause-refused : goal.returns-in-None-clause-refused
-returns-in-None-clause-refused g c =
-    let s = rw (c.front_of.ensures.looks.same, c.in-None.is) at c.in_ok-search.ensures.found in
-    lacks c.in_ok-front.ensures.found (g.met.O.Objects.few c.args.o.now c.requires.kept) (g.met.O.Objects.small c.args.o.now c.requires.kept) s
-
-pub returns-in-Some-clause-found : goal.returns-in-Some-clause-found
-returns-in-Some-clause-found g c =
-    let s = rw (c.front_of.ensures.looks.same, c.in-Some.is) at c.in_ok-search.ensures.found in
+pub returns-clause-found : goal.returns-clause-found
+returns-clause-found g c =
+    let l = c.in_ok-place.ensures.located in
     IfOk-weaker _ _ _
-    (λ value h. finds c.in_ok-front.ensures.found (g.met.O.Objects.few c.args.o.now c.requires.kept) (g.met.O.Objects.small c.args.o.now c.requires.kept) s h)
-    (rw (c.search.ensures.looks.same, c.front_of.ensures.looks.same) at c.word.ensures.given)
+    (λ value h. finds l.fronts (g.met.O.Objects.few c.args.o.now c.requires.kept) (g.met.O.Objects.small c.args.o.now c.requires.kept) l.found h)
+    (rw c.locate.ensures.looks.same at c.word.ensures.given)
