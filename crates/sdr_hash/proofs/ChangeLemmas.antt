@@ -30,29 +30,35 @@ use Rattle.sdr_hash.proofs.OpenedLemmas.{closed, count_with, with_bucket, words_
 use Rattle.sdr_hash.proofs.OutLemmas.{cut, joined, length-removed}
 
 -- the words of the hash stay, where a bucket keeps its first entry and has as many
-words_same : (row : HashRow) (p : ℕ) (items : List HashItem) → p < length row.buckets → length items ≡ length (get_or row.buckets p []) →
-    first_of item_addr 0 items ≡ first_of item_addr 0 (get_or row.buckets p []) → hash_words row ≡ hash_words (with_bucket row p items)
+words_same : (row : HashRow) (p : ℕ) (items : List HashItem) → p < length row.buckets →
+    length items ≡ length (get_or row.buckets p []) →
+    first_of item_addr 0 items ≡ first_of item_addr 0 (get_or row.buckets p []) → hash_words row ≡ hash_words
+    (with_bucket row p items)
 words_same row p items less long first =
     let c = count_with row p items less in
     let n : sum_by length row.buckets ≡ sum_by length (set row.buckets p items) = omega (arith, c, long) in
-    ap (λ m. row.key_length ∷ m ∷ sum_by length row.buckets ∷ map (first_of item_addr 0) row.buckets) (sym (length-set row.buckets p items))
+    ap (λ m. row.key_length ∷ m ∷ sum_by length row.buckets ∷ map (first_of item_addr 0) row.buckets)
+    (sym (length-set row.buckets p items))
     ∙ ap (λ m. row.key_length ∷ length (set row.buckets p items) ∷ m ∷ map (first_of item_addr 0) row.buckets) n
     ∙ ap (λ (l : List ℕ). row.key_length ∷ length (set row.buckets p items) ∷ sum_by length (set row.buckets p items) ∷ l)
     (sym (map-set_same (first_of item_addr 0) row.buckets p items [] first))
 
 -- the entries with another value in the first of a key
-revised_at : (key : List ℕ) (value : ℕ) (xs : List HashItem) (x : HashItem) (ys : List HashItem) → find (has_key key) xs ≡ None → has_key key x ≡ true →
+revised_at : (key : List ℕ) (value : ℕ) (xs : List HashItem) (x : HashItem) (ys : List HashItem) →
+    find (has_key key) xs ≡ None → has_key key x ≡ true →
     revised key value (xs ++ (x ∷ ys)) ≡ xs ++ (record x { value = value } ∷ ys)
 unfolding revised
 revised_at key value [] x ys n is = ap (λ v. cond v (record x { value = value } ∷ ys) (x ∷ revised key value ys)) is
 revised_at key value (z ∷ xs) x ys n is =
     elim (has_key key z) as (λ v. cond v (Some z) (find (has_key key) xs) ≡ None →
-    cond v (record z { value = value } ∷ (xs ++ (x ∷ ys))) (z ∷ revised key value (xs ++ (x ∷ ys))) ≡ z ∷ (xs ++ (record x { value = value } ∷ ys))) [
+    cond v (record z { value = value } ∷ (xs ++ (x ∷ ys))) (z ∷ revised key value (xs ++ (x ∷ ys))) ≡ z ∷
+    (xs ++ (record x { value = value } ∷ ys))) [
       | true ↦ λ k. let d : Some z ≡ None = k in cc
       | false ↦ λ k. ap (λ (l : List HashItem). z ∷ l) (revised_at key value xs x ys k is)
     ] n
 
-module _ (old new : Heap) {hash size : ℕ} {key : List ℕ} {front : Link} (f : FrontsBucket old.blocks hash key front) (few : Few size old.blocks)
+module _ (old new : Heap) {hash size : ℕ} {key : List ℕ} {front : Link} (f : FrontsBucket old.blocks hash key front)
+    (few : Few size old.blocks)
     (small : size ≤ 64 * 262144) where
   -- another bucket, with so many entries in all
   closed_for : (row : HashRow) → KeepsHash old.blocks hash row → (items : List HashItem) (count : ℕ) →
@@ -89,7 +95,8 @@ module _ (old new : Heap) {hash size : ℕ} {key : List ℕ} {front : Link} (f :
   }
 
   -- a key went
-  pub removes : {place : Place} → Searches old.blocks front key (Some place) → TakesOut front place old new → RemovesKey hash key old new
+  pub removes : {place : Place} → Searches old.blocks front key (Some place) → TakesOut front place old new →
+      RemovesKey hash key old new
   unfolding has
   removes {place} s t = record {
     has = has f few small s;
@@ -126,7 +133,8 @@ module _ (old new : Heap) {hash size : ℕ} {key : List ℕ} {front : Link} (f :
         (subst (λ (items : List HashItem). Stands old.blocks (opened_entries hash words items ++ rest)) i.whole s))));
   }
 
-  pub revises : {place : Place} (value : ℕ) → Searches old.blocks front key (Some place) → new ≡ with_word old place.addr 1 value →
+  pub revises : {place : Place} (value : ℕ) → Searches old.blocks front key (Some place) →
+      new ≡ with_word old place.addr 1 value →
       RevisesKey hash key value old new
   revises {place} value s w = record {
     has = has f few small s;

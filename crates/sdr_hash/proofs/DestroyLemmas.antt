@@ -105,7 +105,8 @@ entries_by (Some block) n kind h = ap (λ (k : Kind). if_hash k (number_at 16 bl
 pub entries_in_is : (b : Blocks) (hash n : ℕ) → IsKind (b hash) kinds.Hash → HasWord (b hash) 2 n → entries_in (b hash) ≡ n
 entries_in_is b hash n kind h = entries_by (b hash) n kind h
 
-module _ (old : Heap) (hash size count buckets : ℕ) (few : Few size old.blocks) (small : size ≤ 64 * 262144) (c : HasWord (old.blocks hash) 2 count)
+module _ (old : Heap) (hash size count buckets : ℕ) (few : Few size old.blocks) (small : size ≤ 64 * 262144)
+    (c : HasWord (old.blocks hash) 2 count)
     (n : HasWord (old.blocks hash) 1 buckets) where
   -- none is gone
   pub begun : GivesBuckets old old hash 0 count
@@ -115,7 +116,8 @@ module _ (old : Heap) (hash size count buckets : ℕ) (few : Few size old.blocks
         record { stands = s; counted = entries_is k few small c; made = none_made old };
   }
 
-  module _ {now : Heap} {bucket left : ℕ} (g : GivesBuckets old now hash bucket left) (front : Link) (less : bucket < buckets) (a : front.addr ≡ hash)
+  module _ {now : Heap} {bucket left : ℕ} (g : GivesBuckets old now hash bucket left) (front : Link)
+      (less : bucket < buckets) (a : front.addr ≡ hash)
       (f : front.field ≡ 3 + bucket) where
     -- the next bucket is opened
     opened_at : (row : HashRow) (rest : Entries) → Stands old.blocks (hash_entries hash row ++ rest) → HashFits row →
@@ -153,9 +155,11 @@ module _ (old : Heap) (hash size count buckets : ℕ) (few : Few size old.blocks
 
     gone_at : {new : Heap} {left' : ℕ} → GivesBucket now new front left left' → (row : HashRow) (rest : Entries) →
         Stands old.blocks (hash_entries hash row ++ rest) → HashFits row →
-        Gone now new front.addr (hash_words row) (get_or row.buckets bucket []) (flat_map bucket_entries (drop (bucket + 1) row.buckets) ++ rest) left left'
+        Gone now new front.addr (hash_words row) (get_or row.buckets bucket [])
+        (flat_map bucket_entries (drop (bucket + 1) row.buckets) ++ rest) left left'
     gone_at t row rest s fits =
-        t.gives row.key_length (hash_words row) (get_or row.buckets bucket []) (flat_map bucket_entries (drop (bucket + 1) row.buckets) ++ rest)
+        t.gives row.key_length (hash_words row) (get_or row.buckets bucket [])
+        (flat_map bucket_entries (drop (bucket + 1) row.buckets) ++ rest)
         (opened_at row rest s fits)
 
     -- it is gone
@@ -189,7 +193,8 @@ module _ (old : Heap) (hash size count buckets : ℕ) (few : Few size old.blocks
     left_less k t = let e = (gone_at t k.row k.keeps.rest k.keeps.stands k.keeps.fits).counted in omega (arith, e)
 
     -- a stop in the bucket
-    pub stopped_within : (new : Heap) (stop : Stop) → IsKind (old.blocks hash) kinds.Hash → GiveStops front left now new stop → DestroyStops hash old new stop
+    pub stopped_within : (new : Heap) (stop : Stop) → IsKind (old.blocks hash) kinds.Hash →
+        GiveStops front left now new stop → DestroyStops hash old new stop
     stopped_within new (Refused (LogFull lines room)) kind t = record {
       kind = kind;
       gave = λ row k.
@@ -208,7 +213,8 @@ module _ (old : Heap) (hash size count buckets : ℕ) (few : Few size old.blocks
           ∙ ap addrs_in (take-append-drop bucket row.buckets)) in
           subst (λ (l : List ℕ). GaveSome l old new) whole
           (some_then before (map item_addr items) (addrs_in more ++ hash ∷ []) b.made
-          (t.gives row.key_length (hash_words row) items (flat_map bucket_entries more ++ k.rest) (opened_at row k.rest k.stands k.fits)));
+          (t.gives row.key_length (hash_words row) items (flat_map bucket_entries more ++ k.rest)
+          (opened_at row k.rest k.stands k.fits)));
     }
     stopped_within new (Refused refusal) kind t = absurd t
     stopped_within new DiskFault kind t = tt
@@ -216,11 +222,13 @@ module _ (old : Heap) (hash size count buckets : ℕ) (few : Few size old.blocks
     stopped_within new Failed kind t = tt
 
   -- there is room for the entries that are left, and for the hash
-  pub spare_left : {now : Heap} {bucket left : ℕ} → SomeHash old.blocks hash → GivesBuckets old now hash bucket left → count + 1 ≤ old.spare → left + 1 ≤ now.spare
+  pub spare_left : {now : Heap} {bucket left : ℕ} → SomeHash old.blocks hash → GivesBuckets old now hash bucket left →
+      count + 1 ≤ old.spare → left + 1 ≤ now.spare
   spare_left {now} {bucket} {left} k g enough =
       let row = k.row in
       let b = g.gives row k.keeps.rest k.keeps.stands k.keeps.fits in
-      let e : now.spare ≡ old.spare - length (gave (addrs_in (take bucket row.buckets))) = ap (λ (h : Heap). h.spare) b.made.all in
+      let e : now.spare ≡ old.spare - length (gave (addrs_in (take bucket row.buckets))) =
+      ap (λ (h : Heap). h.spare) b.made.all in
       let l = length-addrs_in (take bucket row.buckets) in
       let t = sum_by-take-drop (length {A = HashItem}) row.buckets bucket in
       let all = entries_is k.keeps few small c in
@@ -237,14 +245,16 @@ module _ (old : Heap) (hash size count buckets : ℕ) (few : Few size old.blocks
         let past : length row.buckets ≤ bucket = omega (arith, all, done) in
         let none = drop_of_length-le row.buckets {i = bucket} past in
         let whole : take bucket row.buckets ≡ row.buckets = take_all bucket row.buckets past in (
-          subst (λ (bs : List (List HashItem)). Stands now.blocks ((hash, hash_block row) ∷ (flat_map bucket_entries bs ++ rest))) none b.stands,
+          subst (λ (bs : List (List HashItem)). Stands now.blocks
+              ((hash, hash_block row) ∷ (flat_map bucket_entries bs ++ rest))) none b.stands,
           subst (λ (bs : List (List HashItem)). Made (gave (addrs_in bs)) old now) whole b.made,
         )
 
     pub hash_left : SomeHash old.blocks hash → Reaches (now.blocks hash) 0
     hash_left k =
         reaches (now.blocks hash) kinds.Hash (hash_words k.row) [] 0
-        (found now.blocks hash (hash_block k.row) [] k.keeps.rest (left_at k.row k.keeps.rest k.keeps.stands k.keeps.fits).0) (omega arith)
+        (found now.blocks hash (hash_block k.row) [] k.keeps.rest
+        (left_at k.row k.keeps.rest k.keeps.stands k.keeps.fits).0) (omega arith)
 
     pub destroys : (new : Heap) → IsKind (old.blocks hash) kinds.Hash → new ≡ with_given now hash → DestroysHash hash old new
     destroys new kind is = record {
@@ -258,7 +268,8 @@ module _ (old : Heap) (hash size count buckets : ℕ) (few : Few size old.blocks
     }
 
     -- a stop at the hash's own block
-    pub stopped_after : (new : Heap) (stop : Stop) → IsKind (old.blocks hash) kinds.Hash → OnlyUnmoved now new stop → DestroyStops hash old new stop
+    pub stopped_after : (new : Heap) (stop : Stop) → IsKind (old.blocks hash) kinds.Hash → OnlyUnmoved now new stop →
+        DestroyStops hash old new stop
     stopped_after new (Refused (LogFull lines room)) kind u = record {
       kind = kind;
       gave = λ row k.

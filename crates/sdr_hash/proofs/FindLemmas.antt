@@ -38,18 +38,22 @@ first_is {key} i =
     ∙ ap (λ v. cond v (Some i.item) (find (has_key key) i.behind)) i.keyed
 
 -- so many entries
-pub counts : {b : Blocks} {hash size value : ℕ} → IsKind (b hash) kinds.Hash → Few size b → size ≤ 64 * 262144 → HasWord (b hash) 2 value →
+pub counts : {b : Blocks} {hash size value : ℕ} → IsKind (b hash) kinds.Hash → Few size b → size ≤ 64 * 262144 →
+    HasWord (b hash) 2 value →
     CountsEntries b hash value
 counts kind few small h = record { kind = kind; counts = λ row k. entries_is k few small h }
 
 -- the key is of another length
-pub no_key_of : {b : Blocks} {hash want : ℕ} {key : List ℕ} → IsKind (b hash) kinds.Hash → HasWord (b hash) 0 want → length key ≢ want →
+pub no_key_of : {b : Blocks} {hash want : ℕ} {key : List ℕ} → IsKind (b hash) kinds.Hash → HasWord (b hash) 0 want →
+    length key ≢ want →
     IsNoKeyOf b hash key want
 no_key_of kind h n = record { kind = kind; wants = λ row k. key_length_is k h; differs = n }
 
 -- it is of that length, and its bucket's link is known
-pub fronts : {b : Blocks} {hash : ℕ} (want buckets bucket : ℕ) (key : List ℕ) (front : Link) → IsKind (b hash) kinds.Hash → HasWord (b hash) 0 want →
-    length key ≡ want → HasWord (b hash) 1 buckets → bucket ≡ bucket_of buckets key → front.addr ≡ hash → front.field ≡ 3 + bucket →
+pub fronts : {b : Blocks} {hash : ℕ} (want buckets bucket : ℕ) (key : List ℕ) (front : Link) →
+    IsKind (b hash) kinds.Hash → HasWord (b hash) 0 want →
+    length key ≡ want → HasWord
+    (b hash) 1 buckets → bucket ≡ bucket_of buckets key → front.addr ≡ hash → front.field ≡ 3 + bucket →
     FrontsBucket b hash key front
 fronts {b} {hash} want buckets bucket key front kind w e n is a f = record {
   is = record { kind = kind; long = λ row k. e ∙ key_length_is k w };
@@ -57,12 +61,14 @@ fronts {b} {hash} want buckets bucket key front kind w e n is a f = record {
   field = λ row k. f ∙ ap (λ m. 3 + m) (is ∙ ap (λ m. bucket_of m key) (buckets_is k n));
 }
 
-module _ {b : Blocks} {hash size : ℕ} {key : List ℕ} {front : Link} (f : FrontsBucket b hash key front) (few : Few size b) (small : size ≤ 64 * 262144) where
+module _ {b : Blocks} {hash size : ℕ} {key : List ℕ} {front : Link} (f : FrontsBucket b hash key front)
+    (few : Few size b) (small : size ≤ 64 * 262144) where
   -- the bucket is kept there
   pub bucket_for : (row : HashRow) → KeepsHash b hash row → KeepsBucket b front (length key) (items_by row key)
   bucket_for row k =
       subst (λ n. KeepsBucket b front n (items_by row key)) (sym (f.is.long row k))
-      (keeps_bucket front (bucket_of (length row.buckets) key) f.addr (f.field row k) k (few_entries k few small) (bucket_below key k))
+      (keeps_bucket front (bucket_of (length row.buckets) key) f.addr (f.field row k) k (few_entries k few small)
+      (bucket_below key k))
 
   pub some_bucket : SomeHash b hash → SomeBucket b front (length key)
   some_bucket s = record { bucket = items_by s.row key; keeps = bucket_for s.row s.keeps }
@@ -80,7 +86,8 @@ module _ {b : Blocks} {hash size : ℕ} {key : List ℕ} {front : Link} (f : Fro
       IsFirst key front (items_by row key) place
   found_item s row k = s.searched (items_by row key) (bucket_for row k)
 
-  pub finds : {value : ℕ} {place : Place} → Searches b front key (Some place) → HasWord (b place.addr) 1 value → FindsKey b hash key value
+  pub finds : {value : ℕ} {place : Place} → Searches b front key (Some place) → HasWord (b place.addr) 1 value →
+      FindsKey b hash key value
   finds {value} s h = record {
     is = f.is;
     finds = λ row k.
@@ -113,7 +120,8 @@ module _ {b : Blocks} {hash size : ℕ} {key : List ℕ} {front : Link} (f : Fro
   lacks s = record { is = f.is; lacks = λ row k. s.searched (items_by row key) (bucket_for row k) }
 
 -- an answer's count
-pub counts_given : {b : Blocks} {size : ℕ} (hash : ℕ) (r : Result ℕ Stop) → Few size b → size ≤ 64 * 262144 → OnOk r (IsKind (b hash) kinds.Hash) →
+pub counts_given : {b : Blocks} {size : ℕ} (hash : ℕ) (r : Result ℕ Stop) → Few size b → size ≤ 64 * 262144 →
+    OnOk r (IsKind (b hash) kinds.Hash) →
     IfOk r (HasWord (b hash) 2) → IfOk r (CountsEntries b hash)
 counts_given hash (Ok value) few small kind h = counts kind few small h
 counts_given hash (Err stop) few small kind h = tt

@@ -29,10 +29,12 @@ abbrev opened_kept : {b : Blocks} {front : Link} {most n : ℕ} {words : List �
     OpenedAt b front most n words bucket rest → KeepsBucket b front n bucket
 opened_kept {words = words} {rest = rest} o = record { words = words; rest = rest; stands = o.stands; opened = o.opened }
 
-pub opened_reaches : {b : Blocks} {front : Link} {most : ℕ} → SomeOpened b front most → Reaches (b front.addr) (8 * front.field + 8)
+pub opened_reaches : {b : Blocks} {front : Link} {most : ℕ} → SomeOpened b front most →
+    Reaches (b front.addr) (8 * front.field + 8)
 opened_reaches {front = front} s = let o = s.is in front_reaches (opened_kept o) front.field o.opened.inside
 
-pub start : (old : Heap) (front : Link) (most first : ℕ) → HasWord (old.blocks front.addr) front.field first → Gives old old front most first 0
+pub start : (old : Heap) (front : Link) (most first : ℕ) → HasWord (old.blocks front.addr) front.field first →
+    Gives old old front most first 0
 start old front most first h = record {
   gives = λ n words bucket rest o.
       part_begun (ItemFits n) item_addr item_block 0 0 bucket ((front.addr, words_block words) ∷ rest)
@@ -42,7 +44,8 @@ start old front most first h = record {
 
 module _ {old now : Heap} {front : Link} {most cursor i : ℕ} (s : Gives old now front most cursor i) where
   -- where the cursor isn't 0 there is one more
-  more_left : {n : ℕ} {words : List ℕ} {bucket : List HashItem} {rest : Entries} → (o : OpenedAt old.blocks front most n words bucket rest) →
+  more_left : {n : ℕ} {words : List ℕ} {bucket : List HashItem} {rest : Entries} →
+      (o : OpenedAt old.blocks front most n words bucket rest) →
       cursor ≢ 0 → i < length bucket
   more_left {n} {words} {bucket} {rest} o nz =
       let p = s.gives n words bucket rest o in
@@ -56,7 +59,8 @@ module _ {old now : Heap} {front : Link} {most cursor i : ℕ} (s : Gives old no
       some_left (x ∷ left) n = omega arith
 
   -- the next one is there
-  next_item : {n : ℕ} {words : List ℕ} {bucket : List HashItem} {rest : Entries} → (o : OpenedAt old.blocks front most n words bucket rest) →
+  next_item : {n : ℕ} {words : List ℕ} {bucket : List HashItem} {rest : Entries} →
+      (o : OpenedAt old.blocks front most n words bucket rest) →
       (nd : NotDone (s.gives n words bucket rest o).left) → KeepsItem (now.blocks cursor) n nd.head (first_of item_addr 0 nd.tail)
   next_item {n} {words} {bucket} {rest} o nd =
       let p = s.gives n words bucket rest o in
@@ -69,11 +73,13 @@ module _ {old now : Heap} {front : Link} {most cursor i : ℕ} (s : Gives old no
 
   pub cursor_reaches : SomeOpened old.blocks front most → cursor ≢ 0 → Reaches (now.blocks cursor) 16
   cursor_reaches k nz =
-      let nd = part_more (ItemFits k.key_length) item_addr item_block 0 (s.gives k.key_length k.words k.bucket k.rest k.is) (more_left k.is nz) in
+      let nd = part_more (ItemFits k.key_length) item_addr item_block 0
+      (s.gives k.key_length k.words k.bucket k.rest k.is) (more_left k.is nz) in
       item_reaches (next_item k.is nd) 16 (omega arith)
 
   -- it is given back
-  pub onward : {new : Heap} {next : ℕ} → cursor ≢ 0 → HasWord (now.blocks cursor) 0 next → new ≡ with_given now cursor → Gives old new front most next (i + 1)
+  pub onward : {new : Heap} {next : ℕ} → cursor ≢ 0 → HasWord (now.blocks cursor) 0 next →
+      new ≡ with_given now cursor → Gives old new front most next (i + 1)
   onward {new} {next} nz h g = record {
     gives = λ n words bucket rest o.
         let p = s.gives n words bucket rest o in
@@ -99,7 +105,8 @@ module _ {old now : Heap} {front : Link} {most cursor i : ℕ} (s : Gives old no
   stopped new Failed u = tt
 
   -- none is left where the cursor is 0, or where as many were given back as there are at most
-  all_gone : {n : ℕ} {words : List ℕ} {bucket : List HashItem} {rest : Entries} → (o : OpenedAt old.blocks front most n words bucket rest) →
+  all_gone : {n : ℕ} {words : List ℕ} {bucket : List HashItem} {rest : Entries} →
+      (o : OpenedAt old.blocks front most n words bucket rest) →
       (cursor ≡ 0) ⊎ (i ≡ most) → i ≡ length bucket
   all_gone {n} {words} {bucket} {rest} o (inl z) =
       let p = s.gives n words bucket rest o in
@@ -108,7 +115,8 @@ module _ {old now : Heap} {front : Link} {most cursor i : ℕ} (s : Gives old no
       let q = p.passed in
       let none = none_left n words bucket rest o p.left refl z in omega (arith, l, w, q, none)
     where
-      none_left : (n : ℕ) (words : List ℕ) (bucket : List HashItem) (rest : Entries) → (o : OpenedAt old.blocks front most n words bucket rest) →
+      none_left : (n : ℕ) (words : List ℕ) (bucket : List HashItem) (rest : Entries) →
+          (o : OpenedAt old.blocks front most n words bucket rest) →
           (left : List HashItem) → (s.gives n words bucket rest o).left ≡ left → cursor ≡ 0 → length left ≡ 0
       none_left n words bucket rest o [] e z = refl
       none_left n words bucket rest o (x ∷ left) e z =

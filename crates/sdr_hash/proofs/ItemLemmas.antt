@@ -69,7 +69,8 @@ answered key c item next k =
     sym (c.is ∙ ap (λ (l : List ℕ). pointwise nat_eq l key) (key_is k (length key) refl c.has) ∙ turned item.key key)
 
 -- the words of an entry in front, and its key behind them
-pub entry_is : (next value : ℕ) (key front behind rest : List ℕ) (n : ℕ) → front ≡ layout (next ∷ value ∷ []) [] → behind ≡ key → length rest ≤ n →
+pub entry_is : (next value : ℕ) (key front behind rest : List ℕ) (n : ℕ) → front ≡ layout (next ∷ value ∷ []) [] →
+    behind ≡ key → length rest ≤ n →
     take 16 (front ++ rest) ++ (behind ++ drop n (drop 16 (front ++ rest))) ≡ layout (next ∷ value ∷ []) key
 unfolding layout
 entry_is next value key front behind rest n f b short =

@@ -27,7 +27,8 @@ pub length-entries : (buckets : List (List HashItem)) → length (flat_map bucke
 length-entries [] = refl
 length-entries (items ∷ buckets) =
     let ih = length-entries buckets in
-    let a : length (flat_map bucket_entries (items ∷ buckets)) ≡ length (bucket_entries items) + length (flat_map bucket_entries buckets) =
+    let a : length (flat_map bucket_entries (items ∷ buckets)) ≡ length (bucket_entries items) + length
+    (flat_map bucket_entries buckets) =
     length-append (bucket_entries items) (flat_map bucket_entries buckets) in
     let s = sum_by-cons (length {A = HashItem}) items buckets in
     let l = length-linked item_addr item_block 0 0 items in omega (arith, ih, a, s, l)

@@ -18,7 +18,8 @@ use Rattle.sdr_hash.specs.declared.bucket.Link.{Link}
 use Rattle.sdr_hash.proofs.ItemLemmas.{item_words}
 
 -- an entry doesn't say which one is before it
-pub any_previous : (p q next : ℕ) (items : List HashItem) → linked item_addr item_block p next items ≡ linked item_addr item_block q next items
+pub any_previous : (p q next : ℕ) (items : List HashItem) →
+    linked item_addr item_block p next items ≡ linked item_addr item_block q next items
 unfolding linked
 any_previous p q next [] = refl
 any_previous p q next (x ∷ xs) = refl
@@ -39,7 +40,8 @@ part_entries hash words next items rest = (hash, words_block words) ∷ (linked 
 
 -- the link is within its block
 pub link_reaches : {b : Blocks} (front : Link) (words : List ℕ) (next : ℕ) (items : List HashItem) (rest : Entries) →
-    front.field < length words → Stands b (part_entries front.addr words next items rest) → (link : Link) → link ≡ link_behind front items →
+    front.field < length words → Stands b
+    (part_entries front.addr words next items rest) → (link : Link) → link ≡ link_behind front items →
     Reaches (b link.addr) (8 * link.field + 8)
 link_reaches {b} front words next [] rest inside s link e =
     subst (λ (l : Link). Reaches (b l.addr) (8 * l.field + 8)) (sym e)
@@ -63,7 +65,9 @@ relinked {b} {b'} front words next next' [] rest inside first s link e w =
 relinked {b} {b'} front words next next' (x ∷ xs) rest inside first s link e w =
     subst (λ (ws : List ℕ). Stands b' (part_entries front.addr ws next' (x ∷ xs) rest))
     (sym (set-get_or words front.field 0) ∙ ap (set words front.field) first)
-    (relinked_next item_addr item_block b b' ((front.addr, words_block words) ∷ []) rest (8 * 0) 0 next next' (big_bytes 8 next') x xs
+    (relinked_next item_addr item_block b b' ((front.addr, words_block words) ∷ []) rest (8 * 0) 0 next next'
+    (big_bytes 8 next') x xs
     (λ p y. ap (λ (bytes : List ℕ). Some (record { kind = kinds.HashEntry; bytes = bytes }))
     (overwrite-layout (item_words next y) y.key 0 next' (omega arith)))
-    (subst (λ (l : Link). b' ≡ with_block b l.addr (overwritten (b l.addr) (8 * l.field) (big_bytes 8 next'))) (e ∙ link_last x.addr xs) w) s)
+    (subst (λ (l : Link). b' ≡ with_block b l.addr (overwritten (b l.addr) (8 * l.field) (big_bytes 8 next')))
+    (e ∙ link_last x.addr xs) w) s)

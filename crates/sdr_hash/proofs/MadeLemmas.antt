@@ -46,7 +46,9 @@ empty_bytes key_length buckets =
     ∙ ap (λ (l : List ℕ). layout (key_length ∷ buckets ∷ 0 ∷ l) []) (sym (fronts_none buckets))
     ∙ ap (λ n. layout (key_length ∷ buckets ∷ n ∷ map (first_of item_addr 0) (replicate {A = List HashItem} buckets [])) [])
     (sym (count_none buckets))
-    ∙ ap (λ n. layout (key_length ∷ n ∷ sum_by length (replicate {A = List HashItem} buckets []) ∷ map (first_of item_addr 0) (replicate {A = List HashItem} buckets [])) [])
+    ∙ ap (λ n. layout
+    (key_length ∷ n ∷ sum_by length (replicate {A = List HashItem} buckets []) ∷ map (first_of item_addr 0)
+    (replicate {A = List HashItem} buckets [])) [])
     (sym (length-replicate {A = List HashItem} buckets []))
 
 -- the hash was made

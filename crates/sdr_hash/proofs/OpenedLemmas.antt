@@ -46,7 +46,8 @@ words_with row p items count e =
     (first_of item_addr 0 items) count
     ∙ ap (λ n. row.key_length ∷ n ∷ count ∷ set (map (first_of item_addr 0) row.buckets) p (first_of item_addr 0 items))
     (sym (length-set row.buckets p items))
-    ∙ ap (λ n. row.key_length ∷ length (set row.buckets p items) ∷ n ∷ set (map (first_of item_addr 0) row.buckets) p (first_of item_addr 0 items)) e
+    ∙ ap (λ n. row.key_length ∷ length (set row.buckets p items) ∷ n ∷ set (map (first_of item_addr 0) row.buckets) p
+    (first_of item_addr 0 items)) e
     ∙ ap (λ (l : List ℕ). row.key_length ∷ length (set row.buckets p items) ∷ sum_by length (set row.buckets p items) ∷ l)
     (sym (map-set (first_of item_addr 0) row.buckets p items))
 
@@ -90,7 +91,8 @@ keeps_bucket {b} {hash} {row} front p a f k few less =
       words = hash_words row;
       rest = w.before ++ (w.behind ++ k.rest);
       stands =
-          subst (λ (at : ℕ). Stands b (opened_entries at (hash_words row) (get_or row.buckets p []) ++ (w.before ++ (w.behind ++ k.rest))))
+          subst (λ (at : ℕ). Stands b
+          (opened_entries at (hash_words row) (get_or row.buckets p []) ++ (w.before ++ (w.behind ++ k.rest))))
           (sym a) (opened_stands (hash, hash_block row) k.rest w k.stands);
       opened =
           subst (λ (field : ℕ). IsOpened row.key_length field (hash_words row) (get_or row.buckets p [])) (sym f)
@@ -98,7 +100,8 @@ keeps_bucket {b} {hash} {row} front p a f k few less =
     }
 
 -- a change of the bucket is a change of the hash
-pub closed : {b b' : Blocks} (hash : ℕ) (row : HashRow) (p : ℕ) (words : List ℕ) (items : List HashItem) → p < length row.buckets →
+pub closed : {b b' : Blocks} (hash : ℕ) (row : HashRow) (p : ℕ) (words : List ℕ) (items : List HashItem) →
+    p < length row.buckets →
     words ≡ hash_words (with_bucket row p items) →
     Changes b b' (opened_entries hash (hash_words row) (get_or row.buckets p [])) (opened_entries hash words items) →
     Changes b b' (hash_entries hash row) (hash_entries hash (with_bucket row p items))

@@ -27,12 +27,15 @@ use Rattle.sdr_hash.proofs.LinkLemmas.{any_previous, link_reaches, part_entries,
 use Rattle.sdr_hash.proofs.WalkLemmas.{count_is, here}
 
 -- the entries without the first of a key
-without : (key : List ℕ) (xs : List HashItem) (x : HashItem) (ys : List HashItem) → find (has_key key) xs ≡ None → has_key key x ≡ true →
+without : (key : List ℕ) (xs : List HashItem) (x : HashItem) (ys : List HashItem) → find (has_key key) xs ≡ None →
+    has_key key x ≡ true →
     removed key (xs ++ (x ∷ ys)) ≡ xs ++ ys
 unfolding removed
 without key [] x ys n is = ap (λ v. cond v ys (x ∷ removed key ys)) is
 without key (z ∷ xs) x ys n is =
-    elim (has_key key z) as (λ v. cond v (Some z) (find (has_key key) xs) ≡ None → cond v (xs ++ (x ∷ ys)) (z ∷ removed key (xs ++ (x ∷ ys))) ≡ z ∷ (xs ++ ys)) [
+    elim (has_key key z) as
+    (λ v. cond v (Some z) (find (has_key key) xs) ≡ None → cond v (xs ++ (x ∷ ys))
+    (z ∷ removed key (xs ++ (x ∷ ys))) ≡ z ∷ (xs ++ ys)) [
       | true ↦ λ k. let d : Some z ≡ None = k in cc
       | false ↦ λ k. ap (λ (l : List HashItem). z ∷ l) (without key xs x ys k is)
     ] n
@@ -61,17 +64,21 @@ around xs x ys rest =
     ap (λ (es : Entries). es ++ rest) (linked-around item_addr item_block 0 0 xs x ys)
     ∙ append_assoc (linked item_addr item_block 0 x.addr xs)
     ((x.addr, item_block 0 (first_of item_addr 0 ys) x) ∷ linked item_addr item_block x.addr 0 ys) rest
-    ∙ ap (λ (es : Entries). linked item_addr item_block 0 x.addr xs ++ ((x.addr, item_block 0 (first_of item_addr 0 ys) x) ∷ (es ++ rest)))
+    ∙ ap (λ (es : Entries). linked item_addr item_block 0 x.addr xs ++
+    ((x.addr, item_block 0 (first_of item_addr 0 ys) x) ∷ (es ++ rest)))
     (any_previous x.addr (last_of item_addr 0 xs) 0 ys)
 
 -- the bucket is cut at it, and joined
 pub cut : {b : Blocks} (hash : ℕ) (words : List ℕ) (xs : List HashItem) (x : HashItem) (ys : List HashItem) (rest : Entries) →
-    Stands b (opened_entries hash words (xs ++ (x ∷ ys)) ++ rest) → Stands b (part_entries hash words x.addr xs (from_it xs x ys rest))
+    Stands b (opened_entries hash words (xs ++ (x ∷ ys)) ++ rest) → Stands b
+    (part_entries hash words x.addr xs (from_it xs x ys rest))
 cut {b} hash words xs x ys rest s = subst (λ (es : Entries). Stands b ((hash, words_block words) ∷ es)) (around xs x ys rest) s
 
 pub joined : {b : Blocks} (hash : ℕ) (words : List ℕ) (xs : List HashItem) (x : HashItem) (ys : List HashItem) (rest : Entries) →
-    Stands b (part_entries hash words x.addr xs (from_it xs x ys rest)) → Stands b (opened_entries hash words (xs ++ (x ∷ ys)) ++ rest)
-joined {b} hash words xs x ys rest s = subst (λ (es : Entries). Stands b ((hash, words_block words) ∷ es)) (sym (around xs x ys rest)) s
+    Stands b (part_entries hash words x.addr xs (from_it xs x ys rest)) → Stands b
+    (opened_entries hash words (xs ++ (x ∷ ys)) ++ rest)
+joined {b} hash words xs x ys rest s =
+    subst (λ (es : Entries). Stands b ((hash, words_block words) ∷ es)) (sym (around xs x ys rest)) s
 
 -- the whole call, read
 module _ (front : Link) (place : Place) (next count : ℕ) (old : Heap) (h : HasWord (old.blocks place.addr) 0 next)
@@ -83,7 +90,8 @@ module _ (front : Link) (place : Place) (next count : ℕ) (old : Heap) (h : Has
       cut front.addr words f.before f.item f.behind rest
       (subst (λ (items : List HashItem). Stands old.blocks (opened_entries front.addr words items ++ rest)) f.whole s)
 
-  first_at : {key words : List ℕ} {bucket : List HashItem} → IsOpened (length key) front.field words bucket → (f : IsFirst key front bucket place) →
+  first_at : {key words : List ℕ} {bucket : List HashItem} → IsOpened (length key) front.field words bucket →
+      (f : IsFirst key front bucket place) →
       get_or words front.field 0 ≡ first_of item_addr f.item.addr f.before
   first_at o f =
       o.front ∙ ap (first_of item_addr 0) f.whole ∙ first-append item_addr item_block 0 f.before (f.item ∷ f.behind)
@@ -97,7 +105,8 @@ module _ (front : Link) (place : Place) (next count : ℕ) (old : Heap) (h : Has
 
   module _ {linked_to : Heap} (l : linked_to ≡ with_word old place.link.addr place.link.field next) where
     linked_past : {key words : List ℕ} {bucket : List HashItem} → IsOpened (length key) front.field words bucket →
-        (f : IsFirst key front bucket place) → (rest : Entries) → Stands old.blocks (opened_entries front.addr words bucket ++ rest) →
+        (f : IsFirst key front bucket place) → (rest : Entries) → Stands old.blocks
+        (opened_entries front.addr words bucket ++ rest) →
         Stands linked_to.blocks (part_entries front.addr (set words front.field (first_of item_addr 0 (removed key bucket)))
         (first_of item_addr 0 f.behind) f.before (from_it f.before f.item f.behind rest))
     linked_past {key} {words} {bucket} o f rest s =
@@ -106,9 +115,13 @@ module _ (front : Link) (place : Place) (next count : ℕ) (old : Heap) (h : Has
         let first : first_of item_addr next f.before ≡ first_of item_addr 0 (removed key bucket) =
         ap (λ m. first_of item_addr m f.before) n
         ∙ sym (ap (first_of item_addr 0) (removed_is f) ∙ first-append item_addr item_block 0 f.before f.behind) in
-        subst (λ m. Stands linked_to.blocks (part_entries front.addr (set words front.field (first_of item_addr 0 (removed key bucket))) m f.before (from_it f.before f.item f.behind rest))) n
-        (subst (λ m. Stands linked_to.blocks (part_entries front.addr (set words front.field m) next f.before (from_it f.before f.item f.behind rest))) first
-        (relinked front words f.item.addr next f.before (from_it f.before f.item f.behind rest) o.inside (first_at o f) (cut_at words f rest s) place.link f.at_link
+        subst (λ m. Stands linked_to.blocks
+        (part_entries front.addr (set words front.field (first_of item_addr 0 (removed key bucket))) m f.before
+        (from_it f.before f.item f.behind rest))) n
+        (subst (λ m. Stands linked_to.blocks
+        (part_entries front.addr (set words front.field m) next f.before (from_it f.before f.item f.behind rest))) first
+        (relinked front words f.item.addr next f.before (from_it f.before f.item f.behind rest) o.inside
+        (first_at o f) (cut_at words f rest s) place.link f.at_link
         (heap_blocks l)))
 
     -- the hash's block is there, before its count is set
@@ -126,8 +139,10 @@ module _ (front : Link) (place : Place) (next count : ℕ) (old : Heap) (h : Has
 
     module _ (less : ℕ) {counted : Heap} (e : less ≡ count - 1) (w : counted ≡ with_word linked_to front.addr 2 less) where
       counted_stands : {key words : List ℕ} {bucket : List HashItem} → IsOpened (length key) front.field words bucket →
-          (f : IsFirst key front bucket place) → (rest : Entries) → Stands old.blocks (opened_entries front.addr words bucket ++ rest) →
-          Stands counted.blocks (part_entries front.addr (with_front words front.field (removed key bucket) (get_or words 2 0 - 1))
+          (f : IsFirst key front bucket place) → (rest : Entries) → Stands old.blocks
+          (opened_entries front.addr words bucket ++ rest) →
+          Stands counted.blocks
+          (part_entries front.addr (with_front words front.field (removed key bucket) (get_or words 2 0 - 1))
           (first_of item_addr 0 f.behind) f.before (from_it f.before f.item f.behind rest))
       counted_stands {key} {words} {bucket} o f rest s =
           let front_word = first_of item_addr 0 (removed key bucket) in
@@ -135,7 +150,8 @@ module _ (front : Link) (place : Place) (next count : ℕ) (old : Heap) (h : Has
           let behind = o.behind in
           let inside = o.inside in
           let n = e ∙ ap (λ m. m - 1) (count_is (kept front rest o s) c) in
-          let more = linked item_addr item_block 0 (first_of item_addr 0 f.behind) f.before ++ from_it f.before f.item f.behind rest in
+          let more = linked item_addr item_block 0
+          (first_of item_addr 0 f.behind) f.before ++ from_it f.before f.item f.behind rest in
           subst (λ m. Stands counted.blocks ((front.addr, words_block (set (set words front.field front_word) 2 m)) ∷ more)) n
           (word_set linked_to.blocks counted.blocks front.addr kinds.Hash (set words front.field front_word) [] 2 less [] more
           (heap_blocks w) (omega (arith, long, behind, inside)) (linked_past o f rest s))
@@ -149,7 +165,8 @@ module _ (front : Link) (place : Place) (next count : ℕ) (old : Heap) (h : Has
           let next = first_of item_addr 0 f.behind in
           reaches (counted.blocks place.addr) kinds.HashEntry (item_words next x) x.key 0
           (ap counted.blocks f.at_addr
-          ∙ found counted.blocks x.addr (item_block 0 next x) ((front.addr, words_block words) ∷ linked item_addr item_block 0 next f.before)
+          ∙ found counted.blocks x.addr (item_block 0 next x)
+          ((front.addr, words_block words) ∷ linked item_addr item_block 0 next f.before)
           (linked item_addr item_block (last_of item_addr 0 f.before) 0 f.behind ++ k.keeps.rest)
           (counted_stands k.keeps.opened f k.keeps.rest k.keeps.stands)) (omega arith)
 
@@ -160,7 +177,8 @@ module _ (front : Link) (place : Place) (next count : ℕ) (old : Heap) (h : Has
               let after = with_front words front.field (removed key bucket) (get_or words 2 0 - 1) in
               let gone : new.blocks ≡ with_block counted.blocks f.item.addr None =
               given_blocks place.addr counted new g ∙ ap (λ p. with_block counted.blocks p None) f.at_addr in
-              subst (λ (items : List HashItem). Stands new.blocks ((front.addr, words_block after) ∷ (bucket_entries items ++ rest))) (sym (removed_is f))
+              subst (λ (items : List HashItem). Stands new.blocks
+              ((front.addr, words_block after) ∷ (bucket_entries items ++ rest))) (sym (removed_is f))
               (taken_out item_addr item_block counted.blocks new.blocks ((front.addr, words_block after) ∷ []) rest 0 0 f.before
               (item_block 0 (first_of item_addr 0 f.behind) f.item) f.item.addr f.behind gone (counted_stands o f rest s));
         };
@@ -172,7 +190,8 @@ module _ (front : Link) (place : Place) (next count : ℕ) (old : Heap) (h : Has
       }
 
 -- there is an entry to take out, so the count isn't 0
-pub count_some : {b : Blocks} {front : Link} {place : Place} (count : ℕ) → SomePlace b front place → HasWord (b front.addr) 2 count → 1 ≤ count
+pub count_some : {b : Blocks} {front : Link} {place : Place} (count : ℕ) → SomePlace b front place →
+    HasWord (b front.addr) 2 count → 1 ≤ count
 count_some count k h =
     let f = k.is in
     let e = count_is k.keeps h in
@@ -194,7 +213,8 @@ place_reaches {b} k =
     subst (λ p. Reaches (b p) 16) (sym f.at_addr) (item_reaches (here k.keeps f.before f.item f.behind f.whole) 16 (omega arith))
 
 -- and the hash's own block
-pub hash_there : {b : Blocks} {front : Link} {n : ℕ} {bucket : List HashItem} → KeepsBucket b front n bucket → Reaches (b front.addr) 24
+pub hash_there : {b : Blocks} {front : Link} {n : ℕ} {bucket : List HashItem} → KeepsBucket b front n bucket →
+    Reaches (b front.addr) 24
 hash_there {b} {front} {bucket = bucket} k =
     let behind = k.opened.behind in
     let inside = k.opened.inside in

@@ -41,7 +41,8 @@ nothing [] n = refl
 nothing (item ∷ left) n = absurd (omega (arith, n))
 
 -- what holds of all holds of one between two parts, and of those behind it
-pub middle : {n : ℕ} (xs : List HashItem) (x : HashItem) (ys : List HashItem) → All (ItemFits n) (xs ++ (x ∷ ys)) → All (ItemFits n) (x ∷ ys)
+pub middle : {n : ℕ} (xs : List HashItem) (x : HashItem) (ys : List HashItem) → All (ItemFits n) (xs ++ (x ∷ ys)) →
+    All (ItemFits n) (x ∷ ys)
 middle [] x ys f = f
 middle {n} (z ∷ xs) x ys f = middle xs x ys (All-tail (ItemFits n) z (xs ++ (x ∷ ys)) f)
 
@@ -92,14 +93,16 @@ module _ {b : Blocks} {front : Link} {n : ℕ} {bucket : List HashItem} (k : Kee
       }
 
 -- no entry stands at 0
-none_at_zero : {b : Blocks} {front : Link} {n next : ℕ} {bucket : List HashItem} {item : HashItem} (addr : ℕ) → KeepsBucket b front n bucket →
+none_at_zero : {b : Blocks} {front : Link} {n next : ℕ} {bucket : List HashItem} {item : HashItem} (addr : ℕ) →
+    KeepsBucket b front n bucket →
     KeepsItem (b addr) n item next → addr ≢ 0
 none_at_zero {b} {front} {n} {next} {bucket} {item} addr k i z =
     let none : b 0 ≡ None =
     k.stands.same 0 ∙ at-nowhere 0 (opened_entries front.addr k.words bucket ++ k.rest) k.stands.null in
     let d : None ≡ Some (item_block 0 next item) = sym none ∙ ap b (sym z) ∙ i.block in cc
 
-module _ {key : List ℕ} {front link : Link} {bucket : List HashItem} {cursor i : ℕ} (w : Walked key front bucket link cursor i) where
+module _ {key : List ℕ} {front link : Link} {bucket : List HashItem} {cursor i : ℕ}
+    (w : Walked key front bucket link cursor i) where
   more : cursor ≢ 0 → HasFirst w.left
   more n = has_first w.left (λ z. n (w.at_cursor ∙ z))
 
@@ -151,7 +154,8 @@ module _ {key : List ℕ} {front link : Link} {bucket : List HashItem} {cursor i
   not_found none =
       ap (find (has_key key)) (w.whole ∙ ap (λ (t : List HashItem). w.passed ++ t) none ∙ append-nil w.passed) ∙ w.none
 
-pub begun : {b : Blocks} {front : Link} {cursor : ℕ} (key : List ℕ) → HasWord (b front.addr) front.field cursor → Walks b front key front cursor 0
+pub begun : {b : Blocks} {front : Link} {cursor : ℕ} (key : List ℕ) → HasWord (b front.addr) front.field cursor →
+    Walks b front key front cursor 0
 begun key h = record {
   walked = λ bucket k. record {
     passed = [];
@@ -166,14 +170,16 @@ begun key h = record {
 
 module _ {b : Blocks} {front link : Link} {key : List ℕ} {cursor i : ℕ} where
   -- the entry at the cursor is there
-  pub reaches_here : SomeBucket b front (length key) → Walks b front key link cursor i → cursor ≢ 0 → (end : ℕ) → end ≤ 16 + length key →
+  pub reaches_here : SomeBucket b front (length key) → Walks b front key link cursor i → cursor ≢ 0 → (end : ℕ) →
+      end ≤ 16 + length key →
       Reaches (b cursor) end
   reaches_here k s n end le =
       let w = s.walked k.bucket k.keeps in
       item_reaches (at_cursor w k.keeps (more w n)) end le
 
   -- it hasn't the key, and is passed
-  pub passes : {next : ℕ} (after : Link) → Walks b front key link cursor i → cursor ≢ 0 → HasWord (b cursor) 0 next → Compares (b cursor) key false →
+  pub passes : {next : ℕ} (after : Link) → Walks b front key link cursor i → cursor ≢ 0 → HasWord (b cursor) 0 next →
+      Compares (b cursor) key false →
       after ≡ record { addr = cursor; field = 0 } → Walks b front key after next (i + 1)
   passes {next} after s n word c a = record {
     walked = λ bucket k.
@@ -208,7 +214,8 @@ module _ {b : Blocks} {front link : Link} {key : List ℕ} {cursor i : ℕ} wher
     searched = λ bucket k. let w = s.walked bucket k in not_found w (ended w k z (empty_or w.left));
   }
 
-  pub found_no_more : {size : ℕ} → Walks b front key link cursor i → Few size b → size ≤ 64 * 262144 → i ≡ 1048576 → Searches b front key None
+  pub found_no_more : {size : ℕ} → Walks b front key link cursor i → Few size b → size ≤ 64 * 262144 → i ≡ 1048576 →
+      Searches b front key None
   found_no_more s few small all = record {
     searched = λ bucket k. let w = s.walked bucket k in not_found w (none_more w k few small all);
   }

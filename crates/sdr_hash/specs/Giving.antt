@@ -40,7 +40,8 @@ pub record Gives (old now : Heap) (front : Link) (most cursor i : ℕ) : Type 0 
       Part (ItemFits key_length) item_addr item_block 0 old now cursor i bucket ((front.addr, words_block words) ∷ rest)
 
 -- the bucket's entries were given back, and the other blocks stand
-pub record Gone (old new : Heap) (hash : ℕ) (words : List ℕ) (bucket : List HashItem) (rest : Entries) (most left : ℕ) : Type 0 where
+pub record Gone (old new : Heap) (hash : ℕ) (words : List ℕ) (bucket : List HashItem) (rest : Entries)
+    (most left : ℕ) : Type 0 where
   pub stands : Stands new.blocks ((hash, words_block words) ∷ rest)
   pub counted : length bucket + left ≡ most
   pub made : Made (gave (map item_addr bucket)) old new

@@ -1,2 +1,5 @@
 mod OneListLemmas
 mod StringLemmas
+mod TableLemmas
+mod HashLemmas
+mod NameLemmas

@@ -33,5 +33,6 @@ overflow_add-result g c =
 
 pub returns-clause-found : goal.returns-clause-found
 returns-clause-found g c =
-    fronts c.in_ok-want.want c.in_ok-buckets.buckets c.bucket_of.result c.args.key.now _ c.in_ok-want.ensures.found c.in_ok-want.ensures.given
+    fronts c.in_ok-want.want c.in_ok-buckets.buckets c.bucket_of.result c.args.key.now _
+    c.in_ok-want.ensures.found c.in_ok-want.ensures.given
     c.if-key-want.false (rw c.hash_word.ensures.looks.same at c.in_ok-buckets.ensures.given) c.bucket_of.ensures.value refl refl

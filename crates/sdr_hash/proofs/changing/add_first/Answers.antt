@@ -26,34 +26,40 @@ set_word-requires-clause-inside g c =
 
 pub overflow_add-count : goal.overflow_add-count
 overflow_add-count g c =
-    let n = count_fits c.in_ok-count.count c.requires.bucket (rw c.word.ensures.looks.same at c.in_ok-count.ensures.given) in omega (arith, n)
+    let n = count_fits c.in_ok-count.count c.requires.bucket
+    (rw c.word.ensures.looks.same at c.in_ok-count.ensures.given) in omega (arith, n)
 
 pub set_word-requires-2-clause-inside : goal.set_word-requires-2-clause-inside
 set_word-requires-2-clause-inside g c =
     let n = rw c.word.ensures.looks.same at c.in_ok-count.ensures.given in
     let t = rw (c.word-2.ensures.looks.same, c.word.ensures.looks.same) at c.in_ok-added.ensures.taken in
-    count_there c.args.front _ _ _ _ c.args.key.now c.in_ok-next.ensures.given n t c.in_ok-set_word.ensures.written c.requires.bucket
+    count_there c.args.front _ _ _ _ c.args.key.now c.in_ok-next.ensures.given n t
+    c.in_ok-set_word.ensures.written c.requires.bucket
 
 pub returns-clause-added : goal.returns-clause-added
 returns-clause-added g c =
     let n = rw c.word.ensures.looks.same at c.in_ok-count.ensures.given in
     let t = rw (c.word-2.ensures.looks.same, c.word.ensures.looks.same) at c.in_ok-added.ensures.taken in
     on_ok_weaker _
-    (λ w. adds_first c.args.front c.in_ok-next.next c.args.value c.in_ok-added.added c.in_ok-count.count c.args.key.now c.in_ok-next.ensures.given n t
+    (λ w. adds_first c.args.front c.in_ok-next.next c.args.value c.in_ok-added.added c.in_ok-count.count c.args.key.now
+    c.in_ok-next.ensures.given n t
     c.in_ok-set_word.ensures.written _ (g.O.HasHeap.heap c.set_word-2.new.o) refl w)
     c.set_word-2.ensures.written
 
 pub returns-in_err-set_word-clause-refused : goal.returns-in_err-set_word-clause-refused
 returns-in_err-set_word-clause-refused g c =
     let t = rw (c.word-2.ensures.looks.same, c.word.ensures.looks.same) at c.in_ok-added.ensures.taken in
-    let s : OnlyShort (16 + length c.args.key.now) (g.O.HasHeap.heap c.args.o.now) (g.O.HasHeap.heap c.set_word.new.o) c.in_err-set_word.field-0.0 =
+    let s : OnlyShort (16 + length c.args.key.now) (g.O.HasHeap.heap c.args.o.now)
+    (g.O.HasHeap.heap c.set_word.new.o) c.in_err-set_word.field-0.0 =
     short_after (g.O.HasHeap.heap c.take_entry.new.o) (g.O.HasHeap.heap c.set_word.new.o) _ (took_entry _ _ c.args.key.now t) refl
     c.in_err-set_word.ensures.refused in search rules
 
 pub returns-clause-refused : goal.returns-clause-refused
 returns-clause-refused g c =
     let t = rw (c.word-2.ensures.looks.same, c.word.ensures.looks.same) at c.in_ok-added.ensures.taken in
-    IfErr-weaker _ _ (OnlyShort (16 + length c.args.key.now) (g.O.HasHeap.heap c.args.o.now) (g.O.HasHeap.heap c.set_word-2.new.o))
-    (λ stop u. short_after (g.O.HasHeap.heap c.set_word.new.o) (g.O.HasHeap.heap c.set_word-2.new.o) stop (took_entry _ _ c.args.key.now t)
+    IfErr-weaker _ _
+    (OnlyShort (16 + length c.args.key.now) (g.O.HasHeap.heap c.args.o.now) (g.O.HasHeap.heap c.set_word-2.new.o))
+    (λ stop u. short_after (g.O.HasHeap.heap c.set_word.new.o) (g.O.HasHeap.heap c.set_word-2.new.o) stop
+    (took_entry _ _ c.args.key.now t)
     (ap besides c.in_ok-set_word.ensures.written) u)
     c.set_word-2.ensures.refused

@@ -27,7 +27,8 @@ word-requires-clause-inside g c =
     let f = c.in_ok-front.ensures.found in
     let s = rw (c.front_of.ensures.looks.same, c.in-Some.is) at c.in_ok-search.ensures.found in
     rw (c.search.ensures.looks.same, c.front_of.ensures.looks.same)
-    (place_reaches (some_place f (g.met.O.Objects.few c.args.o.now c.requires.kept) (g.met.O.Objects.small c.args.o.now c.requires.kept) s
+    (place_reaches
+    (some_place f (g.met.O.Objects.few c.args.o.now c.requires.kept) (g.met.O.Objects.small c.args.o.now c.requires.kept) s
     (c.requires.hash f.is.kind)))
 
 pub returns-in-None-clause-inserted : goal.returns-in-None-clause-inserted
@@ -60,6 +61,7 @@ returns-in_ok-value-in-Some-clause-refused g c =
     let few = g.met.O.Objects.few c.args.o.now c.requires.kept in
     let small = g.met.O.Objects.small c.args.o.now c.requires.kept in
     let s = rw (c.front_of.ensures.looks.same, c.in-Some.is) at c.in_ok-search.ensures.found in (
-      finds f few small s (rw (c.search.ensures.looks.same, c.front_of.ensures.looks.same) at c.in_ok-value-in-Some.ensures.given),
+      finds f few small s
+          (rw (c.search.ensures.looks.same, c.front_of.ensures.looks.same) at c.in_ok-value-in-Some.ensures.given),
       c.word.ensures.looks.same ∙ c.search.ensures.looks.same ∙ c.front_of.ensures.looks.same,
     )

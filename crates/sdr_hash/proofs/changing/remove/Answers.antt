@@ -9,7 +9,8 @@ pub take_out-requires-clause-place : goal.take_out-requires-clause-place
 take_out-requires-clause-place g c =
     let l = c.in_ok-front.ensures.located in
     rw c.locate.ensures.looks.same
-    (some_place l.fronts (g.met.O.Objects.few c.args.o.now c.requires.kept) (g.met.O.Objects.small c.args.o.now c.requires.kept) l.found
+    (some_place l.fronts (g.met.O.Objects.few c.args.o.now c.requires.kept)
+    (g.met.O.Objects.small c.args.o.now c.requires.kept) l.found
     (c.requires.hash l.fronts.is.kind))
 
 pub returns-clause-removed : goal.returns-clause-removed
@@ -25,5 +26,6 @@ returns-clause-refused g c =
     let l = c.in_ok-front.ensures.located in
     IfErr-weaker _ _ (ChangeStops c.args.hash c.args.key.now (g.O.HasHeap.heap c.args.o.now) (g.O.HasHeap.heap c.take_out.new.o))
     (λ stop u. change_stops (g.O.HasHeap.heap c.args.o.now) (g.O.HasHeap.heap c.take_out.new.o) stop
-    (has l.fronts (g.met.O.Objects.few c.args.o.now c.requires.kept) (g.met.O.Objects.small c.args.o.now c.requires.kept) l.found) u)
+    (has l.fronts (g.met.O.Objects.few c.args.o.now c.requires.kept)
+    (g.met.O.Objects.small c.args.o.now c.requires.kept) l.found) u)
     (rw c.locate.ensures.looks.same at c.take_out.ensures.refused)

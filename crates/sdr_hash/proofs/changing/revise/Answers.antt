@@ -20,7 +20,8 @@ returns-clause-revised g c =
     let l = c.in_ok-place.ensures.located in
     on_ok_weaker _
     (λ w. revises (g.O.HasHeap.heap c.args.o.now) (g.O.HasHeap.heap c.set_word.new.o) l.fronts
-    (g.met.O.Objects.few c.args.o.now c.requires.kept) (g.met.O.Objects.small c.args.o.now c.requires.kept) c.args.value l.found w)
+    (g.met.O.Objects.few c.args.o.now c.requires.kept)
+    (g.met.O.Objects.small c.args.o.now c.requires.kept) c.args.value l.found w)
     (rw c.locate.ensures.looks.same at c.set_word.ensures.written)
 
 pub returns-clause-refused : goal.returns-clause-refused
@@ -28,5 +29,6 @@ returns-clause-refused g c =
     let l = c.in_ok-place.ensures.located in
     IfErr-weaker _ _ (ChangeStops c.args.hash c.args.key.now (g.O.HasHeap.heap c.args.o.now) (g.O.HasHeap.heap c.set_word.new.o))
     (λ stop u. change_stops (g.O.HasHeap.heap c.args.o.now) (g.O.HasHeap.heap c.set_word.new.o) stop
-    (has l.fronts (g.met.O.Objects.few c.args.o.now c.requires.kept) (g.met.O.Objects.small c.args.o.now c.requires.kept) l.found) u)
+    (has l.fronts (g.met.O.Objects.few c.args.o.now c.requires.kept)
+    (g.met.O.Objects.small c.args.o.now c.requires.kept) l.found) u)
     (rw c.locate.ensures.looks.same at c.set_word.ensures.refused)

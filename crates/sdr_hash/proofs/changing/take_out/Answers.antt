@@ -34,12 +34,15 @@ pub give-requires-clause-used : goal.give-requires-clause-used
 give-requires-clause-used g c =
     let n = rw c.word.ensures.looks.same at c.in_ok-count.ensures.given in
     let l = rw (c.word-2.ensures.looks.same, c.word.ensures.looks.same) at c.in_ok-set_word.ensures.written in
-    still c.args.front c.args.place _ _ (g.O.HasHeap.heap c.args.o.now) c.in_ok-next.ensures.given n l _ refl c.in_ok-set_word-2.ensures.written c.requires.place
+    still c.args.front c.args.place _ _
+    (g.O.HasHeap.heap c.args.o.now) c.in_ok-next.ensures.given n l _ refl c.in_ok-set_word-2.ensures.written c.requires.place
 
 pub returns-clause-taken : goal.returns-clause-taken
 returns-clause-taken g c =
     let n = rw c.word.ensures.looks.same at c.in_ok-count.ensures.given in
     let l = rw (c.word-2.ensures.looks.same, c.word.ensures.looks.same) at c.in_ok-set_word.ensures.written in
     on_ok_weaker _
-    (λ w. takes_out c.args.front c.args.place _ _ (g.O.HasHeap.heap c.args.o.now) c.in_ok-next.ensures.given n l _ refl c.in_ok-set_word-2.ensures.written (g.O.HasHeap.heap c.give.new.self) w)
+    (λ w. takes_out c.args.front c.args.place _ _
+    (g.O.HasHeap.heap c.args.o.now) c.in_ok-next.ensures.given n l _ refl c.in_ok-set_word-2.ensures.written
+    (g.O.HasHeap.heap c.give.new.self) w)
     c.give.ensures.given

@@ -28,7 +28,8 @@ loop-bucket-init g c =
           (begun old c.args.hash _ c.in_ok-left.left c.in_ok-buckets.buckets (g.met.O.Objects.few c.args.o.now c.requires.kept)
           (g.met.O.Objects.small c.args.o.now c.requires.kept) count c.in_ok-buckets.ensures.given);
       less = omega (arith, e);
-      works = works_ok (works_more (looks_works (looks_looks c.in_ok-buckets.ensures.looks c.in_ok-left.ensures.looks)) (omega arith));
+      works = works_ok
+          (works_more (looks_works (looks_looks c.in_ok-buckets.ensures.looks c.in_ok-left.ensures.looks)) (omega arith));
     }
 
 pub give_bucket-requires-clause-kept : goal.give_bucket-requires-clause-kept
@@ -40,8 +41,10 @@ give_bucket-requires-clause-spare g c =
     let count = rw c.hash_word.ensures.looks.same at c.in_ok-left.ensures.given in
     let e = entries_in_is old.blocks c.args.hash c.in_ok-left.left c.in_ok-buckets.ensures.found count in
     let enough = c.requires.spare in
-    let room = spare_left old c.args.hash _ c.in_ok-left.left c.in_ok-buckets.buckets (g.met.O.Objects.few c.args.o.now c.requires.kept)
-    (g.met.O.Objects.small c.args.o.now c.requires.kept) count c.in_ok-buckets.ensures.given (c.requires.hash c.in_ok-buckets.ensures.found)
+    let room = spare_left old c.args.hash _ c.in_ok-left.left c.in_ok-buckets.buckets
+    (g.met.O.Objects.few c.args.o.now c.requires.kept)
+    (g.met.O.Objects.small c.args.o.now c.requires.kept) count c.in_ok-buckets.ensures.given
+    (c.requires.hash c.in_ok-buckets.ensures.found)
     c.loop-bucket.invariant.gives (omega (arith, e, enough)) in omega (arith, room)
 
 pub give_bucket-requires-clause-bucket : goal.give_bucket-requires-clause-bucket
@@ -68,15 +71,18 @@ loop-bucket-preserved g c =
     let count = rw c.hash_word.ensures.looks.same at c.in_ok-left.ensures.given in
     let few = g.met.O.Objects.few c.args.o.now c.requires.kept in
     let small = g.met.O.Objects.small c.args.o.now c.requires.kept in
-    let fewer = left_less old c.args.hash _ c.in_ok-left.left c.in_ok-buckets.buckets few small count c.in_ok-buckets.ensures.given
-    c.loop-bucket.invariant.gives _ (omega arith) refl refl (c.requires.hash c.in_ok-buckets.ensures.found) c.in_ok-left-2.ensures.given in
+    let fewer =
+    left_less old c.args.hash _ c.in_ok-left.left c.in_ok-buckets.buckets few small count c.in_ok-buckets.ensures.given
+    c.loop-bucket.invariant.gives _ (omega arith) refl refl
+    (c.requires.hash c.in_ok-buckets.ensures.found) c.in_ok-left-2.ensures.given in
     let less = c.loop-bucket.invariant.less in
     record {
       gives =
           onward old c.args.hash _ c.in_ok-left.left c.in_ok-buckets.buckets few small count c.in_ok-buckets.ensures.given
           c.loop-bucket.invariant.gives _ (omega arith) refl refl c.in_ok-left-2.ensures.given;
       less = omega (arith, fewer, less);
-      works = works_ok (works_more (works_then c.loop-bucket.invariant.works c.in_ok-left-2.ensures.works) (omega (arith, fewer, less)));
+      works = works_ok
+          (works_more (works_then c.loop-bucket.invariant.works c.in_ok-left-2.ensures.works) (omega (arith, fewer, less)));
     }
 
 pub give-requires-clause-kept : goal.give-requires-clause-kept
@@ -88,8 +94,10 @@ give-requires-clause-spare g c =
     let count = rw c.hash_word.ensures.looks.same at c.in_ok-left.ensures.given in
     let e = entries_in_is old.blocks c.args.hash c.in_ok-left.left c.in_ok-buckets.ensures.found count in
     let enough = c.requires.spare in
-    let room = spare_left old c.args.hash _ c.in_ok-left.left c.in_ok-buckets.buckets (g.met.O.Objects.few c.args.o.now c.requires.kept)
-    (g.met.O.Objects.small c.args.o.now c.requires.kept) count c.in_ok-buckets.ensures.given (c.requires.hash c.in_ok-buckets.ensures.found)
+    let room = spare_left old c.args.hash _ c.in_ok-left.left c.in_ok-buckets.buckets
+    (g.met.O.Objects.few c.args.o.now c.requires.kept)
+    (g.met.O.Objects.small c.args.o.now c.requires.kept) count c.in_ok-buckets.ensures.given
+    (c.requires.hash c.in_ok-buckets.ensures.found)
     c.loop-bucket.invariant.gives (omega (arith, e, enough)) in omega (arith, room)
 
 pub give-requires-clause-used : goal.give-requires-clause-used
@@ -97,7 +105,8 @@ give-requires-clause-used g c =
     let old = g.O.HasHeap.heap c.args.o.now in
     let count = rw c.hash_word.ensures.looks.same at c.in_ok-left.ensures.given in
     hash_left old c.args.hash _ c.in_ok-left.left c.in_ok-buckets.buckets (g.met.O.Objects.few c.args.o.now c.requires.kept)
-    (g.met.O.Objects.small c.args.o.now c.requires.kept) count c.in_ok-buckets.ensures.given c.loop-bucket.invariant.gives (omega arith)
+    (g.met.O.Objects.small c.args.o.now c.requires.kept) count c.in_ok-buckets.ensures.given
+    c.loop-bucket.invariant.gives (omega arith)
     (c.requires.hash c.in_ok-buckets.ensures.found)
 
 pub returns-clause-destroyed : goal.returns-clause-destroyed
@@ -106,7 +115,8 @@ returns-clause-destroyed g c =
     let count = rw c.hash_word.ensures.looks.same at c.in_ok-left.ensures.given in
     on_ok_weaker _
     (λ w. destroys old c.args.hash _ c.in_ok-left.left c.in_ok-buckets.buckets (g.met.O.Objects.few c.args.o.now c.requires.kept)
-    (g.met.O.Objects.small c.args.o.now c.requires.kept) count c.in_ok-buckets.ensures.given c.loop-bucket.invariant.gives (omega arith)
+    (g.met.O.Objects.small c.args.o.now c.requires.kept) count c.in_ok-buckets.ensures.given
+    c.loop-bucket.invariant.gives (omega arith)
     (g.O.HasHeap.heap c.give.new.self) c.in_ok-buckets.ensures.found w)
     c.give.ensures.given
 
@@ -115,7 +125,9 @@ returns-clause-refused g c =
     let old = g.O.HasHeap.heap c.args.o.now in
     let count = rw c.hash_word.ensures.looks.same at c.in_ok-left.ensures.given in
     IfErr-weaker _ _ (DestroyStops c.args.hash old (g.O.HasHeap.heap c.give.new.self))
-    (λ stop u. stopped_after old c.args.hash _ c.in_ok-left.left c.in_ok-buckets.buckets (g.met.O.Objects.few c.args.o.now c.requires.kept)
-    (g.met.O.Objects.small c.args.o.now c.requires.kept) count c.in_ok-buckets.ensures.given c.loop-bucket.invariant.gives (omega arith)
+    (λ stop u. stopped_after old c.args.hash _ c.in_ok-left.left c.in_ok-buckets.buckets
+    (g.met.O.Objects.few c.args.o.now c.requires.kept)
+    (g.met.O.Objects.small c.args.o.now c.requires.kept) count c.in_ok-buckets.ensures.given
+    c.loop-bucket.invariant.gives (omega arith)
     (g.O.HasHeap.heap c.give.new.self) stop c.in_ok-buckets.ensures.found u)
     c.give.ensures.refused

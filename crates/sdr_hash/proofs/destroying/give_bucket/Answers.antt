@@ -10,7 +10,8 @@ word-requires-clause-inside g c = opened_reaches c.requires.bucket
 
 pub loop-i-init : goal.loop-i-init
 loop-i-init g c = record {
-  gives = rw c.word.ensures.looks.same (start (g.O.HasHeap.heap c.args.o.now) c.args.front c.args.most _ c.in_ok-entry.ensures.given);
+  gives = rw c.word.ensures.looks.same
+      (start (g.O.HasHeap.heap c.args.o.now) c.args.front c.args.most _ c.in_ok-entry.ensures.given);
   works = works_ok (looks_works c.in_ok-entry.ensures.looks);
 }
 

@@ -11,5 +11,6 @@ returns c =
     let d = length-drop 16 c.args.into.now in
     let long = c.requires.long in
     let whole = c.write_u64_into.auto.dst in
-    entry_is c.args.next c.args.value c.args.key.now _ _ rest _ (c.write_u64_into.ensures ∙ layout-words _) c.copy_from_slice.ensures.after
+    entry_is c.args.next c.args.value c.args.key.now _ _ rest _
+    (c.write_u64_into.ensures ∙ layout-words _) c.copy_from_slice.ensures.after
     (omega (arith, a, d, long, whole))

@@ -17,5 +17,6 @@ pub returns-clause-found : goal.returns-clause-found
 returns-clause-found g c =
     let l = c.in_ok-place.ensures.located in
     IfOk-weaker _ _ _
-    (λ value h. finds l.fronts (g.met.O.Objects.few c.args.o.now c.requires.kept) (g.met.O.Objects.small c.args.o.now c.requires.kept) l.found h)
+    (λ value h. finds l.fronts (g.met.O.Objects.few c.args.o.now c.requires.kept)
+    (g.met.O.Objects.small c.args.o.now c.requires.kept) l.found h)
     (rw c.locate.ensures.looks.same at c.word.ensures.given)

@@ -40,7 +40,8 @@ loop-i-preserved g c =
     let next = rw (c.has_key.ensures.looks.same, c.loop-i.invariant.looks.same) at c.in_ok-addr-2.ensures.given in
     record {
       walks = passes _ c.loop-i.invariant.walks c.if-addr-eq0.false next h refl;
-      looks = looks_on (looks_on {V = ℕ} {x = 0} c.loop-i.invariant.looks c.in_ok-has_key.ensures.looks) c.in_ok-addr-2.ensures.looks;
+      looks = looks_on
+          (looks_on {V = ℕ} {x = 0} c.loop-i.invariant.looks c.in_ok-has_key.ensures.looks) c.in_ok-addr-2.ensures.looks;
     }
 
 pub returns-clause-found : goal.returns-clause-found
