@@ -14,7 +14,7 @@ use Rattle.sdr_base.specs.declared.stop.Stop.TheVariants.{Refused}
 use Rattle.sdr_hash.specs.Buckets.{item_of, with_item, with_value, without_key}
 use Rattle.sdr_hash.specs.Kept.{IsNoShape, IsShape, KeepsHash}
 use Rattle.sdr_hash.specs.declared.hash.TheConstants.{FRONTS_FROM}
-use Rattle.sdr_hash.specs.declared.searching.TheConstants.{KEY_FROM}
+use Rattle.sdr_hash.specs.declared.entry.TheConstants.{KEY_FROM}
 
 -- a hash without entries
 abbrev pub empty_hash : ℕ → ℕ → HashRow

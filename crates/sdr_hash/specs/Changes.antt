@@ -12,7 +12,7 @@ use Rattle.sdr_hash.specs.Opened.{IsOpened, KeepsBucket, opened_entries, with_fr
 use Rattle.sdr_hash.specs.Walks.{IsFirst}
 use Rattle.sdr_hash.specs.declared.bucket.Link.{Link}
 use Rattle.sdr_hash.specs.declared.searching.Place.{Place}
-use Rattle.sdr_hash.specs.declared.searching.TheConstants.{KEY_FROM}
+use Rattle.sdr_hash.specs.declared.entry.TheConstants.{KEY_FROM}
 
 -- a new entry has come in front of whichever bucket is kept, and all else stays
 pub record AddsFirst (front : Link) (key : List ℕ) (value : ℕ) (old new : Heap) : Type 0 where

@@ -9,8 +9,8 @@ ghost use Rattle.sdr_hash.specs.Kept.{IsHash};
 ghost use Rattle.sdr_hash.specs.Opened.{SomeBucket};
 
 use crate::bucket::{Link, front_of};
-use crate::entry::take_entry;
-use crate::searching::{KEY_FROM, Place, locate, search};
+use crate::entry::{KEY_FROM, take_entry};
+use crate::searching::{Place, locate, search};
 use sdr_base::layout::{hash as hash_words, hash_entry as words};
 use sdr_base::{Addr, Objects, Refusal, Stop, set_word, word};
 

@@ -11,7 +11,7 @@ use byteorder::{BigEndian, ByteOrder};
 use sdr_base::{Addr, Kind, Objects, Stop, take_bytes};
 
 // Where the key begins in an entry, in bytes.
-const KEY_FROM: usize = 16;
+pub const KEY_FROM: usize = 16;
 
 // Takes a block for an entry before another.
 pub fn take_entry<O: Objects>(o: &mut O, next: Addr, value: u64, key: &[u8]) -> Result<Addr, Stop>

@@ -10,15 +10,13 @@ ghost use Rattle.sdr_hash.specs.Opened.{SomeBucket};
 ghost use Rattle.sdr_hash.specs.Walks.{Compares, Locates, Searches};
 
 use crate::bucket::{Link, front_of};
+use crate::entry::KEY_FROM;
 use crate::hash::LONGEST_KEY;
 use sdr_base::layout::hash_entry as words;
 use sdr_base::{Addr, Objects, Refusal, Stop, word};
 
 // As many blocks in use as the largest heap may have, one for 16 bytes.
 const MOST_ENTRIES: u64 = 1_048_576;
-
-// Where the key begins in an entry, in bytes.
-pub const KEY_FROM: u64 = 16;
 
 // An entry of a hash, and the link to it.
 #[derive(Clone, Copy)]
@@ -91,6 +89,6 @@ fn has_key<O: Objects>(o: &mut O, addr: Addr, key: &[u8]) -> Result<bool, Stop>
 {
     let mut buffer = [0; LONGEST_KEY];
     let bytes = &mut buffer[..key.len()];
-    o.get(addr, KEY_FROM, bytes)?;
+    o.get(addr, KEY_FROM as u64, bytes)?;
     Ok(&*bytes == key)
 }
