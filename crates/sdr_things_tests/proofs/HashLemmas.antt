@@ -50,8 +50,11 @@ made_hash {key_length} {buckets} old new none m = record {
   row = empty_hash key_length buckets;
   stands = m.makes.adds.changes.kept [] (nothing_stands none);
   fits = record {
-    shape = let s = m.shape in record { key = s.key; count = let l = length-replicate {A = List HashItem} buckets [] in
-        record { some = let x = s.count.some in omega (arith, l, x); few = let x = s.count.few in omega (arith, l, x) } };
+    shape = let s = m.shape in record {
+      key = s.key;
+      count = let l = length-replicate {A = List HashItem} buckets [] in
+          record { some = let x = s.count.some in omega (arith, l, x); few = let x = s.count.few in omega (arith, l, x) };
+    };
     items = All-replicate (All (ItemFits key_length)) buckets [] (All-nil (ItemFits key_length));
   };
   few = let s = sum_by-replicate (length {A = HashItem}) buckets [] in omega (arith, s);
@@ -71,10 +74,13 @@ with_fits row key items f a =
     let p = bucket_of (length row.buckets) key in
     let l = length-set row.buckets p items in
     record {
-      shape = record { key = f.shape.key; count = record {
-        some = let x = f.shape.count.some in omega (arith, l, x);
-        few = let x = f.shape.count.few in omega (arith, l, x);
-      } };
+      shape = record {
+        key = f.shape.key;
+        count = record {
+          some = let x = f.shape.count.some in omega (arith, l, x);
+          few = let x = f.shape.count.few in omega (arith, l, x);
+        };
+      };
       items = All-set (All (ItemFits row.key_length)) row.buckets p items a f.items;
     }
 

@@ -41,27 +41,86 @@ fn played(alloc: Global, case: &Case) -> Option<Result<bool, Stop>> {
     Some(plays(&mut heap, case))
 }
 
-const fn bad_key(length: u64, want: u64) -> Result<bool, Refusal> {
-    Err(Refusal::BadKeyLength { length, want })
-}
-
-const fn bad_count(row: u64) -> Result<bool, Refusal> {
-    Err(Refusal::BadRow { row, rows: 256 })
-}
-
 const CASES: [Case; 11] = [
     // Two keys of one bucket, where the other one is before the first.
-    Case { key_length: 2, buckets: 256, keys: [b"ab", b"ba"], answer: Ok(true) },
-    Case { key_length: 1, buckets: 1, keys: [b"\0", b"\xff"], answer: Ok(true) },
-    Case { key_length: 255, buckets: 3, keys: [&[1; 255], &[2; 255]], answer: Ok(true) },
-    Case { key_length: 0, buckets: 0, keys: [b"", b""], answer: bad_key(0, 255) },
-    Case { key_length: 256, buckets: 1, keys: [b"", b""], answer: bad_key(256, 255) },
-    Case { key_length: 1, buckets: 0, keys: [b"a", b"b"], answer: bad_count(0) },
-    Case { key_length: 1, buckets: 257, keys: [b"a", b"b"], answer: bad_count(257) },
-    Case { key_length: 1, buckets: 2, keys: [b"", b"b"], answer: bad_key(0, 1) },
-    Case { key_length: 255, buckets: 2, keys: [&[3; 255], &[3; 256]], answer: bad_key(256, 255) },
-    Case { key_length: 1, buckets: 2, keys: [b"a", b"a"], answer: Err(Refusal::KeyTaken { value: 5 }) },
-    Case { key_length: 2, buckets: 2, keys: [b"aa", b"b"], answer: bad_key(1, 2) },
+    Case {
+        key_length: 2,
+        buckets: 256,
+        keys: [b"ab", b"ba"],
+        answer: Ok(true),
+    },
+    Case {
+        key_length: 1,
+        buckets: 1,
+        keys: [b"\0", b"\xff"],
+        answer: Ok(true),
+    },
+    Case {
+        key_length: 255,
+        buckets: 3,
+        keys: [&[1; 255], &[2; 255]],
+        answer: Ok(true),
+    },
+    Case {
+        key_length: 0,
+        buckets: 0,
+        keys: [b"", b""],
+        answer: Err(Refusal::BadKeyLength {
+            length: 0,
+            want: 255,
+        }),
+    },
+    Case {
+        key_length: 256,
+        buckets: 1,
+        keys: [b"", b""],
+        answer: Err(Refusal::BadKeyLength {
+            length: 256,
+            want: 255,
+        }),
+    },
+    Case {
+        key_length: 1,
+        buckets: 0,
+        keys: [b"a", b"b"],
+        answer: Err(Refusal::BadRow { row: 0, rows: 256 }),
+    },
+    Case {
+        key_length: 1,
+        buckets: 257,
+        keys: [b"a", b"b"],
+        answer: Err(Refusal::BadRow {
+            row: 257,
+            rows: 256,
+        }),
+    },
+    Case {
+        key_length: 1,
+        buckets: 2,
+        keys: [b"", b"b"],
+        answer: Err(Refusal::BadKeyLength { length: 0, want: 1 }),
+    },
+    Case {
+        key_length: 255,
+        buckets: 2,
+        keys: [&[3; 255], &[3; 256]],
+        answer: Err(Refusal::BadKeyLength {
+            length: 256,
+            want: 255,
+        }),
+    },
+    Case {
+        key_length: 1,
+        buckets: 2,
+        keys: [b"a", b"a"],
+        answer: Err(Refusal::KeyTaken { value: 5 }),
+    },
+    Case {
+        key_length: 2,
+        buckets: 2,
+        keys: [b"aa", b"b"],
+        answer: Err(Refusal::BadKeyLength { length: 1, want: 2 }),
+    },
 ];
 
 #[test]

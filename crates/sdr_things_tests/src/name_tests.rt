@@ -39,17 +39,46 @@ fn played(alloc: Global, case: &Case) -> Option<Result<bool, Stop>> {
     Some(plays(&mut heap, case))
 }
 
-const fn too_long(length: u64) -> Result<bool, Refusal> {
-    Err(Refusal::BadLength { length, most: 31 })
-}
-
 const CASES: [Case; 6] = [
-    Case { names: [b"a", &[b'x'; 31]], wanted: &[b'x'; 31], answer: Ok(true) },
-    Case { names: [b"", b"b"], wanted: b"b", answer: too_long(0) },
-    Case { names: [b"a", &[b'x'; 32]], wanted: b"a", answer: too_long(32) },
-    Case { names: [b"a", b"a"], wanted: b"a", answer: Err(Refusal::NameTaken { addr: 40 }) },
-    Case { names: [b"a", b"b"], wanted: b"c", answer: Err(Refusal::NotFound) },
-    Case { names: [b"a", b"b"], wanted: &[b'x'; 32], answer: too_long(32) },
+    Case {
+        names: [b"a", &[b'x'; 31]],
+        wanted: &[b'x'; 31],
+        answer: Ok(true),
+    },
+    Case {
+        names: [b"", b"b"],
+        wanted: b"b",
+        answer: Err(Refusal::BadLength {
+            length: 0,
+            most: 31,
+        }),
+    },
+    Case {
+        names: [b"a", &[b'x'; 32]],
+        wanted: b"a",
+        answer: Err(Refusal::BadLength {
+            length: 32,
+            most: 31,
+        }),
+    },
+    Case {
+        names: [b"a", b"a"],
+        wanted: b"a",
+        answer: Err(Refusal::NameTaken { addr: 40 }),
+    },
+    Case {
+        names: [b"a", b"b"],
+        wanted: b"c",
+        answer: Err(Refusal::NotFound),
+    },
+    Case {
+        names: [b"a", b"b"],
+        wanted: &[b'x'; 32],
+        answer: Err(Refusal::BadLength {
+            length: 32,
+            most: 31,
+        }),
+    },
 ];
 
 #[test]

@@ -41,22 +41,73 @@ fn played(alloc: Global, case: &Case) -> Option<Result<bool, Stop>> {
     Some(plays(&mut heap, case))
 }
 
-const MOST: u64 = 1_048_576;
-
-const fn too_long(length: u64, most: u64) -> Result<bool, Refusal> {
-    Err(Refusal::BadLength { length, most })
-}
-
 const CASES: [Case; 8] = [
-    Case { rows: 2, size: 3, at: 1, from: b"abc", answer: Ok(true) },
+    Case {
+        rows: 2,
+        size: 3,
+        at: 1,
+        from: b"abc",
+        answer: Ok(true),
+    },
     // Rows of no byte.
-    Case { rows: 5, size: 0, at: 4, from: b"", answer: Ok(true) },
-    Case { rows: 0, size: 5, at: 0, from: b"abcde", answer: Err(Refusal::BadRow { row: 0, rows: 0 }) },
-    Case { rows: 2, size: 3, at: 2, from: b"abc", answer: Err(Refusal::BadRow { row: 2, rows: 2 }) },
-    Case { rows: 2, size: 3, at: 1, from: b"ab", answer: too_long(2, 3) },
-    Case { rows: 61_681, size: 17, at: 0, from: b"", answer: too_long(MOST + 1, MOST) },
-    Case { rows: 1 << 40, size: 1 << 40, at: 0, from: b"", answer: too_long(1 << 40, MOST) },
-    Case { rows: 1, size: 4_097, at: 0, from: &[0; 4_097], answer: too_long(4_097, 4_096) },
+    Case {
+        rows: 5,
+        size: 0,
+        at: 4,
+        from: b"",
+        answer: Ok(true),
+    },
+    Case {
+        rows: 0,
+        size: 5,
+        at: 0,
+        from: b"abcde",
+        answer: Err(Refusal::BadRow { row: 0, rows: 0 }),
+    },
+    Case {
+        rows: 2,
+        size: 3,
+        at: 2,
+        from: b"abc",
+        answer: Err(Refusal::BadRow { row: 2, rows: 2 }),
+    },
+    Case {
+        rows: 2,
+        size: 3,
+        at: 1,
+        from: b"ab",
+        answer: Err(Refusal::BadLength { length: 2, most: 3 }),
+    },
+    Case {
+        rows: 61_681,
+        size: 17,
+        at: 0,
+        from: b"",
+        answer: Err(Refusal::BadLength {
+            length: 1_048_577,
+            most: 1_048_576,
+        }),
+    },
+    Case {
+        rows: 1 << 40,
+        size: 1 << 40,
+        at: 0,
+        from: b"",
+        answer: Err(Refusal::BadLength {
+            length: 1 << 40,
+            most: 1_048_576,
+        }),
+    },
+    Case {
+        rows: 1,
+        size: 4_097,
+        at: 0,
+        from: &[0; 4_097],
+        answer: Err(Refusal::BadLength {
+            length: 4_097,
+            most: 4_096,
+        }),
+    },
 ];
 
 #[test]
