@@ -84,9 +84,9 @@ with_fits row key items f a =
       items = All-set (All (ItemFits row.key_length)) row.buckets p items a f.items;
     }
 
-with_few : {most more : ℕ} (row : HashRow) (key : List ℕ) (items : List HashItem) → HashFits row → sum_by length row.buckets ≤ most →
+with_few : {most : ℕ} (more : ℕ) (row : HashRow) (key : List ℕ) (items : List HashItem) → HashFits row → sum_by length row.buckets ≤ most →
     length items ≤ length (items_by row key) + more → sum_by length (with_items row key items).buckets ≤ most + more
-with_few row key items f few long =
+with_few more row key items f few long =
     let s = sum_by-set (length {A = HashItem}) row.buckets (bucket_of (length row.buckets) key) items [] (below row key f) in
     omega (arith, s, few, long)
 
@@ -104,7 +104,7 @@ inserted_hash {hash} {value} {most} {key} old new small k i =
           (All-cons (ItemFits row.key_length) x (items_by row key)
           (record { addr = let s = added.small in omega (arith, s); value = small; key = i.lacks.is.long row (kept k) })
           (fit_by row key k.fits));
-      few = with_few row key (x ∷ items_by row key) k.fits k.few (omega arith);
+      few = with_few 1 row key (x ∷ items_by row key) k.fits k.few (omega arith);
     }
 
 revised_fits : {n : ℕ} (key : List ℕ) (value : ℕ) → value < 2 ^ 64 → (items : List HashItem) → All (ItemFits n) items →
@@ -137,7 +137,7 @@ revised_hash {hash} {value} {most} {key} old new small k r =
     let row = k.row in
     let items = revised key value (items_by row key) in
     let l = length-revised key value (items_by row key) in
-    let few = with_few {more = 0} row key items k.fits k.few (omega (arith, l)) in
+    let few = with_few 0 row key items k.fits k.few (omega (arith, l)) in
     record {
       row = with_value row key value;
       stands = (r.changes row (kept k)).kept [] k.stands;
@@ -171,7 +171,7 @@ removed_hash {hash} {most} {key} old new k r =
     let row = k.row in
     let items = removed key (items_by row key) in
     let l = length-removed key (items_by row key) in
-    let few = with_few {more = 0} row key items k.fits k.few (omega (arith, l)) in
+    let few = with_few 0 row key items k.fits k.few (omega (arith, l)) in
     record {
       row = without_key row key;
       stands = (r.changes row (kept k)).kept [] k.stands;

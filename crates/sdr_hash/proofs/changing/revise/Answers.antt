@@ -1,7 +1,5 @@
 -- The value is written where the key was found.
-use Rattle.std.proofs.Common.{arith}
 use Rattle.std.proofs.lemmas.Result.{IfErr-weaker, on_ok_weaker}
-use Rattle.sdr_base.proofs.WorksLemmas.{looks_then}
 use Rattle.sdr_hash.specs.Calls.{ChangeStops}
 use Rattle.sdr_hash.proofs.ChangeLemmas.{change_stops, revises}
 use Rattle.sdr_hash.proofs.FindLemmas.{has, some_place}

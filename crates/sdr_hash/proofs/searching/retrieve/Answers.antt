@@ -1,7 +1,5 @@
 -- The value is in the key's entry.
-use Rattle.std.proofs.Common.{arith}
 use Rattle.std.proofs.lemmas.Result.{IfOk-weaker}
-use Rattle.sdr_base.proofs.WritingLemmas.{reaches_less}
 use Rattle.sdr_hash.proofs.FindLemmas.{finds, some_place}
 use Rattle.sdr_hash.proofs.OutLemmas.{place_reaches}
 use Rattle.sdr_hash.proofs.searching.retrieve.Goals as goal
