@@ -3,3 +3,4 @@ mod StringLemmas
 mod TableLemmas
 mod HashLemmas
 mod NameLemmas
+mod RawLemmas

@@ -1,9 +1,13 @@
 -- Names on a heap whose catalogue was empty.
-use Rattle.std.proofs.Common.{◌≡◌, ℕ, ◌≤◌, ◌<◌, ◌^◌, true, false, cond, List, [], ◌∷◌, ◌++◌, length, refl, ap, ◌∙◌, arith}
+use Rattle.std.proofs.Common.{◌≡◌, ℕ, ◌-◌, ◌≤◌, ◌<◌, ◌^◌, true, false, cond, List, [], ◌∷◌, ◌++◌, length, refl, ap, ◌∙◌, arith}
 use Rattle.std.specs.Prelude.{All}
 use Rattle.std.proofs.lemmas.List.Elements.{All-append, All-cons, All-head, All-nil, All-tail}
 use Rattle.sdr_base.specs.Blocks.{with_at}
 use Rattle.sdr_base.specs.Catalogue.{NameRow, name_addr}
+use Rattle.sdr_base.specs.FreshHeap.{fresh_heap}
+use Rattle.sdr_base.specs.KeptHeap.{root_in}
+use Rattle.sdr_base.specs.Roots.{roots_by}
+use Rattle.sdr_base.proofs.FreshBlocksLemmas.{fresh_root}
 use Rattle.sdr_base.specs.Linked.{first_of, last_of, linked}
 use Rattle.sdr_base.specs.Objects.{Heap}
 use Rattle.sdr_base.specs.declared.moves.Move.{Move}
@@ -51,6 +55,11 @@ catalogued_names {name} {kind} {object} old new type_fits object_fits k c =
       };
     }
 
+-- it took one move
+pub catalogued_spare : {name : List ℕ} {kind object : ℕ} (old new : Heap) → SomeNames old → CataloguesName name kind object old new →
+    new.spare ≡ old.spare - 1
+catalogued_spare old new k c = ap (λ (h : Heap). h.spare) (c.adds.renamed k.names k.keeps).all
+
 without_fits : (name : List ℕ) (names : List NameRow) → All NameFits names → All NameFits (without_name name names)
 unfolding without_name
 without_fits name [] a = a
@@ -73,3 +82,11 @@ uncatalogued_names {name} old new k u =
         fits = without_fits name k.names k.keeps.fits;
       };
     }
+
+-- a fresh heap has no first name and no last one
+pub fresh_names : {bytes : List ℕ} → bytes ≡ fresh_heap 256 → (root_in bytes 89 ≡ 0) × (root_in bytes 90 ≡ 0)
+unfolding roots_by
+fresh_names e = (
+  ap (λ (l : List ℕ). root_in l 89) e ∙ fresh_root 256 89 (omega arith) (omega arith),
+  ap (λ (l : List ℕ). root_in l 90) e ∙ fresh_root 256 90 (omega arith) (omega arith),
+)

@@ -11,30 +11,18 @@ use std::alloc::Global;
 #[derive(Clone, Copy)]
 enum Call {
     StringLength,
-    StringDup,
-    ListLength,
     ListDestroy,
-    ElementNext,
     ElementDelete,
-    TableUser,
-    TableDestroy,
+    TableDimensions,
     HashInsert,
-    HashCount,
-    HashDestroy,
 }
 
-const CALLS: [Call; 11] = [
+const CALLS: [Call; 5] = [
     Call::StringLength,
-    Call::StringDup,
-    Call::ListLength,
     Call::ListDestroy,
-    Call::ElementNext,
     Call::ElementDelete,
-    Call::TableUser,
-    Call::TableDestroy,
+    Call::TableDimensions,
     Call::HashInsert,
-    Call::HashCount,
-    Call::HashDestroy,
 ];
 
 // Why a call with this address isn't answered. `None`: it is.
@@ -45,16 +33,10 @@ fn stop<O: Objects>(o: &mut O, call: Call, addr: Addr) -> Option<Stop>
 {
     match call {
         Call::StringLength => sdr_string::length(o, addr).err(),
-        Call::StringDup => sdr_string::dup(o, addr).err(),
-        Call::ListLength => sdr_list::length(o, addr).err(),
         Call::ListDestroy => sdr_list::destroy(o, addr).err(),
-        Call::ElementNext => sdr_list::next(o, addr).err(),
         Call::ElementDelete => sdr_list::delete(o, addr).err(),
-        Call::TableUser => sdr_table::user_data(o, addr).err(),
-        Call::TableDestroy => sdr_table::destroy(o, addr).err(),
+        Call::TableDimensions => sdr_table::dimensions(o, addr).err(),
         Call::HashInsert => sdr_hash::insert(o, addr, b"key", 1).err(),
-        Call::HashCount => sdr_hash::count(o, addr).err(),
-        Call::HashDestroy => sdr_hash::destroy(o, addr).err(),
     }
 }
 
@@ -62,7 +44,9 @@ fn stop<O: Objects>(o: &mut O, call: Call, addr: Addr) -> Option<Stop>
 // `None`: there is no memory.
 fn refused(alloc: Global, call: Call, raw: bool) -> Option<bool> {
     let mut heap = fresh(alloc, FRAME)?;
-    let addr = take_bytes(&mut heap, Kind::Raw, &[0; 8]).ok()?;
+    let Ok(addr) = take_bytes(&mut heap, Kind::Raw, &[0; 8]) else {
+        return None;
+    };
     let (at, wanted) = if raw {
         (addr, Refusal::WrongKind { addr, kind: 1 })
     } else {
