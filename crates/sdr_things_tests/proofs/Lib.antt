@@ -1,2 +1,6 @@
 mod OneListLemmas
 mod StringLemmas
+mod TableLemmas
+mod HashLemmas
+mod NameLemmas
+mod RawLemmas

@@ -1,5 +1,5 @@
 -- A heap with one list, and raw objects beside it.
-use Rattle.std.specs.Prelude.{◌≡◌, ◌<◌, ◌^◌, ℕ, [], ◌∷◌, ◌++◌, None, ⊤}
+use Rattle.std.specs.Prelude.{◌≡◌, ◌<◌, ◌^◌, ℕ, [], ◌∷◌, ◌++◌, Option, Some, None, ⊤}
 use Rattle.sdr_base.specs.Blocks.{Block, Blocks}
 use Rattle.sdr_base.specs.Entries.{Entries, Stands}
 use Rattle.sdr_base.specs.Lists.{ListRow, RowFits, list_entries}
@@ -22,3 +22,12 @@ pub record KeepsOne (blocks : Blocks) (list : ℕ) : Type 0 where
 -- no block is in use
 pub record KeepsNone (blocks : Blocks) : Type 0 where
   pub none : (addr : ℕ) → blocks addr ≡ None
+
+-- a block is a raw object, where there is one
+abbrev pub IsRaw : Option Block → Type 0
+IsRaw None = ⊤
+IsRaw (Some block) = block.kind ≡ kinds.Raw
+
+-- the blocks in use are raw objects
+pub record KeepsRaws (blocks : Blocks) : Type 0 where
+  pub raws : (addr : ℕ) → IsRaw (blocks addr)
