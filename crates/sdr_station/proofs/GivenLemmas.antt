@@ -45,7 +45,8 @@ pub data Given (o : Outcome) (most : ℕ) : Type 0 where
   gives : (count : ℕ) → bytes_told o.reply ≡ Some count → length o.after.shown ≡ count → count ≤ most → Given o most
 
 -- no more bytes are given than are shown
-shown_few : (o : Outcome) (most : ℕ) → length o.after.shown ≤ most → length (bytes_given (answers.Reply o.reply) o.after.shown) ≤ most
+shown_few : (o : Outcome) (most : ℕ) → length o.after.shown ≤ most
+    → length (bytes_given (answers.Reply o.reply) o.after.shown) ≤ most
 shown_few o most few = by o.reply
   where
     by : (reply : Reply) → length (bytes_given (answers.Reply reply) o.after.shown) ≤ most
@@ -55,13 +56,16 @@ shown_few o most few = by o.reply
 
 -- so such an outcome gives so many at most
 pub given_few : (o : Outcome) (most : ℕ) → Given o most → length (bytes_given (answers.Reply o.reply) o.after.shown) ≤ most
-given_few o most (Given.refuses refusal is) = subst (λ r. length (bytes_given (answers.Reply r) o.after.shown) ≤ most) (sym is) (omega arith)
-given_few o most (Given.none shown untold) = shown_few o most (let none = ap (λ (l : List ℕ). length l) shown in omega (arith, none))
+given_few o most (Given.refuses refusal is) =
+    subst (λ r. length (bytes_given (answers.Reply r) o.after.shown) ≤ most) (sym is) (omega arith)
+given_few o most (Given.none shown untold) =
+    shown_few o most (let none = ap (λ (l : List ℕ). length l) shown in omega (arith, none))
 given_few o most (Given.gives count is long few) = shown_few o most (omega (arith, long, few))
 
 -- and where it tells of bytes, it gives as many
 pub given_told : (o : Outcome) (most count : ℕ) → Given o most → bytes_told o.reply ≡ Some count → length o.after.shown ≡ count
-given_told o most count (Given.refuses refusal is) told = absurd (let no : None ≡ Some count = sym (ap bytes_told is) ∙ told in cc)
+given_told o most count (Given.refuses refusal is) told =
+    absurd (let no : None ≡ Some count = sym (ap bytes_told is) ∙ told in cc)
 given_told o most count (Given.none shown untold) told = absurd (let no : None ≡ Some count = sym untold ∙ told in cc)
 given_told o most count (Given.gives n is long few) told =
     let same : Some n ≡ Some count = sym is ∙ told in
@@ -87,12 +91,14 @@ given_page (calls.Entry place) = omega arith
 given_page call = omega arith
 
 -- the texts of a whole world are short
-text_short : (w : World) (addr : ℕ) (text : List ℕ) → IsWhole w → as_text (thing_at w addr) ≡ Some text → length text ≤ longest_string
+text_short : (w : World) (addr : ℕ) (text : List ℕ) → IsWhole w → as_text (thing_at w addr) ≡ Some text
+    → length text ≤ longest_string
 text_short w addr text whole is = by (thing_at w addr) refl is
   where
     by : (found : Option Thing) → thing_at w addr ≡ found → as_text found ≡ Some text → length text ≤ longest_string
     by (Some (things.Text found)) there is =
-        let valid : length found ≤ longest_string = subst (λ (o : Option Thing). IfSome o IsValidThing) there (whole.valid.things addr) in
+        let valid : length found ≤ longest_string =
+        subst (λ (o : Option Thing). IfSome o IsValidThing) there (whole.valid.things addr) in
         let same : found ≡ text = cc in
         subst (λ (t : List ℕ). length t ≤ longest_string) same valid
     by found there is = absurd (let no : None ≡ Some text = is in cc)
@@ -109,11 +115,14 @@ table_valid w addr table whole is = by (thing_at w addr) refl is
     by found there is = absurd (let no : None ≡ Some table = is in cc)
 
 -- and its names are short
-name_short : (w : World) (place : ℕ) (name : Name) → IsWhole w → slice_get w.names place ≡ Some name → length name.name ≤ longest_name
+name_short : (w : World) (place : ℕ) (name : Name) → IsWhole w → slice_get w.names place ≡ Some name
+    → length name.name ≤ longest_name
 name_short w place name whole is =
     let names = names_of w in
-    let here : slice_get names place ≡ Some name.name = slice_get-map (λ (n : Name). n.name) w.names place ∙ ap (λ (o : Option Name). option_map (λ (n : Name). n.name) o) is in
-    let few : IsBetween 1 longest_name (length (get_or names place [])) = whole.valid.names place [] (slice_get_within names place name.name here) in
+    let here : slice_get names place ≡ Some name.name =
+    slice_get-map (λ (n : Name). n.name) w.names place ∙ ap (λ (o : Option Name). option_map (λ (n : Name). n.name) o) is in
+    let few : IsBetween 1 longest_name (length (get_or names place [])) =
+    whole.valid.names place [] (slice_get_within names place name.name here) in
     let same = get_or_from_slice_get names place name.name [] here in
     subst (λ (l : List ℕ). length l ≤ longest_name) same few.1
 
@@ -122,26 +131,31 @@ module _ (w : World) (o : Outcome) where
   refused : {most : ℕ} (refusal : Refusal) → Refuses w o refusal → Given o most
   refused refusal h = Given.refuses refusal h.2
 
-  shows_none : {most : ℕ} {next : World} {reply : Reply} → o.after ≡ next → o.reply ≡ reply → next.shown ≡ [] → bytes_told reply ≡ None → Given o most
+  shows_none : {most : ℕ} {next : World} {reply : Reply} → o.after ≡ next → o.reply ≡ reply → next.shown ≡ []
+      → bytes_told reply ≡ None → Given o most
   shows_none after is shown untold = Given.none (ap (λ (x : World). x.shown) after ∙ shown) (ap bytes_told is ∙ untold)
 
-  shows : {most : ℕ} {reply : Reply} (v : World) (bytes : List ℕ) (n : ℕ) → bytes_told reply ≡ Some n → length bytes ≡ n → n ≤ most → Reads v o bytes reply → Given o most
+  shows : {most : ℕ} {reply : Reply} (v : World) (bytes : List ℕ) (n : ℕ) → bytes_told reply ≡ Some n → length bytes ≡ n
+      → n ≤ most → Reads v o bytes reply → Given o most
   shows v bytes n told long few h = Given.gives n (ap bytes_told h.2 ∙ told) (ap (λ (x : World). length x.shown) h.1 ∙ long) few
 
   on : {X : Type 0} {goes : X → Type 0} {most : ℕ} (addr : ℕ) (named : Option X) → On w o addr named goes
       → ((x : X) → named ≡ Some x → goes x → Given o most) → Given o most
   on addr named h f = from_option named h (λ _ h. refused (misnamed w addr) h) f
 
-  unless : {P : Type 0} {most : ℕ} (b : Bool) (refusal : Refusal) → MatchBool b (Refuses w o refusal) P → (b ≡ false → P → Given o most) → Given o most
+  unless : {P : Type 0} {most : ℕ} (b : Bool) (refusal : Refusal) → MatchBool b (Refuses w o refusal) P
+      → (b ≡ false → P → Given o most) → Given o most
   unless b refusal h f = from_test b h (λ _ h. refused refusal h) f
 
-  where_so : {P : Type 0} {most : ℕ} (b : Bool) (refusal : Refusal) → MatchBool b P (Refuses w o refusal) → (P → Given o most) → Given o most
+  where_so : {P : Type 0} {most : ℕ} (b : Bool) (refusal : Refusal) → MatchBool b P (Refuses w o refusal) → (P → Given o most)
+      → Given o most
   where_so b refusal h f = from_test b h (λ _ p. f p) (λ _ h. refused refusal h)
 
   frees : (addr : ℕ) (raw text : Option (List ℕ)) → FreesThing w o addr raw text → Given o 0
   frees addr None None h = refused (misnamed w addr) h
   frees addr (Some bytes) text h =
-      from_option (source_on w addr) h (λ _ h. shows_none h.1 h.2 refl refl) (λ source _ h. refused (refusals.InUse addr (uses_of w source)) h)
+      from_option (source_on w addr) h (λ _ h. shows_none h.1 h.2 refl refl)
+      (λ source _ h. refused (refusals.InUse addr (uses_of w source)) h)
   frees addr None (Some text) h = shows_none h.1 h.2 refl refl
 
   on_name : {P : Type 0} {Q : Name → Type 0} {most : ℕ} (name : List ℕ) → OnName w o name P Q → (P → Given o most)
@@ -155,38 +169,51 @@ module _ (w : World) (o : Outcome) where
 
   pub given_row : (call : Call) → built call ≡ true → IsWhole w → ByRow w o call → Given o (most_given call)
   given_row (calls.Malloc bytes) is whole h =
-      unless (nat_lt longest_raw bytes) (refusals.BadLength bytes longest_raw) h (λ _ h. in_takes_one o.moves _ _ h (λ addr p. shows_none p.0 p.1 refl refl))
+      unless (nat_lt longest_raw bytes) (refusals.BadLength bytes longest_raw) h
+      (λ _ h. in_takes_one o.moves _ _ h (λ addr p. shows_none p.0 p.1 refl refl))
   given_row (calls.Free addr) is whole h = frees addr (as_raw (thing_at w addr)) (as_text (thing_at w addr)) h
   given_row (calls.Length addr) is whole h = on addr (block_at w addr) h (λ b _ h. shows_none h.1 h.2 refl refl)
   given_row (calls.Read addr place count) is whole h = on addr (as_raw (thing_at w addr)) h (λ bytes _ h.
       unless (nat_lt longest_read count) (refusals.BadLength count longest_read) h (λ page h.
       unless (nat_lt (length bytes) (place + count)) (refusals.OutOfBounds addr place count) h (λ inside h.
-      shows w (part place count bytes) count refl (length-part place count bytes (ltb-false _ _ inside)) (few_read count page) h)))
+      shows w (part place count bytes) count refl (length-part place count bytes (ltb-false _ _ inside))
+      (few_read count page) h)))
   given_row (calls.Write addr place from) is whole h = on addr (as_raw (thing_at w addr)) h (λ bytes _ h.
       unless (nat_lt (length bytes) (place + length from)) (refusals.OutOfBounds addr place (length from)) h (λ _ h.
       where_so (is_marked w addr) (refusals.NotStaged addr) h (λ h. shows_none h.1 h.2 refl refl)))
   given_row (calls.Stage addr count) is whole h = on addr (as_raw (thing_at w addr)) h (λ bytes _ h.
       unless (nat_lt longest_read count) (refusals.BadLength count longest_read) h (λ page h.
       unless (nat_lt (length bytes) count) (refusals.OutOfBounds addr 0 count) h (λ inside h.
-      shows (record w { marks = w.marks ++ addr ∷ [] }) (take count bytes) count refl (length-take-le count bytes (ltb-false _ _ inside)) (few_read count page) h)))
+      shows (record w { marks = w.marks ++ addr ∷ [] }) (take count bytes) count refl
+      (length-take-le count bytes (ltb-false _ _ inside)) (few_read count page) h)))
   given_row (calls.String text) is whole h =
-      unless (nat_lt longest_string (length text)) (refusals.BadLength (length text) longest_string) h (λ _ h. in_takes_one o.moves _ _ h (λ addr p. shows_none p.0 p.1 refl refl))
-  given_row (calls.StringLength addr) is whole h = on addr (as_text (thing_at w addr)) h (λ text _ h. shows_none h.1 h.2 refl refl)
+      unless (nat_lt longest_string (length text)) (refusals.BadLength (length text) longest_string) h
+      (λ _ h. in_takes_one o.moves _ _ h (λ addr p. shows_none p.0 p.1 refl refl))
+  given_row (calls.StringLength addr) is whole h =
+      on addr (as_text (thing_at w addr)) h (λ text _ h. shows_none h.1 h.2 refl refl)
   given_row (calls.StringRead addr) is whole h = on addr (as_text (thing_at w addr)) h (λ text there h.
       let short = text_short w addr text whole there in
       shows w text (length text) refl refl (omega (arith, short)) h)
-  given_row (calls.StringDup addr) is whole h = on addr (as_text (thing_at w addr)) h (λ text _ h. in_takes_one o.moves _ _ h (λ addr p. shows_none p.0 p.1 refl refl))
+  given_row (calls.StringDup addr) is whole h =
+      on addr (as_text (thing_at w addr)) h (λ text _ h. in_takes_one o.moves _ _ h (λ addr p. shows_none p.0 p.1 refl refl))
   given_row (calls.List user) is whole h = in_takes_one o.moves _ _ h (λ addr p. shows_none p.0 p.1 refl refl)
   given_row (calls.ListDestroy addr) is whole h = on addr (as_list (thing_at w addr)) h (λ row _ h. shows_none h.1 h.2 refl refl)
   given_row (calls.ListLength addr) is whole h = on addr (as_list (thing_at w addr)) h (λ row _ h. shows_none h.1 h.2 refl refl)
   given_row (calls.ListUser addr) is whole h = on addr (as_list (thing_at w addr)) h (λ row _ h. shows_none h.1 h.2 refl refl)
-  given_row (calls.SetListUser addr user) is whole h = on addr (as_list (thing_at w addr)) h (λ row _ h. shows_none h.1 h.2 refl refl)
-  given_row (calls.InsertFirst addr datum) is whole h = on addr (as_list (thing_at w addr)) h (λ row _ h. in_takes_one o.moves _ _ h (λ addr p. shows_none p.0 p.1 refl refl))
-  given_row (calls.InsertLast addr datum) is whole h = on addr (as_list (thing_at w addr)) h (λ row _ h. in_takes_one o.moves _ _ h (λ addr p. shows_none p.0 p.1 refl refl))
-  given_row (calls.InsertBefore element datum) is whole h = on element (spot_of w element) h (λ s _ h. in_takes_one o.moves _ _ h (λ addr p. shows_none p.0 p.1 refl refl))
-  given_row (calls.InsertAfter element datum) is whole h = on element (spot_of w element) h (λ s _ h. in_takes_one o.moves _ _ h (λ addr p. shows_none p.0 p.1 refl refl))
-  given_row (calls.InsertOrdered addr datum by) is whole h = on addr (as_list (thing_at w addr)) h (λ row _ h. in_takes_one o.moves _ _ h (λ addr p. shows_none p.0 p.1 refl refl))
-  given_row (calls.Search addr datum by) is whole h = on addr (as_list (thing_at w addr)) h (λ row _ h. shows_none h.1 h.2 refl refl)
+  given_row (calls.SetListUser addr user) is whole h =
+      on addr (as_list (thing_at w addr)) h (λ row _ h. shows_none h.1 h.2 refl refl)
+  given_row (calls.InsertFirst addr datum) is whole h =
+      on addr (as_list (thing_at w addr)) h (λ row _ h. in_takes_one o.moves _ _ h (λ addr p. shows_none p.0 p.1 refl refl))
+  given_row (calls.InsertLast addr datum) is whole h =
+      on addr (as_list (thing_at w addr)) h (λ row _ h. in_takes_one o.moves _ _ h (λ addr p. shows_none p.0 p.1 refl refl))
+  given_row (calls.InsertBefore element datum) is whole h =
+      on element (spot_of w element) h (λ s _ h. in_takes_one o.moves _ _ h (λ addr p. shows_none p.0 p.1 refl refl))
+  given_row (calls.InsertAfter element datum) is whole h =
+      on element (spot_of w element) h (λ s _ h. in_takes_one o.moves _ _ h (λ addr p. shows_none p.0 p.1 refl refl))
+  given_row (calls.InsertOrdered addr datum by) is whole h =
+      on addr (as_list (thing_at w addr)) h (λ row _ h. in_takes_one o.moves _ _ h (λ addr p. shows_none p.0 p.1 refl refl))
+  given_row (calls.Search addr datum by) is whole h =
+      on addr (as_list (thing_at w addr)) h (λ row _ h. shows_none h.1 h.2 refl refl)
   given_row (calls.Delete element) is whole h = on element (spot_of w element) h (λ s _ h. shows_none h.1 h.2 refl refl)
   given_row (calls.First addr) is whole h = on addr (as_list (thing_at w addr)) h (λ row _ h. shows_none h.1 h.2 refl refl)
   given_row (calls.Last addr) is whole h = on addr (as_list (thing_at w addr)) h (λ row _ h. shows_none h.1 h.2 refl refl)
@@ -197,24 +224,31 @@ module _ (w : World) (o : Outcome) where
   given_row (calls.Table rows size user) is whole h =
       unless (nat_lt longest_raw rows) (refusals.BadLength rows longest_raw) h (λ _ h.
       unless (nat_lt longest_raw size) (refusals.BadLength size longest_raw) h (λ _ h.
-      unless (nat_lt longest_raw (rows * size)) (refusals.BadLength (rows * size) longest_raw) h (λ _ h. in_takes_one o.moves _ _ h (λ addr p. shows_none p.0 p.1 refl refl))))
+      unless (nat_lt longest_raw (rows * size)) (refusals.BadLength (rows * size) longest_raw) h
+      (λ _ h. in_takes_one o.moves _ _ h (λ addr p. shows_none p.0 p.1 refl refl))))
   given_row (calls.Row addr row) is whole h = on addr (as_table (thing_at w addr)) h (λ table there h.
       unless (nat_le table.rows row) (refusals.BadRow row table.rows) h (λ inside h.
       unless (nat_lt longest_read table.size) (refusals.BadLength table.size longest_read) h (λ page h.
       let valid = table_valid w addr table whole there in
-      let within : table.size * row + table.size ≤ length table.bytes = row-within table.rows table.size row (length table.bytes) (grind (arith, nat_tests)) valid.bytes in
+      let within : table.size * row + table.size ≤ length table.bytes =
+      row-within table.rows table.size row (length table.bytes) (grind (arith, nat_tests)) valid.bytes in
       let few : table.size ≤ 4096 = grind (arith, nat_tests) in
-      shows w (part (table.size * row) table.size table.bytes) table.size refl (length-part (table.size * row) table.size table.bytes within) few h)))
+      shows w (part (table.size * row) table.size table.bytes) table.size refl
+      (length-part (table.size * row) table.size table.bytes within) few h)))
   given_row (calls.SetRow addr row from) is whole h = on addr (as_table (thing_at w addr)) h (λ table _ h.
       unless (nat_le table.rows row) (refusals.BadRow row table.rows) h (λ _ h.
       where_so (length from == table.size) (refusals.BadLength (length from) table.size) h (λ h. shows_none h.1 h.2 refl refl)))
-  given_row (calls.Dimensions addr) is whole h = on addr (as_table (thing_at w addr)) h (λ table _ h. shows_none h.1 h.2 refl refl)
+  given_row (calls.Dimensions addr) is whole h =
+      on addr (as_table (thing_at w addr)) h (λ table _ h. shows_none h.1 h.2 refl refl)
   given_row (calls.TableUser addr) is whole h = on addr (as_table (thing_at w addr)) h (λ table _ h. shows_none h.1 h.2 refl refl)
-  given_row (calls.TableDestroy addr) is whole h = on addr (as_table (thing_at w addr)) h (λ table _ h. shows_none h.1 h.2 refl refl)
+  given_row (calls.TableDestroy addr) is whole h =
+      on addr (as_table (thing_at w addr)) h (λ table _ h. shows_none h.1 h.2 refl refl)
   given_row (calls.Catlg name kind object) is whole h =
-      on_name name h (λ h. in_takes_one o.moves _ _ h (λ addr p. shows_none p.0 p.1 refl refl)) (λ n h. refused (refusals.NameTaken n.object) h)
+      on_name name h (λ h. in_takes_one o.moves _ _ h (λ addr p. shows_none p.0 p.1 refl refl))
+      (λ n h. refused (refusals.NameTaken n.object) h)
   given_row (calls.Find name) is whole h = on_name name h (λ h. refused refusals.NotFound h) (λ n h. shows_none h.1 h.2 refl refl)
-  given_row (calls.Uncatlg name) is whole h = on_name name h (λ h. refused refusals.NotFound h) (λ n h. shows_none h.1 h.2 refl refl)
+  given_row (calls.Uncatlg name) is whole h =
+      on_name name h (λ h. refused refusals.NotFound h) (λ n h. shows_none h.1 h.2 refl refl)
   given_row (calls.Entry place) is whole h =
       from_option (slice_get w.names place) h (λ _ h. refused refusals.NotFound h) (λ n there h.
       let short = name_short w place n whole there in

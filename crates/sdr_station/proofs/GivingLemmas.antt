@@ -19,8 +19,10 @@ undoomed call (replies.Refused refusal) count told = absurd (let no : None ≡ S
 undoomed call reply count told = refl
 
 -- where the reply tells of bytes, a ground that shows them gives them
-pub gives_shown : {D : Type 0} (g : Grounded D) (w : World) (call : Call) (o : Outcome) → built call ≡ true → IsWhole w → ByRow w o call
-    → o.after.shown ≡ g.shown → (dooms call o.reply ≡ false → g.stopped ≡ false) → (reply : Reply) → o.reply ≡ reply → Gives reply g
+pub gives_shown : {D : Type 0} (g : Grounded D) (w : World) (call : Call) (o : Outcome) → built call ≡ true → IsWhole w
+    → ByRow w o call
+    → o.after.shown ≡ g.shown → (dooms call o.reply ≡ false → g.stopped ≡ false) → (reply : Reply) → o.reply ≡ reply
+    → Gives reply g
 gives_shown g w call o is whole row shown going reply told = by (bytes_told reply) refl
   where
     by : (b : Option ℕ) → bytes_told reply ≡ b → IfSome b (λ count. (length g.shown ≡ count) × (g.stopped ≡ false))

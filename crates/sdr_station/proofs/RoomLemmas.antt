@@ -45,7 +45,8 @@ stops_fewer replies.MediaFault call all moves s =
 stops_fewer reply call all moves s = absurd s
 
 -- what bounds the moves of each row of a changing call, with whatever addresses, bounds an outcome of its row
-row_at_most : (call : Call) (most : ℕ) (w : World) → (is_reading call ≡ false → (at : ℕ → ℕ) → length (row_moves w call at) ≤ most)
+row_at_most : (call : Call) (most : ℕ) (w : World)
+    → (is_reading call ≡ false → (at : ℕ → ℕ) → length (row_moves w call at) ≤ most)
     → (o : Outcome) → ByRow w o call → length o.moves ≤ most
 row_at_most call most w bound o row = by (row_shape w call o row)
   where
@@ -63,7 +64,8 @@ row_at_most call most w bound o row = by (row_shape w call o row)
 
 -- and the call's
 moves_at_most : (size : ℕ) (call : Call) (most : ℕ)
-    → ((w : World) → HasStood size w → is_reading call ≡ false → (at : ℕ → ℕ) → length (row_moves w call at) ≤ most) → MovesAtMost size call most
+    → ((w : World) → HasStood size w → is_reading call ≡ false → (at : ℕ → ℕ) → length (row_moves w call at) ≤ most)
+    → MovesAtMost size call most
 moves_at_most size call most bound w o stood (inl row) = row_at_most call most w (bound w stood) o row
 moves_at_most size call most bound w o stood (inr s) =
     let aim = row_at_most call most w (bound w stood) s.aim s.row in
@@ -71,7 +73,8 @@ moves_at_most size call most bound w o stood (inr s) =
     omega (arith, aim, fewer)
 
 -- and those of each step on a ground
-pub steps_at_most : (size : ℕ) (call : Call) (most : ℕ) → MovesAtMost size call most → (base : Ground) (s : State) → HasStood size s.world
+pub steps_at_most : (size : ℕ) (call : Call) (most : ℕ) → MovesAtMost size call most → (base : Ground) (s : State)
+    → HasStood size s.world
     → (o : Replied) → StepsOn base s call o → length o.moves ≤ most
 steps_at_most size call most few Ground.NoHeap s stood o h = elim h.step [
   | inl d ↦ few s.world _ stood (inl d.step)
@@ -98,7 +101,8 @@ one_name None = omega arith
 one_name (Some name) = omega arith
 
 -- any other that is served has one at most
-pub moves_one : (size : ℕ) (call : Call) → built call ≡ true → ((list : ℕ) → call ≡ calls.ListDestroy list → ⊥) → MovesAtMost size call 1
+pub moves_one : (size : ℕ) (call : Call) → built call ≡ true → ((list : ℕ) → call ≡ calls.ListDestroy list → ⊥)
+    → MovesAtMost size call 1
 moves_one size call is other = moves_at_most size call 1 (λ w stood changes at. by w at call is other)
   where
     by : (w : World) (at : ℕ → ℕ) (call : Call) → built call ≡ true → ((list : ℕ) → call ≡ calls.ListDestroy list → ⊥)

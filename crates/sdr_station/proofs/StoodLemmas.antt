@@ -28,12 +28,14 @@ stood_of {D} {h} w =
     record { heap = heap_in h; same = refl; few = small.few; small = small.small; stands = w.heap; whole = w.whole }
 
 -- a list of it has at most one element for 16 bytes of the heap
-pub elements_few : (size : ℕ) (w : World) (addr : ℕ) → HasStood size w → 16 * length (elements_in (as_list (thing_at w addr))) ≤ size
+pub elements_few : (size : ℕ) (w : World) (addr : ℕ) → HasStood size w
+    → 16 * length (elements_in (as_list (thing_at w addr))) ≤ size
 elements_few size w addr s = by (thing_at w addr) refl
   where
     by : (found : Option Thing) → thing_at w addr ≡ found → 16 * length (elements_in (as_list found)) ≤ size
     by (Some (things.List row)) is =
-        let few = few_elements s.heap addr row (record { few = s.few; small = s.small }) (apart addr (things.List row) s.stands is) in
+        let few =
+        few_elements s.heap addr row (record { few = s.few; small = s.small }) (apart addr (things.List row) s.stands is) in
         let same = length-map row.elements (λ (e : Element). e.block) in
         omega (arith, few, same, s.same)
     by found is = omega arith

@@ -71,7 +71,8 @@ bytes_none call is read stage text row entry =
     none call read stage text row entry = refl
 
 -- there is room for whatever the call may come to
-pub holds_any : (size : ℕ) (call : Call) (room : Room) → MovesAtMost size call room.moves → BytesAtMost call room.bytes → (s : State)
+pub holds_any : (size : ℕ) (call : Call) (room : Room) → MovesAtMost size call room.moves → BytesAtMost call room.bytes
+    → (s : State)
     → HasStood size s.world → HoldsAny room s call
 holds_any size call room moves bytes s stood o steps = record {
   moves = steps_at_most size call room.moves moves s.base s stood o steps;

@@ -6,7 +6,8 @@ use Rattle.sdr_station.proofs.station.most_moves.Goals as goal
 pub returns-in-ListDestroy-clause-most : goal.returns-in-ListDestroy-clause-most
 returns-in-ListDestroy-clause-most c =
     let most : MovesAtMost c.args.size c.args.call.now (c.args.size / 16 + 1) =
-    subst (λ call. MovesAtMost c.args.size call (c.args.size / 16 + 1)) (sym c.in-ListDestroy.is) (moves_destroy c.args.size c.in-ListDestroy.field-0) in
+    subst (λ call. MovesAtMost c.args.size call (c.args.size / 16 + 1)) (sym c.in-ListDestroy.is)
+    (moves_destroy c.args.size c.in-ListDestroy.field-0) in
     most
 
 pub returns-then-is_reading : goal.returns-then-is_reading

@@ -13,4 +13,5 @@ returns-in-StringRead-3 c = bytes_page c.args.call.now c.requires
 
 pub returns-in-Read : goal.returns-in-Read
 returns-in-Read c =
-    subst (λ (n : ℕ). BytesAtMost c.args.call.now n) (sym c.min.ensures) (bytes_read c.args.call.now c.in-Read.count c.requires c.in-Read.is)
+    subst (λ (n : ℕ). BytesAtMost c.args.call.now n) (sym c.min.ensures)
+    (bytes_read c.args.call.now c.in-Read.count c.requires c.in-Read.is)
