@@ -1,0 +1,66 @@
+-- What the words of a hash's block say of the hash that is kept there.
+use Rattle.std.proofs.Common.{◌≡◌, ℕ, ◌+◌, ◌*◌, ◌≤◌, ◌<◌, ◌^◌, List, [], ◌∷◌, ◌++◌, length, map, Some, refl, arith, length-append}
+use Rattle.std.specs.Prelude.{flat_map, sum_by}
+use Rattle.std.proofs.lemmas.List.{length-map}
+use Rattle.std.proofs.lemmas.List.Sums.{sum_by-cons}
+use Rattle.sdr_base.specs.Blocks.{Blocks, Reaches}
+use Rattle.sdr_base.specs.Entries.{Few}
+use Rattle.sdr_base.specs.Hashes.{HashItem, HashRow, bucket_entries, hash_block, hash_entries, item_addr, item_block}
+use Rattle.sdr_base.specs.Linked.{first_of}
+use Rattle.sdr_base.specs.Words.{HasWord}
+use Rattle.sdr_base.specs.declared.kind.Kind.TheVariants as kinds
+use Rattle.sdr_base.proofs.LinkedLemmas.{length-linked}
+use Rattle.sdr_base.proofs.StandingLemmas.{found}
+use Rattle.sdr_base.proofs.WritingLemmas.{reaches, word_is}
+use Rattle.sdr_hash.specs.Kept.{KeepsHash}
+
+-- the words of a hash's block
+abbrev pub hash_words : HashRow → List ℕ
+hash_words row =
+    row.key_length ∷ length row.buckets ∷ sum_by length row.buckets ∷ map (first_of item_addr 0) row.buckets
+
+pub length-hash_words : (row : HashRow) → length (hash_words row) ≡ 3 + length row.buckets
+length-hash_words row = let m = length-map row.buckets (first_of item_addr 0) in omega (arith, m)
+
+-- the entries of all buckets are as many as those of each together
+pub length-entries : (buckets : List (List HashItem)) → length (flat_map bucket_entries buckets) ≡ sum_by length buckets
+length-entries [] = refl
+length-entries (items ∷ buckets) =
+    let ih = length-entries buckets in
+    let a : length (flat_map bucket_entries (items ∷ buckets)) ≡ length (bucket_entries items) + length (flat_map bucket_entries buckets) =
+    length-append (bucket_entries items) (flat_map bucket_entries buckets) in
+    let s = sum_by-cons (length {A = HashItem}) items buckets in
+    let l = length-linked item_addr item_block 0 0 items in omega (arith, ih, a, s, l)
+
+module _ {b : Blocks} {hash : ℕ} {row : HashRow} (k : KeepsHash b hash row) where
+  pub block_is : b hash ≡ Some (hash_block row)
+  block_is = found b hash (hash_block row) [] (flat_map bucket_entries row.buckets ++ k.rest) k.stands
+
+  pub hash_reaches : (end : ℕ) → end ≤ 8 * (3 + length row.buckets) → Reaches (b hash) end
+  hash_reaches end le =
+      let l = length-hash_words row in
+      reaches (b hash) kinds.Hash (hash_words row) [] end block_is (omega (arith, l, le))
+
+  -- a heap has room for few entries
+  pub few_entries : {size : ℕ} → Few size b → size ≤ 64 * 262144 → sum_by length row.buckets < 2 ^ 32
+  few_entries few small =
+      let n = few.few (hash_entries hash row ++ k.rest) k.stands in
+      let a = length-append (hash_entries hash row) k.rest in
+      let l = length-entries row.buckets in omega (arith, n, a, l, small)
+
+  -- the numbers in the words of the block
+  pub key_length_is : {value : ℕ} → HasWord (b hash) 0 value → value ≡ row.key_length
+  key_length_is {value} h =
+      let short = k.fits.shape.key.short in
+      word_is (b hash) kinds.Hash (hash_words row) [] 0 value block_is (omega arith) (omega (arith, short)) h
+
+  pub buckets_is : {value : ℕ} → HasWord (b hash) 1 value → value ≡ length row.buckets
+  buckets_is {value} h =
+      let few = k.fits.shape.count.few in
+      word_is (b hash) kinds.Hash (hash_words row) [] 1 value block_is (omega arith) (omega (arith, few)) h
+
+  pub entries_is : {value size : ℕ} → Few size b → size ≤ 64 * 262144 → HasWord (b hash) 2 value →
+      value ≡ sum_by length row.buckets
+  entries_is {value} few small h =
+      let n = few_entries few small in
+      word_is (b hash) kinds.Hash (hash_words row) [] 2 value block_is (omega arith) (omega (arith, n)) h

@@ -1,0 +1,12 @@
+mod KeptLemmas
+mod ItemLemmas
+mod OpenedLemmas
+mod MadeLemmas
+mod WalkLemmas
+mod FindLemmas
+mod LinkLemmas
+mod AddLemmas
+mod OutLemmas
+mod ChangeLemmas
+mod GiveLemmas
+mod DestroyLemmas
