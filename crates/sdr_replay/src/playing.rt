@@ -1,8 +1,9 @@
 // A schedule that runs on a ground.
-ghost use Rattle.std.specs.Prelude.{◌≡◌, ◌≤◌, ◌<◌, ◌^◌, ◌+◌, [], false, true, IfErr, IfOk, OnErr, length};
+ghost use Rattle.std.specs.Prelude.{◌≡◌, ◌≤◌, ◌<◌, ◌^◌, ◌+◌, [], false, true, IfErr, IfOk, OnErr, length, vec_capacity};
 ghost use Rattle.sdr_core.specs.CoreKept.{BeginsOn, Makes};
-ghost use Rattle.sdr_core.specs.Leaving.{LastsOn};
+ghost use Rattle.sdr_core.specs.Leaving.{LastsOn, RunLeads};
 ghost use Rattle.sdr_dry.specs.Schedule.{daemons_of};
+ghost use Rattle.sdr_lock.specs.Leaving.{AllLeave};
 ghost use Rattle.sdr_lock.specs.Standing.{Standing};
 ghost use Rattle.sdr_replay.specs.Running.{HasRun, Running};
 ghost use Rattle.sdr_replay.specs.Playing.{IsPrinted, PlaysOut, PrintsMore, bytes_by, leave_of, output};
@@ -103,6 +104,18 @@ fn play_on<T: Tells, J: Origin, K: Sink>(
     false
 }
 
+// Makes the leaves of all daemons, which are at most 256.
+fn leave_all<T: Tells, J: Origin>(core: &mut Core<T, J>, leave: Leave, room: Vec<u8>)
+    requires lasts { LastsOn T.HasGround core.old.lock.base }
+    requires drawn { core.old.lock.roll.drawn ≤ 1_048_577 }
+    requires empty { room.items ≡ [] }
+    requires room { 256 ≤ vec_capacity room }
+    ensures left { RunLeads T.HasGround (AllLeave (T.told core.old.lock.base) leave) core.old core.new }
+{
+    core.roll();
+    core.leave_all(leave, room)
+}
+
 // The leave that daemons make at the end.
 fn leave_of(starved: bool) -> Leave
     ensures { result ≡ leave_of starved }
@@ -129,7 +142,7 @@ pub fn play<T: Tells, J: Origin, K: Sink>(
     let Ok(daemons) = daemons_of(alloc, script) else {
         return Err(base);
     };
-    let Ok(room) = Vec::with_capacity(alloc, daemons.len()) else {
+    let Ok(room) = Vec::with_capacity(alloc, 256) else {
         return Err(base);
     };
     let mut core = match Core::<T, J>::new(alloc, &daemons, base) {
@@ -138,7 +151,7 @@ pub fn play<T: Tells, J: Origin, K: Sink>(
     };
     let mut printing = true;
     let starved = play_on(alloc, &mut core, script, out, &mut printing);
-    core.leave_all(leave_of(starved), room);
+    leave_all(&mut core, leave_of(starved), room);
     let (journal, base) = core.finish();
     Ok(Ran {
         journal,
