@@ -1,3 +1,0 @@
-pub mod Playing
-pub mod Replaying
-pub mod Running
