@@ -4,8 +4,8 @@ ghost use Rattle.sdr_lock.specs.Transaction.{bytes_given};
 ghost use Rattle.sdr_core.specs.Drafting.{FitsIn, IsBlank, IsDraft};
 ghost use Rattle.sdr_core.specs.Noting.{said_noted};
 
-use crate::copying::copy_of;
 use crate::Noted;
+use crate::copying::copy_of;
 use sdr_base::{Bytes, Items, Move, NoMemory};
 use sdr_lock::{Came, Room};
 use sdr_model::{Answer, Event, Moves, Reply, Said};

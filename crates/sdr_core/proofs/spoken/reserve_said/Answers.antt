@@ -33,5 +33,5 @@ returns-in-Some-clause-spacious c =
     let at : StandsAt items c.args.daemon c.in-Some.place = found_place items c.args.daemon (Some c.in-Some.place)
     (sym c.in-Some.is ∙ c.place_of.ensures.value ∙ ap (position (λ (s : Spoken). s.daemon == c.args.daemon)) c.as_slice.ensures.value) in
     λ all. let own = own_spacious items c.args.daemon c.in-Some.place c.index_mut.result.now at c.index_mut.ensures.value all in
-        set_spacious items c.args.daemon c.in-Some.place c.index_mut.result.now at c.index_mut.ensures.value _ all
-        (omega (arith, own, c.reserve.ensures.len, c.reserve.ensures.capacity))
+    set_spacious items c.args.daemon c.in-Some.place c.index_mut.result.now at c.index_mut.ensures.value _ all
+    (omega (arith, own, c.reserve.ensures.len, c.reserve.ensures.capacity))

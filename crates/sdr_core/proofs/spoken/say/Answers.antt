@@ -33,4 +33,4 @@ returns-in-Some-clause-spacious c =
     (sym c.in-Some.is ∙ c.place_of.ensures.value ∙ ap (position (λ (s : Spoken). s.daemon == c.args.daemon)) c.as_slice.ensures.value) in
     let two = has_space items c.args.daemon c.in-Some.place c.index_mut.result.now at c.index_mut.ensures.value 2 c.requires in
     λ all. set_spacious items c.args.daemon c.in-Some.place c.index_mut.result.now at c.index_mut.ensures.value _ all
-        (omega (arith, two, c.push_reserved.ensures.len, c.push_reserved.ensures.capacity))
+    (omega (arith, two, c.push_reserved.ensures.len, c.push_reserved.ensures.capacity))

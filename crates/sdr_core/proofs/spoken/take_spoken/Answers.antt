@@ -35,6 +35,6 @@ returns-in-Some-clause-spacious c =
     let at : StandsAt items c.args.daemon c.in-Some.place = found_place items c.args.daemon (Some c.in-Some.place)
     (sym c.in-Some.is ∙ c.place_of.ensures.value ∙ ap (position (λ (s : Spoken). s.daemon == c.args.daemon)) c.as_slice.ensures.value) in
     λ all. (
-        subst AreSpacious (sym c.remove.ensures.items) (without_spacious items c.args.daemon c.in-Some.place at all),
-        own_spacious items c.args.daemon c.in-Some.place c.remove.result at c.remove.ensures.value all,
+      subst AreSpacious (sym c.remove.ensures.items) (without_spacious items c.args.daemon c.in-Some.place at all),
+      own_spacious items c.args.daemon c.in-Some.place c.remove.result at c.remove.ensures.value all,
     )
