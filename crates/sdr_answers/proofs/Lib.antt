@@ -1,5 +1,4 @@
 pub mod CallLemmas
-pub mod DemandLemmas
 pub mod EntryLemmas
 pub mod FreeLemmas
 pub mod KindLemmas
@@ -12,12 +11,7 @@ pub mod RowLemmas
 pub mod ListLemmas
 pub mod SpotLemmas
 pub mod StringLemmas
-pub mod GoodLemmas
 pub mod AddressLemmas
 pub mod SortingLemmas
 pub mod ListReading
 pub mod ListChanging
-pub mod TableLemmas
-pub mod TableCalls
-pub mod NameLemmas
-pub mod NameCalls

@@ -9,6 +9,8 @@ use Rattle.sdr_base.specs.declared.refusal.Refusal.TheVariants as refusals
 use Rattle.sdr_base.specs.declared.stop.Stop.{Stop}
 use Rattle.sdr_base.specs.declared.stop.Stop.TheVariants as stops
 use Rattle.sdr_cat.specs.Kept.{SomeNames}
+use Rattle.sdr_hash.specs.Destroying.{entries_in}
+use Rattle.sdr_hash.specs.Kept.{IsHash}
 use Rattle.sdr_heap.specs.Raw.{IsUnnamed, IsWhole}
 use Rattle.sdr_laws.specs.Fresh.{AreFresh}
 use Rattle.sdr_list.specs.Kept.{IsElement, IsList, elements_in}
@@ -41,7 +43,7 @@ pub record IsServed (w : World) : Type 0 where
   pub plain : IsPlain w
 
 -- What is of a kind is kept: a raw object's block has its source word, which is 0, a string's has its text and a table's its
--- rows, and a list is kept for the block of a list and for that of an element. A catalogue is kept.
+-- rows, a list is kept for the block of a list and for that of an element, and a hash for the block of one. A catalogue is kept.
 pub record IsGood (heap : Heap) : Type 0 where
   pub raws : (addr : ℕ) → IsWhole (heap.blocks addr)
   pub unnamed : (addr : ℕ) → IsUnnamed (heap.blocks addr)
@@ -49,6 +51,7 @@ pub record IsGood (heap : Heap) : Type 0 where
   pub lists : (addr : ℕ) → IsList heap.blocks addr
   pub elements : (addr : ℕ) → IsElement heap.blocks addr
   pub tables : (addr : ℕ) → IsTable (heap.blocks addr)
+  pub hashes : (addr : ℕ) → IsHash heap.blocks addr
   pub names : SomeNames heap
 
 -- whether the call is one on raw objects
@@ -101,6 +104,17 @@ is_table_call (calls.TableUser table) = true
 is_table_call (calls.TableDestroy table) = true
 is_table_call call = false
 
+-- whether it is one on hashes
+abbrev pub is_hash_call : Call → Bool
+is_hash_call (calls.Hash key_length buckets) = true
+is_hash_call (calls.HashInsert hash key value) = true
+is_hash_call (calls.HashRetrieve hash key) = true
+is_hash_call (calls.HashRevise hash key value) = true
+is_hash_call (calls.HashRemove hash key) = true
+is_hash_call (calls.HashCount hash) = true
+is_hash_call (calls.HashDestroy hash) = true
+is_hash_call call = false
+
 -- whether it is one on the catalogue
 abbrev pub is_name_call : Call → Bool
 is_name_call (calls.Catlg name kind object) = true
@@ -111,7 +125,8 @@ is_name_call call = false
 
 -- whether the call is served
 abbrev pub built : Call → Bool
-built call = is_raw_call call || is_string_call call || is_list_call call || is_table_call call || is_name_call call
+built call =
+    is_raw_call call || is_string_call call || is_list_call call || is_table_call call || is_hash_call call || is_name_call call
 
 -- whether a call that was answered so dooms its transaction: it is a change that was refused
 abbrev pub dooms : Call → Reply → Bool
@@ -138,6 +153,11 @@ call_lines heap (calls.SetDatum element datum) = 2
 call_lines heap (calls.Table rows size user) = 26 + (24 + rows * size) / 64
 call_lines heap (calls.SetRow table row bytes) = 2 + length bytes / 64
 call_lines heap (calls.TableDestroy table) = 24
+call_lines heap (calls.Hash key_length buckets) = 26 + (24 + 8 * buckets) / 64
+call_lines heap (calls.HashInsert hash key value) = 30 + (16 + length key) / 32
+call_lines heap (calls.HashRevise hash key value) = 2
+call_lines heap (calls.HashRemove hash key) = 28
+call_lines heap (calls.HashDestroy hash) = 24 * (entries_in (heap.blocks hash) + 1)
 call_lines heap (calls.Catlg name kind object) = 30
 call_lines heap (calls.Uncatlg name) = 27
 call_lines heap call = 0

@@ -1,21 +1,19 @@
-//! The answer of each call that is served, over any blocks.
+//! What a call on the blocks of a heap comes to, as a step of the machine, and the calls on raw objects, strings and lists.
 //!
 //! 1. A call on blocks that stand for a world is a step of the machine on that world: its row answers it, with its moves in
 //!    their order, and the blocks stand for the world after it; or it is refused, as its row or the want of a block or of log
 //!    room has it.
 //! 2. It touches no more lines than its transaction may by what it has asked.
-//! 3. So far the calls on raw objects, strings, lists, tables and the catalogue are served.
+//! 3. Which calls are served stands here (`built`); those on tables, hashes and the catalogue are answered in the crate above.
 #![tactic(auto)]
 
-mod answering;
-mod lists;
-mod names;
+pub mod lists;
 mod page;
-mod raws;
+pub mod raws;
 mod served;
-mod strings;
-mod tables;
+pub mod strings;
 
-pub use answering::answer;
 pub use page::{PAGE, Page};
-pub use served::built;
+pub use served::{
+    built, is_hash_call, is_list_call, is_name_call, is_raw_call, is_string_call, is_table_call,
+};

@@ -1,6 +1,6 @@
 // Which calls are served, by what they are on.
 ghost use Rattle.std.specs.Prelude.{◌≡◌};
-ghost use Rattle.sdr_answers.specs.Answering.{built, is_raw_call, is_string_call, is_list_call, is_table_call, is_name_call};
+ghost use Rattle.sdr_answers.specs.Answering.{built, is_raw_call, is_string_call, is_list_call, is_table_call, is_hash_call, is_name_call};
 
 use sdr_model::Call;
 
@@ -71,6 +71,22 @@ pub fn is_table_call(call: &Call) -> bool
     )
 }
 
+// Whether it is one on hashes.
+pub fn is_hash_call(call: &Call) -> bool
+    ensures { result ≡ is_hash_call call.now }
+{
+    matches!(
+        call,
+        Call::Hash(_, _)
+            | Call::HashInsert(_, _, _)
+            | Call::HashRetrieve(_, _)
+            | Call::HashRevise(_, _, _)
+            | Call::HashRemove(_, _)
+            | Call::HashCount(_)
+            | Call::HashDestroy(_)
+    )
+}
+
 // Whether it is one on the catalogue.
 pub fn is_name_call(call: &Call) -> bool
     ensures { result ≡ is_name_call call.now }
@@ -89,5 +105,6 @@ pub fn built(call: &Call) -> bool
         || is_string_call(call)
         || is_list_call(call)
         || is_table_call(call)
+        || is_hash_call(call)
         || is_name_call(call)
 }

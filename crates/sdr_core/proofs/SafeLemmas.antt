@@ -361,6 +361,7 @@ run_ends {T} g b k journal base same_journal same_base run safe =
       legal = keeps_legal g b k run;
       crash = safe.crash;
       early = safe.early;
+      all = λ sound m ge. safe.all (none_of k.lock.roll.failed (sym safe.sound ∙ sound)) m ge;
       rests = λ sound. record {
         for = run.for;
         holds = run.stood (none_of k.lock.roll.failed (sym safe.sound ∙ sound));

@@ -100,11 +100,12 @@ pub record Makes {T : Type 0} (g : Ghosts T) (daemon line : ℕ) (event : Event)
   pub drawn : new.roll.drawn ≤ old.roll.drawn + 1
 
 -- What the ground and the journal are as a run ends: the journal is legal, and a crash leaves the state after some first entries
--- of it. Unless the disk failed, the ground stands for the state after all of them.
+-- of it. Unless the disk failed, all of them are done, and the ground stands for the state after them.
 pub record IsRunOf {T : Type 0} (g : Ghosts T) (b : Begins) (journal : List Entry) (base : T) : Type 0 where
   pub legal : IsLegal b.told b.daemons b.first journal
   pub crash : IsCrashSafe g.moment g.left (OpensAfter g.opens b.told b.daemons b.first journal) b.start journal base
   pub early : (m : ℕ) → m < b.start → done_by m journal ≡ 0
+  pub all : is_sound journal ≡ true → (m : ℕ) → g.moment base ≤ m → done_by m journal ≡ length journal
   pub rests : is_sound journal ≡ true → StandsFor g.stands base (λ v. IsAfter b.told b.daemons b.first journal (length journal) v.before)
   pub later : b.start ≤ g.moment base
   pub counted : b.faults ≤ g.faults base

@@ -36,19 +36,22 @@ pub record At (told : Option Told) (script rest : List Step) (made : List Made) 
   pub names : bindings ≡ bindings_after [] run.front made
   pub machine : core.machine ≡ m
 
-runs-push : (told : Option Told) (c mid c' : Core) (made : List Made) (e : Made)
+-- one more event was made
+pub runs-push : (told : Option Told) (c mid c' : Core) (made : List Made) (e : Made)
     → RunsCore told c made mid → CoreStep told mid e c' → RunsCore told c (made ++ e ∷ []) c'
 runs-push told c mid c' [] e runs step = (c', subst (λ x. CoreStep told x e c') runs step, refl)
 runs-push told c mid c' (x ∷ made) e runs step = (runs.0, runs.1, runs-push told runs.0 mid c' made e runs.2 step)
 
-follows-push : (bindings : List Binding) (steps : List Step) (made : List Made) (step : Step) (e : Made)
+-- one more step follows
+pub follows-push : (bindings : List Binding) (steps : List Step) (made : List Made) (step : Step) (e : Made)
     → Follows bindings steps made → MakesEvent (bindings_after bindings steps made) step e → Follows bindings (steps ++ step ∷ []) (made ++ e ∷ [])
 follows-push bindings [] [] step e f m = (m, tt)
 follows-push bindings (s ∷ steps) (x ∷ made) step e f m = (f.0, follows-push (bound bindings s x.said.answer) steps made step e f.1 m)
 follows-push bindings [] (x ∷ made) step e f m = absurd f
 follows-push bindings (s ∷ steps) [] step e f m = absurd f
 
-bindings_after-push : (bindings : List Binding) (steps : List Step) (made : List Made) (step : Step) (e : Made) → Follows bindings steps made
+-- and its answer gives its name what it holds
+pub bindings_after-push : (bindings : List Binding) (steps : List Step) (made : List Made) (step : Step) (e : Made) → Follows bindings steps made
     → bindings_after bindings (steps ++ step ∷ []) (made ++ e ∷ []) ≡ bound (bindings_after bindings steps made) step e.said.answer
 bindings_after-push bindings [] [] step e f = refl
 bindings_after-push bindings (s ∷ steps) (x ∷ made) step e f = bindings_after-push (bound bindings s x.said.answer) steps made step e f.1

@@ -8,4 +8,4 @@
 mod media;
 mod running;
 
-pub use running::{RunError, run};
+pub use running::{RunError, daemons_of, run};

@@ -187,8 +187,8 @@ fn names(script: &[Step], daemon: u8) -> bool
     script.iter().any(|step| step.daemon == daemon)
 }
 
-// The daemons that a script names.
-fn daemons_of(alloc: Global, script: &[Step]) -> Result<Vec<u8>, NoMemory>
+/// The daemons that a script names.
+pub fn daemons_of(alloc: Global, script: &[Step]) -> Result<Vec<u8>, NoMemory>
     ensures named { IfOk result (λ daemons. daemons.items ≡ daemons_of script.now) }
     ensures few { IfOk result (λ daemons. length daemons.items ≤ 16) }
 {

@@ -1,7 +1,7 @@
 -- A new entry comes in front of a bucket.
-use Rattle.std.proofs.Common.{◌≡◌, ℕ, ◌+◌, ◌*◌, ◌<◌, ◌^◌, List, [], ◌∷◌, ◌++◌, length, set, Some, sym, ap, ◌∙◌, arith, subst}
+use Rattle.std.proofs.Common.{◌≡◌, ℕ, ◌+◌, ◌<◌, ◌^◌, List, [], ◌∷◌, ◌++◌, length, set, Some, sym, ap, ◌∙◌, arith, subst}
 use Rattle.std.proofs.lemmas.List.{length-set}
-use Rattle.sdr_base.specs.Blocks.{Blocks, Reaches, with_block}
+use Rattle.sdr_base.specs.Blocks.{Blocks, with_block}
 use Rattle.sdr_base.specs.Entries.{Entries, Stands}
 use Rattle.sdr_base.specs.Hashes.{HashItem, bucket_entries, item_addr, item_block}
 use Rattle.sdr_base.specs.Linked.{first_of, linked}
@@ -12,8 +12,8 @@ use Rattle.sdr_base.specs.declared.kind.Kind.TheVariants as kinds
 use Rattle.sdr_base.specs.declared.moves.Move.TheVariants.{Took}
 use Rattle.sdr_base.proofs.HeapLemmas.{heap_blocks}
 use Rattle.sdr_base.proofs.LayoutLemmas.{length-layout}
-use Rattle.sdr_base.proofs.StandingLemmas.{came, found}
-use Rattle.sdr_base.proofs.WritingLemmas.{reaches, word_set}
+use Rattle.sdr_base.proofs.StandingLemmas.{came}
+use Rattle.sdr_base.proofs.WritingLemmas.{word_set}
 use Rattle.sdr_hash.specs.Calls.{new_item}
 use Rattle.sdr_hash.specs.Changes.{AddsFirst}
 use Rattle.sdr_hash.specs.Opened.{IsOpened, KeepsBucket, SomeBucket, opened_entries, words_block}
@@ -56,16 +56,6 @@ module _ (front : Link) (next value addr count : ℕ) (key : List ℕ) {old mid 
       (came old.blocks addr (item_block 0 next x) ((front.addr, words_block words) ∷ [])
       (bucket_entries bucket ++ rest) t.nonzero t.fresh s)))
 
-  -- the hash's block is there, before its words are set
-  pub front_there : SomeBucket old.blocks front (length key) → Reaches (mid.blocks front.addr) (8 * front.field + 8)
-  front_there k =
-      let o = k.keeps.opened in
-      let inside = o.inside in
-      reaches (mid.blocks front.addr) kinds.Hash k.keeps.words [] (8 * front.field + 8)
-      (found mid.blocks front.addr (words_block k.keeps.words) [] _
-      (taken_stands k.keeps.words k.bucket k.keeps.rest o k.keeps.stands))
-      (omega (arith, inside))
-
   module _ {linked_to : Heap} (l : linked_to ≡ with_word mid front.addr front.field addr) where
     linked_stands : (words : List ℕ) (bucket : List HashItem) (rest : Entries) → IsOpened (length key) front.field words bucket →
         Stands old.blocks (opened_entries front.addr words bucket ++ rest) →
@@ -75,18 +65,6 @@ module _ (front : Link) (next value addr count : ℕ) (key : List ℕ) {old mid 
         word_set mid.blocks linked_to.blocks front.addr kinds.Hash words [] front.field addr []
         (bucket_entries (new_item addr key value ∷ bucket) ++ rest)
         (heap_blocks l) o.inside (taken_stands words bucket rest o s)
-
-    -- and between
-    pub count_there : SomeBucket old.blocks front (length key) → Reaches (linked_to.blocks front.addr) 24
-    count_there k =
-        let o = k.keeps.opened in
-        let words = k.keeps.words in
-        let long = length-set words front.field addr in
-        let behind = o.behind in
-        let inside = o.inside in
-        reaches (linked_to.blocks front.addr) kinds.Hash (set words front.field addr) [] 24
-        (found linked_to.blocks front.addr (words_block (set words front.field addr)) [] _
-        (linked_stands words k.bucket k.keeps.rest o k.keeps.stands)) (omega (arith, long, behind, inside))
 
     -- the whole call
     pub adds_first : (more : ℕ) (new : Heap) → more ≡ count + 1 → new ≡ with_word linked_to front.addr 2 more →

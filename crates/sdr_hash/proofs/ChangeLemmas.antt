@@ -1,6 +1,6 @@
 -- What a change of one bucket is for its hash.
-use Rattle.std.proofs.Common.{◌≡◌, ℕ, ◌+◌, ◌-◌, ◌*◌, ◌≤◌, ◌<◌, true, false, cond, List, [], ◌∷◌, ◌++◌, length, map, set, get_or, Some, None, sym, ap, ◌∙◌, arith, subst, length-append}
-use Rattle.std.specs.Prelude.{find, sum_by}
+use Rattle.std.proofs.Common.{◌≡◌, ℕ, ◌+◌, ◌-◌, ◌*◌, ◌≤◌, ◌<◌, List, [], ◌∷◌, ◌++◌, length, map, set, get_or, Some, sym, ap, ◌∙◌, arith, subst, length-append}
+use Rattle.std.specs.Prelude.{sum_by}
 use Rattle.std.proofs.Math.Seq.{map-set_same}
 use Rattle.std.proofs.lemmas.List.{length-set}
 use Rattle.sdr_base.specs.Entries.{Changes, Few, Stands}
@@ -16,7 +16,7 @@ use Rattle.sdr_base.specs.declared.stop.Stop.TheVariants.{Refused, DiskFault, Me
 use Rattle.sdr_base.proofs.HeapLemmas.{heap_blocks}
 use Rattle.sdr_base.proofs.LinkedLemmas.{first-append}
 use Rattle.sdr_base.proofs.WritingLemmas.{word_set}
-use Rattle.sdr_hash.specs.Buckets.{bucket_of, has_key, items_by, removed, revised, with_items}
+use Rattle.sdr_hash.specs.Buckets.{bucket_of, items_by, removed, revised, with_items}
 use Rattle.sdr_hash.specs.Calls.{ChangeStops, HasKey, InsertsKey, InsertStops, LacksKey, RemovesKey, RevisesKey, new_item}
 use Rattle.sdr_hash.specs.Changes.{AddsFirst, TakesOut}
 use Rattle.sdr_hash.specs.Kept.{KeepsHash}
@@ -24,6 +24,7 @@ use Rattle.sdr_hash.specs.Opened.{FrontsBucket, opened_entries, with_front, word
 use Rattle.sdr_hash.specs.Walks.{IsFirst, Searches}
 use Rattle.sdr_hash.specs.declared.bucket.Link.{Link}
 use Rattle.sdr_hash.specs.declared.searching.Place.{Place}
+use Rattle.sdr_hash.proofs.BucketLemmas.{revised_at}
 use Rattle.sdr_hash.proofs.FindLemmas.{bucket_below, bucket_for, has, opened_for}
 use Rattle.sdr_hash.proofs.KeptLemmas.{hash_words}
 use Rattle.sdr_hash.proofs.OpenedLemmas.{closed, count_with, with_bucket, words_with}
@@ -42,20 +43,6 @@ words_same row p items less long first =
     ∙ ap (λ m. row.key_length ∷ length (set row.buckets p items) ∷ m ∷ map (first_of item_addr 0) row.buckets) n
     ∙ ap (λ (l : List ℕ). row.key_length ∷ length (set row.buckets p items) ∷ sum_by length (set row.buckets p items) ∷ l)
     (sym (map-set_same (first_of item_addr 0) row.buckets p items [] first))
-
--- the entries with another value in the first of a key
-revised_at : (key : List ℕ) (value : ℕ) (xs : List HashItem) (x : HashItem) (ys : List HashItem) →
-    find (has_key key) xs ≡ None → has_key key x ≡ true →
-    revised key value (xs ++ (x ∷ ys)) ≡ xs ++ (record x { value = value } ∷ ys)
-unfolding revised
-revised_at key value [] x ys n is = ap (λ v. cond v (record x { value = value } ∷ ys) (x ∷ revised key value ys)) is
-revised_at key value (z ∷ xs) x ys n is =
-    elim (has_key key z) as (λ v. cond v (Some z) (find (has_key key) xs) ≡ None →
-    cond v (record z { value = value } ∷ (xs ++ (x ∷ ys))) (z ∷ revised key value (xs ++ (x ∷ ys))) ≡ z ∷
-    (xs ++ (record x { value = value } ∷ ys))) [
-      | true ↦ λ k. let d : Some z ≡ None = k in cc
-      | false ↦ λ k. ap (λ (l : List HashItem). z ∷ l) (revised_at key value xs x ys k is)
-    ] n
 
 module _ (old new : Heap) {hash size : ℕ} {key : List ℕ} {front : Link} (f : FrontsBucket old.blocks hash key front)
     (few : Few size old.blocks)

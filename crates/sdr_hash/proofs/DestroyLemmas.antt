@@ -234,6 +234,15 @@ module _ (old : Heap) (hash size count buckets : ℕ) (few : Few size old.blocks
       let all = entries_is k.keeps few small c in
       let counted = b.counted in omega (arith, e, l, t, all, counted, enough)
 
+  -- the hash's own block stands, however many buckets are gone
+  pub hash_left : {now : Heap} {bucket left : ℕ} → GivesBuckets old now hash bucket left → SomeHash old.blocks hash →
+      Reaches (now.blocks hash) 0
+  hash_left {now} {bucket} g k =
+      let b = g.gives k.row k.keeps.rest k.keeps.stands k.keeps.fits in
+      reaches (now.blocks hash) kinds.Hash (hash_words k.row) [] 0
+      (found now.blocks hash (hash_block k.row) [] (flat_map bucket_entries (drop bucket k.row.buckets) ++ k.keeps.rest) b.stands)
+      (omega arith)
+
   module _ {now : Heap} {bucket left : ℕ} (g : GivesBuckets old now hash bucket left) (done : bucket ≡ buckets) where
     -- all buckets are gone, and the hash's own block stands
     left_at : (row : HashRow) (rest : Entries) → Stands old.blocks (hash_entries hash row ++ rest) → HashFits row →
@@ -249,12 +258,6 @@ module _ (old : Heap) (hash size count buckets : ℕ) (few : Few size old.blocks
               ((hash, hash_block row) ∷ (flat_map bucket_entries bs ++ rest))) none b.stands,
           subst (λ (bs : List (List HashItem)). Made (gave (addrs_in bs)) old now) whole b.made,
         )
-
-    pub hash_left : SomeHash old.blocks hash → Reaches (now.blocks hash) 0
-    hash_left k =
-        reaches (now.blocks hash) kinds.Hash (hash_words k.row) [] 0
-        (found now.blocks hash (hash_block k.row) [] k.keeps.rest
-        (left_at k.row k.keeps.rest k.keeps.stands k.keeps.fits).0) (omega arith)
 
     pub destroys : (new : Heap) → IsKind (old.blocks hash) kinds.Hash → new ≡ with_given now hash → DestroysHash hash old new
     destroys new kind is = record {

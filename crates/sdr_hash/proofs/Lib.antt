@@ -1,10 +1,12 @@
-mod KeptLemmas
+pub mod BucketLemmas
+pub mod KeptLemmas
 mod ItemLemmas
 mod OpenedLemmas
 mod MadeLemmas
 mod WalkLemmas
 mod FindLemmas
 mod LinkLemmas
+mod ReachLemmas
 mod AddLemmas
 mod OutLemmas
 mod ChangeLemmas

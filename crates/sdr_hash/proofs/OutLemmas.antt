@@ -1,6 +1,5 @@
 -- An entry is taken out of a bucket.
-use Rattle.std.proofs.Common.{◌≡◌, ℕ, ◌+◌, ◌-◌, ◌*◌, ◌≤◌, ◌<◌, ◌^◌, true, false, cond, List, [], ◌∷◌, ◌++◌, length, set, get_or, Some, None, sym, ap, ◌∙◌, arith, subst, append_assoc, length-append}
-use Rattle.std.specs.Prelude.{find}
+use Rattle.std.proofs.Common.{◌≡◌, ℕ, ◌+◌, ◌-◌, ◌*◌, ◌≤◌, ◌<◌, ◌^◌, List, [], ◌∷◌, ◌++◌, length, set, get_or, None, sym, ap, ◌∙◌, arith, subst, append_assoc, length-append}
 use Rattle.std.proofs.lemmas.List.{length-set}
 use Rattle.sdr_base.specs.Blocks.{Blocks, Reaches, with_block}
 use Rattle.sdr_base.specs.Entries.{Entries, Stands}
@@ -15,34 +14,22 @@ use Rattle.sdr_base.proofs.HeapLemmas.{given_blocks, heap_blocks}
 use Rattle.sdr_base.proofs.LinkedLemmas.{first-append, taken_out}
 use Rattle.sdr_base.proofs.StandingLemmas.{found}
 use Rattle.sdr_base.proofs.WritingLemmas.{reaches, word_set}
-use Rattle.sdr_hash.specs.Buckets.{has_key, removed}
+use Rattle.sdr_hash.specs.Buckets.{removed}
 use Rattle.sdr_hash.specs.Changes.{SomePlace, TakesOut}
 use Rattle.sdr_hash.specs.Opened.{IsOpened, KeepsBucket, opened_entries, with_front, words_block}
 use Rattle.sdr_hash.specs.Walks.{IsFirst}
 use Rattle.sdr_hash.specs.declared.bucket.Link.{Link}
 use Rattle.sdr_hash.specs.declared.searching.Place.{Place}
 use Rattle.sdr_hash.proofs.AddLemmas.{kept}
-use Rattle.sdr_hash.proofs.ItemLemmas.{item_reaches, item_words, next_is}
+use Rattle.sdr_hash.proofs.BucketLemmas.{removed_at}
+use Rattle.sdr_hash.proofs.ItemLemmas.{item_reaches, next_is}
 use Rattle.sdr_hash.proofs.LinkLemmas.{any_previous, link_reaches, part_entries, relinked, small_behind}
 use Rattle.sdr_hash.proofs.WalkLemmas.{count_is, here}
 
--- the entries without the first of a key
-without : (key : List ℕ) (xs : List HashItem) (x : HashItem) (ys : List HashItem) → find (has_key key) xs ≡ None →
-    has_key key x ≡ true →
-    removed key (xs ++ (x ∷ ys)) ≡ xs ++ ys
-unfolding removed
-without key [] x ys n is = ap (λ v. cond v ys (x ∷ removed key ys)) is
-without key (z ∷ xs) x ys n is =
-    elim (has_key key z) as
-    (λ v. cond v (Some z) (find (has_key key) xs) ≡ None → cond v (xs ++ (x ∷ ys))
-    (z ∷ removed key (xs ++ (x ∷ ys))) ≡ z ∷ (xs ++ ys)) [
-      | true ↦ λ k. let d : Some z ≡ None = k in cc
-      | false ↦ λ k. ap (λ (l : List HashItem). z ∷ l) (without key xs x ys k is)
-    ] n
-
+-- what is left of a bucket
 pub removed_is : {key : List ℕ} {front : Link} {bucket : List HashItem} {place : Place} → (f : IsFirst key front bucket place) →
     removed key bucket ≡ f.before ++ f.behind
-removed_is {key} f = ap (removed key) f.whole ∙ without key f.before f.item f.behind f.none f.keyed
+removed_is {key} f = ap (removed key) f.whole ∙ removed_at key f.before f.item f.behind f.none f.keyed
 
 pub length-removed : {key : List ℕ} {front : Link} {bucket : List HashItem} {place : Place} → IsFirst key front bucket place →
     length (removed key bucket) + 1 ≡ length bucket
@@ -124,19 +111,6 @@ module _ (front : Link) (place : Place) (next count : ℕ) (old : Heap) (h : Has
         (first_at o f) (cut_at words f rest s) place.link f.at_link
         (heap_blocks l)))
 
-    -- the hash's block is there, before its count is set
-    pub count_there : SomePlace old.blocks front place → Reaches (linked_to.blocks front.addr) 24
-    count_there k =
-        let o = k.keeps.opened in
-        let words = k.keeps.words in
-        let front_word = first_of item_addr 0 (removed k.key k.bucket) in
-        let long = length-set words front.field front_word in
-        let behind = o.behind in
-        let inside = o.inside in
-        reaches (linked_to.blocks front.addr) kinds.Hash (set words front.field front_word) [] 24
-        (found linked_to.blocks front.addr (words_block (set words front.field front_word)) [] _
-        (linked_past o k.is k.keeps.rest k.keeps.stands)) (omega (arith, long, behind, inside))
-
     module _ (less : ℕ) {counted : Heap} (e : less ≡ count - 1) (w : counted ≡ with_word linked_to front.addr 2 less) where
       counted_stands : {key words : List ℕ} {bucket : List HashItem} → IsOpened (length key) front.field words bucket →
           (f : IsFirst key front bucket place) → (rest : Entries) → Stands old.blocks
@@ -155,20 +129,6 @@ module _ (front : Link) (place : Place) (next count : ℕ) (old : Heap) (h : Has
           subst (λ m. Stands counted.blocks ((front.addr, words_block (set (set words front.field front_word) 2 m)) ∷ more)) n
           (word_set linked_to.blocks counted.blocks front.addr kinds.Hash (set words front.field front_word) [] 2 less [] more
           (heap_blocks w) (omega (arith, long, behind, inside)) (linked_past o f rest s))
-
-      -- the entry is there still
-      pub still : SomePlace old.blocks front place → Reaches (counted.blocks place.addr) 0
-      still k =
-          let f = k.is in
-          let x = f.item in
-          let words = with_front k.keeps.words front.field (removed k.key k.bucket) (get_or k.keeps.words 2 0 - 1) in
-          let next = first_of item_addr 0 f.behind in
-          reaches (counted.blocks place.addr) kinds.HashEntry (item_words next x) x.key 0
-          (ap counted.blocks f.at_addr
-          ∙ found counted.blocks x.addr (item_block 0 next x)
-          ((front.addr, words_block words) ∷ linked item_addr item_block 0 next f.before)
-          (linked item_addr item_block (last_of item_addr 0 f.before) 0 f.behind ++ k.keeps.rest)
-          (counted_stands k.keeps.opened f k.keeps.rest k.keeps.stands)) (omega arith)
 
       pub takes_out : (new : Heap) → new ≡ with_given counted place.addr → TakesOut front place old new
       takes_out new g = record {

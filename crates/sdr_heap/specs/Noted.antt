@@ -1,11 +1,20 @@
 -- What a heap has beside the bytes of its cells: marks and moves.
-use Rattle.std.specs.Prelude.{◌≡◌, ◌≤◌, ◌==◌, ◌+◌, ◌-◌, ◌/◌, ◌%◌, ◌&&◌, ℕ, Bool, false, List, length, take, get_or}
+use Rattle.std.specs.Prelude.{◌≡◌, ◌≤◌, ◌<◌, ◌==◌, ◌+◌, ◌-◌, ◌/◌, ◌%◌, ◌&&◌, ℕ, Bool, false, true}
+use Rattle.std.specs.Prelude.{List, length, take, get_or}
+use Rattle.std.specs.List.{All, Contains}
 use Rattle.sdr_base.specs.declared.line.TheConstants.{WORD}
 use Rattle.sdr_base.specs.declared.moves.Move.{Move}
 
 -- whether an address is marked, where there is a mark for each word
 abbrev pub marked_in : List Bool → ℕ → Bool
 marked_in marks addr = addr % WORD == 0 && get_or marks (addr / WORD) false
+
+-- a list names words that there are, and each marked one as long as it has room for another; there is memory for as many
+-- as it has room for
+pub record ListsMarked (marks : List Bool) (listed : List ℕ) (room capacity : ℕ) : Type 0 where
+  pub reserved : room ≤ capacity
+  pub inside : All (λ word. word < length marks) listed
+  pub named : length listed < room → (word : ℕ) → get_or marks word false ≡ true → Contains listed word
 
 -- the moves in the first so many places
 abbrev pub moves_in : List Move → ℕ → List Move

@@ -1,5 +1,6 @@
 // The blocks in use of a heap region: where they are, their labels and their bytes.
-ghost use Rattle.std.specs.Prelude.{◌≡◌, ◌+◌, ◌*◌, ◌/◌, ◌%◌, ◌≤◌, length, replicate, false, IfOk, OnOk, IfErr};
+ghost use Rattle.std.specs.Prelude.{◌≡◌, ◌+◌, ◌*◌, ◌/◌, ◌%◌, ◌≤◌, length, replicate, false};
+ghost use Rattle.std.specs.Prelude.{IfOk, OnOk, IfErr};
 ghost use Rattle.sdr_base.specs.Objects.{OnlyFull};
 ghost use Rattle.sdr_base.specs.Parts.{overwrite};
 ghost use Rattle.sdr_base.specs.Blocks.{HasBytes, UsesRange, kind_length};
@@ -78,7 +79,8 @@ pub fn get<C: Cells>(c: &mut C, addr: Addr, place: u64, into: &mut [u8]) -> Resu
 pub fn put<C: Cells>(c: &mut C, addr: Addr, place: u64, from: &[u8]) -> Result<(), Stop>
     requires kept { KeepsSomeHeap (C.bytes c.old) }
     requires inside { UsesRange (block_in (C.bytes c.old)) addr place (length from.now) }
-    ensures written { OnOk result (WritesBlock addr place from.now (C.bytes c.old) (C.bytes c.new)) }
+    ensures written { OnOk result
+        (WritesBlock addr place from.now (C.bytes c.old) (C.bytes c.new)) }
     ensures refused { IfErr result OnlyFull }
     ensures size { length (C.bytes c.new) ≡ length (C.bytes c.old) }
     ensures room { TouchesAtMost (2 + length from.now / 64)

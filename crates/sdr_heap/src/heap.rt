@@ -29,12 +29,12 @@ impl<C: Cells> Model for Heap<C> {
     ghost view = { λ s. record {
       cells = s.cells;
       size = s.size;
-      marks = s.marks.words.items;
+      marks = s.marks;
       moves = noted.moves_in s.moves.places.items s.moves.used;
       spare = noted.spare_in s.moves.places.items s.moves.used;
     } };
 
-    ghost invariant = { λ s. noted.FitsRegion s.size s.marks.words.items (length s.moves.places.items) };
+    ghost invariant = { λ s. noted.FitsRegion s.size s.marks (length s.moves.places.items) };
 }
 
 /// A heap that wasn't made, for want of memory.
@@ -86,7 +86,7 @@ impl<C: Cells> Heap<C> {
         self.moves.clear();
     }
 
-    /// Takes all marks off.
+    /// Takes all marks off, which costs at most 64 bytes written for each word that is marked.
     pub fn unmark(&mut self)
         ensures { self.new ≡ record self.old { marks = replicate (length self.old.marks) false } }
     {

@@ -104,5 +104,6 @@ impl<C: Cells> Objects for Heap<C> {
 
     ghost few = { λ a kept. kept.keeps.few };
 
-    ghost small = { λ a kept. few_lemmas.region_small a.size (C.bytes a.cells) kept.pools kept.keeps };
+    ghost small = { λ a kept.
+        few_lemmas.region_small a.size (C.bytes a.cells) kept.pools kept.keeps };
 }

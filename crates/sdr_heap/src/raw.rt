@@ -74,8 +74,9 @@ pub fn length<O: Objects>(o: &mut O, addr: Addr) -> Result<u64, Stop>
 fn check_range(addr: Addr, place: u64, length: u64, bytes: u64) -> Result<(), Stop>
     requires whole { BYTES ≤ bytes }
     ensures inside { OnOk result (BYTES + (place + length) ≤ bytes) }
-    ensures outside { IfErr result (λ stop. (stop
-        ≡ Stop.Refused (Refusal.OutOfBounds addr place length)) × (bytes < BYTES + (place + length))) }
+    ensures outside { IfErr result (λ stop.
+        (stop ≡ Stop.Refused (Refusal.OutOfBounds addr place length))
+        × (bytes < BYTES + (place + length))) }
 {
     match place.checked_add(length) {
         Some(end) if end <= bytes - BYTES => Ok(()),

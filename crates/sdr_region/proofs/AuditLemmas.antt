@@ -1,13 +1,13 @@
 -- Steps of an audit one after another.
-use Rattle.std.proofs.Common.{◌≡◌, ◌∙◌, ◌≤◌, ◌<◌, ◌+◌, ℕ, List, false, arith, inl, inr, refl, subst, sym}
+use Rattle.std.proofs.Common.{◌≡◌, ◌∙◌, ◌<◌, ◌+◌, ℕ, List, false, arith, inl, inr, refl, subst, sym}
 use Rattle.std.specs.Result.{IsErrAnd}
 use Rattle.std.proofs.lemmas.Bool.{cases_lt}
 use Rattle.std.specs.Prelude.{Ok, Err, IfErr, Result}
 use Rattle.sdr_base.proofs.TransactionLemmas.{reason_then}
-use Rattle.sdr_base.specs.Transaction.{HasReason, Transaction, TouchesNone}
+use Rattle.sdr_base.specs.Transaction.{HasReason, IfRefused, Transaction, TouchesNone}
 use Rattle.sdr_base.specs.declared.stop.Stop.{Stop}
 use Rattle.sdr_base.specs.declared.stop.Stop.TheVariants as stops
-use Rattle.sdr_region.specs.Auditing.{Audits, HasAuditReason}
+use Rattle.sdr_region.specs.Auditing.{Audits, HasAuditReason, HasStop}
 use Rattle.sdr_region.specs.declared.error.AuditError.{AuditError}
 use Rattle.sdr_region.specs.declared.error.AuditError.TheVariants as errors
 
@@ -84,3 +84,30 @@ reads_audit same room cause quiet = record {
 pub error_same : {T : Type 0} (P : AuditError → Type 0) {e : AuditError} (r : Result T AuditError) → IsErrAnd r (λ x. x ≡ e) → P e → IfErr r P
 error_same P (Ok value) is holds = absurd is
 error_same P (Err x) is holds = subst P (sym is) holds
+
+-- a reading that stopped, as a step that stopped
+pub reads_stop : {S T U : Type 0} {bytes : S → List ℕ} {transaction : S → Transaction} {keeps : S → S → Type 0} {a b : S} {stop : Stop} {r : Result U AuditError} →
+    bytes b ≡ bytes a → TouchesNone {T = T} (transaction a) (transaction b) (Err stop) → HasReason {T = T} (transaction a) (transaction b) (Err stop) → keeps a b →
+    IsErrAnd r (λ x. HasStop x stop) → Audits {T = U} bytes transaction keeps a b r
+reads_stop {r = Ok value} same room cause quiet is = absurd is
+reads_stop {S} {T} {U} {bytes} {transaction} {keeps} {a} {b} {stop} {r = Err x} same room cause quiet is = record {
+  bytes = same;
+  touched = room.touched;
+  room = room.room;
+  cause = cause_of stop room.answered cause is;
+  quiet = quiet;
+}
+  where
+    cause_of : (s : Stop) → IfRefused {T = T} (Err s) (λ _. ⊥) → HasReason {T = T} (transaction a) (transaction b) (Err s) → HasStop x s →
+        HasAuditReason {T = U} (transaction a) (transaction b) (Err x)
+    cause_of stops.DiskFault answered c s =
+        subst (λ (y : AuditError). HasAuditReason {T = U} (transaction a) (transaction b) (Err y)) (sym s) (record { later = c.later; explained = c.explained })
+    cause_of stops.Failed answered c s =
+        subst (λ (y : AuditError). HasAuditReason {T = U} (transaction a) (transaction b) (Err y)) (sym s) (record { later = c.later; explained = c.explained })
+    cause_of stops.MediaFault answered c s = absurd c.explained
+    cause_of (stops.Refused refusal) answered c s = absurd answered
+
+-- a step that answered, as one that answered something else
+pub audits_as : {S T U : Type 0} {bytes : S → List ℕ} {transaction : S → Transaction} {keeps : S → S → Type 0} {a b : S} {v : T} {u : U} →
+    Audits {T = T} bytes transaction keeps a b (Ok v) → Audits {T = U} bytes transaction keeps a b (Ok u)
+audits_as s = record { bytes = s.bytes; touched = s.touched; room = s.room; cause = s.cause; quiet = s.quiet }

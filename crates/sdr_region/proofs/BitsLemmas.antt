@@ -1,19 +1,18 @@
 -- The bytes of the start bits by what is told of each word.
-use Rattle.std.proofs.Common.{◌≡◌, ◌≢◌, ◌≤◌, ◌<◌, ◌+◌, ◌-◌, ◌*◌, ◌==◌, ℕ, Bool, List, [], ◌∷◌, Option, None, Some, cond, true, false, length, get_or, arith, ap, ◌∙◌, refl, sym, subst, inl, inr}
+use Rattle.std.proofs.Common.{◌≡◌, ◌≤◌, ◌<◌, ◌+◌, ◌-◌, ◌*◌, ℕ, Bool, List, [], ◌∷◌, Option, None, Some, cond, true, false, length, get_or, arith, ap, ◌∙◌, refl, sym, subst, inl, inr}
 use Rattle.std.specs.Option.{option_map_or, option_or}
 use Rattle.std.proofs.lemmas.Bool.{cases_lt, eq-eqb, ne_eqb}
 use Rattle.std.proofs.lemmas.List.{get_or_past}
-use Rattle.sdr_base.specs.Cells.{IsRegionSize}
 use Rattle.sdr_base.specs.Parts.{part}
 use Rattle.sdr_base.specs.Pools.{PoolBlock}
-use Rattle.sdr_base.specs.declared.control.TheConstants.{HIGH, LOW, START}
+use Rattle.sdr_base.specs.declared.control.TheConstants.{LOW, START}
 use Rattle.sdr_base.proofs.PartsLemmas.{get_or-part}
 use Rattle.sdr_region.proofs.EdgeLemmas.{in_order}
 use Rattle.sdr_region.proofs.FollowLemmas.{large_ends, large_rises, small_ends, small_rises}
-use Rattle.sdr_region.specs.Bits.{BitsBefore, IsBitsPlace, IsFirstByte, IsWrongBits, begins_with, bits_byte, byte_of_bits, is_bits_byte}
+use Rattle.sdr_region.specs.Bits.{BitsBefore, IsFirstByte, IsWrongBits, begins_with, bits_byte, byte_of_bits, is_bits_byte}
 use Rattle.sdr_region.specs.Control.{ControlIsRight, control_word}
-use Rattle.sdr_region.specs.Spots.{AreSpots, begun_at, begun_in, is_told_used, is_used_spot, spot_of}
-use Rattle.sdr_region.specs.Walk.{AreBlocks, BlocksFollow, LargeFollow, SmallFollow}
+use Rattle.sdr_region.specs.Spots.{AreSpots, begun_at, is_told_used, is_used_spot, spot_of}
+use Rattle.sdr_region.specs.Walk.{AreBlocks, LargeFollow, SmallFollow}
 use Rattle.sdr_region.specs.Walked.{AllFound}
 use Rattle.sdr_region.specs.declared.spot.Spot.{Spot}
 use Rattle.sdr_region.specs.declared.spot.Spot.TheVariants as spots

@@ -1,5 +1,5 @@
 -- Where blocks may stand, once the control words are right.
-use Rattle.std.proofs.Common.{◌≡◌, ◌≤◌, ◌%◌, ◌+◌, ◌*◌, ◌/◌, ℕ, List, length, true, arith, ap, sym, subst, ◌∙◌}
+use Rattle.std.proofs.Common.{◌≡◌, ◌≤◌, ◌%◌, ◌/◌, ℕ, List, length, arith, ap, sym, subst, ◌∙◌}
 use Rattle.std.proofs.lemmas.Bool.{and_parts, eqb-true, leb-true}
 use Rattle.sdr_base.specs.FreshHeap.{first_block}
 use Rattle.sdr_base.specs.declared.control.TheConstants.{HIGH, LOW, START}

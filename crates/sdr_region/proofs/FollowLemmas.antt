@@ -1,9 +1,6 @@
 -- Blocks that follow one another.
-use Rattle.std.proofs.Common.{◌≡◌, ◌≢◌, ◌≤◌, ◌<◌, ◌+◌, ◌*◌, ◌-◌, ◌==◌, ℕ, Bool, List, [], ◌∷◌, ◌++◌, Option, None, Some, cond, not, true, false, arith, ap, ◌∙◌, refl, sym, subst}
-use Rattle.std.specs.Prelude.{find}
-use Rattle.std.specs.Option.{option_map, option_or}
-use Rattle.std.proofs.lemmas.Bool.{eq-eqb, ne_eqb}
-use Rattle.std.proofs.lemmas.List.Folds.{find-append}
+use Rattle.std.proofs.Common.{◌≡◌, ◌≤◌, ◌<◌, ◌+◌, ◌*◌, ℕ, Bool, List, [], ◌∷◌, ◌++◌, None, Some, cond, true, arith, ap, ◌∙◌, refl, sym, subst}
+use Rattle.std.proofs.lemmas.Bool.{ne_eqb}
 use Rattle.sdr_base.specs.LargePool.{extent_of}
 use Rattle.sdr_base.specs.Pools.{PoolBlock}
 use Rattle.sdr_region.specs.Spots.{begun_in}

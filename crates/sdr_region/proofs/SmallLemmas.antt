@@ -1,5 +1,5 @@
 -- One small block more is walked over.
-use Rattle.std.proofs.Common.{◌≡◌, ◌≢◌, ◌≤◌, ◌<◌, ◌+◌, ◌-◌, ◌*◌, ◌/◌, ◌%◌, ◌==◌, ◌&&◌, ◌||◌, ℕ, Bool, List, [], ◌∷◌, ◌++◌, Option, None, Some, cond, not, true, false, length, set, arith, ap, ◌∙◌, refl, sym, subst}
+use Rattle.std.proofs.Common.{◌≡◌, ◌≢◌, ◌≤◌, ◌<◌, ◌+◌, ◌-◌, ◌*◌, ◌/◌, ◌%◌, ◌==◌, ◌&&◌, ◌||◌, ℕ, Bool, List, [], ◌∷◌, ◌++◌, Option, None, Some, cond, not, true, length, set, arith, ap, ◌∙◌, refl, sym, subst}
 use Rattle.std.specs.Prelude.{nat_le}
 use Rattle.std.specs.Option.{option_or}
 use Rattle.std.proofs.lemmas.Bool.{and_parts, eq-eqb, leb-true, ne_eqb}
@@ -14,7 +14,7 @@ use Rattle.sdr_region.specs.Control.{ControlIsRight, control_word}
 use Rattle.sdr_region.specs.declared.control.Edges.{Edges}
 use Rattle.sdr_region.proofs.EdgeLemmas.{in_order}
 use Rattle.sdr_region.specs.Found.{no_findings, with_found}
-use Rattle.sdr_region.specs.Labels.{IsLabel, fits_small, is_led, label_empty, label_spot}
+use Rattle.sdr_region.specs.Labels.{IsLabel, fits_small, label_empty, label_spot}
 use Rattle.sdr_region.specs.Spots.{AreSpots, begun_at, begun_in}
 use Rattle.sdr_region.specs.Walk.{SmallFollow, first_wrong, is_empty, is_small_at, small_at, small_holds}
 use Rattle.sdr_region.specs.Walked.{SmallWalked}

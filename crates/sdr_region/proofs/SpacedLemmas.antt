@@ -1,12 +1,10 @@
 -- Blocks that begin one behind another, at whole words.
-use Rattle.std.proofs.Common.{◌≡◌, ◌≢◌, ◌≤◌, ◌<◌, ◌+◌, ◌*◌, ◌-◌, ◌%◌, ◌==◌, ℕ, Bool, List, [], ◌∷◌, ◌++◌, Option, None, Some, cond, true, false, arith, ap, ◌∙◌, refl, sym, subst, inl, inr}
-use Rattle.std.specs.Prelude.{find}
+use Rattle.std.proofs.Common.{◌≡◌, ◌≢◌, ◌≤◌, ◌<◌, ◌+◌, ◌*◌, ◌%◌, ℕ, Bool, List, [], ◌∷◌, ◌++◌, Option, None, Some, cond, arith, ap, ◌∙◌, refl, sym, inl, inr}
 use Rattle.std.specs.List.{All}
 use Rattle.std.proofs.lemmas.Bool.{cases_eq, cases_lt, eq-eqb, ne_eqb}
 use Rattle.std.proofs.lemmas.List.Elements.{All-cons, All-head, All-nil, All-tail}
 use Rattle.std.proofs.lemmas.Option.{same_Some}
 use Rattle.sdr_base.specs.Pools.{PoolBlock}
-use Rattle.sdr_region.proofs.FollowLemmas.{large_rises, small_rises}
 use Rattle.sdr_region.specs.Spots.{begun_in}
 use Rattle.sdr_region.specs.Walk.{LargeFollow, SmallFollow}
 
@@ -48,10 +46,11 @@ AllBefore frame P blocks place = All (IfBefore frame P place) blocks
 pub none_some : {X : Type 0} {x : X} {o : Option X} → o ≡ None → o ≡ Some x → ⊥
 none_some {X} {x} {o} none some = let d : None ≡ Some x = sym none ∙ some in cc
 
-begun_first : (frame : ℕ) (block : PoolBlock) (blocks : List PoolBlock) (place : ℕ) → block.addr ≡ place + frame → begun_in frame (block ∷ blocks) place ≡ Some block
+-- the one that begins at a place is the first where that has its address, and else one behind it
+pub begun_first : (frame : ℕ) (block : PoolBlock) (blocks : List PoolBlock) (place : ℕ) → block.addr ≡ place + frame → begun_in frame (block ∷ blocks) place ≡ Some block
 begun_first frame block blocks place at = ap (λ (t : Bool). cond t (Some block) (begun_in frame blocks place)) (eq-eqb block.addr (place + frame) at)
 
-begun_later : (frame : ℕ) (block : PoolBlock) (blocks : List PoolBlock) (place : ℕ) → block.addr ≢ place + frame → begun_in frame (block ∷ blocks) place ≡ begun_in frame blocks place
+pub begun_later : (frame : ℕ) (block : PoolBlock) (blocks : List PoolBlock) (place : ℕ) → block.addr ≢ place + frame → begun_in frame (block ∷ blocks) place ≡ begun_in frame blocks place
 begun_later frame block blocks place off = ap (λ (t : Bool). cond t (Some block) (begun_in frame blocks place)) (ne_eqb block.addr (place + frame) off)
 
 -- what holds of those before a place, and of the one that begins there, holds of those before the next word

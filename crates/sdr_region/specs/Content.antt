@@ -65,7 +65,8 @@ is_source count first =
 -- next one
 abbrev pub is_ticket : ℕ → List ℕ → Bool
 is_ticket count first =
-    count == 96 && is_flag (field first 1) && nat_le (field first 2) 255 && nat_le (field first 3) 255
+    count == 96 && nat_le (field first 0) most_amount && is_flag (field first 1)
+    && nat_le (field first 2) 255 && nat_le (field first 3) 255
     && nat_le (field first 4) most_amount && nat_le (field first 5) most_amount && nat_le (field first 6) most_amount
     && is_flag (field first 10)
 

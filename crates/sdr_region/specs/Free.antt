@@ -1,7 +1,6 @@
 -- What an audit asks of the lists of free blocks.
-use Rattle.std.specs.Prelude.{◌≡◌, ◌≤◌, ◌<◌, ◌==◌, ◌+◌, ◌-◌, ◌*◌, ◌&&◌, ◌⊎◌, ℕ, Bool, true, false, cond, not, nat_le, List, ◌∷◌, ◌++◌, Contains, Option, Some, find, map, count_by}
+use Rattle.std.specs.Prelude.{◌≡◌, ◌≤◌, ◌<◌, ◌==◌, ◌+◌, ◌-◌, ◌*◌, ◌⊎◌, ℕ, false, cond, nat_le, List, ◌∷◌, ◌++◌, Contains, map, count_by}
 use Rattle.std.specs.List.{All}
-use Rattle.std.specs.Option.{option_map, option_or}
 use Rattle.sdr_base.specs.KeptLarge.{Links, large_place}
 use Rattle.sdr_base.specs.KeptPools.{Chain, list_place}
 use Rattle.sdr_base.specs.LargePool.{order_of}
@@ -56,16 +55,14 @@ pub record IsWrongList (bytes : List ℕ) (small large : List PoolBlock) (place 
   pub wrong : IsListIn bytes small large word → ⊥
 
 -- a free small block is reached by the list of its words
-pub record SmallReached (bytes : List ℕ) (block : PoolBlock) : Type 0 where
-  pub addrs : List ℕ
-  pub chain : Chain bytes (list_place block.words) addrs
-  pub reached : Contains addrs block.addr
+pub record SmallReached (bytes : List ℕ) (small : List PoolBlock) (block : PoolBlock) : Type 0 where
+  pub list : IsSmallList bytes small block.words
+  pub reached : Contains list.addrs block.addr
 
 -- a free large block is reached by the list of its order
-pub record LargeReached (bytes : List ℕ) (block : PoolBlock) : Type 0 where
-  pub blocks : List (ℕ × ℕ)
-  pub links : Links bytes (large_place (order_of block.words)) 0 blocks
-  pub reached : Contains blocks (block.addr, block.words)
+pub record LargeReached (bytes : List ℕ) (large : List PoolBlock) (block : PoolBlock) : Type 0 where
+  pub list : IsLargeList bytes large (order_of block.words)
+  pub reached : Contains list.blocks (block.addr, block.words)
 
 -- each of these blocks is in use, or is reached
 abbrev pub AllReached : (PoolBlock → Type 0) → List PoolBlock → Type 0
@@ -74,8 +71,8 @@ AllReached Reached blocks = All (λ (block : PoolBlock). (block.used ≡ false) 
 -- all lists are right, and reach each free block
 pub record AreListed (bytes : List ℕ) (small large : List PoolBlock) : Type 0 where
   pub lists : (word : ℕ) → IsListWord word → IsListIn bytes small large word
-  pub below : AllReached (SmallReached bytes) small
-  pub above : AllReached (LargeReached bytes) large
+  pub below : AllReached (SmallReached bytes small) small
+  pub above : AllReached (LargeReached bytes large) large
 
 -- among these blocks this is the first free one that no list reaches
 pub record FirstLost (Reached : PoolBlock → Type 0) (blocks : List PoolBlock) (addr : ℕ) : Type 0 where
@@ -92,8 +89,8 @@ pub record FirstLost (Reached : PoolBlock → Type 0) (blocks : List PoolBlock) 
 pub record IsLost (bytes : List ℕ) (small large : List PoolBlock) (addr : ℕ) : Type 0 where
   pub lists : (word : ℕ) → IsListWord word → IsListIn bytes small large word
   pub first :
-      FirstLost (SmallReached bytes) small addr
-      ⊎ (AllReached (SmallReached bytes) small × FirstLost (LargeReached bytes) large addr)
+      FirstLost (SmallReached bytes small) small addr
+      ⊎ (AllReached (SmallReached bytes small) small × FirstLost (LargeReached bytes large) large addr)
 
 -- what is wrong first with the lists of free blocks: a list, at its control word, or else a free block that none reaches, at its
 -- address

@@ -5,6 +5,8 @@ pub mod Control
 pub mod Found
 pub mod Free
 pub mod Labels
+pub mod Listed
+pub mod Region
 pub mod Spots
 pub mod Walk
 pub mod Walked

@@ -32,3 +32,8 @@ is_used_spot spot = false
 -- whether a word is told so, by its number; behind the region none is
 abbrev pub is_told_used : List Spot → ℕ → Bool
 is_told_used told word = is_used_spot (get_or told word spots.Nothing)
+
+-- whether a word is told that a free block begins with it
+abbrev pub is_free_spot : Spot → Bool
+is_free_spot spots.Free = true
+is_free_spot spot = false

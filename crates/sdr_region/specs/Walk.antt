@@ -1,5 +1,5 @@
 -- The blocks of a heap region as their leaders tell, and what an audit asks of them.
-use Rattle.std.specs.Prelude.{◌≡◌, ◌≢◌, ◌==◌, ◌+◌, ◌-◌, ◌*◌, ◌&&◌, ◌||◌, ◌⊎◌, ℕ, Bool, true, false, cond, not, nat_le, List, [], ◌∷◌, ◌++◌, length, Option, Some, None, find}
+use Rattle.std.specs.Prelude.{◌≡◌, ◌≢◌, ◌==◌, ◌+◌, ◌-◌, ◌*◌, ◌&&◌, ◌||◌, ◌⊎◌, ℕ, Bool, true, false, cond, not, nat_le, List, [], ◌∷◌, length, Option, Some, None, find}
 use Rattle.std.specs.Option.{option_map, option_or}
 use Rattle.sdr_base.specs.KeptLarge.{last_word}
 use Rattle.sdr_base.specs.LargePool.{extent_of}

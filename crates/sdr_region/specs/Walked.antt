@@ -1,11 +1,14 @@
 -- Blocks that were walked over, and what was found of them.
-use Rattle.std.specs.Prelude.{◌≡◌, ◌≤◌, ◌*◌, ◌%◌, ◌==◌, ℕ, Bool, false, not, List, [], ◌∷◌, length}
+use Rattle.std.specs.Prelude.{◌≡◌, ◌*◌, ◌≤◌, ◌%◌, ℕ, Bool, false, not, List, [], ◌∷◌, length}
+use Rattle.sdr_base.specs.Cells.{IsRegionSize}
 use Rattle.sdr_base.specs.Pools.{PoolBlock}
 use Rattle.sdr_base.specs.declared.control.TheConstants.{HIGH, LOW, START}
 use Rattle.sdr_base.specs.declared.line.TheConstants.{WORD}
-use Rattle.sdr_region.specs.Control.{control_word}
+use Rattle.sdr_region.specs.Auditing.{edges_of}
+use Rattle.sdr_region.specs.Control.{ControlIsRight, control_word}
 use Rattle.sdr_region.specs.Spots.{AreSpots}
 use Rattle.sdr_region.specs.Walk.{AreBlocks, LargeFollow, SmallFollow, first_full, first_unfit, free_edge, touching_after}
+use Rattle.sdr_region.specs.declared.control.Edges.{Edges}
 use Rattle.sdr_region.specs.declared.findings.Findings.{Findings}
 use Rattle.sdr_region.specs.declared.spot.Spot.{Spot}
 
@@ -48,3 +51,11 @@ pub record AllFound (bytes : List ℕ) (told : List Spot) : Type 0 where
   pub large : List PoolBlock
   pub blocks : AreBlocks bytes small large
   pub spots : AreSpots small large told
+
+-- The control words and the blocks are right, blocks stand between these edges, and it is told of each word what begins with it.
+pub record IsSurveyed (bytes : List ℕ) (edges : Edges) (told : List Spot) : Type 0 where
+  pub region : IsRegionSize (length bytes)
+  pub right : ControlIsRight bytes
+  pub between : edges ≡ edges_of bytes
+  pub long : length told * WORD ≡ length bytes
+  pub found : AllFound bytes told

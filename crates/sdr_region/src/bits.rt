@@ -8,7 +8,7 @@ ghost use Rattle.sdr_region.specs.Bits.{BitsAreRight, BitsBefore, IsFirstByte, I
 ghost use Rattle.sdr_region.specs.Control.{ControlIsRight};
 ghost use Rattle.sdr_region.specs.Spots.{is_told_used};
 ghost use Rattle.sdr_region.specs.Walk.{AreBlocks};
-ghost use Rattle.sdr_region.specs.Walked.{AllFound};
+ghost use Rattle.sdr_region.specs.Walked.{IsSurveyed};
 
 use crate::control::Edges;
 use crate::error::{AuditError, Why};
@@ -60,11 +60,7 @@ fn check_line<C: Cells>(
     spots: &[Spot],
     place: u64,
 ) -> Result<(), AuditError>
-    requires region { IsRegionSize (length (C.bytes c.old)) }
-    requires right { ControlIsRight (C.bytes c.old) }
-    requires edges { edges.now ≡ edges_of (C.bytes c.old) }
-    requires spots { length spots.now * WORD ≡ length (C.bytes c.old) }
-    requires found { AllFound (C.bytes c.old) spots.now }
+    requires surveyed { IsSurveyed (C.bytes c.old) edges.now spots.now }
     requires from { START_BITS ≤ place }
     requires inside { place + LINE ≤ edges.now.start }
     requires before { BitsBefore (C.bytes c.old) place }
@@ -88,12 +84,8 @@ fn check_line<C: Cells>(
 /// behind the last word's are zeros up to the first block. What is wrong first is told by its byte. It reads each line once, and
 /// takes no memory.
 pub fn check_bits<C: Cells>(c: &mut C, edges: &Edges, spots: &[Spot]) -> Result<(), AuditError>
-    requires region { IsRegionSize (length (C.bytes c.old)) }
-    requires right { ControlIsRight (C.bytes c.old) }
-    requires edges { edges.now ≡ edges_of (C.bytes c.old) }
+    requires surveyed { IsSurveyed (C.bytes c.old) edges.now spots.now }
     requires sound { (C.transaction c.old).failed ≡ false }
-    requires spots { length spots.now * WORD ≡ length (C.bytes c.old) }
-    requires found { AllFound (C.bytes c.old) spots.now }
     ensures right { OnOk result ((small large : List PoolBlock) →
         AreBlocks (C.bytes c.old) small large → BitsAreRight (C.bytes c.old) small large) }
     ensures damaged { IfErr result (DamagedBy Why.Bits (λ at. (small large : List PoolBlock) →

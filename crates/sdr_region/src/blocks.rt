@@ -10,7 +10,7 @@ ghost use Rattle.sdr_region.specs.Labels.{IsLabel};
 ghost use Rattle.sdr_region.specs.Found.{first_found, no_findings};
 ghost use Rattle.sdr_region.specs.Spots.{AreSpots};
 ghost use Rattle.sdr_region.specs.Walk.{IsWrongBlock, LargeBreaks, SmallBreaks, has_ends, is_large_at, is_small_at, large_at};
-ghost use Rattle.sdr_region.specs.Walked.{AllFound, LargeWalked, SmallWalked};
+ghost use Rattle.sdr_region.specs.Walked.{IsSurveyed, LargeWalked, SmallWalked};
 
 use crate::control::Edges;
 use crate::error::{AuditError, Why};
@@ -207,10 +207,9 @@ pub fn check_blocks<C: Cells>(
     requires sound { (C.transaction c.old).failed ≡ false }
     requires spots { length spots.old * WORD ≡ length (C.bytes c.old) }
     requires clear { AreSpots [] [] spots.old }
-    ensures found { OnOk result (AllFound (C.bytes c.old) spots.new) }
+    ensures surveyed { OnOk result (IsSurveyed (C.bytes c.old) edges.now spots.new) }
     ensures damaged { IfErr result (DamagedBy Why.Block (IsWrongBlock (C.bytes c.old))) }
     ensures audits { Audits C.bytes C.transaction C.quiet c.old c.new result }
-    ensures length { length spots.new ≡ length spots.old }
 {
     let mut found = Findings::none();
     walk_small(c, edges, &mut found, spots)?;

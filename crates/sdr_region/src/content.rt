@@ -10,7 +10,7 @@ ghost use Rattle.sdr_region.specs.Content.{ContentIsRight, FilledBefore, IsWrong
 ghost use Rattle.sdr_region.specs.Control.{ControlIsRight};
 ghost use Rattle.sdr_region.specs.Spots.{is_told_used};
 ghost use Rattle.sdr_region.specs.Walk.{AreBlocks};
-ghost use Rattle.sdr_region.specs.Walked.{AllFound};
+ghost use Rattle.sdr_region.specs.Walked.{IsSurveyed};
 
 use crate::control::Edges;
 use crate::error::{AuditError, Why};
@@ -38,8 +38,8 @@ fn is_filled<C: Cells>(c: &mut C, place: u64, addr: u64) -> Result<bool, Stop>
     }
 }
 
-// How far before its address the leader of a block stands that begins at a place, where small blocks end at `low`.
-fn frame_at(place: u64, low: u64) -> u64
+/// How far before its address the leader of a block stands that begins at a place, where small blocks end at `low`.
+pub fn frame_at(place: u64, low: u64) -> u64
     ensures { result ≡ frame_at place low }
 {
     if place < low { WORD } else { 2 * WORD }
@@ -52,12 +52,8 @@ fn check_spot<C: Cells>(
     spots: &[Spot],
     word: usize,
 ) -> Result<(), AuditError>
-    requires region { IsRegionSize (length (C.bytes c.old)) }
-    requires right { ControlIsRight (C.bytes c.old) }
-    requires edges { edges.now ≡ edges_of (C.bytes c.old) }
+    requires surveyed { IsSurveyed (C.bytes c.old) edges.now spots.now }
     requires sound { (C.transaction c.old).failed ≡ false }
-    requires spots { length spots.now * WORD ≡ length (C.bytes c.old) }
-    requires found { AllFound (C.bytes c.old) spots.now }
     requires inside { word < length spots.now }
     requires before { FilledBefore (C.bytes c.old) (WORD * word) }
     ensures before { OnOk result (FilledBefore (C.bytes c.old) (WORD * word + WORD)) }
@@ -84,12 +80,8 @@ fn check_spot<C: Cells>(
 /// by its kind's layout and limits. What is wrong first is told by the block's address. It reads the first 96 bytes of each block,
 /// and takes no memory.
 pub fn check_content<C: Cells>(c: &mut C, edges: &Edges, spots: &[Spot]) -> Result<(), AuditError>
-    requires region { IsRegionSize (length (C.bytes c.old)) }
-    requires right { ControlIsRight (C.bytes c.old) }
-    requires edges { edges.now ≡ edges_of (C.bytes c.old) }
+    requires surveyed { IsSurveyed (C.bytes c.old) edges.now spots.now }
     requires sound { (C.transaction c.old).failed ≡ false }
-    requires spots { length spots.now * WORD ≡ length (C.bytes c.old) }
-    requires found { AllFound (C.bytes c.old) spots.now }
     ensures right { OnOk result ((small large : List PoolBlock) →
         AreBlocks (C.bytes c.old) small large → ContentIsRight (C.bytes c.old) small large) }
     ensures damaged { IfErr result (DamagedBy Why.Content (λ at. (small large : List PoolBlock) →

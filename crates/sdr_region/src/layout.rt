@@ -114,6 +114,7 @@ fn is_ticket(count: u64, first: &[u8]) -> bool
     ensures { result ≡ is_ticket count first.now }
 {
     count == 96
+        && field(first, 0) <= MOST_AMOUNT
         && field(first, 1) <= 1
         && field(first, 2) <= 255
         && field(first, 3) <= 255

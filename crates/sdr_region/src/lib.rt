@@ -5,7 +5,11 @@
 //! 1. The control words have values that they may have (`check_control`).
 //! 2. The blocks of both pools follow one another, and each has the words that its length needs (`check_blocks`).
 //! 3. The start bits tell just where blocks in use begin (`check_bits`).
-//! 4. What stands in each block in use is as its kind asks (`check_content`).
+//! 4. The lists of free blocks reach each free block once, in the list of its words or of its order (`check_free`).
+//! 5. What stands in each block in use is as its kind asks (`check_content`).
+//!
+//! `check_region` takes all steps in this order. A region that passes them isn't wrong by any (`sound_regions_are_not_wrong`), and
+//! keeps a heap (`sound_regions_keep_heaps`).
 #![tactic(auto)]
 
 mod bits;
@@ -14,8 +18,10 @@ mod content;
 mod control;
 mod error;
 mod findings;
+mod free;
 mod label;
 mod layout;
+mod region;
 mod spot;
 
 pub use bits::check_bits;
@@ -23,4 +29,6 @@ pub use blocks::check_blocks;
 pub use content::check_content;
 pub use control::{Edges, check_control};
 pub use error::{AuditError, Why};
+pub use free::check_free;
+pub use region::{check_region, sound_regions_are_not_wrong, sound_regions_keep_heaps};
 pub use spot::Spot;

@@ -1,6 +1,6 @@
 // What begins with a word of a heap region.
-ghost use Rattle.std.specs.Prelude.{◌≡◌};
-ghost use Rattle.sdr_region.specs.Spots.{is_told_used};
+ghost use Rattle.std.specs.Prelude.{◌≡◌, get_or};
+ghost use Rattle.sdr_region.specs.Spots.{is_free_spot, is_told_used};
 
 /// What begins with a word of a heap region.
 #[derive(Clone, Copy)]
@@ -18,4 +18,11 @@ pub fn is_used(spots: &[Spot], word: u64) -> bool
     ensures { result ≡ is_told_used spots.now word }
 {
     matches!(spots.get(word as usize), Some(Spot::Used))
+}
+
+/// Whether a word is told that a free block begins with it. Behind the region none does.
+pub fn is_free(spots: &[Spot], word: u64) -> bool
+    ensures { result ≡ is_free_spot (get_or spots.now word Spot.Nothing) }
+{
+    matches!(spots.get(word as usize), Some(Spot::Free))
 }

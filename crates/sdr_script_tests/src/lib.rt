@@ -11,3 +11,5 @@
 mod format_tests;
 #[cfg(test)]
 mod machine_tests;
+#[cfg(test)]
+mod replay_tests;

@@ -1,2 +1,4 @@
+pub mod FreshLemmas
+pub mod ReplayLemmas
 pub mod ScriptRead
 pub mod StillLemmas

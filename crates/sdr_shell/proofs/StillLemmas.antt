@@ -7,7 +7,6 @@ use Rattle.sdr_base.proofs.WrittenLemmas.{rose_later}
 use Rattle.sdr_log.specs.declared.frame.Frame.{Frame}
 use Rattle.sdr_shell.specs.Form.{OnFormat}
 use Rattle.sdr_shell.specs.declared.form.Form.{Form}
-use Rattle.sdr_shell.specs.declared.form.Form.TheVariants as forms
 use Rattle.sdr_dry.specs.Schedule.{MediaChange, SomeRun}
 use Rattle.sdr_shell.specs.Formatting.{IsFormatStatus}
 use Rattle.sdr_shell.specs.Still.{WritesOut, HadScript, HadBadLine, HadRun, IsDryStatus, IsRefused, NamesBadLine, Tells}
@@ -20,7 +19,7 @@ use Rattle.sdr_text.proofs.TextLemmas.{part_later}
 use Rattle.sdr_dry.proofs.ScheduleLemmas.{some_weaker}
 
 -- a last line behind a text that was written whole
-writes_behind : (old mid new : Option (List ℕ)) (before between now : ℕ) (text line : List ℕ)
+pub writes_behind : (old mid new : Option (List ℕ)) (before between now : ℕ) (text line : List ℕ)
     → Appends old mid text → before ≤ between → WritesOut mid new between now line → WritesOut old new before now (text ++ line)
 writes_behind old mid new before between now text line a later (inl w) = inl (Appends-trans old mid new text line a w)
 writes_behind old mid new before between now text line a later (inr f) =
@@ -35,7 +34,7 @@ some_behind media script old mid new before between now line r later w =
     (λ rest text h. writes_behind old mid new before between now text line h later w) r
 
 -- what a told input spells
-told_script : (left : Option (List ℕ)) (bytes : List ℕ) (script : List Step) → left ≡ Some bytes → HadScript left script → input_script bytes ≡ Ok script
+pub told_script : (left : Option (List ℕ)) (bytes : List ℕ) (script : List Step) → left ≡ Some bytes → HadScript left script → input_script bytes ≡ Ok script
 told_script None bytes script told h = cc
 told_script (Some input) bytes script told h = cc (told, h.had, h.spells)
 
@@ -52,7 +51,7 @@ tells_refused errors.Input status left old new before now t is bad = absurd (ome
 tells_refused (errors.Line line) status left old new before now t is bad = record { line = line; input = bad; written = t.1 }
 tells_refused errors.NoMemory status left old new before now t is bad = absurd (omega (arith, t.0, is))
 
-told_line : (left : Option (List ℕ)) (bytes : List ℕ) (line : ℕ) → left ≡ Some bytes → HadBadLine left line → input_script bytes ≡ Err line
+pub told_line : (left : Option (List ℕ)) (bytes : List ℕ) (line : ℕ) → left ≡ Some bytes → HadBadLine left line → input_script bytes ≡ Err line
 told_line None bytes line told h = cc
 told_line (Some input) bytes line told h = cc (told, h.had, h.refused)
 
@@ -89,9 +88,6 @@ had_run left media script ran P had same run = record {
   run = subst (λ s. SomeRun media s P) same run;
 }
 
--- what holds of a format holds where there is another form, or where the form is that one
-pub no_format : (o : Option Form) (P : Frame → Type 0) → o ≡ Some forms.Dry → OnFormat o P
-no_format o P is = subst (λ o. OnFormat o P) (sym is) tt
-
-pub on_format : (o : Option Form) (frame : Frame) (P : Frame → Type 0) → o ≡ Some (forms.Format frame) → P frame → OnFormat o P
-on_format o frame P is holds = subst (λ o. OnFormat o P) (sym is) holds
+-- what holds of a form holds of the words that are it
+pub on_form : (o : Option Form) (form : Form) (P : Frame → Type 0) → o ≡ Some form → OnFormat (Some form) P → OnFormat o P
+on_form o form P is holds = subst (λ o. OnFormat o P) (sym is) holds

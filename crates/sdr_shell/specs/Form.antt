@@ -26,7 +26,10 @@ format_of None = None
 
 -- the form that the words are, if they are one
 abbrev pub form_of : List (RcStr Global) → Option Form
-form_of (word ∷ []) = if pointwise nat_eq (rc_str_bytes word) (codes "dry") then Some forms.Dry else None
+form_of (word ∷ []) =
+    if pointwise nat_eq (rc_str_bytes word) (codes "dry")
+    then Some forms.Dry
+    else (if pointwise nat_eq (rc_str_bytes word) (codes "replay") then Some forms.Replay else None)
 form_of (word ∷ log ∷ heap ∷ []) =
     if pointwise nat_eq (rc_str_bytes word) (codes "format")
     then format_of (frame_of (number_of (rc_str_bytes log)) (number_of (rc_str_bytes heap)))

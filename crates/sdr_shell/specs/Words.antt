@@ -9,6 +9,7 @@ use Rattle.sdr_disk.specs.Pending.{IsSynced}
 use Rattle.sdr_disk.specs.declared.disk.Disk.{Ghosts as DiskGhosts}
 use Rattle.sdr_shell.specs.Answers.{AnswersDry, AnswersFormat, Wrote, seen}
 use Rattle.sdr_shell.specs.Form.{OnFormat, form_of}
+use Rattle.sdr_shell.specs.Replaying.{AnswersReplay}
 use Rattle.sdr_shell.specs.Formatting.{HasFormatted, LeavesDisk}
 use Rattle.sdr_dry.specs.Schedule.{HaveFailed, media_change}
 use Rattle.sdr_shell.specs.declared.form.Form.TheVariants as forms
@@ -38,13 +39,18 @@ pub record AnswersWords {D M S K : Type 0} (d : DiskGhosts D) (m : MediaGhosts M
   pub counts :
       (s.faults input ≤ s.faults input') × (k.faults output ≤ k.faults output') × (d.faults disk ≤ d.faults result.disk)
       × (s.reads input' ≤ s.reads input + 1048577)
-  -- no form keeps a journal yet
-  pub given : result.journal ≡ []
+  -- `replay` answers by what it made of the schedule, and what is left of the disk
+  pub replay :
+      form_of words ≡ Some forms.Replay
+      → AnswersReplay d result.status (seen s.left s.faults input) (seen s.left s.faults input') disk result.disk result.journal
+      (seen k.taken k.faults output) (seen k.taken k.faults output')
+  -- only `replay` keeps a journal
+  pub given : (form_of words ≢ Some forms.Replay) → result.journal ≡ []
   -- media tell the same, and no count of theirs falls
   pub media : HaveFailed 0 0 (media_change m.told m.faults m.short files result.media)
   -- only `dry` reads media
   pub unread : (form_of words ≢ Some forms.Dry) → result.media ≡ files
-  -- by these statuses the disk is as it was
-  pub same : LeavesDisk result.status → result.disk ≡ disk
+  -- by these statuses the disk is as it was, but for what `replay` says of them
+  pub same : (form_of words ≢ Some forms.Replay) → LeavesDisk result.status → result.disk ≡ disk
   -- the disk tells its bytes as before, and keeps its size
   pub told : (is_some (d.bytes result.disk) ≡ is_some (d.bytes disk)) × (d.size result.disk ≡ d.size disk)

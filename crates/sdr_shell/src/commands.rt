@@ -8,12 +8,14 @@ ghost use Rattle.sdr_dry.specs.Schedule.{HaveFailed, SomeRun, media_change};
 ghost use Rattle.sdr_shell.specs.Still.{WritesOut, HadRun, IsDone, IsRefused, IsDryStatus, IsStarved};
 ghost use Rattle.sdr_shell.specs.Still.{Tells, line_refused};
 ghost use Rattle.sdr_base.specs.Written.{AppendsPart};
+ghost use Rattle.sdr_replay.specs.Replaying.{IsSettled};
 ghost use Rattle.sdr_shell.specs.Words.{AnswersWords};
 
 use crate::Outcome;
 use crate::form::{Form, form_of};
 use crate::formatting::format_disk;
 use crate::last_line::last_line;
+use crate::replaying::{Replayed, replay_input};
 use crate::status::{
     DISK_FAULT, DONE, INPUT_FAULT, NO_MEMORY, OUTPUT_FAULT, REFUSED_LINE, TOO_SMALL, USAGE,
 };
@@ -26,8 +28,8 @@ use sdr_words::{ScriptError, read_script};
 use std::alloc::Global;
 use std::rc::RcStr;
 
-// WritesOut the number of a refused line.
-fn refuse_line<K: Sink>(output: &mut K, line: u64)
+/// Writes the number of a refused line.
+pub fn refuse_line<K: Sink>(output: &mut K, line: u64)
     ensures written { WritesOut (K.taken output.old) (K.taken output.new)
         (K.faults output.old) (K.faults output.new)
         (line_refused line) }
@@ -73,8 +75,8 @@ fn run_script<M: Media, K: Sink>(
     }
 }
 
-// Tells why no script was read.
-fn tell<K: Sink>(error: &ScriptError, output: &mut K) -> u8
+/// Tells why no script was read.
+pub fn tell<K: Sink>(error: &ScriptError, output: &mut K) -> u8
     ensures later { K.faults output.old ≤ K.faults output.new }
     ensures told { Tells error.now result
         (K.taken output.old) (K.taken output.new) (K.faults output.old) (K.faults output.new) }
@@ -157,6 +159,7 @@ pub fn still<D: Disk, M: Media, S: Source, K: Sink>(
     input: &mut S,
     output: &mut K,
 ) -> Outcome<D, M>
+    requires settled { form_of words.now ≡ Some Form.Replay → IsSettled D.Disk disk }
     ensures { AnswersWords D.Disk M.Media S.Source K.Sink words.now disk media
         input.old input.new output.old output.new result }
 {
@@ -164,6 +167,19 @@ pub fn still<D: Disk, M: Media, S: Source, K: Sink>(
         Some(Form::Dry) => {
             let status = dry(alloc, &mut media, input, output);
             outcome(alloc, status, disk, media)
+        }
+        Some(Form::Replay) => {
+            let Replayed {
+                status,
+                journal,
+                disk,
+            } = replay_input(alloc, disk, input, output);
+            Outcome {
+                status,
+                journal,
+                disk,
+                media,
+            }
         }
         Some(Form::Format { frame }) => {
             let status = format_disk(frame, &mut disk, output);

@@ -14,6 +14,8 @@ use std::rc::RcStr;
 pub enum Form {
     /// `dry`: runs the schedule of the input on a plain world; the disk isn't touched.
     Dry,
+    /// `replay`: runs the schedule of the input on the heap of the disk.
+    Replay,
     /// `format L H`: makes an empty heap of the disk, with so many lines of log and of heap.
     Format { frame: Frame },
 }
@@ -50,6 +52,7 @@ pub fn form_of(words: &[RcStr]) -> Option<Form>
 {
     match words {
         [word] if word.as_str() == "dry" => Some(Form::Dry),
+        [word] if word.as_str() == "replay" => Some(Form::Replay),
         [word, log, heap] if word.as_str() == "format" => {
             let frame = frame_of(log.as_bytes(), heap.as_bytes())?;
             Some(Form::Format { frame })

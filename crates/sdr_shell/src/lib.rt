@@ -13,6 +13,7 @@ mod form;
 mod formatting;
 mod last_line;
 mod outcome;
+mod replaying;
 mod status;
 mod top_call;
 
@@ -20,6 +21,7 @@ pub use commands::still;
 pub use form::is_form;
 pub use outcome::Outcome;
 pub use status::{
-    DISK_FAULT, DONE, INPUT_FAULT, NO_MEMORY, OUTPUT_FAULT, REFUSED_LINE, TOO_SMALL, USAGE,
+    DAMAGED, DISK_FAULT, DONE, INPUT_FAULT, NO_MEMORY, NOT_FORMATTED, OUTPUT_FAULT, REFUSED_LINE,
+    TOO_SMALL, USAGE,
 };
 pub use top_call::top;

@@ -15,6 +15,12 @@ pub const OUTPUT_FAULT: u8 = 4;
 /// The disk failed.
 pub const DISK_FAULT: u8 = 5;
 
+/// The disk gives no heap.
+pub const NOT_FORMATTED: u8 = 6;
+
+/// No world is known to stand for the heap that the disk gives.
+pub const DAMAGED: u8 = 7;
+
 /// A line of the script is refused, before anything runs.
 pub const REFUSED_LINE: u8 = 8;
 

@@ -1,5 +1,9 @@
 // The call that the program makes.
+ghost use Rattle.std.specs.Prelude.{◌≡◌, Some};
+ghost use Rattle.sdr_replay.specs.Replaying.{IsSettled};
+ghost use Rattle.sdr_shell.specs.Form.{form_of};
 ghost use Rattle.sdr_shell.specs.Words.{AnswersWords};
+ghost use Rattle.sdr_shell.specs.declared.form.Form.{Form};
 
 use crate::Outcome;
 use crate::commands::still;
@@ -29,6 +33,7 @@ pub fn top<
     output: &mut K,
     _gate: &G,
 ) -> Outcome<D, M>
+    requires settled { form_of words.now ≡ Some Form.Replay → IsSettled D.Disk disk }
     ensures { AnswersWords D.Disk M.Media S.Source K.Sink words.now disk media
         input.old input.new output.old output.new result }
 {

@@ -1,5 +1,5 @@
 -- What a call comes to on a ground.
-use Rattle.std.proofs.Common.{◌≡◌, ◌∙◌, ◌≤◌, ◌⊎◌, ℕ, List, [], Bool, true, false, not, Option, None, Ok, Err, refl, sym, ap, subst}
+use Rattle.std.proofs.Common.{◌≡◌, ◌∙◌, ◌≤◌, ◌⊎◌, ℕ, List, [], Bool, true, false, not, Option, None, Ok, Err, refl, sym, ap, subst, arith}
 use Rattle.sdr_base.specs.KeptHeap.{KeepsRegion}
 use Rattle.sdr_base.specs.Moves.{KeepsSome}
 use Rattle.sdr_base.specs.Works.{Works}
@@ -36,11 +36,11 @@ pub record CameTo {D : Type 0} (told : D → Option (List ℕ)) (moment faults :
   pub sound : new.heap.cells.failed ≡ false
   pub keeps : KeepsGround (heap_ground told moment faults may_leave) true old new
   pub any_moment : LeavesBefore (heap_ground told moment faults may_leave) old new
-  pub is_ground : IsGround new
+  pub is_ground : IsGround moment new
 
 -- A served call on a ground in which none was stopped, from this heap before it, without moves.
 module _ {D : Type 0} (told : D → Option (List ℕ)) (moment faults : D → ℕ) (may_leave : D → ℕ → List ℕ → Type 0) (old : Grounded D)
-    (ground : IsGround old) (going : old.stopped ≡ false) (call : Call) (is : built call ≡ true) (fit : FitsCall call)
+    (ground : IsGround moment old) (going : old.stopped ≡ false) (call : Call) (is : built call ≡ true) (fit : FitsCall call)
     (before : Held (Opened D)) (from : before ≡ record old.heap { moves = []; spare = before.spare })
     (heap : Held (Opened D)) (page : List ℕ) where
   sound : old.heap.cells.failed ≡ false
@@ -58,7 +58,7 @@ module _ {D : Type 0} (told : D → Option (List ℕ)) (moment faults : D → �
     sound = quiet.failed ∙ sound;
     keeps = keeps_more (heap_ground told moment faults may_leave) (keeps_later told moment faults may_leave old new later);
     any_moment = leaves_quiet told moment faults may_leave old new quiet.disk same;
-    is_ground = ground_brought old new ground sound (quiet.failed ∙ sound) memory;
+    is_ground = ground_brought moment old new ground (omega (arith, ap moment quiet.disk, same, ground.seen)) sound (quiet.failed ∙ sound) memory;
   }
 
   -- an answered call
@@ -111,7 +111,7 @@ module _ {D : Type 0} (told : D → Option (List ℕ)) (moment faults : D → �
       (λ i. record { heap = sym left_is i; shown = page; stopped = not (sym reads_is i); moment = old.moment; restored = old.restored }) came
 
 -- The heap before a served call on a ground in which none was stopped, without moves.
-module _ {D : Type 0} (old : Grounded D) (ground : IsGround old) (going : old.stopped ≡ false) (before : Held (Opened D))
+module _ {D : Type 0} (moment : D → ℕ) (old : Grounded D) (ground : IsGround moment old) (going : old.stopped ≡ false) (before : Held (Opened D))
     (from : before ≡ record old.heap { moves = []; spare = before.spare }) where
   -- there is a heap in it
   pub keeps_before : KeepsSome (KeepsRegion before.size before.cells.bytes)

@@ -155,7 +155,7 @@ pub record ClosesTo {D : Type 0} (told : D → Option (List ℕ)) (moment faults
   pub sound : new.heap.cells.failed ≡ false
   pub keeps : KeepsGround (heap_ground told moment faults may_leave) false old new
   pub any_moment : LeavesOr may_keep (heap_ground told moment faults may_leave) old new
-  pub is_ground : IsGround new
+  pub is_ground : IsGround moment new
 
 some_of : (o : Option (List ℕ)) → is_some o ≡ true → (x : List ℕ) × (o ≡ Some x)
 some_of None is = absurd (true≢false (sym is))
@@ -250,7 +250,7 @@ module _ {D : Type 0} (told : D → Option (List ℕ)) (moment : D → ℕ) (fau
 
   -- what a close leaves of a ground on which it was brought
   closes_to : {keeps : Bool} {Q : Standing → Standing → Type 0} (new : Grounded D) → new.heap.cells.disk ≡ disk → new.moment ≡ now
-      → new.heap.cells.failed ≡ false → IsGround old → faults old.heap.cells.disk ≤ faults disk
+      → new.heap.cells.failed ≡ false → IsGround moment old → faults old.heap.cells.disk ≤ faults disk
       → (Rests told moment may_leave old.heap.cells → Rests told moment may_leave new.heap.cells) → Brings StandsInMemory old new Q
       → LeavesOr keeps (heap_ground told moment faults may_leave) old new → ClosesTo told moment faults may_leave keeps Q old new
   closes_to new on at_now still ground later rests brings leaves = record {
@@ -259,11 +259,11 @@ module _ {D : Type 0} (told : D → Option (List ℕ)) (moment : D → ℕ) (fau
     sound = still;
     keeps = keeps_later told moment faults may_leave old new (subst (λ (d : D). faults old.heap.cells.disk ≤ faults d) (sym on) later);
     any_moment = leaves;
-    is_ground = ground_brought old new ground sound still brings;
+    is_ground = ground_brought moment old new ground (omega (arith, ap moment on, at_now, is)) sound still brings;
   }
 
   -- a transaction that is kept
-  pub closes_kept : (new : Grounded D) → new ≡ kept_ground old disk now → IsGround old → old.stopped ≡ false
+  pub closes_kept : (new : Grounded D) → new ≡ kept_ground old disk now → IsGround moment old → old.stopped ≡ false
       → faults old.heap.cells.disk ≤ faults disk
       → (Rests told moment may_leave old.heap.cells → Rests told moment may_leave (kept_ground old disk now).heap.cells)
       → ((image : List ℕ) → P image → GivesEither old.heap.cells.begun old.heap.cells.bytes image)
@@ -274,7 +274,7 @@ module _ {D : Type 0} (told : D → Option (List ℕ)) (moment : D → ℕ) (fau
       (leaves_either (kept_ground old disk now) refl refl going also))
 
   -- a transaction that is put back
-  pub closes_back : (new : Grounded D) → new ≡ back_ground old disk now → IsGround old → faults old.heap.cells.disk ≤ faults disk
+  pub closes_back : (new : Grounded D) → new ≡ back_ground old disk now → IsGround moment old → faults old.heap.cells.disk ≤ faults disk
       → (Rests told moment may_leave old.heap.cells → Rests told moment may_leave (back_ground old disk now).heap.cells)
       → ((image : List ℕ) → P image → Gives old.heap.cells.begun image) → ClosesTo told moment faults may_leave false PutsBack old new
   closes_back new same ground later rests also =

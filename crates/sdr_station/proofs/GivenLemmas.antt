@@ -1,5 +1,5 @@
 -- The bytes that the row of a served call gives.
-use Rattle.std.proofs.Common.{◌≡◌, ◌∙◌, ◌≤◌, ◌+◌, ◌*◌, ◌==◌, ◌++◌, ◌∷◌, ℕ, List, [], Bool, true, false, true≢false, Option, None, Some, MatchBool, length, take, min, nat_lt, nat_le, refl, sym, ap, subst, arith}
+use Rattle.std.proofs.Common.{◌≡◌, ◌∙◌, ◌≤◌, ◌+◌, ◌*◌, ◌==◌, ◌++◌, ◌∷◌, ℕ, List, [], Bool, true, false, true≢false, Option, None, Some, MatchBool, length, take, min, nat_lt, nat_le, position, refl, sym, ap, subst, arith}
 use Rattle.std.specs.Prelude.{IfSome, get_or, slice_get}
 use Rattle.std.proofs.lemmas.Bool.{ltb-false}
 use Rattle.std.proofs.lemmas.Bool.Decides.{nat_tests}
@@ -15,7 +15,9 @@ use Rattle.sdr_lock.proofs.StepLemmas.{from_option, from_test}
 use Rattle.sdr_lock.specs.Transaction.{bytes_given}
 use Rattle.sdr_model.proofs.FewLemmas.{in_takes_one}
 use Rattle.sdr_model.proofs.TableLemmas.{row-within}
-use Rattle.sdr_model.specs.Limits.{is_no_name, longest_name, longest_raw, longest_read, longest_string}
+use Rattle.sdr_model.specs.HashSteps.{OnHash, OnKey, as_hash, has_key, is_no_count, is_no_key_length, value_at}
+use Rattle.sdr_model.specs.Hashes.{Hash}
+use Rattle.sdr_model.specs.Limits.{is_no_name, longest_key, longest_name, longest_raw, longest_read, longest_string, most_buckets}
 use Rattle.sdr_model.specs.ListSteps.{as_list}
 use Rattle.sdr_model.specs.NameSteps.{OnName}
 use Rattle.sdr_model.specs.Names.{name_of}
@@ -164,6 +166,16 @@ module _ (w : World) (o : Outcome) where
       unless (is_no_name (length name)) (refusals.BadLength (length name) longest_name) h (λ _ h.
       from_option (name_of w.names name) h (λ _ p. missing p) (λ n _ q. found n q))
 
+  on_hash : {P : Hash → Type 0} {most : ℕ} (addr : ℕ) (key : List ℕ) → OnHash w o addr key P
+      → ((hash : Hash) → P hash → Given o most) → Given o most
+  on_hash addr key h f = on addr (as_hash (thing_at w addr)) h (λ hash _ h.
+      where_so (length key == hash.key_length) (refusals.BadKeyLength (length key) hash.key_length) h (f hash))
+
+  on_key : {P : Hash → ℕ → Type 0} {most : ℕ} (addr : ℕ) (key : List ℕ) → OnKey w o addr key P
+      → ((hash : Hash) (place : ℕ) → P hash place → Given o most) → Given o most
+  on_key addr key h f = on_hash addr key h (λ hash h.
+      from_option (position (has_key key) hash.entries) h (λ _ h. refused refusals.NotFound h) (λ place _ h. f hash place h))
+
   few_read : (count : ℕ) → nat_lt longest_read count ≡ false → count ≤ min count 4096
   few_read count page = grind (arith, nat_tests)
 
@@ -243,6 +255,20 @@ module _ (w : World) (o : Outcome) where
   given_row (calls.TableUser addr) is whole h = on addr (as_table (thing_at w addr)) h (λ table _ h. shows_none h.1 h.2 refl refl)
   given_row (calls.TableDestroy addr) is whole h =
       on addr (as_table (thing_at w addr)) h (λ table _ h. shows_none h.1 h.2 refl refl)
+  given_row (calls.Hash key_length buckets) is whole h =
+      unless (is_no_key_length key_length) (refusals.BadKeyLength key_length longest_key) h (λ _ h.
+      unless (is_no_count buckets) (refusals.BadRow buckets most_buckets) h
+      (λ _ h. in_takes_one o.moves _ _ h (λ addr p. shows_none p.0 p.1 refl refl)))
+  given_row (calls.HashInsert addr key value) is whole h = on_hash addr key h (λ hash h.
+      from_option (position (has_key key) hash.entries) h
+      (λ _ h. in_takes_one o.moves _ _ h (λ addr p. shows_none p.0 p.1 refl refl))
+      (λ place _ h. refused (refusals.KeyTaken (value_at hash.entries place)) h))
+  given_row (calls.HashRetrieve addr key) is whole h = on_key addr key h (λ hash place h. shows_none h.1 h.2 refl refl)
+  given_row (calls.HashRevise addr key value) is whole h = on_key addr key h (λ hash place h. shows_none h.1 h.2 refl refl)
+  given_row (calls.HashRemove addr key) is whole h = on_key addr key h (λ hash place h. shows_none h.1 h.2 refl refl)
+  given_row (calls.HashCount addr) is whole h = on addr (as_hash (thing_at w addr)) h (λ hash _ h. shows_none h.1 h.2 refl refl)
+  given_row (calls.HashDestroy addr) is whole h =
+      on addr (as_hash (thing_at w addr)) h (λ hash _ h. shows_none h.1 h.2 refl refl)
   given_row (calls.Catlg name kind object) is whole h =
       on_name name h (λ h. in_takes_one o.moves _ _ h (λ addr p. shows_none p.0 p.1 refl refl))
       (λ n h. refused (refusals.NameTaken n.object) h)

@@ -6,12 +6,17 @@ use Rattle.std.specs.Ordering.{nat_cmp}
 use Rattle.sdr_audit.proofs.FreshLemmas.{fresh_stands_whole}
 use Rattle.sdr_audit.specs.Checking.{IsFresh}
 use Rattle.sdr_audit.specs.Standing.{StandsForWhole}
+use Rattle.sdr_audit.specs.declared.checking.AuditError.{AuditError}
+use Rattle.sdr_audit.specs.declared.checking.AuditError.TheVariants as audits
 use Rattle.sdr_base.proofs.FreshHeapLemmas.{length-fresh_heap}
 use Rattle.sdr_base.specs.FreshHeap.{fresh_heap}
 use Rattle.sdr_base.specs.Pools.{fresh_pools}
+use Rattle.sdr_disk.specs.Told.{Both}
 use Rattle.sdr_image.proofs.OpenedLemmas.{rests_same}
 use Rattle.sdr_image.specs.Opened.{IsQuiet, Opened}
-use Rattle.sdr_image.specs.Opening.{IsOpened}
+use Rattle.sdr_image.specs.Opening.{IsOpened, UnlessFault}
+use Rattle.sdr_image.specs.declared.error.ImageError.{ImageError}
+use Rattle.sdr_image.specs.declared.error.ImageError.TheVariants as images
 use Rattle.sdr_laws.proofs.FreshWorlds.{fresh_fits}
 use Rattle.sdr_lock.specs.Ground.{Ground, State, resting}
 use Rattle.sdr_log.specs.Calls.{PutsBack}
@@ -23,7 +28,8 @@ use Rattle.sdr_station.proofs.StoodLemmas.{stood_of}
 use Rattle.sdr_answers.proofs.EntryLemmas.{none_named}
 use Rattle.sdr_answers.specs.Answering.{IsPlain}
 use Rattle.sdr_station.specs.Grounded.{Grounded, IsGround, StandsAtRest, StandsInMemory}
-use Rattle.sdr_station.specs.Opening.{IsOpen}
+use Rattle.sdr_station.specs.Opening.{ArePutBack, IsOfAudit, IsOfImage, IsOpen, LeavesBytes}
+use Rattle.sdr_station.specs.declared.error.OpenError.{OpenError}
 
 -- a world without things has no ticket and no source
 fresh_plain : (heap : ℕ) → IsPlain (fresh_world heap)
@@ -84,6 +90,7 @@ open_stands {D} told moment may_leave disk i j count spare o q bytes touched f =
       long = ap (λ (b : List ℕ). length b) (bytes ∙ f.is) ∙ length-fresh_heap f.lines f.least;
       going = refl;
       sound = q.failed ∙ o.sound;
+      head = λ x is. o.head x is ∙ ap (λ (f : Frame). Some f) (sym q.frame);
       gives = λ x is. o.heap x is ∙ ap (λ (b : List ℕ). Some b) f.is;
       back = λ x is y tells.
           subst (λ (r : Frame). PutsBack r i.restored x y) (sym q.frame) (o.back x is y (sym (ap told q.disk) ∙ tells));
@@ -97,5 +104,19 @@ open_stands {D} told moment may_leave disk i j count spare o q bytes touched f =
 
 -- what was opened is a ground
 pub open_ground : {D : Type 0} (told : D → Option (List ℕ)) (moment : D → ℕ) (may_leave : D → ℕ → List ℕ → Type 0) (disk : D) (g : Grounded D)
-    → IsOpen told moment may_leave disk g → IsGround g
-open_ground told moment may_leave disk g o = record { sound = λ _. o.sound; stands = λ _. record { for = _; holds = o.memory } }
+    → moment g.heap.cells.disk ≤ g.moment → IsOpen told moment may_leave disk g → IsGround moment g
+open_ground told moment may_leave disk g seen o = record { seen = seen; sound = λ _. o.sound; stands = λ _. record { for = _; holds = o.memory } }
+
+-- where an image isn't opened, the disk's bytes are the same unless it failed
+pub image_leaves : (old new : Option (List ℕ)) (error : ImageError) (why : OpenError) → IsOfImage error why → UnlessFault error (new ≡ old)
+    → LeavesBytes old new why
+image_leaves old new images.NotFormatted why is same = subst (λ (w : OpenError). LeavesBytes old new w) (sym is) same
+image_leaves old new images.DiskFault why is same = subst (λ (w : OpenError). LeavesBytes old new w) (sym is) tt
+image_leaves old new images.NoMemory why is same = subst (λ (w : OpenError). LeavesBytes old new w) (sym is) tt
+
+-- where its bytes aren't taken, the open batches are put back
+pub audit_leaves : (old new : Option (List ℕ)) (error : AuditError) (why : OpenError) → IsOfAudit error why → Both old new ArePutBack
+    → LeavesBytes old new why
+audit_leaves old new (audits.Damaged place check) why is back = subst (λ (w : OpenError). LeavesBytes old new w) (sym is) back
+audit_leaves old new audits.DiskFault why is back = subst (λ (w : OpenError). LeavesBytes old new w) (sym is) tt
+audit_leaves old new audits.Failed why is back = subst (λ (w : OpenError). LeavesBytes old new w) (sym is) tt

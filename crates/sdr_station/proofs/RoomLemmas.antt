@@ -1,5 +1,5 @@
 -- How many moves a served call has.
-use Rattle.std.proofs.Common.{◌≡◌, ◌≤◌, ◌+◌, ◌/◌, ◌++◌, ◌∷◌, ℕ, List, [], Option, None, Some, false, true, true≢false, inl, inr, refl, sym, ap, ◌∙◌, length, length-append, arith}
+use Rattle.std.proofs.Common.{◌≡◌, ◌≤◌, ◌+◌, ◌*◌, ◌/◌, ◌++◌, ◌∷◌, ◌⊎◌, ℕ, List, [], Option, None, Some, false, true, true≢false, inl, inr, refl, sym, ap, ◌∙◌, length, length-append, position, subst, arith}
 use Rattle.std.proofs.lemmas.List.{length-map}
 use Rattle.std.specs.Prelude.{slice_index}
 use Rattle.sdr_base.specs.declared.moves.Move.{Move}
@@ -10,7 +10,9 @@ use Rattle.sdr_laws.proofs.Shapes.{Shape}
 use Rattle.sdr_lock.specs.Ground.{Ground, Replied, State, StepsOn}
 use Rattle.sdr_model.specs.ListSteps.{as_list}
 use Rattle.sdr_model.specs.Reading.{is_reading}
-use Rattle.sdr_model.specs.RowMoves.{block_of, elements_in, row_moves}
+use Rattle.sdr_model.specs.HashSteps.{as_hash, has_key}
+use Rattle.sdr_model.specs.Hashes.{Hash}
+use Rattle.sdr_model.specs.RowMoves.{block_of, elements_in, entries_in, keyed_at, keyed_in, row_moves}
 use Rattle.sdr_model.specs.Names.{name_of}
 use Rattle.sdr_model.specs.Rows.{ByRow}
 use Rattle.sdr_model.specs.Step.{StopsWith}
@@ -22,7 +24,7 @@ use Rattle.sdr_model.specs.declared.call.Call.{Call}
 use Rattle.sdr_model.specs.declared.call.Call.TheVariants as calls
 use Rattle.sdr_model.specs.declared.name.Name.{Name}
 use Rattle.sdr_answers.specs.Answering.{built}
-use Rattle.sdr_station.proofs.StoodLemmas.{elements_few}
+use Rattle.sdr_station.proofs.StoodLemmas.{elements_few, entries_few}
 use Rattle.sdr_station.specs.Grounded.{HasStood}
 use Rattle.sdr_station.specs.Rooming.{MovesAtMost}
 
@@ -86,34 +88,56 @@ steps_at_most size call most few (Ground.OnHeap room P) s stood o h = few s.worl
 pub moves_none : (size : ℕ) (call : Call) → is_reading call ≡ true → MovesAtMost size call 0
 moves_none size call reads = moves_at_most size call 0 (λ w stood changes at. absurd (true≢false (sym reads ∙ changes)))
 
--- a list that goes has a move for each element and one for itself
-pub moves_destroy : (size addr : ℕ) → MovesAtMost size (calls.ListDestroy addr) (size / 16 + 1)
-moves_destroy size addr = moves_at_most size (calls.ListDestroy addr) (size / 16 + 1) (λ w stood changes at.
-    let elements = elements_in (as_list (thing_at w addr)) in
-    let few = elements_few size w addr stood in
-    let all = length-map (elements ++ addr ∷ []) (λ (a : ℕ). Gave a) in
-    let split = length-append elements (addr ∷ []) in
-    omega (arith, few, all, split))
+-- blocks that are given back, and one more
+one_more : (size addr : ℕ) (addrs : List ℕ) → 16 * length addrs ≤ size → length (gave (addrs ++ addr ∷ [])) ≤ size / 16 + 1
+one_more size addr addrs few =
+    let all = length-map (addrs ++ addr ∷ []) (λ (a : ℕ). Gave a) in
+    let split = length-append addrs (addr ∷ []) in
+    omega (arith, few, all, split)
+
+-- a list or a hash that goes has a move for each element or entry, and one for itself
+pub moves_destroy : (size : ℕ) (call : Call)
+    → ((list : ℕ) × (call ≡ calls.ListDestroy list)) ⊎ ((hash : ℕ) × (call ≡ calls.HashDestroy hash))
+    → MovesAtMost size call (size / 16 + 1)
+moves_destroy size call (inl l) =
+    subst (λ call. MovesAtMost size call (size / 16 + 1)) (sym l.1)
+    (moves_at_most size (calls.ListDestroy l.0) (size / 16 + 1) (λ w stood changes at.
+    one_more size l.0 (elements_in (as_list (thing_at w l.0))) (elements_few size w l.0 stood)))
+moves_destroy size call (inr h) =
+    subst (λ call. MovesAtMost size call (size / 16 + 1)) (sym h.1)
+    (moves_at_most size (calls.HashDestroy h.0) (size / 16 + 1) (λ w stood changes at.
+    one_more size h.0 (entries_in (as_hash (thing_at w h.0))) (entries_few size w h.0 stood)))
 
 -- a name that goes has one at most
 one_name : (found : Option Name) → length (gave (block_of found)) ≤ 1
 one_name None = omega arith
 one_name (Some name) = omega arith
 
+-- and so has a key that goes
+one_keyed : (found : Option Hash) (key : List ℕ) → length (gave (keyed_in found key)) ≤ 1
+one_keyed None key = omega arith
+one_keyed (Some hash) key = by (position (has_key key) hash.entries)
+  where
+    by : (place : Option ℕ) → length (gave (keyed_at hash place)) ≤ 1
+    by None = omega arith
+    by (Some place) = omega arith
+
 -- any other that is served has one at most
 pub moves_one : (size : ℕ) (call : Call) → built call ≡ true → ((list : ℕ) → call ≡ calls.ListDestroy list → ⊥)
-    → MovesAtMost size call 1
-moves_one size call is other = moves_at_most size call 1 (λ w stood changes at. by w at call is other)
+    → ((hash : ℕ) → call ≡ calls.HashDestroy hash → ⊥) → MovesAtMost size call 1
+moves_one size call is list hash = moves_at_most size call 1 (λ w stood changes at. by w at call is (list, hash))
   where
-    by : (w : World) (at : ℕ → ℕ) (call : Call) → built call ≡ true → ((list : ℕ) → call ≡ calls.ListDestroy list → ⊥)
-        → length (row_moves w call at) ≤ 1
+    IsOther : Call → Type 0
+    IsOther call = ((list : ℕ) → call ≡ calls.ListDestroy list → ⊥) × ((hash : ℕ) → call ≡ calls.HashDestroy hash → ⊥)
+
+    by : (w : World) (at : ℕ → ℕ) (call : Call) → built call ≡ true → IsOther call → length (row_moves w call at) ≤ 1
     by w at (calls.Malloc bytes) is other = omega arith
     by w at (calls.Free addr) is other = omega arith
     by w at (calls.Write addr place bytes) is other = omega arith
     by w at (calls.String text) is other = omega arith
     by w at (calls.StringDup addr) is other = omega arith
     by w at (calls.List user) is other = omega arith
-    by w at (calls.ListDestroy list) is other = absurd (other list refl)
+    by w at (calls.ListDestroy list) is other = absurd (other.0 list refl)
     by w at (calls.SetListUser list user) is other = omega arith
     by w at (calls.InsertFirst list datum) is other = omega arith
     by w at (calls.InsertLast list datum) is other = omega arith
@@ -141,6 +165,13 @@ moves_one size call is other = moves_at_most size call 1 (λ w stood changes at.
     by w at (calls.Row table row) is other = omega arith
     by w at (calls.Dimensions table) is other = omega arith
     by w at (calls.TableUser table) is other = omega arith
+    by w at (calls.Hash key_length buckets) is other = omega arith
+    by w at (calls.HashInsert hash key value) is other = omega arith
+    by w at (calls.HashRetrieve hash key) is other = omega arith
+    by w at (calls.HashRevise hash key value) is other = omega arith
+    by w at (calls.HashRemove hash key) is other = one_keyed (as_hash (thing_at w hash)) key
+    by w at (calls.HashCount hash) is other = omega arith
+    by w at (calls.HashDestroy hash) is other = absurd (other.1 hash refl)
     by w at (calls.Catlg name kind object) is other = omega arith
     by w at (calls.Uncatlg name) is other = one_name (name_of w.names name)
     by w at (calls.Find name) is other = omega arith

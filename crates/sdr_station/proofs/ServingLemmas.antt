@@ -40,9 +40,9 @@ use Rattle.sdr_model.specs.World.{World, thing_at}
 use Rattle.sdr_model.specs.Zco.{source_on}
 use Rattle.sdr_model.specs.declared.answer.Answer.TheVariants as answers
 use Rattle.sdr_model.specs.declared.answer.Reply.TheVariants as replies
-use Rattle.sdr_answers.proofs.DemandLemmas.{asks_more, enough, reading_lines}
+use Rattle.sdr_served.proofs.DemandLemmas.{asks_more, enough, reading_lines}
 use Rattle.sdr_answers.proofs.EntryLemmas.{source_there}
-use Rattle.sdr_answers.proofs.GoodLemmas.{good_of}
+use Rattle.sdr_served.proofs.GoodLemmas.{good_of}
 use Rattle.sdr_station.proofs.StoodLemmas.{small_in, stood_of}
 use Rattle.sdr_station.proofs.GroundLemmas.{heap_ground}
 use Rattle.sdr_station.proofs.MediaLemmas.{gap_none, misses_none}

@@ -1,6 +1,7 @@
 -- A world that a heap has stood for.
-use Rattle.std.proofs.Common.{◌≡◌, ◌≤◌, ◌*◌, ℕ, List, Option, Some, refl, length, arith}
+use Rattle.std.proofs.Common.{◌≡◌, ◌≤◌, ◌*◌, ℕ, List, Option, Some, refl, length, subst, arith}
 use Rattle.std.proofs.lemmas.List.{length-map}
+use Rattle.std.specs.Prelude.{IfSome}
 use Rattle.sdr_answers.proofs.ListLemmas.{IsSmall, few_elements}
 use Rattle.sdr_audit.proofs.ChangeLemmas.{apart}
 use Rattle.sdr_base.proofs.FewLemmas.{region_small}
@@ -10,11 +11,15 @@ use Rattle.sdr_heap.specs.Noted.{Held}
 use Rattle.sdr_image.specs.Opened.{Opened}
 use Rattle.sdr_lock.specs.Ground.{State}
 use Rattle.sdr_model.specs.ListSteps.{as_list}
-use Rattle.sdr_model.specs.RowMoves.{elements_in}
+use Rattle.sdr_model.specs.HashSteps.{as_hash}
+use Rattle.sdr_model.specs.RowMoves.{elements_in, entries_in}
+use Rattle.sdr_model.specs.Valid.{IsValidThing}
 use Rattle.sdr_model.specs.World.{World, thing_at}
 use Rattle.sdr_model.specs.declared.things.Element.{Element}
+use Rattle.sdr_model.specs.declared.things.HashEntry.{HashEntry}
 use Rattle.sdr_model.specs.declared.things.Thing.{Thing}
 use Rattle.sdr_model.specs.declared.things.Thing.TheVariants as things
+use Rattle.sdr_served.proofs.HashLemmas.{few_entries}
 use Rattle.sdr_station.specs.Grounded.{HasStood, StandsWithin, heap_in}
 
 -- a heap region that keeps a heap is of no more bytes than are allowed, with few blocks in use
@@ -37,5 +42,18 @@ elements_few size w addr s = by (thing_at w addr) refl
         let few =
         few_elements s.heap addr row (record { few = s.few; small = s.small }) (apart addr (things.List row) s.stands is) in
         let same = length-map row.elements (λ (e : Element). e.block) in
+        omega (arith, few, same, s.same)
+    by found is = omega arith
+
+-- and so has a hash entries
+pub entries_few : (size : ℕ) (w : World) (addr : ℕ) → HasStood size w
+    → 16 * length (entries_in (as_hash (thing_at w addr))) ≤ size
+entries_few size w addr s = by (thing_at w addr) refl
+  where
+    by : (found : Option Thing) → thing_at w addr ≡ found → 16 * length (entries_in (as_hash found)) ≤ size
+    by (Some (things.Hash hash)) is =
+        let valid = subst (λ (o : Option Thing). IfSome o IsValidThing) is (s.whole.valid.things addr) in
+        let few = few_entries s.heap addr hash valid s.few (apart addr (things.Hash hash) s.stands is) in
+        let same = length-map hash.entries (λ (e : HashEntry). e.block) in
         omega (arith, few, same, s.same)
     by found is = omega arith

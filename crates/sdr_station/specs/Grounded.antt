@@ -95,9 +95,10 @@ pub record StandsSome {D : Type 0} (g : Grounded D) : Type 0 where
   pub for : Standing
   pub holds : StandsInMemory g for
 
--- What a ground keeps: unless the disk has failed, the heap in memory stands for something; and where the disk has failed, the
--- transaction can only be put back.
-pub record IsGround {D : Type 0} (g : Grounded D) : Type 0 where
+-- What a ground keeps: its moment is no earlier than its disk's; unless the disk has failed, the heap in memory stands for
+-- something; and where the disk has failed, the transaction can only be put back.
+pub record IsGround {D : Type 0} (moment : D → ℕ) (g : Grounded D) : Type 0 where
+  pub seen : moment g.heap.cells.disk ≤ g.moment
   pub sound : g.stopped ≡ false → g.heap.cells.failed ≡ false
   pub stands : g.heap.cells.failed ≡ false → StandsSome g
 

@@ -14,18 +14,22 @@ use sdr_disk::Disk;
 use sdr_heap::Heap;
 use sdr_image::Image;
 
-/// Keeps the bytes of a heap, and takes its marks off.
+/// Keeps the bytes of a heap, and takes its marks off. Beside what the image's commit costs, this
+/// writes at most 64 bytes for each word that is marked.
 pub fn commit<D: Disk>(heap: &mut Heap<Image<D>>) -> Result<(), Stop>
     ensures ended { OnOk result (heap.new ≡ committed heap.old heap.new.cells.disk) }
     ensures stops { OnErr result (heap.new ≡ record heap.old { cells = heap.new.cells }) }
     ensures rests { Rests D.bytes D.moment D.may_leave heap.old.cells
         → Rests D.bytes D.moment D.may_leave heap.new.cells }
     ensures answered { IfRefused result (λ _. ⊥) }
-    ensures cause { HasReason (transaction_of D.faults heap.old.cells) (transaction_of D.faults heap.new.cells) result }
+    ensures cause { HasReason (transaction_of D.faults heap.old.cells)
+        (transaction_of D.faults heap.new.cells) result }
     ensures stays { StaysAt result heap.old.cells heap.new.cells }
     ensures disk { KeepsDisk D.size D.bytes heap.old.cells.disk heap.new.cells.disk }
-    ensures any_moment { heap.old.cells.failed ≡ false → Rests D.bytes D.moment D.may_leave heap.old.cells
-        → IfTold (D.bytes heap.old.cells.disk) (λ _. AtEach D.moment D.may_leave heap.old.cells.disk heap.new.cells.disk
+    ensures any_moment { heap.old.cells.failed ≡ false
+        → Rests D.bytes D.moment D.may_leave heap.old.cells
+        → IfTold (D.bytes heap.old.cells.disk)
+        (λ _. AtEach D.moment D.may_leave heap.old.cells.disk heap.new.cells.disk
         (GivesEither heap.old.cells.begun heap.old.cells.bytes)) }
 {
     heap.cells().commit()?;
@@ -33,18 +37,22 @@ pub fn commit<D: Disk>(heap: &mut Heap<Image<D>>) -> Result<(), Stop>
     Ok(())
 }
 
-/// Puts the bytes of a heap back, and takes its marks off.
+/// Puts the bytes of a heap back, and takes its marks off, at the cost of the lines that were touched
+/// and the words that are marked.
 pub fn cancel<D: Disk>(heap: &mut Heap<Image<D>>) -> Result<(), Stop>
     ensures ended { OnOk result (heap.new ≡ put_back heap.old heap.new.cells.disk) }
     ensures stops { OnErr result (heap.new ≡ record heap.old { cells = heap.new.cells }) }
     ensures rests { Rests D.bytes D.moment D.may_leave heap.old.cells
         → Rests D.bytes D.moment D.may_leave heap.new.cells }
     ensures answered { IfRefused result (λ _. ⊥) }
-    ensures cause { HasReason (transaction_of D.faults heap.old.cells) (transaction_of D.faults heap.new.cells) result }
+    ensures cause { HasReason (transaction_of D.faults heap.old.cells)
+        (transaction_of D.faults heap.new.cells) result }
     ensures stays { StaysAt result heap.old.cells heap.new.cells }
     ensures disk { KeepsDisk D.size D.bytes heap.old.cells.disk heap.new.cells.disk }
-    ensures any_moment { heap.old.cells.failed ≡ false → Rests D.bytes D.moment D.may_leave heap.old.cells
-        → IfTold (D.bytes heap.old.cells.disk) (λ _. AtEach D.moment D.may_leave heap.old.cells.disk heap.new.cells.disk
+    ensures any_moment { heap.old.cells.failed ≡ false
+        → Rests D.bytes D.moment D.may_leave heap.old.cells
+        → IfTold (D.bytes heap.old.cells.disk)
+        (λ _. AtEach D.moment D.may_leave heap.old.cells.disk heap.new.cells.disk
         (Gives heap.old.cells.begun)) }
 {
     heap.cells().cancel()?;
@@ -62,7 +70,10 @@ pub fn moment_since<D: Disk>(before: u64, heap: &mut Heap<Image<D>>) -> u64
 
 /// Forgets the moves of a call that was stopped for want of log room.
 pub fn forget_moves<D: Disk>(heap: &mut Heap<Image<D>>, refusal: &Refusal)
-    ensures { heap.new ≡ record heap.old { moves = moves_left refusal.now heap.old.moves; spare = heap.new.spare } }
+    ensures { heap.new ≡ record heap.old {
+      moves = moves_left refusal.now heap.old.moves;
+      spare = heap.new.spare;
+    } }
 {
     if let Refusal::LogFull { .. } = refusal {
         heap.fresh();

@@ -1,5 +1,6 @@
 // A heap on an image as the ground of a lock.
-ghost use Rattle.std.specs.Prelude.{◌≡◌, ◌≤◌, ◌⊎◌, ◌↔◌, None, false, true, length, IfErr, IfOk, IsErrOf, OnErr, OnOk};
+ghost use Rattle.std.specs.Prelude.{◌≡◌, ◌≤◌, ◌⊎◌, ◌↔◌, None, false, true, length};
+ghost use Rattle.std.specs.Prelude.{IfErr, IfOk, IsErrOf, OnErr, OnOk};
 ghost use Rattle.sdr_disk.specs.Moments.{AtEach};
 ghost use Rattle.sdr_disk.specs.Told.{IfTold};
 ghost use Rattle.sdr_image.specs.Opening.{MayBeOpened};
@@ -12,11 +13,11 @@ ghost use Rattle.sdr_log.specs.Logged.{GivesSame};
 ghost use Rattle.sdr_answers.specs.Answering.{built, dooms};
 ghost use Rattle.sdr_station.specs.Grounded.{StandsForBoth, StandsInMemory};
 ghost use Rattle.sdr_station.specs.Giving.{Gives};
-ghost use Rattle.sdr_station.specs.Opening.{ExplainsOpen, IsOfAudit, IsOfImage, IsOpen, disk_of};
+ghost use Rattle.sdr_station.specs.Opening.{ExplainsOpen, IsOfAudit, IsOfImage, IsOpen, LeavesBytes, disk_of};
 
 use crate::closing::{cancel, commit, forget_moves, moment_since};
 use crate::error::{OpenError, Shut};
-use sdr_answers::{Page, answer, built};
+use sdr_answers::{Page, built};
 use sdr_audit::{AuditError, check};
 use sdr_base::{Move, Stop};
 use sdr_disk::Disk;
@@ -24,6 +25,7 @@ use sdr_heap::Heap;
 use sdr_image::{Image, ImageError};
 use sdr_lock::{Fault, Halt, HasGround, Serves};
 use sdr_model::{Answer, Call, Reply};
+use sdr_served::answer;
 use std::alloc::Global;
 use std::marker::Model;
 
@@ -55,7 +57,7 @@ impl<D: Disk> Model for HeapGround<D> {
       restored = s.restored;
     } };
 
-    ghost invariant = { λ s. IsGround {D = D} (record {
+    ghost invariant = { λ s. IsGround {D = D} D.moment (record {
       heap = s.heap;
       shown = s.shown;
       stopped = s.stopped;
@@ -86,7 +88,8 @@ impl<D: Disk> HasGround for HeapGround<D> {
 
     ghost opens = { λ image s. grounded.Opens image s };
 
-    ghost crash_now = { λ g v image at left. laws.crash_now D.bytes D.moment D.may_leave g v image at left };
+    ghost crash_now = { λ g v image at left.
+        laws.crash_now D.bytes D.moment D.may_leave g v image at left };
 
     ghost lasts_less = { λ g n lasts. lasts };
 }
@@ -114,15 +117,18 @@ fn of_audit(why: AuditError) -> OpenError
 }
 
 impl<D: Disk> HeapGround<D> {
-    /// Opens the heap on a disk. Where batches are open, their lines are put back. All memory is taken here. A crash on the
-    /// way leaves the same heap as one before, where nothing is pending on the disk that is handed in, or a recovery of it
-    /// was stopped. So far only a fresh heap is opened.
+    /// Opens the heap on a disk. Where batches are open, their lines are put back. All memory is taken
+    /// here. A crash on the way leaves the same heap as one before, where nothing is pending on the disk
+    /// that is handed in, or a recovery of it was stopped. So far only a fresh heap is opened.
     pub fn open(alloc: Global, disk: D) -> Result<HeapGround<D>, Shut<D>>
         ensures opened { IfOk result (IsOpen D.bytes D.moment D.may_leave disk) }
-        ensures why { IfErr result (λ shut. ExplainsOpen (D.bytes disk) (D.faults disk) (D.faults shut.disk) shut.why) }
+        ensures why { IfErr result (λ shut.
+            ExplainsOpen (D.bytes disk) (D.faults disk) (D.faults shut.disk) shut.why) }
         ensures disk { KeepsDisk D.size D.bytes disk (disk_of result) }
+        ensures bytes { IfErr result (λ shut. LeavesBytes (D.bytes disk) (D.bytes shut.disk) shut.why) }
         ensures later { D.faults disk ≤ D.faults (disk_of result) }
-        ensures any_moment { IfTold (D.bytes disk) (λ x. MayBeOpened x (D.may_leave disk (D.moment disk))
+        ensures any_moment { IfTold (D.bytes disk) (λ x.
+            MayBeOpened x (D.may_leave disk (D.moment disk))
             → AtEach D.moment D.may_leave disk (disk_of result) (GivesSame x)) }
     {
         let mut image = match Image::open(alloc, disk) {
@@ -163,7 +169,8 @@ impl<D: Disk> HeapGround<D> {
         requires going { self.old.stopped ≡ false }
         requires built { built call.now ≡ true }
         ensures memory { Brings StandsInMemory self.old self.new (Calls None call.now result) }
-        ensures answered { Brings ⟦<HeapGround<D> as HasGround>⟧.stands self.old self.new (Calls None call.now result) }
+        ensures answered { Brings ⟦<HeapGround<D> as HasGround>⟧.stands self.old self.new
+            (Calls None call.now result) }
         ensures stopped { self.new.stopped ≡ dooms call.now result }
         ensures gives { Gives result self.new }
         ensures sound { self.new.heap.cells.failed ≡ false }
@@ -189,7 +196,8 @@ impl<D: Disk> HeapGround<D> {
     pub fn save(&mut self) -> Result<(), Fault>
         requires going { self.old.stopped ≡ false }
         ensures memory { OnOk result (Brings StandsInMemory self.old self.new Keeps) }
-        ensures kept { OnOk result (Brings ⟦<HeapGround<D> as HasGround>⟧.stands self.old self.new Keeps) }
+        ensures kept { OnOk result
+            (Brings ⟦<HeapGround<D> as HasGround>⟧.stands self.old self.new Keeps) }
         ensures going { OnOk result (self.new.stopped ≡ false) }
         ensures sound { OnOk result (self.new.heap.cells.failed ≡ false) }
         ensures restored { self.new.restored ≡ self.old.restored }
@@ -215,8 +223,10 @@ impl<D: Disk> HeapGround<D> {
     /// Puts back what was before the open transaction.
     pub fn restore(&mut self) -> Result<(), Fault>
         ensures memory { OnOk result (Brings StandsInMemory self.old self.new PutsBack) }
-        ensures put_back { OnOk result (Brings ⟦<HeapGround<D> as HasGround>⟧.stands self.old self.new PutsBack) }
-        ensures going { OnOk result (self.old.heap.cells.failed ≡ false → self.new.stopped ≡ false) }
+        ensures put_back { OnOk result
+            (Brings ⟦<HeapGround<D> as HasGround>⟧.stands self.old self.new PutsBack) }
+        ensures going { OnOk result
+            (self.old.heap.cells.failed ≡ false → self.new.stopped ≡ false) }
         ensures sound { OnOk result (self.new.heap.cells.failed ≡ self.old.heap.cells.failed) }
         ensures restored { self.new.restored ≡ self.old.restored }
         ensures fault { OnErr result (MeetsFault ⟦<HeapGround<D> as HasGround>⟧ self.old self.new) }
@@ -243,7 +253,8 @@ impl<D: Disk> HeapGround<D> {
 
     /// The disk. What the open transaction has done is lost.
     pub fn into_disk(self) -> D
-        ensures { result ≡ self.heap.cells.disk }
+        ensures disk { result ≡ self.heap.cells.disk }
+        ensures seen { D.moment result ≤ self.moment }
     {
         let HeapGround {
             heap,
@@ -295,12 +306,14 @@ impl<D: Disk> Serves for HeapGround<D> {
     // Want of memory comes just where a call was stopped, or where it isn't served yet.
     fn call(&mut self, call: &Call) -> Result<Reply, Halt>
         ensures answered { IfOk result (λ reply.
-            Brings ⟦<HeapGround<D> as HasGround>⟧.stands self.old self.new (Calls None call.now reply)) }
+            Brings ⟦<HeapGround<D> as HasGround>⟧.stands self.old self.new
+            (Calls None call.now reply)) }
         ensures gap { IfOk result (λ reply. HasGapCause (Answer.Reply reply) no_gaps no_gaps) }
         ensures memory { IsErrOf result Halt.Memory → self.new ≡ self.old }
         ensures stopped { IsErrOf result Halt.Memory
             ↔ ((self.old.stopped ≡ true) ⊎ (built call.now ≡ false)) }
-        ensures fault { IsErrOf result Halt.Fault → MeetsFault ⟦<HeapGround<D> as HasGround>⟧ self.old self.new }
+        ensures fault { IsErrOf result Halt.Fault
+            → MeetsFault ⟦<HeapGround<D> as HasGround>⟧ self.old self.new }
         ensures keeps { KeepsGround ⟦<HeapGround<D> as HasGround>⟧ true self.old self.new }
         ensures any_moment { LeavesBefore ⟦<HeapGround<D> as HasGround>⟧ self.old self.new }
     {
@@ -312,10 +325,12 @@ impl<D: Disk> Serves for HeapGround<D> {
 
     // Want of memory comes just where a call was stopped.
     fn keep(&mut self) -> Result<(), Halt>
-        ensures kept { OnOk result (Brings ⟦<HeapGround<D> as HasGround>⟧.stands self.old self.new Keeps) }
+        ensures kept { OnOk result
+            (Brings ⟦<HeapGround<D> as HasGround>⟧.stands self.old self.new Keeps) }
         ensures memory { IsErrOf result Halt.Memory → self.new ≡ self.old }
         ensures stopped { IsErrOf result Halt.Memory ↔ (self.old.stopped ≡ true) }
-        ensures fault { IsErrOf result Halt.Fault → MeetsFault ⟦<HeapGround<D> as HasGround>⟧ self.old self.new }
+        ensures fault { IsErrOf result Halt.Fault
+            → MeetsFault ⟦<HeapGround<D> as HasGround>⟧ self.old self.new }
         ensures keeps { KeepsGround ⟦<HeapGround<D> as HasGround>⟧ false self.old self.new }
         ensures any_moment { LeavesEither ⟦<HeapGround<D> as HasGround>⟧ self.old self.new }
     {

@@ -9,9 +9,10 @@ ghost use Rattle.sdr_log.specs.Calls.{KeepsDisk};
 ghost use Rattle.sdr_log.specs.Logged.{GivesSame};
 ghost use Rattle.sdr_answers.specs.Answering.{built};
 ghost use Rattle.sdr_station.specs.Giving.{Fills, Gives};
-ghost use Rattle.sdr_station.specs.Opening.{ExplainsOpen, IsOpen};
+ghost use Rattle.sdr_station.specs.Opening.{ExplainsOpen, IsOpen, LeavesBytes};
 ghost use Rattle.sdr_station.specs.Rooming.{MovesAtMost, TellsRoom};
-ghost use Rattle.sdr_station.specs.Stationed.{Begins, Closes, ClosesBy, HasRisen, LooksAt, SaysOr, closed_as, disk_under};
+ghost use Rattle.sdr_station.specs.Stationed.{Begins, Closes, ClosesBy, HasRisen, LooksAt, SaysOr};
+ghost use Rattle.sdr_station.specs.Stationed.{closed_as, disk_under};
 
 use crate::HeapGround;
 use crate::error::Shut;
@@ -33,8 +34,10 @@ pub enum Closed {
     Exited,
 }
 
-/// A transaction on the world that a disk keeps, nested to a depth of 64. An end is all or nothing. After a disk
-/// fault each call answers `Failed`.
+/// A transaction on the world that a disk keeps, nested to a depth of 64. An end is all or nothing. After
+/// a disk fault each call answers `Failed`. A close costs what the transaction touched: some steps for
+/// each line that it changed and each block that it took or staged, and neither a copy of the heap nor a
+/// pass over it.
 #[derive(Drop)]
 pub struct Station<D: Disk> {
     ground: HeapGround<D>,
@@ -49,7 +52,7 @@ pub fn most_moves(call: &Call, size: u64) -> u64
     ensures most { MovesAtMost size call.now result }
     ensures few { result ≤ size / 4 + 4 }
 {
-    if let Call::ListDestroy(_) = call {
+    if let Call::ListDestroy(_) | Call::HashDestroy(_) = call {
         return size / 16 + 1;
     }
     if call.is_reading() {
@@ -73,10 +76,14 @@ impl<D: Disk> Station<D> {
     pub fn open(alloc: Global, disk: D) -> Result<Station<D>, Shut<D>>
         ensures opened { IfOk result (λ s. IsOpen D.bytes D.moment D.may_leave disk s.ground) }
         ensures idle { IfOk result (λ s. (s.nesting ≡ unbegun) × (s.failed ≡ None)) }
-        ensures why { IfErr result (λ shut. ExplainsOpen (D.bytes disk) (D.faults disk) (D.faults shut.disk) shut.why) }
+        ensures why { IfErr result (λ shut.
+            ExplainsOpen (D.bytes disk) (D.faults disk) (D.faults shut.disk) shut.why) }
         ensures disk { KeepsDisk D.size D.bytes disk (disk_under result) }
+        ensures bytes { IfErr result (λ shut.
+            LeavesBytes (D.bytes disk) (D.bytes shut.disk) shut.why) }
         ensures later { D.faults disk ≤ D.faults (disk_under result) }
-        ensures any_moment { IfTold (D.bytes disk) (λ x. MayBeOpened x (D.may_leave disk (D.moment disk))
+        ensures any_moment { IfTold (D.bytes disk) (λ x.
+            MayBeOpened x (D.may_leave disk (D.moment disk))
             → AtEach D.moment D.may_leave disk (disk_under result) (GivesSame x)) }
     {
         match HeapGround::open(alloc, disk) {
@@ -156,7 +163,8 @@ impl<D: Disk> Station<D> {
         ensures says { SaysOr ⟦<HeapGround<D> as HasGround>⟧ call.now result self.old self.new }
         ensures depth { self.new.nesting.depth ≡ self.old.nesting.depth }
         ensures fills { Fills self.new.ground result into.old into.new }
-        ensures any_moment { LeavesBefore ⟦<HeapGround<D> as HasGround>⟧ self.old.ground self.new.ground }
+        ensures any_moment { LeavesBefore ⟦<HeapGround<D> as HasGround>⟧
+            self.old.ground self.new.ground }
     {
         let reply = self.reply(call);
         self.fill(&reply, into);
@@ -181,7 +189,8 @@ impl<D: Disk> Station<D> {
         ensures says { SaysOr ⟦<HeapGround<D> as HasGround>⟧ call.now result self.old self.new }
         ensures depth { self.new.nesting.depth ≡ self.old.nesting.depth }
         ensures gives { Gives result self.new.ground }
-        ensures any_moment { LeavesBefore ⟦<HeapGround<D> as HasGround>⟧ self.old.ground self.new.ground }
+        ensures any_moment { LeavesBefore ⟦<HeapGround<D> as HasGround>⟧
+            self.old.ground self.new.ground }
     {
         if let Some(moment) = self.failed {
             return Reply::Failed { moment };
@@ -257,7 +266,8 @@ impl<D: Disk> Station<D> {
     // Closes the transaction.
     fn close(&mut self, event: &Event) -> Result<Closed, Stop>
         requires sound { self.old.failed ≡ None }
-        ensures { Closes ⟦<HeapGround<D> as HasGround>⟧ (closing self.old.nesting event.now) self.old self.new result }
+        ensures { Closes ⟦<HeapGround<D> as HasGround>⟧ (closing self.old.nesting event.now)
+            self.old self.new result }
     {
         match self.nesting.closing(event) {
             Close::Ended => self.keep(),
@@ -283,9 +293,10 @@ impl<D: Disk> Station<D> {
     /// doomed.
     pub fn end(&mut self) -> Result<Closed, Stop>
         requires begun { 0 < self.old.nesting.depth }
-        ensures closes { ClosesBy ⟦<HeapGround<D> as HasGround>⟧ Event.End ended self.old self.new result }
-        ensures any_moment { LeavesOr (keeps_in self.old.nesting Event.End) ⟦<HeapGround<D> as HasGround>⟧
-            self.old.ground self.new.ground }
+        ensures closes { ClosesBy ⟦<HeapGround<D> as HasGround>⟧ Event.End ended
+            self.old self.new result }
+        ensures any_moment { LeavesOr (keeps_in self.old.nesting Event.End)
+            ⟦<HeapGround<D> as HasGround>⟧ self.old.ground self.new.ground }
     {
         if self.failed.is_some() {
             return Err(Stop::Failed);
@@ -299,8 +310,10 @@ impl<D: Disk> Station<D> {
     /// Cancels the transaction. An inner cancel dooms it.
     pub fn cancel(&mut self) -> Result<Closed, Stop>
         requires begun { 0 < self.old.nesting.depth }
-        ensures closes { ClosesBy ⟦<HeapGround<D> as HasGround>⟧ Event.Cancel cancelled self.old self.new result }
-        ensures any_moment { LeavesBefore ⟦<HeapGround<D> as HasGround>⟧ self.old.ground self.new.ground }
+        ensures closes { ClosesBy ⟦<HeapGround<D> as HasGround>⟧ Event.Cancel cancelled
+            self.old self.new result }
+        ensures any_moment { LeavesBefore ⟦<HeapGround<D> as HasGround>⟧
+            self.old.ground self.new.ground }
     {
         if self.failed.is_some() {
             return Err(Stop::Failed);
@@ -314,8 +327,10 @@ impl<D: Disk> Station<D> {
     /// Ends the transaction, which was to change nothing.
     pub fn exit(&mut self) -> Result<Closed, Stop>
         requires begun { 0 < self.old.nesting.depth }
-        ensures closes { ClosesBy ⟦<HeapGround<D> as HasGround>⟧ Event.Exit ended self.old self.new result }
-        ensures any_moment { LeavesBefore ⟦<HeapGround<D> as HasGround>⟧ self.old.ground self.new.ground }
+        ensures closes { ClosesBy ⟦<HeapGround<D> as HasGround>⟧ Event.Exit ended
+            self.old self.new result }
+        ensures any_moment { LeavesBefore ⟦<HeapGround<D> as HasGround>⟧
+            self.old.ground self.new.ground }
     {
         if self.failed.is_some() {
             return Err(Stop::Failed);

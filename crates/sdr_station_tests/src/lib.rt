@@ -16,3 +16,5 @@ mod pool_tests;
 mod refusal_tests;
 #[cfg(test)]
 mod steps;
+#[cfg(test)]
+mod thing_tests;

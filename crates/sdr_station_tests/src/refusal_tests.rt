@@ -1,11 +1,20 @@
 // Each refusal of the calls on raw objects, and what becomes of the transaction.
-use crate::steps::Step::{Begin, Cancel, End, Exit, Free, Length, Malloc, Read, Stage, Write};
+use crate::steps::Step::{
+    Begin, Cancel, End, Exit, Free, Length, List, Malloc, Read, Stage, Write,
+};
 use crate::steps::{LARGE, Said, Step, opened, wrong_step};
 use sdr_base::{Move, Reason, Refusal, Stop};
 use sdr_disk::MemoryDisk;
+use sdr_log::Frame;
 use sdr_model::{Call, Reply};
 use sdr_station::{Closed, Station};
 use std::alloc::Global;
+
+// A disk of 1,024 heap lines, whose undo log has room for the old bytes of four.
+const SHORT: Frame = Frame {
+    log_lines: 5,
+    heap_lines: 1024,
+};
 
 // A raw object of five bytes, in its own transaction.
 const MADE: [(Step, Said); 3] = [
@@ -14,8 +23,15 @@ const MADE: [(Step, Said); 3] = [
     (End, Said::Closed(Closed::Ended)),
 ];
 
-// A call beside that object, its refusal, and how an end then closes the transaction.
-const REFUSED: [(Step, Refusal, Closed); 12] = [
+// A list, which is no raw object, in its own transaction.
+const LISTED: [(Step, Said); 3] = [
+    (Begin, Said::Depth(1)),
+    (List(7), Said::Replied(Reply::At { addr: 2080 })),
+    (End, Said::Closed(Closed::Ended)),
+];
+
+// A call beside that object and that list, its refusal, and how an end then closes the transaction.
+const REFUSED: [(Step, Refusal, Closed); 17] = [
     (
         Malloc(1_048_577),
         Refusal::BadLength {
@@ -35,6 +51,14 @@ const REFUSED: [(Step, Refusal, Closed); 12] = [
         Closed::Cancelled(Reason::Refused(3)),
     ),
     (
+        Free(2080),
+        Refusal::WrongKind {
+            addr: 2080,
+            kind: 3,
+        },
+        Closed::Cancelled(Reason::Refused(4)),
+    ),
+    (
         Length(2048),
         Refusal::BadAddress { addr: 2048 },
         Closed::Ended,
@@ -43,6 +67,14 @@ const REFUSED: [(Step, Refusal, Closed); 12] = [
     (
         Read(0, 0, 4097),
         Refusal::BadAddress { addr: 0 },
+        Closed::Ended,
+    ),
+    (
+        Read(2080, 0, 1),
+        Refusal::WrongKind {
+            addr: 2080,
+            kind: 3,
+        },
         Closed::Ended,
     ),
     (
@@ -68,6 +100,14 @@ const REFUSED: [(Step, Refusal, Closed); 12] = [
         Closed::Cancelled(Reason::Refused(3)),
     ),
     (
+        Write(2080, 0),
+        Refusal::WrongKind {
+            addr: 2080,
+            kind: 3,
+        },
+        Closed::Cancelled(Reason::Refused(4)),
+    ),
+    (
         Write(2056, 3),
         Refusal::OutOfBounds {
             addr: 2056,
@@ -80,6 +120,19 @@ const REFUSED: [(Step, Refusal, Closed); 12] = [
         Write(2056, 2),
         Refusal::NotStaged { addr: 2056 },
         Closed::Cancelled(Reason::Refused(6)),
+    ),
+    (
+        Stage(2072, 1),
+        Refusal::BadAddress { addr: 2072 },
+        Closed::Ended,
+    ),
+    (
+        Stage(2080, 1),
+        Refusal::WrongKind {
+            addr: 2080,
+            kind: 3,
+        },
+        Closed::Ended,
     ),
     (
         Stage(2056, 4097),
@@ -152,19 +205,71 @@ const CLOSED: [(Step, Said); 17] = [
     (Cancel, Said::Closed(Closed::Cancelled(Reason::Asked))),
 ];
 
-// The first wrong row that makes the object, that is refused beside it, and that closes a transaction.
-fn wrong_rows(alloc: Global) -> Option<[Option<usize>; 3]> {
+// An undo log with room for four lines. An object that needs more is refused, and so is the write that touches a fifth one,
+// of three objects on two lines each, and a free after two lines were touched.
+const FULL: [(Step, Said); 29] = [
+    (Begin, Said::Depth(1)),
+    (
+        Malloc(504),
+        Said::Replied(Reply::Refused(Refusal::LogFull { lines: 5, room: 4 })),
+    ),
+    (End, Said::Closed(Closed::Cancelled(Reason::Refused(2)))),
+    (Begin, Said::Depth(1)),
+    (Malloc(112), Said::Replied(Reply::At { addr: 2056 })),
+    (End, Said::Closed(Closed::Ended)),
+    (Begin, Said::Depth(1)),
+    (Malloc(112), Said::Replied(Reply::At { addr: 2184 })),
+    (End, Said::Closed(Closed::Ended)),
+    (Begin, Said::Depth(1)),
+    (Malloc(112), Said::Replied(Reply::At { addr: 2312 })),
+    (End, Said::Closed(Closed::Ended)),
+    (Begin, Said::Depth(1)),
+    (Stage(2056, 112), Said::Replied(Reply::Bytes { count: 112 })),
+    (Stage(2184, 112), Said::Replied(Reply::Bytes { count: 112 })),
+    (Stage(2312, 112), Said::Replied(Reply::Bytes { count: 112 })),
+    (Write(2056, 0), Said::Replied(Reply::Done)),
+    (Write(2056, 64), Said::Replied(Reply::Done)),
+    (Write(2184, 0), Said::Replied(Reply::Done)),
+    (Write(2184, 64), Said::Replied(Reply::Done)),
+    (
+        Write(2312, 0),
+        Said::Replied(Reply::Refused(Refusal::LogFull { lines: 5, room: 4 })),
+    ),
+    (
+        Length(2056),
+        Said::Replied(Reply::Refused(Refusal::Doomed {
+            by: Reason::Refused(2),
+        })),
+    ),
+    (End, Said::Closed(Closed::Cancelled(Reason::Refused(2)))),
+    (Begin, Said::Depth(1)),
+    (Stage(2056, 112), Said::Replied(Reply::Bytes { count: 112 })),
+    (Write(2056, 0), Said::Replied(Reply::Done)),
+    (Write(2056, 64), Said::Replied(Reply::Done)),
+    (
+        Free(2184),
+        Said::Replied(Reply::Refused(Refusal::LogFull { lines: 5, room: 4 })),
+    ),
+    (End, Said::Closed(Closed::Cancelled(Reason::Refused(2)))),
+];
+
+// The first wrong row that makes the object, that makes the list, that is refused beside them, that closes a transaction,
+// and that fills an undo log.
+fn wrong_rows(alloc: Global) -> Option<[Option<usize>; 5]> {
     let mut station = opened(alloc, LARGE)?;
+    let mut short = opened(alloc, SHORT)?;
     Some([
         wrong_step(alloc, &mut station, &MADE),
+        wrong_step(alloc, &mut station, &LISTED),
         wrong_refusal(alloc, &mut station, &REFUSED),
         wrong_step(alloc, &mut station, &CLOSED),
+        wrong_step(alloc, &mut short, &FULL),
     ])
 }
 
 #[test]
 fn each_refusal_of_a_call_comes_by_its_rule_and_a_refused_change_dooms(rt: HostRuntime) {
-    assert_eq!(rt; wrong_rows(rt.alloc()), Some([None; 3]));
+    assert_eq!(rt; wrong_rows(rt.alloc()), Some([None; 5]));
 }
 
 // The room for moves that is told of a new object, its only move, what a look says, and how many lines were put back.

@@ -34,6 +34,15 @@ pub enum Step {
     /// Writes `abc` at an address from a place on.
     Write(u64, u64),
     Stage(u64, u64),
+    /// Makes a list with this user word.
+    List(u64),
+    Hash(u64, u64),
+    HashInsert(u64, &'static [u8], u64),
+    HashRetrieve(u64, &'static [u8]),
+    HashDestroy(u64),
+    Table(u64, u64, u64),
+    SetRow(u64, u64, &'static [u8]),
+    Row(u64, u64),
     End,
     Cancel,
     Exit,
@@ -84,6 +93,29 @@ fn call_of(alloc: Global, step: &Step) -> Option<Call>
             Err(_) => None,
         },
         Step::Stage(addr, count) => Some(Call::Stage(*addr, *count)),
+        Step::List(user) => Some(Call::List(*user)),
+        _ => thing_call_of(alloc, step),
+    }
+}
+
+// That of a step on a hash or a table.
+fn thing_call_of(alloc: Global, step: &Step) -> Option<Call>
+    ensures { IfSome result (λ call. built call ≡ true) }
+{
+    match step {
+        Step::Hash(key_length, buckets) => Some(Call::Hash(*key_length, *buckets)),
+        Step::HashInsert(hash, key, value) => {
+            Some(Call::HashInsert(*hash, Bytes::copied(alloc, key).ok()?, *value))
+        }
+        Step::HashRetrieve(hash, key) => {
+            Some(Call::HashRetrieve(*hash, Bytes::copied(alloc, key).ok()?))
+        }
+        Step::HashDestroy(hash) => Some(Call::HashDestroy(*hash)),
+        Step::Table(rows, size, user) => Some(Call::Table(*rows, *size, *user)),
+        Step::SetRow(table, row, bytes) => {
+            Some(Call::SetRow(*table, *row, Bytes::copied(alloc, bytes).ok()?))
+        }
+        Step::Row(table, row) => Some(Call::Row(*table, *row)),
         _ => None,
     }
 }

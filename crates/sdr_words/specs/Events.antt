@@ -6,6 +6,8 @@ use Rattle.sdr_model.specs.declared.call.Call.TheVariants as calls
 use Rattle.sdr_model.specs.declared.event.Event.{Event}
 use Rattle.sdr_model.specs.declared.event.Event.TheVariants as events
 use Rattle.sdr_model.specs.declared.keys.Keys.TheVariants as keys
+use Rattle.sdr_model.specs.declared.script.Step.{Step}
+use Rattle.sdr_words.specs.Verbs.{verb_at}
 use Rattle.sdr_words.specs.declared.given.Given.{Given}
 use Rattle.sdr_words.specs.declared.verb.Verb.{Verb}
 use Rattle.sdr_words.specs.declared.verb.Verb.TheVariants as verbs
@@ -99,3 +101,7 @@ event_by verbs.ReceiveTrailers g = events.Say (calls.ReceiveTrailers (number g 0
 event_by verbs.Request g = events.Say (calls.Request g.account (number g 0) (number g 1) (number g 2) (min (number g 3) 255) (min (number g 4) 255))
 event_by verbs.Awarded g = events.Say (calls.Awarded (number g 0))
 event_by verbs.Shred g = events.Say (calls.Shred (number g 0))
+
+-- the event of a step's verb without arguments
+abbrev pub event_without : Step → Event
+event_without step = event_by (verb_at step.verb) nothing_given

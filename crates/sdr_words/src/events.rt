@@ -1,10 +1,11 @@
 // The events that verbs make of their arguments.
 ghost use Rattle.std.specs.Prelude.{◌≡◌, min, slice_index};
-ghost use Rattle.sdr_words.specs.Events.{event_by};
+ghost use Rattle.sdr_words.specs.Events.{event_by, event_without};
 
-use crate::Verb;
 use crate::given::Given;
-use sdr_model::{Call, Event};
+use crate::{Verb, verb_at};
+use sdr_model::{Call, Event, Step};
+use std::alloc::Global;
 
 // A number as the type of a name.
 fn as_type(number: u64) -> u32
@@ -119,4 +120,11 @@ pub fn event_by(verb: Verb, given: Given) -> Event
         Verb::Awarded => Event::Say(Call::Awarded(a)),
         Verb::Shred => Event::Say(Call::Shred(a)),
     }
+}
+
+/// The event of a step's verb without arguments: of which kind it is. It takes no memory.
+pub fn event_without(alloc: Global, step: &Step) -> Event
+    ensures { result ≡ event_without step.now }
+{
+    event_by(verb_at(step.verb as usize), Given::new(alloc))
 }

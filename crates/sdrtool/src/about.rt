@@ -10,10 +10,11 @@ use sdr_shell::{DONE, OUTPUT_FAULT};
 pub const VERSION: &str = "sdrtool 0.1.0\n";
 
 pub const HELP: &str = "\
-sdrtool formats a heap on a disk, and runs the script of its daemons.
+sdrtool formats a heap on a disk, and runs the script of its daemons on it.
 
     sdrtool DISK format L H      makes an empty heap of the disk: L lines of log
                                  (2 to 65536), H lines of heap (32 to 262144)
+    sdrtool DISK replay < SCRIPT runs the script on the heap of the disk
     sdrtool DISK dry < SCRIPT    runs the script on a machine with no disk
     sdrtool --help
     sdrtool --version
@@ -30,7 +31,10 @@ Status    When                                           Last line printed
 2         the words are none of these forms              usage
 3         the input failed                               input fault
 4         the output failed
-5         the disk failed                                disk fault
+5         the disk failed                                disk fault; none
+                                                         behind answers
+6         the disk has no heap                           not formatted
+7         the heap of the disk isn't taken               damaged PLACE WHY
 8         line N of the script is refused                line N
 9         want of memory                                 no memory
 10        the disk has HAVE bytes and NEED are needed    too small NEED HAVE
@@ -39,6 +43,11 @@ An example: a disk of 81984 bytes has 256 lines of log and 1024 of heap.
 
     $ sdrtool heap.disk=81984 format 256 1024
     formatted 256 1024
+    $ echo '1: begin' | sdrtool heap.disk replay
+    1 1 lock 1
+
+So far a heap is taken only as it was formatted, and the calls on sources,
+objects, accounts and tickets aren't served: replay refuses the first such line.
 ";
 
 /// Prints a text, and gives the status.

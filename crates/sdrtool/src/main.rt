@@ -1,5 +1,5 @@
-//! `sdrtool` makes an empty heap of a disk (`format`), and runs the script of its daemons on a machine
-//! without one (`dry`).
+//! `sdrtool` makes an empty heap of a disk (`format`), and runs the script of its daemons on it (`replay`) or on a
+//! machine without one (`dry`).
 //!
 //! 1. The first word says which disk: `-` an empty one in memory, `PATH` a file, `PATH=N` a file that
 //!    is made, or lengthened with zero bytes, to N bytes. A file that can't be opened, lengthened or
@@ -9,6 +9,11 @@
 //! 3. Files and bulk items are those of the current folder.
 //! 4. `--help` and `--version`, alone, are answered without a disk.
 #![tactic(auto)]
+
+ghost use Rattle.std.specs.Prelude.{◌≡◌, Some};
+ghost use Rattle.sdr_replay.specs.Replaying.{IsSettled};
+ghost use Rattle.sdr_shell.specs.Form.{form_of};
+ghost use Rattle.sdr_shell.specs.declared.form.Form.{Form};
 
 mod about;
 mod file_disk;
@@ -79,11 +84,14 @@ fn answer<
     M: Media + Send + Drop,
     S: Source,
     K: Sink,
->(rt: &R, form: &[RcStr], disk: D, media: M, input: &mut S, output: &mut K) -> u8 {
+>(rt: &R, form: &[RcStr], disk: D, media: M, input: &mut S, output: &mut K) -> u8
+    requires settled { form_of form.now ≡ Some Form.Replay → IsSettled D.Disk disk }
+{
     top(rt, rt.alloc(), form, disk, media, input, output, &NoGate).status
 }
 
 // The same on a file, where it could be opened.
+#[tactic(auto, using(crate::specs::Untold::untold))]
 fn answer_on_file<
     R: Threads + Wait + Sync + AllocGlobal + Eprint,
     M: Media + Send + Drop,
@@ -107,6 +115,7 @@ fn answer_on_file<
 }
 
 // The same on an empty disk in memory.
+#[tactic(auto, using(sdr_shell::proofs::FreshLemmas::fresh_settled))]
 fn answer_in_memory<
     R: Threads + Wait + Sync + AllocGlobal,
     M: Media + Send + Drop,

@@ -1,11 +1,12 @@
 -- The entry's block is taken, linked, and counted.
-use Rattle.std.proofs.Common.{◌+◌, arith, refl, rules, length, ap}
+use Rattle.std.proofs.Common.{◌*◌, ◌+◌, arith, refl, rules, length, ap}
 use Rattle.std.proofs.lemmas.Result.{IfErr-weaker, on_ok_weaker}
 use Rattle.sdr_base.specs.Making.{besides}
 use Rattle.sdr_base.specs.Objects.{OnlyShort}
 use Rattle.sdr_base.proofs.HeapLemmas.{short_after}
-use Rattle.sdr_hash.proofs.AddLemmas.{adds_first, count_fits, count_there, front_there, took_entry}
+use Rattle.sdr_hash.proofs.AddLemmas.{adds_first, count_fits, took_entry}
 use Rattle.sdr_hash.proofs.OutLemmas.{hash_there}
+use Rattle.sdr_hash.proofs.ReachLemmas.{taken_reaches, put_into}
 use Rattle.sdr_hash.proofs.WalkLemmas.{front_reaches}
 use Rattle.sdr_hash.proofs.changing.add_first.Goals as goal
 
@@ -20,9 +21,9 @@ take_entry-requires-clause-short g c = c.requires.bucket.keeps.opened.short
 
 pub set_word-requires-clause-inside : goal.set_word-requires-clause-inside
 set_word-requires-clause-inside g c =
-    let n = rw c.word.ensures.looks.same at c.in_ok-count.ensures.given in
     let t = rw (c.word-2.ensures.looks.same, c.word.ensures.looks.same) at c.in_ok-added.ensures.taken in
-    front_there c.args.front _ _ _ _ c.args.key.now c.in_ok-next.ensures.given n t c.requires.bucket
+    taken_reaches c.args.front.addr (8 * c.args.front.field + 8) t
+    (front_reaches c.requires.bucket.keeps c.args.front.field c.requires.bucket.keeps.opened.inside)
 
 pub overflow_add-count : goal.overflow_add-count
 overflow_add-count g c =
@@ -31,10 +32,9 @@ overflow_add-count g c =
 
 pub set_word-requires-2-clause-inside : goal.set_word-requires-2-clause-inside
 set_word-requires-2-clause-inside g c =
-    let n = rw c.word.ensures.looks.same at c.in_ok-count.ensures.given in
     let t = rw (c.word-2.ensures.looks.same, c.word.ensures.looks.same) at c.in_ok-added.ensures.taken in
-    count_there c.args.front _ _ _ _ c.args.key.now c.in_ok-next.ensures.given n t
-    c.in_ok-set_word.ensures.written c.requires.bucket
+    put_into _ _ _ _ _ c.args.front.addr 24 c.in_ok-set_word.ensures.written
+    (taken_reaches c.args.front.addr 24 t (hash_there c.requires.bucket.keeps))
 
 pub returns-clause-added : goal.returns-clause-added
 returns-clause-added g c =

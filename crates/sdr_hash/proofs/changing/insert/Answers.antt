@@ -1,8 +1,8 @@
 -- The key is new, or it is there.
-use Rattle.std.proofs.Common.{◌∙◌}
+use Rattle.std.proofs.Common.{◌≡◌, ◌∙◌, rules}
 use Rattle.std.proofs.lemmas.Result.{IfErr-weaker, on_ok_weaker}
 use Rattle.sdr_base.proofs.WorksLemmas.{looks_then}
-use Rattle.sdr_hash.specs.Calls.{InsertStops}
+use Rattle.sdr_hash.specs.Calls.{FindsKey, InsertStops}
 use Rattle.sdr_hash.proofs.ChangeLemmas.{insert_stops, inserts}
 use Rattle.sdr_hash.proofs.FindLemmas.{finds, lacks, some_bucket, some_place}
 use Rattle.sdr_hash.proofs.OutLemmas.{place_reaches}
@@ -60,8 +60,10 @@ returns-in_ok-value-in-Some-clause-refused g c =
     let f = c.in_ok-front.ensures.found in
     let few = g.met.O.Objects.few c.args.o.now c.requires.kept in
     let small = g.met.O.Objects.small c.args.o.now c.requires.kept in
-    let s = rw (c.front_of.ensures.looks.same, c.in-Some.is) at c.in_ok-search.ensures.found in (
-      finds f few small s
-          (rw (c.search.ensures.looks.same, c.front_of.ensures.looks.same) at c.in_ok-value-in-Some.ensures.given),
-      c.word.ensures.looks.same ∙ c.search.ensures.looks.same ∙ c.front_of.ensures.looks.same,
-    )
+    let s = rw (c.front_of.ensures.looks.same, c.in-Some.is) at c.in_ok-search.ensures.found in
+    let old = g.O.HasHeap.heap c.args.o.now in
+    let taken : FindsKey old.blocks c.args.hash c.args.key.now c.in_ok-value-in-Some.value =
+    finds f few small s (rw (c.search.ensures.looks.same, c.front_of.ensures.looks.same) at c.in_ok-value-in-Some.ensures.given) in
+    let same : g.O.HasHeap.heap c.word.new.o ≡ old =
+    c.word.ensures.looks.same ∙ c.search.ensures.looks.same ∙ c.front_of.ensures.looks.same in
+    search rules

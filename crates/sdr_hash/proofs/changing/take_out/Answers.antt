@@ -2,7 +2,8 @@
 use Rattle.std.proofs.Common.{arith, refl}
 use Rattle.std.proofs.lemmas.Result.{on_ok_weaker}
 use Rattle.sdr_base.proofs.WritingLemmas.{reaches_less}
-use Rattle.sdr_hash.proofs.OutLemmas.{count_some, count_there, hash_there, link_small, link_there, place_reaches, still, takes_out}
+use Rattle.sdr_hash.proofs.OutLemmas.{count_some, hash_there, link_small, link_there, place_reaches, takes_out}
+use Rattle.sdr_hash.proofs.ReachLemmas.{put_into}
 use Rattle.sdr_hash.proofs.changing.take_out.Goals as goal
 
 pub word-requires-clause-inside : goal.word-requires-clause-inside
@@ -26,16 +27,14 @@ overflow_sub-count g c = count_some _ c.requires.place (rw c.word.ensures.looks.
 
 pub set_word-requires-2-clause-inside : goal.set_word-requires-2-clause-inside
 set_word-requires-2-clause-inside g c =
-    let n = rw c.word.ensures.looks.same at c.in_ok-count.ensures.given in
     let l = rw (c.word-2.ensures.looks.same, c.word.ensures.looks.same) at c.in_ok-set_word.ensures.written in
-    count_there c.args.front c.args.place _ _ (g.O.HasHeap.heap c.args.o.now) c.in_ok-next.ensures.given n l c.requires.place
+    put_into _ _ _ _ _ c.args.front.addr 24 l (hash_there c.requires.place.keeps)
 
 pub give-requires-clause-used : goal.give-requires-clause-used
 give-requires-clause-used g c =
-    let n = rw c.word.ensures.looks.same at c.in_ok-count.ensures.given in
     let l = rw (c.word-2.ensures.looks.same, c.word.ensures.looks.same) at c.in_ok-set_word.ensures.written in
-    still c.args.front c.args.place _ _
-    (g.O.HasHeap.heap c.args.o.now) c.in_ok-next.ensures.given n l _ refl c.in_ok-set_word-2.ensures.written c.requires.place
+    put_into _ _ _ _ _ c.args.place.addr 0 c.in_ok-set_word-2.ensures.written
+    (put_into _ _ _ _ _ c.args.place.addr 0 l (reaches_less _ 16 0 (place_reaches c.requires.place) (omega arith)))
 
 pub returns-clause-taken : goal.returns-clause-taken
 returns-clause-taken g c =

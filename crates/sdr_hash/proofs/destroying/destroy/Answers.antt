@@ -106,8 +106,7 @@ give-requires-clause-used g c =
     let count = rw c.hash_word.ensures.looks.same at c.in_ok-left.ensures.given in
     hash_left old c.args.hash _ c.in_ok-left.left c.in_ok-buckets.buckets (g.met.O.Objects.few c.args.o.now c.requires.kept)
     (g.met.O.Objects.small c.args.o.now c.requires.kept) count c.in_ok-buckets.ensures.given
-    c.loop-bucket.invariant.gives (omega arith)
-    (c.requires.hash c.in_ok-buckets.ensures.found)
+    c.loop-bucket.invariant.gives (c.requires.hash c.in_ok-buckets.ensures.found)
 
 pub returns-clause-destroyed : goal.returns-clause-destroyed
 returns-clause-destroyed g c =

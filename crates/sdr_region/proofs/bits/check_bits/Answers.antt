@@ -7,8 +7,8 @@ use Rattle.sdr_region.proofs.bits.check_bits.Goals as goal
 
 pub check_line-requires-clause-inside : goal.check_line-requires-clause-inside
 check_line-requires-clause-inside g c =
-    let o = in_order (g.C.Cells.bytes c.args.c.now) c.requires.right in
-    let start : c.args.edges.now.start ≡ control_word (g.C.Cells.bytes c.args.c.now) START = ap (λ (e : Edges). e.start) c.requires.edges in
+    let o = in_order (g.C.Cells.bytes c.args.c.now) c.requires.surveyed.right in
+    let start : c.args.edges.now.start ≡ control_word (g.C.Cells.bytes c.args.c.now) START = ap (λ (e : Edges). e.start) c.requires.surveyed.between in
     let line = o.start_line in
     let whole = c.loop-place.invariant.whole in
     let more = c.loop-place-test.true in
@@ -16,12 +16,12 @@ check_line-requires-clause-inside g c =
 
 pub overflow_add-place : goal.overflow_add-place
 overflow_add-place g c =
-    let o = in_order (g.C.Cells.bytes c.args.c.now) c.requires.right in
-    let start : c.args.edges.now.start ≡ control_word (g.C.Cells.bytes c.args.c.now) START = ap (λ (e : Edges). e.start) c.requires.edges in
+    let o = in_order (g.C.Cells.bytes c.args.c.now) c.requires.surveyed.right in
+    let start : c.args.edges.now.start ≡ control_word (g.C.Cells.bytes c.args.c.now) START = ap (λ (e : Edges). e.start) c.requires.surveyed.between in
     let low = o.low in
     let high = o.high in
     let end = o.end in
-    let size = c.requires.region.whole in
-    let most = c.requires.region.most in
+    let size = c.requires.surveyed.region.whole in
+    let most = c.requires.surveyed.region.most in
     let more = c.loop-place-test.true in
     omega (arith, start, low, high, end, size, most, more)

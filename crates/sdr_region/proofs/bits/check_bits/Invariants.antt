@@ -1,5 +1,5 @@
 -- The lines before this place are right, and nothing has changed.
-use Rattle.std.proofs.Common.{◌≡◌, ◌≤◌, ◌-◌, ◌%◌, ℕ}
+use Rattle.std.proofs.Common.{◌≡◌, ◌≤◌, ◌-◌, ◌%◌}
 use Rattle.std.specs.Prelude.{Ok}
 use Rattle.sdr_base.specs.declared.line.TheConstants.{LINE, START_BITS}
 use Rattle.sdr_region.specs.Auditing.{Audits}

@@ -1,5 +1,5 @@
 use Rattle.std.proofs.Common.{◌≡◌, ◌∙◌, ℕ, List, true, refl, subst, sym, ap}
-use Rattle.sdr_region.proofs.LargeLemmas.{large_more, large_walked}
+use Rattle.sdr_region.proofs.LargeLemmas.{large_walked}
 use Rattle.sdr_region.proofs.AuditLemmas.{audits_then, reads_audit}
 use Rattle.sdr_region.specs.Walk.{is_large_at}
 use Rattle.sdr_region.specs.declared.findings.Findings.{Findings}

@@ -1,4 +1,4 @@
-use Rattle.std.proofs.Common.{◌≡◌, ◌∙◌, ◌≤◌, ◌<◌, ◌+◌, ◌*◌, ◌/◌, ◌^◌, ℕ, length, true, refl, sym, ap, arith}
+use Rattle.std.proofs.Common.{◌∙◌, refl, sym, ap, arith}
 use Rattle.sdr_region.proofs.EdgeLemmas.{in_order}
 use Rattle.sdr_region.proofs.SmallLemmas.{small_more, small_walked}
 use Rattle.sdr_region.specs.declared.control.Edges.{Edges}

@@ -1,4 +1,4 @@
-use Rattle.std.proofs.Common.{arith, refl}
+use Rattle.std.proofs.Common.{refl}
 use Rattle.sdr_region.proofs.AuditLemmas.{audits_none}
 use Rattle.sdr_region.proofs.SmallLemmas.{small_begins}
 use Rattle.sdr_region.proofs.blocks.walk_small.Goals as goal

@@ -1,5 +1,5 @@
 -- The small blocks before this place are looked at, and nothing has changed.
-use Rattle.std.proofs.Common.{◌≡◌, ◌-◌, ℕ, length}
+use Rattle.std.proofs.Common.{◌≡◌, ◌-◌, length}
 use Rattle.std.specs.Prelude.{Ok}
 use Rattle.sdr_region.specs.Auditing.{Audits}
 use Rattle.sdr_region.specs.Walked.{SmallWalked}

@@ -10,7 +10,7 @@ use Rattle.sdr_region.proofs.content.check_content.Goals as goal
 
 pub loop-word-init : goal.loop-word-init
 loop-word-init g c = record {
-  before = filled_none (g.C.Cells.bytes c.args.c.now) c.requires.right;
+  before = filled_none (g.C.Cells.bytes c.args.c.now) c.requires.surveyed.right;
   audits = audits_none (g.met.C.Cells.quiet_refl c.args.c.now) c.requires.sound;
 }
 
@@ -24,6 +24,6 @@ returns-in_err-check_spot-clause-damaged g c =
 
 pub returns-clause-right : goal.returns-clause-right
 returns-clause-right g c =
-    let long = c.requires.spots in
+    let long = c.requires.surveyed.long in
     let all = c.loop-word-test.false in
-    content_right (g.C.Cells.bytes c.args.c.now) (8 * c.loop-word.word) c.requires.right c.loop-word.invariant.before (omega (arith, long, all))
+    content_right (g.C.Cells.bytes c.args.c.now) (8 * c.loop-word.word) c.requires.surveyed.right c.loop-word.invariant.before (omega (arith, long, all))

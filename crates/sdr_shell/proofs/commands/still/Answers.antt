@@ -4,8 +4,9 @@ use Rattle.sdr_shell.specs.Formatting.{HasFormatted}
 use Rattle.sdr_shell.specs.Answers.{AnswersDry, AnswersFormat, seen}
 use Rattle.sdr_dry.specs.Schedule.{media_change}
 use Rattle.sdr_shell.specs.Form.{form_of, OnFormat}
-use Rattle.sdr_shell.specs.declared.form.Form.TheVariants.{Dry, Format}
-use Rattle.sdr_shell.proofs.StillLemmas.{dry_completes, format_completes, no_format, not_run, on_format}
+use Rattle.sdr_shell.specs.declared.form.Form.TheVariants.{Dry, Format, Replay}
+use Rattle.sdr_shell.proofs.ReplayLemmas.{never_usage}
+use Rattle.sdr_shell.proofs.StillLemmas.{dry_completes, format_completes, not_run, on_form}
 use Rattle.sdr_shell.proofs.commands.still.Goals as goal
 
 pub returns-in-Some-Dry : goal.returns-in-Some-Dry
@@ -39,8 +40,9 @@ returns-in-Some-Dry g c =
             (subst (λ m. AnswersDry c.dry-status.result source source'
             (media_change g.M.Media.told g.M.Media.faults g.M.Media.short c.args.media m) sink sink') (sym c.outcome.ensures.media) answers),
       );
-      format = no_format _ _ form;
-      synced = no_format _ _ form;
+      replay = search rules;
+      format = on_form _ Dry _ form tt;
+      synced = on_form _ Dry _ form tt;
       counts = search rules;
       given = search rules;
       media = search rules;
@@ -75,13 +77,14 @@ returns-in-Some-Format g c =
       usage = search rules;
       usage_text = search rules;
       dry = search rules;
+      replay = search rules;
       format = subst (λ o. OnFormat o (λ frame. (c.args.input.now ≡ c.args.input.now) × AnswersFormat c.outcome-in-Some-Format.result.status frame (g.D.Disk.size c.args.disk)
           disk (seen g.D.Disk.bytes g.D.Disk.faults c.outcome-in-Some-Format.result.disk) sink sink')) (sym form) (
             refl,
             subst (λ s. AnswersFormat s c.in-Some-Format.frame (g.D.Disk.size c.args.disk) disk (seen g.D.Disk.bytes g.D.Disk.faults c.outcome-in-Some-Format.result.disk) sink sink') (sym status)
                 (subst (λ d. AnswersFormat c.format_disk-status.result c.in-Some-Format.frame (g.D.Disk.size c.args.disk) disk (seen g.D.Disk.bytes g.D.Disk.faults d) sink sink') (sym kept) answers),
           );
-      synced = on_format _ c.in-Some-Format.frame
+      synced = on_form _ (Format c.in-Some-Format.frame)
           (λ _. HasFormatted c.outcome-in-Some-Format.result.status → IsSynced g.D.Disk.bytes g.D.Disk.moment g.D.Disk.may_leave c.outcome-in-Some-Format.result.disk) form
           (subst (λ s. HasFormatted s → IsSynced g.D.Disk.bytes g.D.Disk.moment g.D.Disk.may_leave c.outcome-in-Some-Format.result.disk) (sym status)
           (subst (λ d. HasFormatted c.format_disk-status.result → IsSynced g.D.Disk.bytes g.D.Disk.moment g.D.Disk.may_leave d) (sym kept) e.synced));
@@ -91,4 +94,23 @@ returns-in-Some-Format g c =
       unread = search rules;
       same = search rules;
       told = search rules;
+    }
+
+pub returns-in-Some-Replay : goal.returns-in-Some-Replay
+returns-in-Some-Replay g c =
+    let e = c.replay_input-status.ensures in
+    let form : form_of c.args.words.now ≡ Some Replay = search rules in
+    record {
+      usage = (λ is. absurd (never_usage _ _ _ _ _ _ _ _ _ e.answers.comes is), λ none. absurd (search rules));
+      usage_text = λ is. absurd (never_usage _ _ _ _ _ _ _ _ _ e.answers.comes is);
+      dry = search rules;
+      replay = λ _. e.answers;
+      format = on_form _ Replay _ form tt;
+      synced = on_form _ Replay _ form tt;
+      counts = search rules;
+      given = λ other. absurd (other form);
+      media = search rules;
+      unread = search rules;
+      same = λ other _. absurd (other form);
+      told = (e.keeps.tells, e.keeps.size);
     }

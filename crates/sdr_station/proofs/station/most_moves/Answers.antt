@@ -1,14 +1,9 @@
-use Rattle.std.proofs.Common.{◌+◌, ◌/◌, ◌∙◌, arith, subst, sym}
+use Rattle.std.proofs.Common.{◌∙◌, arith, sym}
 use Rattle.sdr_station.proofs.RoomLemmas.{moves_destroy, moves_none, moves_one}
-use Rattle.sdr_station.specs.Rooming.{MovesAtMost}
 use Rattle.sdr_station.proofs.station.most_moves.Goals as goal
 
 pub returns-in-ListDestroy-clause-most : goal.returns-in-ListDestroy-clause-most
-returns-in-ListDestroy-clause-most c =
-    let most : MovesAtMost c.args.size c.args.call.now (c.args.size / 16 + 1) =
-    subst (λ call. MovesAtMost c.args.size call (c.args.size / 16 + 1)) (sym c.in-ListDestroy.is)
-    (moves_destroy c.args.size c.in-ListDestroy.field-0) in
-    most
+returns-in-ListDestroy-clause-most c = moves_destroy c.args.size c.args.call.now c.in-ListDestroy.is
 
 pub returns-then-is_reading : goal.returns-then-is_reading
 returns-then-is_reading c = record {
@@ -17,4 +12,4 @@ returns-then-is_reading c = record {
 }
 
 pub returns : goal.returns
-returns c = record { most = moves_one c.args.size c.args.call.now c.requires c.in_default.not-ListDestroy; few = omega arith }
+returns c = record { most = moves_one c.args.size c.args.call.now c.requires c.in_default.not-ListDestroy c.in_default.not-HashDestroy; few = omega arith }

@@ -43,11 +43,11 @@ returns-clause-taken g c =
     let m = took_mark g.C.Cells.bytes _ _ _ _ c.args.kind c.args.need c.in-Some.addr c.self.view_is c.requires.kept
     (c.in_ok-label.ensures.size ∙ c.in_ok-addr.ensures.size) chooses c.in_ok-label.ensures.labelled
     c.self.invariant.words in
-    heap_took g.C.Cells.bytes _ _ c.label.new.c c.mark.new.self.words.items _ _ c.args.kind c.args.need c.in-Some.addr
+    heap_took g.C.Cells.bytes _ _ c.label.new.c c.mark.new.self _ _ c.args.kind c.args.need c.in-Some.addr
     c.self.view_is
     (takes_steps _ _ _ c.args.kind c.args.need c.in-Some.addr kept.pools kept.keeps chooses
     c.in_ok-label.ensures.labelled)
-    (ap marked_in c.mark.ensures ∙ marked-set c.self.inside.marks.words.items c.in-Some.addr m.whole m.inside)
+    (ap marked_in c.mark.ensures ∙ marked-set c.self.inside.marks c.in-Some.addr m.whole m.inside)
     c.push-2.ensures.noted c.push-2.ensures.spare
 
 pub returns-in_err-addr-clause-refused : goal.returns-in_err-addr-clause-refused

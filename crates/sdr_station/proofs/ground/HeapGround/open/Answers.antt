@@ -1,12 +1,26 @@
-use Rattle.std.proofs.Common.{◌∙◌, ap, false, sym, subst}
+use Rattle.std.proofs.Common.{◌∙◌, ap, arith, false, sym, subst}
 use Rattle.sdr_disk.specs.Moments.{AtEach}
 use Rattle.sdr_heap.specs.Noted.{Held}
 use Rattle.sdr_image.specs.Opened.{Opened}
 use Rattle.sdr_log.specs.Logged.{GivesSame}
-use Rattle.sdr_station.proofs.OpeningLemmas.{open_ground, open_stands}
+use Rattle.sdr_station.proofs.OpeningLemmas.{audit_leaves, image_leaves, open_ground, open_stands}
 use Rattle.sdr_station.specs.Grounded.{Grounded}
 use Rattle.sdr_station.specs.Opening.{IsOpen}
 use Rattle.sdr_station.proofs.ground.HeapGround.open.Goals as goal
+
+pub returns-in-Err-clause-bytes : goal.returns-in-Err-clause-bytes
+returns-in-Err-clause-bytes g c =
+    let b = g.D.Disk.bytes in
+    image_leaves (b c.args.disk) (b c.in-Err.shut.disk) c.in-Err.shut.why c.of_image.result c.of_image.ensures c.in-Err.ensures.disk.same
+
+pub returns-in-Err-check-clause-bytes : goal.returns-in-Err-check-clause-bytes
+returns-in-Err-check-clause-bytes g c =
+    let b = g.D.Disk.bytes in
+    audit_leaves (b c.args.disk) (b c.into_disk.result) c.in-Err-check.why c.of_audit.result c.of_audit.ensures (λ x is y tells. record {
+      frame = c.in-Ok.image.frame;
+      count = c.in-Ok.image.restored;
+      back = c.in-Ok.ensures.opened.back x is y (sym (ap b (c.into_disk.ensures.disk ∙ c.check.ensures.quiet.disk)) ∙ tells);
+    })
 
 pub returns-in-Err-check-clause-any_moment : goal.returns-in-Err-check-clause-any_moment
 returns-in-Err-check-clause-any_moment g c x is may =
@@ -50,7 +64,7 @@ invariant_of-result g c =
     let m = g.D.Disk.moment in
     let l = g.D.Disk.may_leave in
     let made = c.in-Ok-new.ensures.made in
-    open_ground b m l c.args.disk _ (subst (λ (n : Grounded D). IsOpen b m l c.args.disk n)
+    open_ground b m l c.args.disk _ (omega (arith, ap (λ (h : Held (Opened D)). m h.cells.disk) made, c.now-moment.ensures.moment)) (subst (λ (n : Grounded D). IsOpen b m l c.args.disk n)
     (λ i. record {
       heap = sym made i;
       shown = sym c.new-in-Ok-new.ensures i;

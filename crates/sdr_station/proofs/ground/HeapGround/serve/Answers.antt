@@ -7,27 +7,27 @@ use Rattle.sdr_station.proofs.ground.HeapGround.serve.Goals as goal
 
 pub answer-requires-clause-kept : goal.answer-requires-clause-kept
 answer-requires-clause-kept g c =
-    keeps_before _ c.self.invariant (ap (λ (o : Grounded g.row.D.Denot). o.stopped) c.self.view_is ∙ c.requires.going) c.fresh.new.self c.fresh.ensures.none
+    keeps_before g.D.Disk.moment _ c.self.invariant (ap (λ (o : Grounded g.row.D.Denot). o.stopped) c.self.view_is ∙ c.requires.going) c.fresh.new.self c.fresh.ensures.none
 
 pub answer-requires-clause-good : goal.answer-requires-clause-good
 answer-requires-clause-good g c =
-    good_before _ c.self.invariant (ap (λ (o : Grounded g.row.D.Denot). o.stopped) c.self.view_is ∙ c.requires.going) c.fresh.new.self c.fresh.ensures.none
+    good_before g.D.Disk.moment _ c.self.invariant (ap (λ (o : Grounded g.row.D.Denot). o.stopped) c.self.view_is ∙ c.requires.going) c.fresh.new.self c.fresh.ensures.none
 
 pub unreachable-requires : goal.unreachable-requires
 unreachable-requires g c =
-    faults_never _ c.self.invariant (ap (λ (o : Grounded g.row.D.Denot). o.stopped) c.self.view_is ∙ c.requires.going) c.fresh.new.self c.fresh.ensures.none
+    faults_never g.D.Disk.moment _ c.self.invariant (ap (λ (o : Grounded g.row.D.Denot). o.stopped) c.self.view_is ∙ c.requires.going) c.fresh.new.self c.fresh.ensures.none
     g.D.Disk.faults c.answer.new.o (call_lines (heap_in c.fresh.new.self) c.args.call.now) c.in-Err-DiskFault.field-0 c.in-Err-DiskFault.ensures.works
     (inl c.in-Err-DiskFault.field-0-is)
 
 pub unreachable-requires-in-Err-MediaFault : goal.unreachable-requires-in-Err-MediaFault
 unreachable-requires-in-Err-MediaFault g c =
-    faults_never _ c.self.invariant (ap (λ (o : Grounded g.row.D.Denot). o.stopped) c.self.view_is ∙ c.requires.going) c.fresh.new.self c.fresh.ensures.none
+    faults_never g.D.Disk.moment _ c.self.invariant (ap (λ (o : Grounded g.row.D.Denot). o.stopped) c.self.view_is ∙ c.requires.going) c.fresh.new.self c.fresh.ensures.none
     g.D.Disk.faults c.answer.new.o (call_lines (heap_in c.fresh.new.self) c.args.call.now) c.in-Err-MediaFault.field-0 c.in-Err-MediaFault.ensures.works
     (inr (inl c.in-Err-MediaFault.field-0-is))
 
 pub unreachable-requires-in-Err-Failed : goal.unreachable-requires-in-Err-Failed
 unreachable-requires-in-Err-Failed g c =
-    faults_never _ c.self.invariant (ap (λ (o : Grounded g.row.D.Denot). o.stopped) c.self.view_is ∙ c.requires.going) c.fresh.new.self c.fresh.ensures.none
+    faults_never g.D.Disk.moment _ c.self.invariant (ap (λ (o : Grounded g.row.D.Denot). o.stopped) c.self.view_is ∙ c.requires.going) c.fresh.new.self c.fresh.ensures.none
     g.D.Disk.faults c.answer.new.o (call_lines (heap_in c.fresh.new.self) c.args.call.now) c.in-Err-Failed.field-0 c.in-Err-Failed.ensures.works
     (inr (inr c.in-Err-Failed.field-0-is))
 

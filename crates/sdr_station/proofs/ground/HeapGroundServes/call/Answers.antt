@@ -11,7 +11,7 @@ returns-then-self-clause-any_moment g c =
 
 pub returns-clause-gap : goal.returns-clause-gap
 returns-clause-gap g c =
-    let ground : IsGround c.args.self.now = subst (λ (o : Grounded g.row.D.Denot). IsGround o) c.self.view_is c.self.invariant in
+    let ground : IsGround g.D.Disk.moment c.args.self.now = subst (λ (o : Grounded g.row.D.Denot). IsGround g.D.Disk.moment o) c.self.view_is c.self.invariant in
     let going : c.args.self.now.stopped ≡ false = subst (λ (o : Grounded g.row.D.Denot). o.stopped ≡ false) c.self.view_is c.if-self.false in
     gap_brought c.args.self.now c.serve.new.self c.args.call.now c.serve.result (sym c.if-not-built.ensures) going (ground.stands (ground.sound going))
     c.serve.ensures.memory

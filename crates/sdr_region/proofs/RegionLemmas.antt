@@ -1,0 +1,80 @@
+-- The steps of an audit together.
+use Rattle.std.proofs.Common.{ℕ, List, length, sym, subst}
+use Rattle.std.specs.Prelude.{Ok, Err, IfErr, OnOk, Result}
+use Rattle.sdr_base.specs.Cells.{IsRegionSize}
+use Rattle.sdr_base.specs.KeptHeap.{KeepsSomeHeap}
+use Rattle.sdr_base.specs.Pools.{PoolBlock}
+use Rattle.sdr_region.proofs.KeptLemmas.{keeps_blocks}
+use Rattle.sdr_region.specs.Auditing.{DamagedBy}
+use Rattle.sdr_region.specs.Bits.{BitsAreRight}
+use Rattle.sdr_region.specs.Content.{ContentIsRight, IsWrongContent}
+use Rattle.sdr_region.specs.Control.{ControlIsRight}
+use Rattle.sdr_region.specs.Free.{AreListed, IsWrongFree}
+use Rattle.sdr_region.specs.Region.{IsSoundRegion, IsWrongFirst, TellsFirst}
+use Rattle.sdr_region.specs.Walk.{AreBlocks}
+use Rattle.sdr_region.specs.Walked.{AllFound}
+use Rattle.sdr_region.specs.declared.error.AuditError.{AuditError}
+use Rattle.sdr_region.specs.declared.error.AuditError.TheVariants as errors
+use Rattle.sdr_region.specs.declared.error.Why.TheVariants as whys
+use Rattle.sdr_region.specs.declared.spot.Spot.{Spot}
+
+-- what holds of bytes and the blocks in them, whatever these are
+abbrev pub OfBlocks : (List ℕ → List PoolBlock → List PoolBlock → Type 0) → List ℕ → Type 0
+OfBlocks P bytes = (small large : List PoolBlock) → AreBlocks bytes small large → P bytes small large
+
+-- what was found wrong with the lists, after the checks before
+pub free_tells : (bytes : List ℕ) (told : List Spot) → ControlIsRight bytes → AllFound bytes told → OfBlocks BitsAreRight bytes → (error : AuditError) →
+    DamagedBy whys.Free (λ at. (small large : List PoolBlock) → AreBlocks bytes small large → IsWrongFree bytes small large at) error → TellsFirst bytes error
+free_tells bytes told control found bits (errors.Damaged place why) (is, wrong) =
+    subst (λ w. IsWrongFirst bytes w place) (sym is) (record {
+      control = control;
+      small = found.small;
+      large = found.large;
+      blocks = found.blocks;
+      bits = bits found.small found.large found.blocks;
+      wrong = wrong found.small found.large found.blocks;
+    })
+free_tells bytes told control found bits errors.DiskFault damaged = tt
+free_tells bytes told control found bits errors.Failed damaged = tt
+
+module _ (bytes : List ℕ) (told : List Spot) (control : ControlIsRight bytes) (found : AllFound bytes told) (bits : OfBlocks BitsAreRight bytes)
+    (free : OfBlocks AreListed bytes) where
+  -- what was found wrong with a block's content, after the checks before
+  pub content_tells : (result : Result (Unit {0}) AuditError) →
+      IfErr result (DamagedBy whys.Content (λ at. (small large : List PoolBlock) → AreBlocks bytes small large → IsWrongContent bytes small large at)) →
+      IfErr result (TellsFirst bytes)
+  content_tells (Ok value) damaged = tt
+  content_tells (Err (errors.Damaged place why)) (is, wrong) =
+      subst (λ w. IsWrongFirst bytes w place) (sym is) (record {
+        control = control;
+        small = found.small;
+        large = found.large;
+        blocks = found.blocks;
+        bits = bits found.small found.large found.blocks;
+        free = free found.small found.large found.blocks;
+        wrong = wrong found.small found.large found.blocks;
+      })
+  content_tells (Err errors.DiskFault) damaged = tt
+  content_tells (Err errors.Failed) damaged = tt
+
+  -- where nothing is wrong the region is sound
+  pub sound_then : (result : Result (Unit {0}) AuditError) → OnOk result (OfBlocks ContentIsRight bytes) → OnOk result (IsSoundRegion bytes)
+  sound_then (Ok value) content = record {
+    small = found.small;
+    large = found.large;
+    sound = record {
+      control = control;
+      blocks = found.blocks;
+      bits = bits found.small found.large found.blocks;
+      free = free found.small found.large found.blocks;
+      content = content found.small found.large found.blocks;
+    };
+  }
+  sound_then (Err error) content = tt
+
+-- and keeps a heap
+pub kept_then : (bytes : List ℕ) → IsRegionSize (length bytes) → (result : Result (Unit {0}) AuditError) → OnOk result (IsSoundRegion bytes) → OnOk result (KeepsSomeHeap bytes)
+kept_then bytes region (Ok value) is =
+    let k = keeps_blocks bytes is.small is.large region is.sound in
+    record { pools = k.pools; keeps = k.keeps }
+kept_then bytes region (Err error) is = tt

@@ -1,0 +1,2 @@
+pub mod PlayingLemmas
+pub mod ReplayingLemmas

@@ -1,0 +1,172 @@
+-- A schedule that runs, and what it has printed.
+use Rattle.std.proofs.Common.{◌≡◌, ◌∙◌, ◌≤◌, ℕ, List, [], ◌∷◌, ◌++◌, Bool, true, false, not, Option, refl, sym, ap, subst, append_assoc}
+use Rattle.std.proofs.KnownBytes.{Appends-nil, Appends-trans}
+use Rattle.std.specs.Io.KnownBytes.{Appends}
+use Rattle.sdr_base.proofs.WrittenLemmas.{rose_later}
+use Rattle.sdr_base.specs.Causes.{Rose}
+use Rattle.sdr_base.specs.Written.{AppendsPart}
+use Rattle.sdr_core.specs.CoreKept.{Begins, BeginsOn, IsRunOf, Kept, core_at}
+use Rattle.sdr_core.specs.Leaving.{RunLeads}
+use Rattle.sdr_dry.proofs.ScheduleLemmas.{bindings_after, bindings_after-push, follows-push, run_text-push, runs-push}
+use Rattle.sdr_dry.specs.Schedule.{MakesEvent, daemons_of, run_text}
+use Rattle.sdr_lock.specs.Core.{CoreStep, first_core}
+use Rattle.sdr_lock.specs.Crash.{is_sound}
+use Rattle.sdr_lock.specs.Leaving.{AllLeave}
+use Rattle.sdr_lock.specs.Machine.{Made}
+use Rattle.sdr_lock.specs.Roll.{first_roll}
+use Rattle.sdr_lock.specs.Serving.{StoodFor, made_by}
+use Rattle.sdr_lock.specs.Standing.{standing_at}
+use Rattle.sdr_lock.specs.declared.has_ground.HasGround.{Ghosts}
+use Rattle.sdr_model.specs.declared.journal.Entry.{Entry}
+use Rattle.sdr_model.specs.declared.script.Step.{Step}
+use Rattle.sdr_replay.specs.Playing.{IsPrinted, Output, PlaysOut, PrintsMore, leave_of}
+use Rattle.sdr_replay.specs.Running.{AnswersStep, HasMade, HasRun, Running}
+use Rattle.sdr_text.proofs.TextLemmas.{part_later}
+use Rattle.sdr_words.specs.Bindings.{Binding, bound, event_of}
+
+-- a part of a text is one of a longer text
+pub part_more : (old new : Option (List ℕ)) (text more : List ℕ) → AppendsPart old new text → AppendsPart old new (text ++ more)
+part_more old new text more p = record {
+  front = p.front;
+  rest = p.rest ++ more;
+  written = p.written;
+  whole = ap (λ l. l ++ more) p.whole ∙ append_assoc p.front p.rest more;
+}
+
+-- a line was printed
+pub printed_line : (p : Bool) (old now : Output) (line : List ℕ) → p ≡ true → Appends old.taken now.taken line → PrintsMore p p old now line
+printed_line p old now line is appends =
+    subst (λ (b : Bool). PrintsMore b b old now line) (sym is)
+    (λ first text below printed. Appends-trans first.taken old.taken now.taken text line printed appends)
+
+-- a line was printed in part
+pub printed_part : (p : Bool) (old now : Output) (line : List ℕ) → p ≡ true → AppendsPart old.taken now.taken line → Rose old.faults now.faults
+    → PrintsMore p false old now line
+printed_part p old now line is part rose =
+    subst (λ (b : Bool). PrintsMore b false old now line) (sym is)
+    (λ first text below printed. (
+      rose_later first.faults old.faults now.faults below rose,
+      part_later first.taken old.taken now.taken text line printed part,
+    ))
+
+-- nothing is printed where the output has failed
+pub printed_none : (p : Bool) (old : Output) (line : List ℕ) → p ≡ false → PrintsMore p p old old line
+printed_none p old line is =
+    subst (λ (b : Bool). PrintsMore b b old old line) (sym is)
+    (λ first text below printed. (printed.0, part_more first.taken old.taken text line printed.1))
+
+-- nothing was made yet
+pub running_start : {T : Type 0} (g : Ghosts T) (b : Begins) (script : List Step) (daemons : List ℕ) (base : T) (k : Kept T) (out : Output)
+    → daemons ≡ daemons_of script → BeginsOn g b (daemons_of script) base
+    → k ≡ record { lock = record { roll = first_roll daemons; base = base }; log = record { works = []; journal = [] } }
+    → Running g b script script [] k (IsPrinted true out out)
+running_start {T} g b script daemons base k out named begins made =
+    let core : Kept T = record { lock = record { roll = first_roll (daemons_of script); base = base }; log = record { works = []; journal = [] } } in
+    let is : core ≡ k = sym (made ∙ (λ i. let x : Kept T = record { lock = record { roll = first_roll (named i); base = base }; log = record { works = []; journal = [] } } in x)) in
+    subst (λ (x : Kept T). Running g b script script [] x (IsPrinted true out out)) is (record {
+      at = record {
+        made = [];
+        for = standing_at b.first begins.moves;
+        stood = λ sound. begins.stands;
+        front = [];
+        steps = refl;
+        follows = tt;
+        runs = refl;
+        media = begins.told;
+        printed = Appends-nil out.taken;
+      };
+      names = refl;
+    })
+
+module _ {T : Type 0} (g : Ghosts T) (b : Begins) (script : List Step) (step : Step) (rest : List Step) (bindings : List Binding) (old new : Kept T)
+    (was going : Bool) (first before after : Output) (r : Running g b script (step ∷ rest) bindings old (IsPrinted was first before))
+    (below : first.faults ≤ before.faults) (a : AnswersStep g bindings step old new (PrintsMore was going before after)) where
+  stood : StoodFor g.stands new.lock (λ v. CoreStep (g.told old.lock.base) (core_at old r.at.for)
+      (made_by step.daemon (event_of bindings step) a.came (g.moment old.lock.base) (g.moment new.lock.base) step.line v) (core_at new v))
+  stood = a.makes.step.each r.at.for r.at.stood
+
+  abbrev e : Made
+  e = made_by step.daemon (event_of bindings step) a.came (g.moment old.lock.base) (g.moment new.lock.base) step.line stood.for
+
+  event_made : MakesEvent (bindings_after [] r.at.front r.at.made) step e
+  event_made = record { line = refl; daemon = refl; event = ap (λ names. event_of names step) r.names }
+
+  -- one more step was made
+  pub made_next : HasMade g b script rest new (IsPrinted going first after)
+  made_next = record {
+    made = r.at.made ++ e ∷ [];
+    for = stood.for;
+    stood = stood.stood;
+    front = r.at.front ++ step ∷ [];
+    steps = r.at.steps ∙ sym (append_assoc r.at.front (step ∷ []) rest);
+    follows = follows-push [] r.at.front r.at.made step e r.at.follows event_made;
+    runs = runs-push b.told (first_core (daemons_of script) b.first) (core_at old r.at.for) (core_at new stood.for) r.at.made e r.at.runs
+        (subst (λ told. CoreStep told (core_at old r.at.for) e (core_at new stood.for)) r.at.media stood.tells);
+    media = a.makes.asks.kept.media ∙ r.at.media;
+    printed =
+        subst (IsPrinted going first after) (sym (run_text-push r.at.made e))
+        (a.prints stood.for (λ called. stood.stood (a.makes.called called)) first (run_text r.at.made) below r.at.printed);
+  }
+
+  -- and its name holds what its answer gave
+  pub running_next : (bindings' : List Binding) → bindings' ≡ bound bindings step a.came.answer
+      → Running g b script rest bindings' new (IsPrinted going first after)
+  unfolding made_next
+  running_next bindings' names = record {
+    at = made_next;
+    names = names ∙ ap (λ held. bound held step a.came.answer) r.names ∙ sym (bindings_after-push [] r.at.front r.at.made step e r.at.follows);
+  }
+
+-- nothing was done
+pub made_still : {T : Type 0} (g : Ghosts T) (b : Begins) (script rest : List Step) (old new : Kept T) (was going : Bool) (first before after : Output)
+    → HasMade g b script rest old (IsPrinted was first before) → new ≡ old → after ≡ before → going ≡ was
+    → HasMade g b script rest new (IsPrinted going first after)
+made_still {T} g b script rest old new was going first before after at same out printing =
+    subst (λ (k : Kept T). HasMade g b script rest k (IsPrinted going first after)) (sym same)
+    (subst (λ (o : Output). HasMade g b script rest old (IsPrinted going first o)) (sym out)
+    (subst (λ (p : Bool). HasMade g b script rest old (IsPrinted p first before)) (sym printing) at))
+
+-- some steps were made, of which more is told
+pub has_run : {T : Type 0} (g : Ghosts T) (b : Begins) (script rest : List Step) (k : Kept T) (starved : Bool) (P : List ℕ → Type 0) → (starved ≡ false → rest ≡ [])
+    → HasMade g b script rest k P → HasRun g b script k (λ rest text. (starved ≡ false → rest ≡ []) × P text)
+has_run g b script rest k starved P none at = record {
+  rest = rest;
+  at = record {
+    made = at.made;
+    for = at.for;
+    stood = at.stood;
+    front = at.front;
+    steps = at.steps;
+    follows = at.follows;
+    runs = at.runs;
+    media = at.media;
+    printed = (none, at.printed);
+  };
+}
+
+-- all have left
+pub plays_out : {T : Type 0} (g : Ghosts T) (b : Begins) (script : List Step) (k last : Kept T) (starved printing failed : Bool) (out out' : Output) (journal : List Entry) (base : T)
+    → HasRun g b script k (λ rest text. (starved ≡ false → rest ≡ []) × IsPrinted printing out out' text)
+    → RunLeads g (AllLeave (g.told k.lock.base) (leave_of starved)) k last → journal ≡ last.log.journal → IsRunOf g b journal base
+    → failed ≡ not (is_sound journal)
+    → PlaysOut g b script out out' (record { journal = journal; base = base; failed = failed; starved = starved; printing = printing })
+plays_out g b script k last starved printing failed out out' journal base r leads journal_is run failed_is =
+    let s = leads.each r.at.for r.at.stood in
+    record {
+      replays = record {
+        front = r.at.front;
+        rest = r.rest;
+        steps = r.at.steps;
+        made = r.at.made;
+        follows = r.at.follows;
+        core = core_at k r.at.for;
+        runs = r.at.runs;
+        leaving = s.tells.made;
+        last = core_at last s.for;
+        leaves = subst (λ told. AllLeave told (leave_of starved) (core_at k r.at.for) s.tells.made (core_at last s.for)) r.at.media s.tells.tells;
+        journal_is = sym journal_is;
+        printed = r.at.printed;
+      };
+      run = run;
+      failed = failed_is;
+    }

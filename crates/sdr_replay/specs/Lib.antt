@@ -1,0 +1,5 @@
+pub mod Handed
+pub mod Playing
+pub mod Replaying
+pub mod Running
+pub mod Serving

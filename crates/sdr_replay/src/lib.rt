@@ -1,0 +1,20 @@
+//! A schedule that runs on the heap of a disk.
+//!
+//! 1. Each step is an event of a daemon, under what the names hold, and its answer is printed as it is
+//!    made. Where the output fails, nothing more is printed, and the run goes on.
+//! 2. Behind the last step all daemons make their leaves, which print nothing. Where an event or a name
+//!    finds no memory, no further step is made, and the leaves tell so. They take no memory.
+//! 3. `play` runs on any ground that tells what its calls did. The journal is that of the run.
+//! 4. `replay` opens the heap of a disk and plays on it. At each moment of the call a crash leaves the
+//!    state after some first entries, and all that are done.
+//! 5. Not all calls are served yet: `first_unserved` tells the first step whose call isn't.
+#![tactic(auto)]
+
+mod handed;
+mod playing;
+mod replaying;
+mod serving;
+
+pub use playing::{Ran, play};
+pub use replaying::replay;
+pub use serving::first_unserved;

@@ -1,0 +1,213 @@
+// What no clause and no script shows of replays: that they are answered with ample memory, at which call of a disk they come to a
+// fault, at which moment each image of a crash has the old world or the new, and the moments that a journal tells.
+use sdr_base::{Bytes, MemorySink, MemorySource, NoMedia};
+use sdr_disk::{Disk, MemoryDisk, Torn};
+use sdr_image::format;
+use sdr_log::Frame;
+use sdr_model::Entry;
+use sdr_shell::{DISK_FAULT, DONE, Outcome, still};
+use std::alloc::Global;
+use std::ops::Range;
+use std::rc::RcStr;
+
+const FRAME: Frame = Frame {
+    log_lines: 256,
+    heap_lines: 1024,
+};
+
+// A string that is kept, and a begin behind it.
+const SCRIPT: &[u8] = b"1: begin\n1: string \"hello\"\n1: end\n1: begin\n";
+
+const KEPT: &[u8] = b"1 1 lock 1\n2 1 at 2056\n3 1 ended\n4 1 lock 2\n";
+
+// The same where the disk fails in the end.
+const FAILED: &[u8] = b"1 1 lock 1\n2 1 at 2056\n3 1 disk fault\n4 1 failed\n";
+
+// Two transactions, of which the second waits for the first.
+const TWO: &[u8] = b"1: begin\n2: begin\n1: string \"hello\"\n1: end\n2: end\n";
+
+// The bytes of a disk with an empty heap.
+fn formatted(alloc: Global) -> Option<Vec<u8>> {
+    let bytes = vec![in alloc; 0; 81_984].ok()?;
+    let mut disk = MemoryDisk::new(bytes, Vec::new(alloc));
+    format(&mut disk, FRAME).ok()?;
+    disk.image_at(disk.now(), Torn::New).ok()
+}
+
+// What a script comes to on a disk of these bytes, whose calls with these numbers fail.
+fn replayed(
+    alloc: Global,
+    bytes: Vec<u8>,
+    failing: Vec<u64>,
+    script: &[u8],
+    output: &mut MemorySink,
+) -> Option<Outcome<MemoryDisk, NoMedia>> {
+    let mut words = Vec::new(alloc);
+    words.push(RcStr::from_str(alloc, "replay").ok()?).ok()?;
+    let mut input = MemorySource::new(Bytes::copied(alloc, script).ok()?, Vec::new(alloc));
+    let disk = MemoryDisk::new(bytes, failing);
+    Some(still(alloc, &words, disk, NoMedia::new(), &mut input, output))
+}
+
+// The status of a script on a formatted disk whose call of this number fails, 0 for none, and whether this is printed.
+fn answered(alloc: Global, call: u64, script: &[u8], text: &[u8]) -> Option<(u8, bool, u64)> {
+    let mut output = MemorySink::new(alloc, Vec::new(alloc));
+    let failing = vec![in alloc; call; 1].ok()?;
+    let outcome = replayed(alloc, formatted(alloc)?, failing, script, &mut output)?;
+    Some((outcome.status, output.taken() == text, outcome.disk.calls()))
+}
+
+// The first call of a disk after these whose failure comes to something else than this text and a disk fault.
+fn wrong_fault(alloc: Global, begun: u64, end: u64, text: &[u8]) -> Option<Option<u64>> {
+    for call in begun..end {
+        let (status, printed, _) = answered(alloc, call, SCRIPT, text)?;
+        if status != DISK_FAULT || !printed {
+            return Some(Some(call));
+        }
+    }
+    Some(None)
+}
+
+// The calls of an opening fail, then the ten of an end, of which the second is its first sync, and behind those none.
+fn faults(alloc: Global) -> Option<([Option<u64>; 2], (u8, bool))> {
+    let (_, _, opening) = answered(alloc, 0, b"", b"")?;
+    let first = opening.checked_add(1)?;
+    let last = first.checked_add(10)?;
+    let (status, printed, _) = answered(alloc, last, SCRIPT, KEPT)?;
+    Some((
+        [
+            wrong_fault(alloc, 1, first, b"disk fault\n")?,
+            wrong_fault(alloc, first, last, FAILED)?,
+        ],
+        (status, printed),
+    ))
+}
+
+#[test]
+fn a_replay_tells_a_disk_that_fails_at_any_call(rt: HostRuntime) {
+    assert_eq!(rt; faults(rt.alloc()), Some(([None; 2], (DONE, true))));
+}
+
+// The bytes of a disk now.
+fn bytes_of(disk: &MemoryDisk) -> Option<Vec<u8>> {
+    disk.image_at(disk.now(), Torn::New).ok()
+}
+
+// Where the heap region begins.
+const HEAP: usize = 16_448;
+
+// Whether an empty script puts back this heap of the disk that a crash leaves.
+fn is_left(alloc: Global, disk: &MemoryDisk, moment: u64, torn: Torn, heap: &[u8]) -> Option<bool> {
+    let image = disk.image_at(moment, torn).ok()?;
+    let mut output = MemorySink::new(alloc, Vec::new(alloc));
+    let left = replayed(alloc, image, Vec::new(alloc), b"", &mut output)?.disk;
+    Some(bytes_of(&left)?.get(HEAP..)? == heap)
+}
+
+// How many moments since the begin of an end the old heap is left, in each image of these; then the new one is.
+const OLD_FOR: [(Torn, u64); 4] = [
+    (Torn::Old, 20),
+    (Torn::New, 17),
+    (Torn::Filled(0), 17),
+    (Torn::Filled(1), 20),
+];
+
+// The first moment of the end of a string at which a crash leaves something else.
+fn wrong_image(alloc: Global) -> Option<Option<u64>> {
+    let mut output = MemorySink::new(alloc, Vec::new(alloc));
+    let before = formatted(alloc)?;
+    let disk = replayed(
+        alloc,
+        formatted(alloc)?,
+        Vec::new(alloc),
+        SCRIPT,
+        &mut output,
+    )?
+    .disk;
+    let after = bytes_of(&disk)?;
+    for moment in 0..21 {
+        for (torn, old_for) in OLD_FOR {
+            let heap = if moment < old_for { &before } else { &after };
+            if !is_left(alloc, &disk, moment, torn, heap.get(HEAP..)?)? {
+                return Some(Some(moment));
+            }
+        }
+    }
+    Some(None)
+}
+
+#[test]
+fn a_crash_in_an_end_leaves_the_old_world_until_its_gate_is_closed(rt: HostRuntime) {
+    assert_eq!(rt; wrong_image(rt.alloc()), Some(None));
+}
+
+// Which bytes are pending while each of the ten calls of that end runs: the batch is written and synced, its gate is opened and
+// synced, three lines are written and synced, and the gate is closed and synced.
+const PENDING: [&[Range<usize>]; 10] = [
+    &[65..274],
+    &[65..274],
+    &[64..65],
+    &[64..65],
+    &[16_448..16_512],
+    &[16_448..16_512, 17_472..17_536],
+    &[16_448..16_512, 17_472..17_536, 18_496..18_560],
+    &[16_448..16_512, 17_472..17_536, 18_496..18_560],
+    &[64..65],
+    &[64..65],
+];
+
+// Whether just the bytes of these ranges are filled.
+fn are_filled(image: &[u8], ranges: &[Range<usize>]) -> bool {
+    image.iter().enumerate().all(|(place, byte)| {
+        (*byte == 0xEE) == ranges.iter().any(|range| range.contains(&place))
+    })
+}
+
+// The first call in which other bytes are pending.
+fn wrong_call(alloc: Global) -> Option<Option<usize>> {
+    let mut output = MemorySink::new(alloc, Vec::new(alloc));
+    let disk = replayed(
+        alloc,
+        formatted(alloc)?,
+        Vec::new(alloc),
+        SCRIPT,
+        &mut output,
+    )?
+    .disk;
+    let mut moment = 1u64;
+    for (call, ranges) in PENDING.iter().enumerate() {
+        let image = disk.image_at(moment, Torn::Filled(0xEE)).ok()?;
+        if !are_filled(&image, ranges) {
+            return Some(Some(call));
+        }
+        moment = moment.checked_add(2)?;
+    }
+    Some(None)
+}
+
+#[test]
+fn an_end_that_makes_a_string_makes_ten_calls_of_the_disk(rt: HostRuntime) {
+    assert_eq!(rt; wrong_call(rt.alloc()), Some(None));
+}
+
+// The lock numbers, daemons and moments of the first two entries.
+fn told(entries: &[Entry]) -> Option<[(u64, u8, u64, u64); 2]> {
+    let first = entries.first()?;
+    let second = entries.get(1)?;
+    Some([
+        (first.number, first.daemon, first.begun, first.done),
+        (second.number, second.daemon, second.begun, second.done),
+    ])
+}
+
+// Those of two transactions on a disk whose moment is 0.
+fn moments(alloc: Global) -> Option<[(u64, u8, u64, u64); 2]> {
+    let mut output = MemorySink::new(alloc, Vec::new(alloc));
+    let outcome = replayed(alloc, formatted(alloc)?, Vec::new(alloc), TWO, &mut output)?;
+    told(outcome.journal.as_slice())
+}
+
+#[test]
+fn a_journal_tells_the_moments_of_two_transactions(rt: HostRuntime) {
+    assert_eq!(rt; moments(rt.alloc()), Some([(1, 1, 0, 20), (2, 2, 20, 20)]));
+}

@@ -1,0 +1,12 @@
+pub mod TableLemmas
+pub mod TableCalls
+pub mod BucketLemmas
+pub mod BucketChanges
+pub mod HashLemmas
+pub mod HashMaking
+pub mod HashReading
+pub mod HashChanging
+pub mod NameLemmas
+pub mod NameCalls
+pub mod GoodLemmas
+pub mod DemandLemmas

@@ -1,0 +1,43 @@
+// The answer of each call that is served.
+ghost use Rattle.std.specs.Prelude.{◌≡◌, ◌≤◌, ◌+◌, ◌/◌, [], true};
+ghost use Rattle.sdr_answers.specs.Answering.{Comes, IsGood, built, call_lines};
+ghost use Rattle.sdr_base.specs.Moves.{KeepsSome};
+ghost use Rattle.sdr_base.specs.Works.{Works};
+ghost use Rattle.sdr_model.specs.Fields.{FitsCall};
+
+use crate::{hashes, names, tables};
+use sdr_answers::{
+    Page, is_hash_call, is_list_call, is_raw_call, is_string_call, is_table_call, lists, raws,
+    strings,
+};
+use sdr_base::{Objects, Stop};
+use sdr_model::{Call, Reply};
+
+/// Answers a call that is served.
+pub fn answer<O: Objects>(o: &mut O, call: &Call, page: &mut Page) -> Result<Reply, Stop>
+    requires kept { KeepsSome (O.keeps o.old) }
+    requires room { (O.heap o.old).size / 4 + 4 ≤ (O.heap o.old).spare }
+    requires good { IsGood (O.heap o.old) }
+    requires unmoved { (O.heap o.old).moves ≡ [] }
+    requires built { built call.now ≡ true }
+    ensures comes { Comes call.now (O.heap o.old) (O.heap o.new) page.old page.new result }
+    ensures works { Works O.HasHeap (call_lines (O.heap o.old) call.now) o.old o.new result }
+    ensures fits { FitsCall call.now }
+{
+    if is_raw_call(call) {
+        return raws::answer(o, call, page);
+    }
+    if is_string_call(call) {
+        return strings::answer(o, call, page);
+    }
+    if is_list_call(call) {
+        return lists::answer(o, call, page);
+    }
+    if is_table_call(call) {
+        return tables::answer(o, call, page);
+    }
+    if is_hash_call(call) {
+        return hashes::answer(o, call, page);
+    }
+    names::answer(o, call, page)
+}

@@ -1,0 +1,266 @@
+-- What a replay answers follows from what it came to.
+use Rattle.std.proofs.Common.{◌≡◌, ◌∙◌, ◌≤◌, ◌/◌, ◌⊎◌, ℕ, List, [], ◌++◌, Bool, true, false, not, true≢false, Option, None, Some, Ok, Err, IsErr, refl, sym, ap, subst, inl, inr, arith, length}
+use Rattle.std.specs.Prelude.{codes, get_or}
+use Rattle.std.specs.Io.KnownBytes.{Appends, IsAtEnd}
+use Rattle.sdr_base.proofs.FreshHeapLemmas.{length-fresh_heap}
+use Rattle.sdr_base.specs.Causes.{Rose}
+use Rattle.sdr_base.specs.FreshHeap.{fresh_heap}
+use Rattle.sdr_base.specs.Written.{AppendsPart}
+use Rattle.sdr_base.specs.declared.line.TheConstants.{LEAST_LINES, LINE}
+use Rattle.sdr_disk.specs.declared.disk.Disk.{Ghosts as DiskGhosts}
+use Rattle.sdr_lock.specs.Crash.{is_sound}
+use Rattle.sdr_log.specs.Log.{put_back_of}
+use Rattle.sdr_model.specs.declared.event.Leave.{Leave}
+use Rattle.sdr_model.specs.declared.journal.Entry.{Entry}
+use Rattle.sdr_model.specs.declared.script.Step.{Step}
+use Rattle.sdr_replay.specs.Playing.{IsPrinted, leave_of}
+use Rattle.sdr_replay.specs.Serving.{first_unserved}
+use Rattle.sdr_shell.proofs.StillLemmas.{told_line, told_script, writes_behind}
+use Rattle.sdr_shell.specs.Answers.{Seen, Wrote}
+use Rattle.sdr_replay.specs.Replaying.{IsNotRun}
+use Rattle.sdr_shell.specs.Replaying.{AnswersReplay, ComesTo, HadReplay, HadServed, HadUnserved, IsUntouched, RunsServed, Telling, output_of, status_shut}
+use Rattle.sdr_shell.specs.Still.{HadBadLine, HadScript, NamesBadLine, Tells, line_refused}
+use Rattle.sdr_shell.specs.declared.replaying.Replayed.{Replayed}
+use Rattle.sdr_shell.specs.declared.status.TheConstants.{DONE, USAGE, INPUT_FAULT, NOT_FORMATTED, DAMAGED, REFUSED_LINE, NO_MEMORY}
+use Rattle.sdr_station.specs.declared.error.OpenError.{OpenError}
+use Rattle.sdr_station.specs.declared.error.OpenError.TheVariants as errors
+use Rattle.sdr_text.proofs.TextLemmas.{part_front}
+use Rattle.sdr_words.specs.Script.{input_script}
+use Rattle.sdr_words.specs.declared.error.ScriptError.{ScriptError}
+use Rattle.sdr_words.specs.declared.error.ScriptError.TheVariants as scripts
+
+-- an input that is refused spells no script
+had_none : (left : Option (List ℕ)) (bytes : List ℕ) → left ≡ Some bytes → IsErr (input_script bytes) → HadServed left → ⊥
+had_none left bytes told refused had = absurd (true≢false (sym (subst IsErr (told_script left bytes had.script told had.input) refused)))
+
+-- one that is accepted has no refused line
+none_refused : (left : Option (List ℕ)) (bytes : List ℕ) (script : List Step) → left ≡ Some bytes → input_script bytes ≡ Ok script
+    → first_unserved script ≡ None → (line : ℕ) → HadBadLine left line ⊎ HadUnserved left line → ⊥
+none_refused left bytes script told ok served line (inl bad) = let e = told_line left bytes line told bad in cc
+none_refused left bytes script told ok served line (inr had) =
+    let same = told_script left bytes had.script told had.input in
+    cc (same, ok, served, had.unserved)
+
+-- what was printed was written whole or in part
+wrote_of : (printing : Bool) (old now : Seen) (text : List ℕ) → IsPrinted printing (output_of old) (output_of now) text → Wrote old now text
+wrote_of true old now text printed = inl printed
+wrote_of false old now text printed = inr printed
+
+not_false : (b : Bool) → true ≡ not b → b ≡ false
+not_false true is = is
+not_false false is = refl
+
+not_true : (b : Bool) → false ≡ not b → b ≡ true
+not_true true is = refl
+not_true false is = is
+
+module _ {D : Type 0} (d : DiskGhosts D) (source source' sink sink' : Seen) (disk disk' : D) (journal : List Entry) where
+  -- what was run is told of more weakly
+  had_weaker : {leave : Leave} (P Q : List Step → List ℕ → Type 0) → ((rest : List Step) (text : List ℕ) → P rest text → Q rest text)
+      → HadReplay d source.bytes disk disk' journal leave P → HadReplay d source.bytes disk disk' journal leave Q
+  had_weaker P Q more h = record {
+    had = h.had;
+    ground = h.ground;
+    open_so = h.open_so;
+    replays = record {
+      front = h.replays.front;
+      rest = h.replays.rest;
+      steps = h.replays.steps;
+      made = h.replays.made;
+      follows = h.replays.follows;
+      core = h.replays.core;
+      runs = h.replays.runs;
+      leaving = h.replays.leaving;
+      last = h.replays.last;
+      leaves = h.replays.leaves;
+      journal_is = h.replays.journal_is;
+      printed = more h.replays.rest _ h.replays.printed;
+    };
+    legal = h.legal;
+    leaves = h.leaves;
+  }
+
+  -- what stopped one that was run is told by the status
+  ran_comes : (failed starved printing : Bool) (status : ℕ) (mid : Seen) → IsAtEnd source'.bytes → sink.faults ≤ mid.faults
+      → Telling failed starved printing status mid sink' → failed ≡ not (is_sound journal)
+      → HadReplay d source.bytes disk disk' journal (leave_of starved)
+      (λ rest text. (starved ≡ false → rest ≡ []) × IsPrinted printing (output_of sink) (output_of mid) text)
+      → ComesTo d status source source' disk disk' journal sink sink'
+  ran_comes true starved printing status mid read later tells failed had =
+      ComesTo.failed tells.0 (record {
+        starved = starved;
+        failed = not_false (is_sound journal) failed;
+        ran = had_weaker _ (λ rest text. (starved ≡ false → rest ≡ []) × Wrote sink sink' text)
+            (λ rest text p. (p.0, subst (λ (s : Seen). Wrote sink s text) (sym tells.1) (wrote_of printing sink mid text p.1))) had;
+      })
+  ran_comes false true true status mid read later tells failed had =
+      ComesTo.starved tells.0 (record {
+        sound = not_true (is_sound journal) failed;
+        ran = had_weaker _ (λ rest text. Wrote sink sink' (text ++ codes "no memory\n"))
+            (λ rest text p. writes_behind sink.bytes mid.bytes sink'.bytes sink.faults mid.faults sink'.faults text _ p.1 later tells.1) had;
+      })
+  ran_comes false true false status mid read later tells failed had =
+      ComesTo.starved tells.0 (record {
+        sound = not_true (is_sound journal) failed;
+        ran = had_weaker _ (λ rest text. Wrote sink sink' (text ++ codes "no memory\n"))
+            (λ rest text p. subst (λ (s : Seen). Wrote sink s (text ++ codes "no memory\n")) (sym tells.1)
+            (inr (p.1.0, part_front sink.bytes mid.bytes text _ p.1.1))) had;
+      })
+  ran_comes false false true status mid read later tells failed had =
+      ComesTo.done tells.0 (record {
+        read = read;
+        sound = not_true (is_sound journal) failed;
+        ran = had_weaker _ (λ rest text. (rest ≡ []) × Appends sink.bytes sink'.bytes text)
+            (λ rest text p. (p.0 refl, subst (λ (s : Seen). Appends sink.bytes s.bytes text) (sym tells.1) p.1)) had;
+      })
+  ran_comes false false false status mid read later tells failed had =
+      ComesTo.unwritten tells.0 (subst (λ (s : Seen). Rose sink.faults s.faults) (sym tells.1) had.replays.printed.1.0) (record {
+        read = read;
+        sound = not_true (is_sound journal) failed;
+        ran = had_weaker _ (λ rest text. (rest ≡ []) × AppendsPart sink.bytes sink'.bytes text)
+            (λ rest text p. (p.0 refl, subst (λ (s : Seen). AppendsPart sink.bytes s.bytes text) (sym tells.1) p.1.1)) had;
+      })
+
+  -- why no script was read is told by the status
+  tell_comes : (error : ScriptError) (status : ℕ) → IsUntouched disk disk' journal → Tells error status sink.bytes sink'.bytes sink.faults sink'.faults
+      → NamesBadLine source.bytes error → (error ≡ scripts.Input → Rose source.faults source'.faults)
+      → ComesTo d status source source' disk disk' journal sink sink'
+  tell_comes scripts.Input status same tells bad cause = ComesTo.unread tells.0 (cause refl) same tells.1
+  tell_comes (scripts.Line line) status same tells bad cause =
+      ComesTo.refused tells.0 same (record { line = line; input = inl bad; written = tells.1 })
+  tell_comes scripts.NoMemory status same tells bad cause = ComesTo.unheld tells.0 same tells.1
+
+  refused_only : (status : ℕ) (bytes : List ℕ) → source.bytes ≡ Some bytes → IsErr (input_script bytes)
+      → ComesTo d status source source' disk disk' journal sink sink'
+      → IsUntouched disk disk' journal × ((status ≡ INPUT_FAULT) ⊎ (status ≡ REFUSED_LINE) ⊎ (status ≡ NO_MEMORY))
+  refused_only status bytes told refused (ComesTo.done is whole) = absurd (had_none source.bytes bytes told refused whole.ran.had)
+  refused_only status bytes told refused (ComesTo.unwritten is rose whole) = absurd (had_none source.bytes bytes told refused whole.ran.had)
+  refused_only status bytes told refused (ComesTo.failed is ran) = absurd (had_none source.bytes bytes told refused ran.ran.had)
+  refused_only status bytes told refused (ComesTo.starved is ran) = absurd (had_none source.bytes bytes told refused ran.ran.had)
+  refused_only status bytes told refused (ComesTo.shut why is was) = absurd (had_none source.bytes bytes told refused was.had)
+  refused_only status bytes told refused (ComesTo.unread is rose same wrote) = (same, inl is)
+  refused_only status bytes told refused (ComesTo.refused is same line) = (same, inr (inl is))
+  refused_only status bytes told refused (ComesTo.unheld is same wrote) = (same, inr (inr is))
+
+  -- a status that tells why no script was run, where no disk failed
+  shut_status : (why : OpenError) (status : ℕ) → status ≡ status_shut why → IsNotRun d disk (record { why = why; disk = disk' })
+      → ¬ Rose (d.faults disk) (d.faults disk') → (status ≡ DONE) ⊎ (status ≡ NOT_FORMATTED) ⊎ (status ≡ DAMAGED) ⊎ (status ≡ NO_MEMORY)
+  shut_status errors.NotFormatted status is not no_disk = inr (inl is)
+  shut_status (errors.Damaged place why) status is not no_disk = inr (inr (inl is))
+  shut_status errors.DiskFault status is not no_disk = absurd (no_disk not.why)
+  shut_status errors.NoMemory status is not no_disk = inr (inr (inr is))
+
+  completes : (status : ℕ) (bytes : List ℕ) (script : List Step) → source.bytes ≡ Some bytes → input_script bytes ≡ Ok script → first_unserved script ≡ None
+      → ¬ Rose source.faults source'.faults → ¬ Rose sink.faults sink'.faults → ¬ Rose (d.faults disk) (d.faults disk')
+      → ComesTo d status source source' disk disk' journal sink sink'
+      → (status ≡ DONE) ⊎ (status ≡ NOT_FORMATTED) ⊎ (status ≡ DAMAGED) ⊎ (status ≡ NO_MEMORY)
+  completes status bytes script told ok served no_input no_output no_disk (ComesTo.done is whole) = inl is
+  completes status bytes script told ok served no_input no_output no_disk (ComesTo.unwritten is rose whole) = absurd (no_output rose)
+  completes status bytes script told ok served no_input no_output no_disk (ComesTo.failed is ran) = absurd (no_disk (ran.ran.leaves.cause ran.failed))
+  completes status bytes script told ok served no_input no_output no_disk (ComesTo.starved is ran) = inr (inr (inr is))
+  completes status bytes script told ok served no_input no_output no_disk (ComesTo.shut why is was) = shut_status why status is was.not_run no_disk
+  completes status bytes script told ok served no_input no_output no_disk (ComesTo.unread is rose same wrote) = absurd (no_input rose)
+  completes status bytes script told ok served no_input no_output no_disk (ComesTo.refused is same line) =
+      absurd (none_refused source.bytes bytes script told ok served line.line line.input)
+  completes status bytes script told ok served no_input no_output no_disk (ComesTo.unheld is same wrote) = inr (inr (inr is))
+
+  -- why no script was run on a disk that gives a fresh heap, where it didn't fail
+  fresh_shut : (why : OpenError) (status : ℕ) (x : List ℕ) (lines : ℕ) → status ≡ status_shut why → IsNotRun d disk (record { why = why; disk = disk' })
+      → d.bytes disk ≡ Some x → LEAST_LINES ≤ lines → put_back_of x ≡ Some (fresh_heap lines) → ¬ Rose (d.faults disk) (d.faults disk')
+      → status ≡ NO_MEMORY
+  fresh_shut errors.NotFormatted status x lines is not told least gives no_disk = let none = not.why x told in absurd cc
+  fresh_shut (errors.Damaged place why) status x lines is not told least gives no_disk =
+      let damaged = not.why.1 x told in
+      let heap : damaged.heap ≡ fresh_heap lines = cc (damaged.gives, gives) in
+      let many : length damaged.heap / LINE ≡ lines = let long = ap length heap in let size = length-fresh_heap lines least in omega (arith, long, size) in
+      absurd (damaged.differs.other (ap (λ (h : List ℕ). get_or h place 0) (heap ∙ ap fresh_heap (sym many))))
+  fresh_shut errors.DiskFault status x lines is not told least gives no_disk = absurd (no_disk not.why)
+  fresh_shut errors.NoMemory status x lines is not told least gives no_disk = is
+
+  takes_fresh : (status : ℕ) (bytes : List ℕ) (script : List Step) → source.bytes ≡ Some bytes → input_script bytes ≡ Ok script → first_unserved script ≡ None
+      → (x : List ℕ) (lines : ℕ) → d.bytes disk ≡ Some x → LEAST_LINES ≤ lines → put_back_of x ≡ Some (fresh_heap lines)
+      → ¬ Rose source.faults source'.faults → ¬ Rose sink.faults sink'.faults → ¬ Rose (d.faults disk) (d.faults disk')
+      → ComesTo d status source source' disk disk' journal sink sink' → (status ≡ DONE) ⊎ (status ≡ NO_MEMORY)
+  takes_fresh status bytes script told ok served x lines has least gives no_input no_output no_disk (ComesTo.done is whole) = inl is
+  takes_fresh status bytes script told ok served x lines has least gives no_input no_output no_disk (ComesTo.unwritten is rose whole) = absurd (no_output rose)
+  takes_fresh status bytes script told ok served x lines has least gives no_input no_output no_disk (ComesTo.failed is ran) =
+      absurd (no_disk (ran.ran.leaves.cause ran.failed))
+  takes_fresh status bytes script told ok served x lines has least gives no_input no_output no_disk (ComesTo.starved is ran) = inr is
+  takes_fresh status bytes script told ok served x lines has least gives no_input no_output no_disk (ComesTo.shut why is was) =
+      inr (fresh_shut why status x lines is was.not_run has least gives no_disk)
+  takes_fresh status bytes script told ok served x lines has least gives no_input no_output no_disk (ComesTo.unread is rose same wrote) = absurd (no_input rose)
+  takes_fresh status bytes script told ok served x lines has least gives no_input no_output no_disk (ComesTo.refused is same line) =
+      absurd (none_refused source.bytes bytes script told ok served line.line line.input)
+  takes_fresh status bytes script told ok served x lines has least gives no_input no_output no_disk (ComesTo.unheld is same wrote) = inr is
+
+  -- no replay answers that the words are no form
+  pub never_usage : (status : ℕ) → ComesTo d status source source' disk disk' journal sink sink' → status ≡ USAGE → ⊥
+  never_usage status (ComesTo.done is whole) usage = omega (arith, is, usage)
+  never_usage status (ComesTo.unwritten is rose whole) usage = omega (arith, is, usage)
+  never_usage status (ComesTo.failed is ran) usage = omega (arith, is, usage)
+  never_usage status (ComesTo.starved is ran) usage = omega (arith, is, usage)
+  never_usage status (ComesTo.shut errors.NotFormatted is was) usage = omega (arith, is, usage)
+  never_usage status (ComesTo.shut (errors.Damaged place why) is was) usage = omega (arith, is, usage)
+  never_usage status (ComesTo.shut errors.DiskFault is was) usage = omega (arith, is, usage)
+  never_usage status (ComesTo.shut errors.NoMemory is was) usage = omega (arith, is, usage)
+  never_usage status (ComesTo.unread is rose same wrote) usage = omega (arith, is, usage)
+  never_usage status (ComesTo.refused is same line) usage = omega (arith, is, usage)
+  never_usage status (ComesTo.unheld is same wrote) usage = omega (arith, is, usage)
+
+  -- so the answer is one of a replay
+  answers_of : (status : ℕ) → ComesTo d status source source' disk disk' journal sink sink' → AnswersReplay d status source source' disk disk' journal sink sink'
+  answers_of status comes = record {
+    comes = comes;
+    exact = λ bytes told refused. refused_only status bytes told refused comes;
+    complete = λ bytes script told ok served no_input no_output no_disk. completes status bytes script told ok served no_input no_output no_disk comes;
+    fresh = λ bytes script told ok served x lines has least gives no_input no_output no_disk.
+        takes_fresh status bytes script told ok served x lines has least gives no_input no_output no_disk comes;
+  }
+
+-- where no script was read, it is answered so
+pub tell_answers : {D : Type 0} (d : DiskGhosts D) (source source' sink sink' : Seen) (disk : D) (r : Replayed D) (error : ScriptError) (status : ℕ)
+    → r.status ≡ status → IsUntouched disk r.disk r.journal → Tells error status sink.bytes sink'.bytes sink.faults sink'.faults
+    → NamesBadLine source.bytes error → (error ≡ scripts.Input → Rose source.faults source'.faults)
+    → AnswersReplay d r.status source source' disk r.disk r.journal sink sink'
+tell_answers d source source' sink sink' disk r error status is same tells bad cause =
+    answers_of d source source' sink sink' disk r.disk r.journal r.status
+    (subst (λ status. ComesTo d status source source' disk r.disk r.journal sink sink') (sym is)
+    (tell_comes d source source' sink sink' disk r.disk r.journal error status same tells bad cause))
+
+-- a script of which a call isn't served is refused
+pub unserved_answers : {D : Type 0} (d : DiskGhosts D) (source source' sink sink' : Seen) (disk : D) (r : Replayed D) (script : List Step) (line : ℕ)
+    → r.status ≡ REFUSED_LINE → IsUntouched disk r.disk r.journal → HadScript source.bytes script → first_unserved script ≡ Some line
+    → Wrote sink sink' (line_refused line) → AnswersReplay d r.status source source' disk r.disk r.journal sink sink'
+unserved_answers d source source' sink sink' disk r script line is same had unserved written =
+    answers_of d source source' sink sink' disk r.disk r.journal r.status (ComesTo.refused is same (record {
+      line = line;
+      input = inr (record { script = script; input = had; unserved = unserved });
+      written = written;
+    }))
+
+-- a script that was run, or not, on the heap of the disk is what the input spelled
+pub served_answers : {D : Type 0} (d : DiskGhosts D) (source source' sink sink' : Seen) (disk : D) (script : List Step) (r : Replayed D)
+    → IsAtEnd source'.bytes → HadScript source.bytes script → first_unserved script ≡ None → RunsServed d disk script sink sink' r
+    → AnswersReplay d r.status source source' disk r.disk r.journal sink sink'
+served_answers {D} d source source' sink sink' disk script r read had served (inl not) =
+    answers_of d source source' sink sink' disk r.disk r.journal r.status
+    (ComesTo.shut not.why not.status (record {
+      had = record { script = script; input = had; served = served };
+      not_run = not.not_run;
+      none = not.none;
+      written = not.written;
+    }))
+served_answers {D} d source source' sink sink' disk script r read had served (inr was) =
+    let ran = was.ran in
+    subst (λ (j : List Entry). AnswersReplay d r.status source source' disk r.disk j sink sink') (sym was.journal_is)
+    (subst (λ (n : D). AnswersReplay d r.status source source' disk n ran.journal sink sink') (sym was.disk_is)
+    (answers_of d source source' sink sink' disk ran.base ran.journal r.status
+    (ran_comes d source source' sink sink' disk ran.base ran.journal ran.failed ran.starved ran.printing r.status was.mid read was.later was.tells
+    was.runs.failed (record {
+      had = record { script = script; input = had; served = served };
+      ground = was.runs.ground;
+      open_so = was.runs.open_so;
+      replays = was.runs.replays;
+      legal = was.runs.legal;
+      leaves = was.runs.leaves;
+    }))))

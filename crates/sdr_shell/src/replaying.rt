@@ -1,0 +1,165 @@
+// A replay of the input's schedule on the heap of a disk, and what is said of it.
+ghost use Rattle.std.specs.Prelude.{◌≡◌, ◌≤◌, ◌+◌, [], length};
+ghost use Rattle.std.specs.List.{AllByRecursion};
+ghost use Rattle.sdr_log.specs.Calls.{KeepsDisk};
+ghost use Rattle.sdr_replay.specs.Replaying.{IsSettled};
+ghost use Rattle.sdr_replay.specs.Serving.{IsServed};
+ghost use Rattle.sdr_shell.specs.Answers.{Wrote, seen};
+ghost use Rattle.sdr_shell.specs.Replaying.{AnswersReplay, RunsServed, TellsRan, line_shut, status_shut, why_text};
+
+use crate::commands::{refuse_line, tell};
+use crate::last_line::last_line;
+use crate::status::{
+    DAMAGED, DISK_FAULT, DONE, NO_MEMORY, NOT_FORMATTED, OUTPUT_FAULT, REFUSED_LINE,
+};
+use sdr_audit::Why;
+use sdr_base::{Sink, Source};
+use sdr_disk::Disk;
+use sdr_model::{Journal, Step};
+use sdr_replay::{Ran, first_unserved, replay};
+use sdr_station::OpenError;
+use sdr_text::Line;
+use sdr_words::read_script;
+use std::alloc::Global;
+
+/// What a replay came to.
+#[derive(Drop)]
+pub struct Replayed<D> {
+    pub status: u8,
+    /// The entries by rising lock number.
+    pub journal: Journal,
+    pub disk: D,
+}
+
+// What is wrong at a place, in a word.
+fn why_text(why: Why) -> &'static [u8]
+    ensures { result.now ≡ why_text why }
+{
+    match why {
+        Why::Control => b"control",
+    }
+}
+
+// Tells why a heap wasn't opened.
+fn tell_shut<K: Sink>(why: OpenError, output: &mut K) -> u8
+    ensures status { result ≡ status_shut why }
+    ensures written { Wrote (seen K.taken K.faults output.old) (seen K.taken K.faults output.new) (line_shut why) }
+    ensures later { K.faults output.old ≤ K.faults output.new }
+{
+    match why {
+        OpenError::NotFormatted => {
+            last_line(output, b"not formatted\n");
+            NOT_FORMATTED
+        }
+        OpenError::Damaged { place, why } => {
+            let mut text = Line::new();
+            text.push(b"damaged ");
+            text.number(place);
+            text.push(b" ");
+            text.push(why_text(why));
+            text.push(b"\n");
+            last_line(output, text.as_slice());
+            DAMAGED
+        }
+        OpenError::DiskFault => {
+            last_line(output, b"disk fault\n");
+            DISK_FAULT
+        }
+        OpenError::NoMemory => {
+            last_line(output, b"no memory\n");
+            NO_MEMORY
+        }
+    }
+}
+
+// Tells what a run came to: what stopped it, if anything did.
+fn tell_ran<T, K: Sink>(ran: &Ran<T>, output: &mut K) -> u8
+    ensures told { TellsRan ran.now result (seen K.taken K.faults output.old) (seen K.taken K.faults output.new) }
+    ensures later { K.faults output.old ≤ K.faults output.new }
+{
+    if ran.failed {
+        return DISK_FAULT;
+    }
+    if ran.starved {
+        if ran.printing {
+            last_line(output, b"no memory\n");
+        }
+        return NO_MEMORY;
+    }
+    if ran.printing { DONE } else { OUTPUT_FAULT }
+}
+
+// A replay that made no entry.
+fn unrun<D>(alloc: Global, status: u8, disk: D) -> Replayed<D>
+    ensures status { result.status ≡ status }
+    ensures none { result.journal ≡ [] }
+    ensures disk { result.disk ≡ disk }
+{
+    Replayed {
+        status,
+        journal: Journal::new(alloc),
+        disk,
+    }
+}
+
+// Replays a schedule whose calls are all served.
+fn replay_served<D: Disk, K: Sink>(
+    alloc: Global,
+    script: &[Step],
+    disk: D,
+    output: &mut K,
+) -> Replayed<D>
+    requires few { length script.now ≤ 1_048_577 }
+    requires served { AllByRecursion IsServed script.now }
+    requires settled { IsSettled D.Disk disk }
+    ensures runs { RunsServed D.Disk disk script.now (seen K.taken K.faults output.old) (seen K.taken K.faults output.new) result }
+    ensures later { K.faults output.old ≤ K.faults output.new }
+{
+    match replay(alloc, script, disk, output) {
+        Ok(ran) => {
+            let status = tell_ran(&ran, output);
+            Replayed {
+                status,
+                journal: ran.journal,
+                disk: ran.base,
+            }
+        }
+        Err(shut) => {
+            let status = tell_shut(shut.why, output);
+            unrun(alloc, status, shut.disk)
+        }
+    }
+}
+
+/// Replays the schedule of the input on the heap of the disk. A line that is refused, or whose call isn't served yet, is told
+/// before anything runs.
+#[tactic(auto, using(crate::proofs::ScriptRead::read_scripts))]
+pub fn replay_input<D: Disk, S: Source, K: Sink>(
+    alloc: Global,
+    disk: D,
+    input: &mut S,
+    output: &mut K,
+) -> Replayed<D>
+    requires settled { IsSettled D.Disk disk }
+    ensures answers { AnswersReplay D.Disk result.status
+        (seen S.left S.faults input.old) (seen S.left S.faults input.new) disk result.disk result.journal
+        (seen K.taken K.faults output.old) (seen K.taken K.faults output.new) }
+    ensures later { (S.faults input.old ≤ S.faults input.new)
+        × (K.faults output.old ≤ K.faults output.new) × (D.faults disk ≤ D.faults result.disk) }
+    ensures reads { S.reads input.new ≤ S.reads input.old + 1048577 }
+    ensures keeps { KeepsDisk D.size D.bytes disk result.disk }
+{
+    match read_script(alloc, input) {
+        Ok(script) => match first_unserved(alloc, script.as_slice()) {
+            Some(line) => {
+                refuse_line(output, line);
+                unrun(alloc, REFUSED_LINE, disk)
+            }
+            None => replay_served(alloc, script.as_slice(), disk, output),
+        },
+        Err(error) => {
+            let status = tell(&error, output);
+            unrun(alloc, status, disk)
+        }
+    }
+}
