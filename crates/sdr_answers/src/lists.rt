@@ -43,8 +43,10 @@ fn list_destroy<O: Objects>(o: &mut O, list: Addr, page: &mut Page) -> Result<Re
     requires spare { (O.heap o.old).size / 4 + 4 ≤ (O.heap o.old).spare }
     requires list { IsList (O.heap o.old).blocks list }
     requires unmoved { (O.heap o.old).moves ≡ [] }
-    ensures comes { Comes (calls.ListDestroy list) (O.heap o.old) (O.heap o.new) page.old page.new result }
-    ensures works { Works O.HasHeap (24 * (elements_in ((O.heap o.old).blocks list) + 1)) o.old o.new result }
+    ensures comes { Comes (calls.ListDestroy list) (O.heap o.old) (O.heap o.new) page.old page.new
+        result }
+    ensures works { Works O.HasHeap (24 * (elements_in ((O.heap o.old).blocks list) + 1)) o.old
+        o.new result }
 {
     sdr_list::destroy(o, list)?;
     page.clear();
@@ -56,7 +58,8 @@ fn list_length<O: Objects>(o: &mut O, list: Addr, page: &mut Page) -> Result<Rep
     requires kept { KeepsSome (O.keeps o.old) }
     requires list { IsList (O.heap o.old).blocks list }
     requires unmoved { (O.heap o.old).moves ≡ [] }
-    ensures comes { Comes (calls.ListLength list) (O.heap o.old) (O.heap o.new) page.old page.new result }
+    ensures comes { Comes (calls.ListLength list) (O.heap o.old) (O.heap o.new) page.old page.new
+        result }
     ensures works { Works O.HasHeap 0 o.old o.new result }
 {
     let value = sdr_list::length(o, list)?;
@@ -69,7 +72,8 @@ fn list_user<O: Objects>(o: &mut O, list: Addr, page: &mut Page) -> Result<Reply
     requires kept { KeepsSome (O.keeps o.old) }
     requires list { IsList (O.heap o.old).blocks list }
     requires unmoved { (O.heap o.old).moves ≡ [] }
-    ensures comes { Comes (calls.ListUser list) (O.heap o.old) (O.heap o.new) page.old page.new result }
+    ensures comes { Comes (calls.ListUser list) (O.heap o.old) (O.heap o.new) page.old page.new
+        result }
     ensures works { Works O.HasHeap 0 o.old o.new result }
 {
     let value = sdr_list::user_data(o, list)?;
@@ -87,7 +91,8 @@ fn set_list_user<O: Objects>(
     requires kept { KeepsSome (O.keeps o.old) }
     requires list { IsList (O.heap o.old).blocks list }
     requires unmoved { (O.heap o.old).moves ≡ [] }
-    ensures comes { Comes (calls.SetListUser list user) (O.heap o.old) (O.heap o.new) page.old page.new result }
+    ensures comes { Comes (calls.SetListUser list user) (O.heap o.old) (O.heap o.new) page.old
+        page.new result }
     ensures works { Works O.HasHeap 2 o.old o.new result }
     ensures word { IsWord user }
 {
@@ -107,7 +112,8 @@ fn insert_first<O: Objects>(
     requires spare { 1 ≤ (O.heap o.old).spare }
     requires list { IsList (O.heap o.old).blocks list }
     requires unmoved { (O.heap o.old).moves ≡ [] }
-    ensures comes { Comes (calls.InsertFirst list datum) (O.heap o.old) (O.heap o.new) page.old page.new result }
+    ensures comes { Comes (calls.InsertFirst list datum) (O.heap o.old) (O.heap o.new) page.old
+        page.new result }
     ensures works { Works O.HasHeap 35 o.old o.new result }
     ensures word { IsWord datum }
 {
@@ -127,7 +133,8 @@ fn insert_last<O: Objects>(
     requires spare { 1 ≤ (O.heap o.old).spare }
     requires list { IsList (O.heap o.old).blocks list }
     requires unmoved { (O.heap o.old).moves ≡ [] }
-    ensures comes { Comes (calls.InsertLast list datum) (O.heap o.old) (O.heap o.new) page.old page.new result }
+    ensures comes { Comes (calls.InsertLast list datum) (O.heap o.old) (O.heap o.new) page.old
+        page.new result }
     ensures works { Works O.HasHeap 35 o.old o.new result }
     ensures word { IsWord datum }
 {
@@ -147,7 +154,8 @@ fn insert_before<O: Objects>(
     requires spare { 1 ≤ (O.heap o.old).spare }
     requires element { IsElement (O.heap o.old).blocks element }
     requires unmoved { (O.heap o.old).moves ≡ [] }
-    ensures comes { Comes (calls.InsertBefore element datum) (O.heap o.old) (O.heap o.new) page.old page.new result }
+    ensures comes { Comes (calls.InsertBefore element datum) (O.heap o.old) (O.heap o.new) page.old
+        page.new result }
     ensures works { Works O.HasHeap 35 o.old o.new result }
     ensures word { IsWord datum }
 {
@@ -167,7 +175,8 @@ fn insert_after<O: Objects>(
     requires spare { 1 ≤ (O.heap o.old).spare }
     requires element { IsElement (O.heap o.old).blocks element }
     requires unmoved { (O.heap o.old).moves ≡ [] }
-    ensures comes { Comes (calls.InsertAfter element datum) (O.heap o.old) (O.heap o.new) page.old page.new result }
+    ensures comes { Comes (calls.InsertAfter element datum) (O.heap o.old) (O.heap o.new) page.old
+        page.new result }
     ensures works { Works O.HasHeap 35 o.old o.new result }
     ensures word { IsWord datum }
 {
@@ -188,7 +197,8 @@ fn insert_ordered<O: Objects>(
     requires spare { 1 ≤ (O.heap o.old).spare }
     requires list { IsList (O.heap o.old).blocks list }
     requires unmoved { (O.heap o.old).moves ≡ [] }
-    ensures comes { Comes (calls.InsertOrdered list datum keys) (O.heap o.old) (O.heap o.new) page.old page.new result }
+    ensures comes { Comes (calls.InsertOrdered list datum keys) (O.heap o.old) (O.heap o.new)
+        page.old page.new result }
     ensures works { Works O.HasHeap 35 o.old o.new result }
     ensures word { IsWord datum }
 {
@@ -208,7 +218,8 @@ fn search<O: Objects>(
     requires kept { KeepsSome (O.keeps o.old) }
     requires list { IsList (O.heap o.old).blocks list }
     requires unmoved { (O.heap o.old).moves ≡ [] }
-    ensures comes { Comes (calls.Search list datum keys) (O.heap o.old) (O.heap o.new) page.old page.new result }
+    ensures comes { Comes (calls.Search list datum keys) (O.heap o.old) (O.heap o.new) page.old
+        page.new result }
     ensures works { Works O.HasHeap 0 o.old o.new result }
 {
     let addr = sdr_list::search(o, list, datum, &collation(keys))?;
@@ -222,7 +233,8 @@ fn delete<O: Objects>(o: &mut O, element: Addr, page: &mut Page) -> Result<Reply
     requires spare { 1 ≤ (O.heap o.old).spare }
     requires element { IsElement (O.heap o.old).blocks element }
     requires unmoved { (O.heap o.old).moves ≡ [] }
-    ensures comes { Comes (calls.Delete element) (O.heap o.old) (O.heap o.new) page.old page.new result }
+    ensures comes { Comes (calls.Delete element) (O.heap o.old) (O.heap o.new) page.old page.new
+        result }
     ensures works { Works O.HasHeap 30 o.old o.new result }
 {
     sdr_list::delete(o, element)?;
@@ -235,7 +247,8 @@ fn first<O: Objects>(o: &mut O, list: Addr, page: &mut Page) -> Result<Reply, St
     requires kept { KeepsSome (O.keeps o.old) }
     requires list { IsList (O.heap o.old).blocks list }
     requires unmoved { (O.heap o.old).moves ≡ [] }
-    ensures comes { Comes (calls.First list) (O.heap o.old) (O.heap o.new) page.old page.new result }
+    ensures comes { Comes (calls.First list) (O.heap o.old) (O.heap o.new) page.old page.new
+        result }
     ensures works { Works O.HasHeap 0 o.old o.new result }
 {
     let addr = sdr_list::first(o, list)?;
@@ -261,7 +274,8 @@ fn next<O: Objects>(o: &mut O, element: Addr, page: &mut Page) -> Result<Reply, 
     requires kept { KeepsSome (O.keeps o.old) }
     requires element { IsElement (O.heap o.old).blocks element }
     requires unmoved { (O.heap o.old).moves ≡ [] }
-    ensures comes { Comes (calls.Next element) (O.heap o.old) (O.heap o.new) page.old page.new result }
+    ensures comes { Comes (calls.Next element) (O.heap o.old) (O.heap o.new) page.old page.new
+        result }
     ensures works { Works O.HasHeap 0 o.old o.new result }
 {
     let addr = sdr_list::next(o, element)?;
@@ -274,7 +288,8 @@ fn prev<O: Objects>(o: &mut O, element: Addr, page: &mut Page) -> Result<Reply, 
     requires kept { KeepsSome (O.keeps o.old) }
     requires element { IsElement (O.heap o.old).blocks element }
     requires unmoved { (O.heap o.old).moves ≡ [] }
-    ensures comes { Comes (calls.Prev element) (O.heap o.old) (O.heap o.new) page.old page.new result }
+    ensures comes { Comes (calls.Prev element) (O.heap o.old) (O.heap o.new) page.old page.new
+        result }
     ensures works { Works O.HasHeap 0 o.old o.new result }
 {
     let addr = sdr_list::prev(o, element)?;
@@ -287,7 +302,8 @@ fn datum<O: Objects>(o: &mut O, element: Addr, page: &mut Page) -> Result<Reply,
     requires kept { KeepsSome (O.keeps o.old) }
     requires element { IsElement (O.heap o.old).blocks element }
     requires unmoved { (O.heap o.old).moves ≡ [] }
-    ensures comes { Comes (calls.Datum element) (O.heap o.old) (O.heap o.new) page.old page.new result }
+    ensures comes { Comes (calls.Datum element) (O.heap o.old) (O.heap o.new) page.old page.new
+        result }
     ensures works { Works O.HasHeap 0 o.old o.new result }
 {
     let value = sdr_list::datum(o, element)?;
@@ -305,7 +321,8 @@ fn set_datum<O: Objects>(
     requires kept { KeepsSome (O.keeps o.old) }
     requires element { IsElement (O.heap o.old).blocks element }
     requires unmoved { (O.heap o.old).moves ≡ [] }
-    ensures comes { Comes (calls.SetDatum element datum) (O.heap o.old) (O.heap o.new) page.old page.new result }
+    ensures comes { Comes (calls.SetDatum element datum) (O.heap o.old) (O.heap o.new) page.old
+        page.new result }
     ensures works { Works O.HasHeap 2 o.old o.new result }
     ensures word { IsWord datum }
 {

@@ -17,7 +17,8 @@ fn malloc<O: Objects>(o: &mut O, bytes: u64, page: &mut Page) -> Result<Reply, S
     requires kept { KeepsSome (O.keeps o.old) }
     requires spare { 1 ≤ (O.heap o.old).spare }
     requires unmoved { (O.heap o.old).moves ≡ [] }
-    ensures comes { Comes (calls.Malloc bytes) (O.heap o.old) (O.heap o.new) page.old page.new result }
+    ensures comes { Comes (calls.Malloc bytes) (O.heap o.old) (O.heap o.new) page.old page.new
+        result }
     ensures works { Works O.HasHeap (24 + (8 + bytes) / 64) o.old o.new result }
 {
     let addr = sdr_heap::malloc(o, bytes)?;
@@ -43,7 +44,8 @@ fn free<O: Objects>(o: &mut O, addr: Addr, page: &mut Page) -> Result<Reply, Sto
 fn length<O: Objects>(o: &mut O, addr: Addr, page: &mut Page) -> Result<Reply, Stop>
     requires kept { KeepsSome (O.keeps o.old) }
     requires unmoved { (O.heap o.old).moves ≡ [] }
-    ensures comes { Comes (calls.Length addr) (O.heap o.old) (O.heap o.new) page.old page.new result }
+    ensures comes { Comes (calls.Length addr) (O.heap o.old) (O.heap o.new) page.old page.new
+        result }
     ensures works { Works O.HasHeap 0 o.old o.new result }
 {
     let value = sdr_heap::length(o, addr)?;
@@ -55,7 +57,8 @@ fn length<O: Objects>(o: &mut O, addr: Addr, page: &mut Page) -> Result<Reply, S
 fn refuse_count<O: Objects>(o: &mut O, addr: Addr, count: u64) -> Result<Reply, Stop>
     requires kept { KeepsSome (O.keeps o.old) }
     requires many { LONGEST_READ < count }
-    ensures refused { IfErr result (λ stop. (place : ℕ) → ReadStops ((O.heap o.old).blocks addr) addr place count stop) }
+    ensures refused { IfErr result (λ stop. (place : ℕ) →
+        ReadStops ((O.heap o.old).blocks addr) addr place count stop) }
     ensures only { OnOk result ⊥ }
     ensures looks { Looks O.HasHeap o.old o.new result }
 {
@@ -80,7 +83,8 @@ fn read_into<O: Objects>(
     requires unmoved { (O.heap o.old).moves ≡ [] }
     requires count { length into.old ≡ count }
     requires few { count ≤ LONGEST_READ }
-    ensures comes { Comes (calls.Read addr place count) (O.heap o.old) (O.heap o.new) page.old page.new result }
+    ensures comes { Comes (calls.Read addr place count) (O.heap o.old) (O.heap o.new) page.old
+        page.new result }
     ensures works { Works O.HasHeap 0 o.old o.new result }
 {
     sdr_heap::read(o, addr, place, into)?;
@@ -99,7 +103,8 @@ fn read<O: Objects>(
     requires kept { KeepsSome (O.keeps o.old) }
     requires whole { IsWhole ((O.heap o.old).blocks addr) }
     requires unmoved { (O.heap o.old).moves ≡ [] }
-    ensures comes { Comes (calls.Read addr place count) (O.heap o.old) (O.heap o.new) page.old page.new result }
+    ensures comes { Comes (calls.Read addr place count) (O.heap o.old) (O.heap o.new) page.old
+        page.new result }
     ensures works { Works O.HasHeap 0 o.old o.new result }
 {
     if count > LONGEST_READ {
@@ -122,7 +127,8 @@ fn stage_into<O: Objects>(
     requires unmoved { (O.heap o.old).moves ≡ [] }
     requires count { length into.old ≡ count }
     requires few { count ≤ LONGEST_READ }
-    ensures comes { Comes (calls.Stage addr count) (O.heap o.old) (O.heap o.new) page.old page.new result }
+    ensures comes { Comes (calls.Stage addr count) (O.heap o.old) (O.heap o.new) page.old page.new
+        result }
     ensures works { Works O.HasHeap 0 o.old o.new result }
 {
     sdr_heap::stage(o, addr, into)?;
@@ -135,7 +141,8 @@ fn stage<O: Objects>(o: &mut O, addr: Addr, count: u64, page: &mut Page) -> Resu
     requires kept { KeepsSome (O.keeps o.old) }
     requires whole { IsWhole ((O.heap o.old).blocks addr) }
     requires unmoved { (O.heap o.old).moves ≡ [] }
-    ensures comes { Comes (calls.Stage addr count) (O.heap o.old) (O.heap o.new) page.old page.new result }
+    ensures comes { Comes (calls.Stage addr count) (O.heap o.old) (O.heap o.new) page.old page.new
+        result }
     ensures works { Works O.HasHeap 0 o.old o.new result }
 {
     if count > LONGEST_READ {
@@ -156,7 +163,8 @@ fn write<O: Objects>(
     requires kept { KeepsSome (O.keeps o.old) }
     requires whole { IsWhole ((O.heap o.old).blocks addr) }
     requires unmoved { (O.heap o.old).moves ≡ [] }
-    ensures comes { Comes (calls.Write addr place from.now) (O.heap o.old) (O.heap o.new) page.old page.new result }
+    ensures comes { Comes (calls.Write addr place from.now) (O.heap o.old) (O.heap o.new) page.old
+        page.new result }
     ensures works { Works O.HasHeap (2 + length from.now / 64) o.old o.new result }
     ensures bytes { AreBytes from.now }
 {

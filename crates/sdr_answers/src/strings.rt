@@ -17,7 +17,8 @@ fn string<O: Objects>(o: &mut O, text: &[u8], page: &mut Page) -> Result<Reply, 
     requires kept { KeepsSome (O.keeps o.old) }
     requires spare { 1 ≤ (O.heap o.old).spare }
     requires unmoved { (O.heap o.old).moves ≡ [] }
-    ensures comes { Comes (calls.String text.now) (O.heap o.old) (O.heap o.new) page.old page.new result }
+    ensures comes { Comes (calls.String text.now) (O.heap o.old) (O.heap o.new) page.old page.new
+        result }
     ensures works { Works O.HasHeap (26 + (1 + length text.now) / 32) o.old o.new result }
     ensures bytes { AreBytes text.now }
 {
@@ -31,7 +32,8 @@ fn string_length<O: Objects>(o: &mut O, addr: Addr, page: &mut Page) -> Result<R
     requires kept { KeepsSome (O.keeps o.old) }
     requires string { IsString ((O.heap o.old).blocks addr) }
     requires unmoved { (O.heap o.old).moves ≡ [] }
-    ensures comes { Comes (calls.StringLength addr) (O.heap o.old) (O.heap o.new) page.old page.new result }
+    ensures comes { Comes (calls.StringLength addr) (O.heap o.old) (O.heap o.new) page.old page.new
+        result }
     ensures works { Works O.HasHeap 0 o.old o.new result }
 {
     let value = sdr_string::length(o, addr)?;
@@ -44,7 +46,8 @@ fn string_read<O: Objects>(o: &mut O, addr: Addr, page: &mut Page) -> Result<Rep
     requires kept { KeepsSome (O.keeps o.old) }
     requires string { IsString ((O.heap o.old).blocks addr) }
     requires unmoved { (O.heap o.old).moves ≡ [] }
-    ensures comes { Comes (calls.StringRead addr) (O.heap o.old) (O.heap o.new) page.old page.new result }
+    ensures comes { Comes (calls.StringRead addr) (O.heap o.old) (O.heap o.new) page.old page.new
+        result }
     ensures works { Works O.HasHeap 0 o.old o.new result }
 {
     let mut text = [0; LONGEST_STRING];
@@ -59,7 +62,8 @@ fn string_dup<O: Objects>(o: &mut O, addr: Addr, page: &mut Page) -> Result<Repl
     requires spare { 1 ≤ (O.heap o.old).spare }
     requires string { IsString ((O.heap o.old).blocks addr) }
     requires unmoved { (O.heap o.old).moves ≡ [] }
-    ensures comes { Comes (calls.StringDup addr) (O.heap o.old) (O.heap o.new) page.old page.new result }
+    ensures comes { Comes (calls.StringDup addr) (O.heap o.old) (O.heap o.new) page.old page.new
+        result }
     ensures works { Works O.HasHeap 34 o.old o.new result }
 {
     let copy = sdr_string::dup(o, addr)?;

@@ -18,8 +18,11 @@ pub fn bundle_is_kept_so()
 /// order 20 in those from 68 on; the world's own words from 89 up to 127; and the start bits from byte 1,024 on. It
 /// does nothing.
 pub fn control_words_stand_so()
-    ensures pools { (control.SIZE ∷ control.START ∷ control.LOW ∷ control.HIGH ∷ []) ≡ (0 ∷ 1 ∷ 2 ∷ 3 ∷ []) }
-    ensures lists { (control.SMALL_LISTS ∷ control.MOST_SMALL ∷ control.LARGE_LISTS ∷ control.MOST_ORDER ∷ [])
+    ensures pools { (control.SIZE ∷ control.START ∷ control.LOW ∷ control.HIGH ∷ [])
+        ≡ (0 ∷ 1 ∷ 2 ∷ 3 ∷ []) }
+    ensures lists { (control.SMALL_LISTS ∷ control.MOST_SMALL ∷ control.LARGE_LISTS ∷
+        control.MOST_ORDER ∷ [])
         ≡ (3 ∷ 64 ∷ 68 ∷ 20 ∷ []) }
-    ensures world { (control.FIRST_NAME ∷ control.CONTROL_WORDS ∷ START_BITS ∷ []) ≡ (89 ∷ 128 ∷ 1024 ∷ []) }
+    ensures world { (control.FIRST_NAME ∷ control.CONTROL_WORDS ∷ START_BITS ∷ [])
+        ≡ (89 ∷ 128 ∷ 1024 ∷ []) }
 {}

@@ -40,7 +40,8 @@ pub trait Objects: HasHeap {
     /// begins there.
     fn kind(&mut self, addr: Addr) -> Result<Option<(Kind, u64)>, Stop>
         requires kept { KeepsSome (Self.keeps self.old) }
-        ensures found { IfOk result (λ found. found ≡ kind_length ((Self.heap self.old).blocks addr)) }
+        ensures found { IfOk result (λ found. found ≡ kind_length
+            ((Self.heap self.old).blocks addr)) }
         ensures refused { IfErr result OnlyFault }
         ensures looks { Looks Self.HasHeap self.old self.new result };
 
@@ -77,7 +78,8 @@ pub trait Objects: HasHeap {
         requires kept { KeepsSome (Self.keeps self.old) }
         requires least { control.FIRST_NAME ≤ word }
         requires most { word < control.CONTROL_WORDS }
-        ensures written { OnOk result (Self.heap self.new ≡ with_root (Self.heap self.old) word value) }
+        ensures written { OnOk result (Self.heap self.new
+            ≡ with_root (Self.heap self.old) word value) }
         ensures refused { IfErr result (OnlyUnmoved (Self.heap self.old) (Self.heap self.new)) }
         ensures works { Works Self.HasHeap 1 self.old self.new result };
 

@@ -42,7 +42,8 @@ pub fn charge_marks(
     ensures begun { world.new.begun ≡ world.old.begun }
     ensures touched { world.new.touched ≡ world.old.touched }
     ensures noted { world.new.noted ≡ world.old.noted }
-    ensures refused { IfOk result (λ r. IfErr r (RefusesCharge world.old.now acct number amounts.now)) }
+    ensures refused { IfOk result (λ r. IfErr r (RefusesCharge world.old.now acct number
+        amounts.now)) }
     ensures same { IfOk result (λ r. OnErr r (world.new.now ≡ world.old.now)) }
     ensures err { OnErr result (world.new.now ≡ world.old.now) }
 {
@@ -74,9 +75,12 @@ fn put_text(world: &mut Undoable, capsule: Capsule)
       shown = [];
       taken = world.old.now.taken + 3;
     } }
-    ensures spaces { (source : ℕ) → space_in (source_at world.new.now source) ≡ space_in (source_at world.old.now source) }
-    ensures occupied { (acct : GhostAcct) (space : GhostSpace) → occupancy world.new.now acct space ≡ occupancy world.old.now acct space }
-    ensures objects { (addr : ℕ) → addr < next_addr world.old.now.taken → object_at world.new.now addr ≡ object_at world.old.now addr }
+    ensures spaces { (source : ℕ) → space_in (source_at world.new.now source)
+        ≡ space_in (source_at world.old.now source) }
+    ensures occupied { (acct : GhostAcct) (space : GhostSpace) →
+        occupancy world.new.now acct space ≡ occupancy world.old.now acct space }
+    ensures objects { (addr : ℕ) → addr < next_addr world.old.now.taken →
+        object_at world.new.now addr ≡ object_at world.old.now addr }
     ensures begun { world.new.begun ≡ world.old.begun }
     ensures owners { world.new.owners ≡ world.old.owners }
     ensures touched { world.new.touched ≡ world.old.touched }
@@ -99,17 +103,22 @@ fn put_text(world: &mut Undoable, capsule: Capsule)
 /// the block of an extent three are counted for each.
 pub fn put_texts(world: &mut Undoable, capsules: Vec<Capsule>)
     requires taken { world.old.now.taken + 3 * length capsules.items < 2 ^ 60 + 2 ^ 30 }
-    requires touched { (k : ℕ) → k < 3 * length capsules.items → Contains world.old.touched (addr_after world.old.now.taken k) }
-    requires noted { (k : ℕ) → k < 3 * length capsules.items → Contains world.old.noted (addr_after world.old.now.taken k) }
+    requires touched { (k : ℕ) → k < 3 * length capsules.items →
+        Contains world.old.touched (addr_after world.old.now.taken k) }
+    requires noted { (k : ℕ) → k < 3 * length capsules.items →
+        Contains world.old.noted (addr_after world.old.now.taken k) }
     requires short { All IsShort capsules.items }
     requires hidden { world.old.now.shown ≡ [] }
     ensures put { world.new.now ≡ record (with_bonded world.old.now (addr_after world.old.now.taken) 0 capsules.items) {
       shown = [];
       taken = world.old.now.taken + 3 * length capsules.items;
     } }
-    ensures spaces { (source : ℕ) → space_in (source_at world.new.now source) ≡ space_in (source_at world.old.now source) }
-    ensures occupied { (acct : GhostAcct) (space : GhostSpace) → occupancy world.new.now acct space ≡ occupancy world.old.now acct space }
-    ensures objects { (addr : ℕ) → addr < next_addr world.old.now.taken → object_at world.new.now addr ≡ object_at world.old.now addr }
+    ensures spaces { (source : ℕ) → space_in (source_at world.new.now source)
+        ≡ space_in (source_at world.old.now source) }
+    ensures occupied { (acct : GhostAcct) (space : GhostSpace) →
+        occupancy world.new.now acct space ≡ occupancy world.old.now acct space }
+    ensures objects { (addr : ℕ) → addr < next_addr world.old.now.taken →
+        object_at world.new.now addr ≡ object_at world.old.now addr }
     ensures begun { world.new.begun ≡ world.old.begun }
     ensures owners { world.new.owners ≡ world.old.owners }
     ensures touched_stay { world.new.touched ≡ world.old.touched }

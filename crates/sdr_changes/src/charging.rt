@@ -42,7 +42,8 @@ pub fn charge_account(
     ensures room { IfOk result (λ r. OnOk r (HasRoomFor world.new.now acct amounts.now)) }
     ensures back { IfOk result (λ r. IfOk r (λ p. with_back world.new.now p ≡ world.old.now)) }
     ensures may_take_back { IfOk result (λ r. IfOk r (MayTakeBack world.new.now)) }
-    ensures refused { IfOk result (λ r. IfErr r (RefusesCharge world.old.now acct number amounts.now)) }
+    ensures refused { IfOk result (λ r. IfErr r (RefusesCharge world.old.now acct number
+        amounts.now)) }
     ensures same { IfOk result (λ r. OnErr r (world.new ≡ world.old)) }
     ensures err { OnErr result (world.new ≡ world.old) }
 {
@@ -72,7 +73,8 @@ pub fn occupancy(world: &Undoable, acct: Acct, space: Space) -> u64
 // The maxima of an account with this one of a space.
 fn maxima_with(world: &Undoable, acct: Acct, space: Space, value: u64) -> Amounts
     requires small { value ≤ most_amount }
-    ensures value { result ≡ with_amount (account_of world.now.now.accounts acct).maxima space value }
+    ensures value { result ≡ with_amount (account_of world.now.now.accounts acct).maxima space
+        value }
     ensures small { (other : GhostSpace) → amount result other ≤ most_amount }
 {
     world.known();

@@ -36,7 +36,8 @@ fn cut_charge(world: &Undoable, extent: &Extent, left: u64) -> Amounts
 /// It looks at each, and takes the logarithm of the world for each that loses bytes.
 pub fn cuts_charge(world: &Undoable, from: u64, to: u64, extents: &[Extent]) -> Amounts
     requires ends { All EndsInTime extents.now }
-    requires small { (space : GhostSpace) → sum_by (extent_charge world.now.now space) extents.now ≤ 2 ^ 41 }
+    requires small { (space : GhostSpace) → sum_by (extent_charge world.now.now space) extents.now ≤
+        2 ^ 41 }
     ensures { (space : GhostSpace) →
         sum_by (extent_charge world.now.now space) (cut_all from to extents.now) + amount result space
         ≡ sum_by (extent_charge world.now.now space) extents.now }

@@ -33,7 +33,8 @@ pub fn charge_blocks(
     ensures begun { world.new.begun ≡ world.old.begun }
     ensures touched { world.new.touched ≡ world.old.touched }
     ensures noted { world.new.noted ≡ world.old.noted }
-    ensures refused { IfOk result (λ r. IfErr r (RefusesCharge world.old.now acct number amounts.now)) }
+    ensures refused { IfOk result (λ r. IfErr r (RefusesCharge world.old.now acct number
+        amounts.now)) }
     ensures same { IfOk result (λ r. OnErr r (world.new.now ≡ world.old.now)) }
     ensures err { OnErr result (world.new.now ≡ world.old.now) }
 {

@@ -51,7 +51,8 @@ fn gives_bytes(answer: Answer) -> bool
 // The bytes that the call gave, if one was made.
 fn bytes_of(mut room: Vec<u8>, came: Came, shown: &[u8]) -> Bytes
     requires blank { room.items ≡ [] }
-    requires fit { length (if came.called then bytes_given came.answer shown.now else []) ≤ vec_capacity room }
+    requires fit { length (if came.called then bytes_given came.answer shown.now else []) ≤
+        vec_capacity room }
     ensures { result ≡ (if came.called then bytes_given came.answer shown.now else []) }
 {
     if came.called && gives_bytes(came.answer) {

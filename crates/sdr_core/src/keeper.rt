@@ -54,7 +54,8 @@ impl Keeper {
         requires { daemons ≤ 256 }
         ensures same { log_of self.new ≡ log_of self.old }
         ensures ok { OnOk result (HasRoom self.new daemon) }
-        ensures leaves { OnOk result (vec_len self.new.journal + (1 + 2 * daemons) ≤ vec_capacity self.new.journal) }
+        ensures leaves { OnOk result (vec_len self.new.journal
+            + (1 + 2 * daemons) ≤ vec_capacity self.new.journal) }
         ensures stays { (n : ℕ) → HasRoomFor n self.old → HasRoomFor n self.new }
     {
         self.works.reserve(1)?;
@@ -67,7 +68,8 @@ impl Keeper {
         requires room { HasRoom self.old daemon }
         requires blank { first.items ≡ [] }
         requires begins { 2 ≤ vec_capacity first }
-        ensures works { works_of self.new.works.items ≡ with_said (works_of self.old.works.items) daemon said }
+        ensures works { works_of self.new.works.items ≡ with_said (works_of self.old.works.items)
+            daemon said }
         ensures journal { self.new.journal ≡ self.old.journal }
         ensures spacious { AreSpacious self.old.works.items → AreSpacious self.new.works.items }
     {
@@ -84,7 +86,8 @@ impl Keeper {
     fn add(&mut self, noted: &Noted, what: What)
         requires room { vec_len self.old.journal < vec_capacity self.old.journal }
         ensures works { self.new.works ≡ self.old.works }
-        ensures journal { self.new.journal.items ≡ self.old.journal.items ++ entry_noted noted.now what ∷ [] }
+        ensures journal { self.new.journal.items ≡ self.old.journal.items
+            ++ entry_noted noted.now what ∷ [] }
         ensures room { AddsOne self.old.journal self.new.journal }
     {
         self.journal.push_reserved(noted.entry(what));
@@ -94,7 +97,8 @@ impl Keeper {
     fn take_said(&mut self, daemon: u8) -> Vec<Said>
         requires apart { AreApart (works_of self.old.works.items) }
         ensures said { result.items ≡ said_by (works_of self.old.works.items) daemon }
-        ensures works { works_of self.new.works.items ≡ without_work (works_of self.old.works.items) daemon }
+        ensures works { works_of self.new.works.items ≡ without_work (works_of self.old.works.items)
+            daemon }
         ensures journal { self.new.journal ≡ self.old.journal }
         ensures spacious { AreSpacious self.old.works.items → AreSpacious self.new.works.items }
     {
@@ -108,7 +112,8 @@ impl Keeper {
     fn close(&mut self, noted: &Noted, close: Close)
         requires apart { AreApart (works_of self.old.works.items) }
         requires room { vec_len self.old.journal < vec_capacity self.old.journal }
-        ensures works { works_of self.new.works.items ≡ without_work (works_of self.old.works.items) noted.now.daemon }
+        ensures works { works_of self.new.works.items ≡ without_work (works_of self.old.works.items)
+            noted.now.daemon }
         ensures journal { self.new.journal.items ≡ self.old.journal.items
             ++ entry_noted noted.now (whats.Work (said_by (works_of self.old.works.items) noted.now.daemon) close) ∷ [] }
         ensures room { AddsOne self.old.journal self.new.journal }
@@ -165,7 +170,8 @@ impl Keeper {
         requires apart { AreApart (works_of self.old.works.items) }
         requires room { HasRoomFor 1 self.old }
         requires kept { IsSome (spoken_of self.old.works.items noted.now.daemon) }
-        ensures works { works_of self.new.works.items ≡ without_work (works_of self.old.works.items) noted.now.daemon }
+        ensures works { works_of self.new.works.items ≡ without_work (works_of self.old.works.items)
+            noted.now.daemon }
         ensures journal { self.new.journal.items ≡ self.old.journal.items
             ++ entry_noted noted.now (whats.Work (said_by (works_of self.old.works.items) noted.now.daemon ++ said ∷ []) close) ∷ [] }
         ensures room { AddsOne self.old.journal self.new.journal }
@@ -183,13 +189,17 @@ impl Keeper {
     /// Notes a leave that was made. It takes no memory.
     pub fn note_leave(&mut self, noted: &Noted, event: &Event, leave: Leave)
         requires leaves { event.now ≡ Event.Leaves leave }
-        requires room { HasRoomFor (entries_of (what_of (under_of noted.now.under) (works_of self.old.works.items) (made_noted noted.now event.now [] []))) self.old }
+        requires room { HasRoomFor (entries_of (what_of (under_of noted.now.under)
+            (works_of self.old.works.items) (made_noted noted.now event.now [] []))) self.old }
         requires kept { ClosesKept self.old noted.now.daemon noted.now.came.answer }
         requires apart { AreApart (works_of self.old.works.items) }
         requires outside { PassesUnlessClosing event.now noted.now.came.answer }
-        ensures log { log_of self.new ≡ log_after (under_of noted.now.under) (log_of self.old) (made_noted noted.now event.now [] []) }
+        ensures log { log_of self.new ≡ log_after (under_of noted.now.under) (log_of self.old)
+            (made_noted noted.now event.now [] []) }
         ensures apart { AreApart (works_of self.new.works.items) }
-        ensures room { AddsEntries (what_of (under_of noted.now.under) (works_of self.old.works.items) (made_noted noted.now event.now [] [])) self.old.journal self.new.journal }
+        ensures room { AddsEntries (what_of (under_of noted.now.under)
+            (works_of self.old.works.items) (made_noted noted.now event.now [] [])) self.old.journal
+            self.new.journal }
         ensures spacious { AreSpacious self.new.works.items }
     {
         match closed_by(noted.came.answer) {

@@ -13,7 +13,8 @@ use sdr_model::{Event, Leave};
 // Adds those of these daemons that haven't left.
 fn add_staying(daemons: &[Daemon], ids: &mut Vec<u8>)
     requires room { vec_len ids.old + length daemons.now ≤ vec_capacity ids.old }
-    ensures items { ids.new.items ≡ ids.old.items ++ map (λ d. d.id) (filter (λ d. not d.left) daemons.now) }
+    ensures items { ids.new.items ≡ ids.old.items ++ map (λ d.
+        d.id) (filter (λ d. not d.left) daemons.now) }
 {
     match daemons {
         [] => (),
@@ -31,7 +32,8 @@ impl<T: Tells, J: Origin> Core<T, J> {
     fn make_leave(&mut self, daemon: u8, leave: Leave) -> Came
         requires drawn { MayDraw self.old.lock.roll (held_by self.old.lock.roll daemon) }
         requires lasts { T.lasts self.old.lock.base 1 }
-        ensures { Makes T.HasGround daemon 0 (Event.Leaves leave) result self.old.lock self.old.log self.new.lock self.new.log }
+        ensures { Makes T.HasGround daemon 0 (Event.Leaves leave) result self.old.lock self.old.log
+            self.new.lock self.new.log }
     {
         let Ok(came) = self.event(daemon, 0, &Event::Leaves(leave)) else {
             unreachable!();
@@ -42,11 +44,13 @@ impl<T: Tells, J: Origin> Core<T, J> {
     // The daemon whose number is served makes a leave, until none is.
     fn holders_leave(&mut self, leave: Leave)
         requires lasts { LastsOn T.HasGround self.old.lock.base }
-        ensures left { RunLeads T.HasGround (HoldersLeave (T.told self.old.lock.base) leave) self.old self.new }
+        ensures left { RunLeads T.HasGround (HoldersLeave (T.told self.old.lock.base) leave)
+            self.old self.new }
         ensures lasts { LastsOn T.HasGround self.new.lock.base }
         ensures told { T.told self.new.lock.base ≡ T.told self.old.lock.base }
         ensures daemons { length self.new.lock.roll.daemons ≡ length self.old.lock.roll.daemons }
-        ensures drawn { self.new.lock.roll.drawn ≤ self.old.lock.roll.drawn + holders self.old.lock.roll.daemons }
+        ensures drawn { self.new.lock.roll.drawn ≤ self.old.lock.roll.drawn
+            + holders self.old.lock.roll.daemons }
     {
         if let Some(daemon) = self.roll().served() {
             self.make_leave(daemon.id, leave);
@@ -58,7 +62,8 @@ impl<T: Tells, J: Origin> Core<T, J> {
     fn leave_in_turn(&mut self, daemons: &[u8], leave: Leave)
         requires lasts { LastsOn T.HasGround self.old.lock.base }
         requires drawn { self.old.lock.roll.drawn + length daemons.now ≤ 2 ^ 60 }
-        ensures left { RunLeads T.HasGround (LeaveInTurn (T.told self.old.lock.base) leave daemons.now) self.old self.new }
+        ensures left { RunLeads T.HasGround (LeaveInTurn (T.told self.old.lock.base) leave
+            daemons.now) self.old self.new }
     {
         match daemons {
             [] => (),
@@ -76,7 +81,8 @@ impl<T: Tells, J: Origin> Core<T, J> {
         requires drawn { self.old.lock.roll.drawn + 2 * length self.old.lock.roll.daemons ≤ 2 ^ 60 }
         requires empty { room.items ≡ [] }
         requires room { length self.old.lock.roll.daemons ≤ vec_capacity room }
-        ensures left { RunLeads T.HasGround (AllLeave (T.told self.old.lock.base) leave) self.old self.new }
+        ensures left { RunLeads T.HasGround (AllLeave (T.told self.old.lock.base) leave) self.old
+            self.new }
     {
         self.holders_leave(leave);
         add_staying(self.roll().daemons(), &mut room);

@@ -37,7 +37,8 @@ fn looks_again(known: &Daemon, event: &Event) -> bool
 
 // Room for what the event may come to.
 fn room_for<T: Tells>(base: &T, event: &Event) -> Result<Room, NoMemory>
-    ensures { IfOk result (λ room. (v : Standing) → T.stands base.now v → HoldsEvent room v.now event.now) }
+    ensures { IfOk result (λ room. (v : Standing) → T.stands base.now v →
+        HoldsEvent room v.now event.now) }
 {
     match event {
         Event::Say(call) => base.room_for(call),
@@ -165,7 +166,8 @@ pub fn make<T: Tells>(
     requires room { HasRoomFor (leaves_ahead lock.old.roll.daemons) keeper.old }
     ensures makes { IfOk result (λ came. Makes T.HasGround daemon line event.now came
         lock.old (log_of keeper.old) lock.new (log_of keeper.new)) }
-    ensures room { IfOk result (λ came. HasRoomOr lock.old.roll.daemons lock.new.roll.daemons keeper.new) }
+    ensures room { IfOk result (λ came. HasRoomOr lock.old.roll.daemons lock.new.roll.daemons
+        keeper.new) }
     ensures err { OnErr result (IsSame lock.old keeper.old lock.new keeper.new) }
     ensures apart { AreApart (works_of keeper.new.works.items) }
 {

@@ -37,7 +37,8 @@ pub fn reserve_said(spoken: &mut Vec<Spoken>, daemon: u8) -> Result<(), NoMemory
 /// A daemon says this too in its transaction. It takes no memory. What was said comes back where it is in none.
 pub fn say(spoken: &mut Vec<Spoken>, daemon: u8, said: Said) -> Option<Said>
     requires { MaySay 2 spoken.old.items daemon }
-    ensures says { MatchOption result (works_of spoken.new.items ≡ with_said (works_of spoken.old.items) daemon said)
+    ensures says { MatchOption result (works_of spoken.new.items
+        ≡ with_said (works_of spoken.old.items) daemon said)
         (λ back. (back ≡ said) × (spoken.new ≡ spoken.old) × (spoken_of spoken.old.items daemon ≡ None)) }
     ensures capacity { vec_capacity spoken.new ≡ vec_capacity spoken.old }
     ensures spacious { AreSpacious spoken.old.items → AreSpacious spoken.new.items }
@@ -58,7 +59,8 @@ pub fn take_spoken(spoken: &mut Vec<Spoken>, daemon: u8) -> Option<Spoken>
     ensures own { MatchOption result (spoken_of spoken.old.items daemon ≡ None)
         (λ own. own.said.items ≡ said_by (works_of spoken.old.items) daemon) }
     ensures capacity { vec_capacity spoken.new ≡ vec_capacity spoken.old }
-    ensures spacious { AreSpacious spoken.old.items → AreSpacious spoken.new.items × IfSome result (HasSpace 1) }
+    ensures spacious { AreSpacious spoken.old.items →
+        AreSpacious spoken.new.items × IfSome result (HasSpace 1) }
 {
     match place_of(spoken.as_slice(), daemon) {
         None => None,

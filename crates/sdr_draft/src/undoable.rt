@@ -158,7 +158,8 @@ impl Undoable {
     pub fn spot(&self, element: Addr) -> Option<Spot<'_>>
         ensures is { SpotIs result (spot_of self.now.now element) }
         ensures within { IsWithin result }
-        ensures there { IfSome result (λ s. thing_at self.now.now s.list ≡ Some (Thing.List s.row.now)) }
+        ensures there { IfSome result (λ s. thing_at self.now.now s.list
+            ≡ Some (Thing.List s.row.now)) }
         ensures may_have { IfSome result (λ s. MayHave self.now s.list element) }
     {
         let owner = self.owners.get(element)?;

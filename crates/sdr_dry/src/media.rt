@@ -48,7 +48,8 @@ fn ask<M: Media>(media: &mut M, piece: &Piece, into: &mut [u8]) -> Result<u64, M
     requires whole { length into.old ≡ piece_length piece.now }
     ensures had { IfOk result (λ have. HasGiven (M.told media.old) piece.now into.new have
         (OfMedia (lies_with_media piece.now) (Rose (M.short media.old) (M.short media.new)))) }
-    ensures failed { OnErr result (OfMedia (lies_with_media piece.now) (Rose (M.faults media.old) (M.faults media.new))) }
+    ensures failed { OnErr result (OfMedia (lies_with_media piece.now)
+        (Rose (M.faults media.old) (M.faults media.new))) }
     ensures same { length into.new ≡ length into.old }
     ensures told { M.told media.new ≡ M.told media.old }
     ensures faults { M.faults media.old ≤ M.faults media.new }

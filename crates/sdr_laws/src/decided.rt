@@ -15,7 +15,8 @@ ghost use Rattle.sdr_model.specs.declared.call.Call.{Call};
 /// the same addresses. Those of a call that reads media may differ in the bytes shown, and in nothing else. It
 /// does nothing.
 pub fn rows_decide()
-    ensures same { (w : World) (call : Call) (at : ℕ → ℕ) (o o' : Outcome) → reads_media call ≡ false →
+    ensures same { (w : World) (call : Call) (at : ℕ → ℕ) (o o' : Outcome) →
+        reads_media call ≡ false →
         ByRow w o call → ByRow w o' call → TakesAt at o.moves → TakesAt at o'.moves → o ≡ o' }
     ensures but_bytes { (w : World) (call : Call) (at : ℕ → ℕ) (o o' : Outcome) →
         ByRow w o call → ByRow w o' call → TakesAt at o.moves → TakesAt at o'.moves → SameButShown o o' }
@@ -27,7 +28,8 @@ pub fn dry_decides()
     ensures same { (w w' v : World) (call : Call) (moves others : List Move) (reply other : Reply) →
         reads_media call ≡ false → StepsDry w call moves w' reply → StepsDry w call others v other →
         (moves ≡ others) × (w' ≡ v) × (reply ≡ other) }
-    ensures but_bytes { (w w' v : World) (call : Call) (moves others : List Move) (reply other : Reply) →
+    ensures but_bytes { (w w' v : World) (call : Call) (moves others : List Move)
+        (reply other : Reply) →
         StepsDry w call moves w' reply → StepsDry w call others v other →
         (moves ≡ others) × (w' ≡ record v { shown = w'.shown }) × (reply ≡ other) }
 {}

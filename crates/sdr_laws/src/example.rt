@@ -28,7 +28,8 @@ pub fn example_meets_the_laws()
     ensures object_goes { (at : ℕ → ℕ) →
         row_moves example (calls.Destroy 72) at ≡ Gave 80 ∷ Gave 56 ∷ Gave 64 ∷ Gave 88 ∷ Gave 72 ∷ [] }
     ensures fresh { AreFresh (addresses_of (blocks_of example)) (Took 32 104 ∷ []) }
-    ensures gains { Step example (calls.InsertLast 8 9) (Took 32 104 ∷ []) example_longer (replies.At 104) }
+    ensures gains { Step example (calls.InsertLast 8 9) (Took 32 104 ∷ []) example_longer
+        (replies.At 104) }
     ensures stops { Step example (calls.InsertLast 8 9) (Short 32 ∷ []) example
         (replies.Refused (refusals.NoBlock 32)) }
 {}

@@ -66,7 +66,8 @@ impl<T: Serves> Lock<T> {
     // The disk has failed in an event of a daemon, whose number is done.
     fn fail(&mut self, daemon: Daemon) -> Came
         ensures answer { result ≡ record { answer = Answer.Reply Reply.DiskFault; called = false } }
-        ensures roll { self.new.roll ≡ with_fault (with_daemon self.old.roll (after_entry daemon)) (T.moment self.new.base) }
+        ensures roll { self.new.roll ≡ with_fault (with_daemon self.old.roll (after_entry daemon))
+            (T.moment self.new.base) }
         ensures base { self.new.base ≡ self.old.base }
     {
         self.roll.put(daemon.after_entry());
@@ -79,7 +80,8 @@ impl<T: Serves> Lock<T> {
         requires lasts { T.lasts self.old.base 1 }
         requires sound { self.old.roll.failed ≡ None }
         requires undoomed { holding.nesting.doom ≡ None }
-        ensures serves { IfOk result (λ came. Acts T.HasGround (keeps_in holding.nesting (Event.Say call.now))
+        ensures serves { IfOk result (λ came. Acts T.HasGround
+            (keeps_in holding.nesting (Event.Say call.now))
             (λ m e m'. Serves m daemon holding (Event.Say call.now) e m') daemon.id (Event.Say call.now) came self.old self.new) }
         ensures err { OnErr result (self.new ≡ self.old) }
     {
@@ -102,7 +104,8 @@ impl<T: Serves> Lock<T> {
     fn say(&mut self, daemon: Daemon, holding: Holding, call: &Call) -> Result<Came, NoMemory>
         requires lasts { T.lasts self.old.base 1 }
         requires sound { self.old.roll.failed ≡ None }
-        ensures serves { IfOk result (λ came. Acts T.HasGround (keeps_in holding.nesting (Event.Say call.now))
+        ensures serves { IfOk result (λ came. Acts T.HasGround
+            (keeps_in holding.nesting (Event.Say call.now))
             (λ m e m'. Serves m daemon holding (Event.Say call.now) e m') daemon.id (Event.Say call.now) came self.old self.new) }
         ensures err { OnErr result (self.new ≡ self.old) }
     {
@@ -118,8 +121,10 @@ impl<T: Serves> Lock<T> {
     // Keeps or puts back the transaction, whose number is then done. Only one that is kept may find no memory.
     fn finish(&mut self, daemon: Daemon, holding: &Holding, event: &Event) -> Result<Came, NoMemory>
         requires sound { self.old.roll.failed ≡ None }
-        requires closing { (s : State) → is_closing (transaction_of holding.now s) event.now ≡ true }
-        ensures closes { IfOk result (λ came. Acts T.HasGround (keeps_in holding.now.nesting event.now)
+        requires closing { (s : State) → is_closing (transaction_of holding.now s) event.now
+            ≡ true }
+        ensures closes { IfOk result (λ came. Acts T.HasGround
+            (keeps_in holding.now.nesting event.now)
             (λ m e m'. Closes m daemon holding.now e m' ⊎ FaultsWithin m daemon holding.now event.now e m')
             daemon.id event.now came self.old self.new) }
         ensures err { OnErr result (self.new ≡ self.old) }
@@ -138,7 +143,8 @@ impl<T: Serves> Lock<T> {
 
     // The first begin under a number that was drawn before.
     fn open(&mut self, daemon: Daemon, holding: Holding) -> Came
-        ensures { Acts T.HasGround false (λ m e m'. Opens m daemon holding e m') daemon.id Event.Begin result self.old self.new }
+        ensures { Acts T.HasGround false (λ m e m'.
+            Opens m daemon holding e m') daemon.id Event.Begin result self.old self.new }
     {
         let number = holding.number;
         self.roll.put(daemon.at_nesting(holding, Nesting::at(1)));
@@ -147,7 +153,9 @@ impl<T: Serves> Lock<T> {
 
     // A begin: the first one, or an inner one.
     fn begin(&mut self, daemon: Daemon, holding: Holding) -> Came
-        ensures { Acts T.HasGround false (λ m e m'. Serves m daemon holding Event.Begin e m') daemon.id Event.Begin result self.old self.new }
+        ensures { Acts T.HasGround false (λ m e m'.
+            Serves m daemon holding Event.Begin e m') daemon.id Event.Begin result self.old
+            self.new }
     {
         let mut nesting = holding.nesting;
         if nesting.depth == 0 {
@@ -161,7 +169,8 @@ impl<T: Serves> Lock<T> {
     // An end: the outermost one, or an inner one.
     fn end(&mut self, daemon: Daemon, holding: Holding) -> Result<Came, NoMemory>
         requires sound { self.old.roll.failed ≡ None }
-        ensures closes { IfOk result (λ came. Acts T.HasGround (keeps_in holding.nesting Event.End) (λ m e m'. Serves m daemon holding Event.End e m')
+        ensures closes { IfOk result (λ came. Acts T.HasGround (keeps_in holding.nesting Event.End)
+            (λ m e m'. Serves m daemon holding Event.End e m')
             daemon.id Event.End came self.old self.new) }
         ensures err { OnErr result (self.new ≡ self.old) }
         ensures memory { OnErr result (takes_memory Event.End ≡ true) }
@@ -178,7 +187,8 @@ impl<T: Serves> Lock<T> {
     // An exit: the outermost one, or an inner one.
     fn exit(&mut self, daemon: Daemon, holding: Holding) -> Result<Came, NoMemory>
         requires sound { self.old.roll.failed ≡ None }
-        ensures closes { IfOk result (λ came. Acts T.HasGround false (λ m e m'. Serves m daemon holding Event.Exit e m')
+        ensures closes { IfOk result (λ came. Acts T.HasGround false (λ m e m'.
+            Serves m daemon holding Event.Exit e m')
             daemon.id Event.Exit came self.old self.new) }
         ensures err { OnErr result (self.new ≡ self.old) }
         ensures memory { OnErr result (takes_memory Event.Exit ≡ true) }
@@ -195,7 +205,8 @@ impl<T: Serves> Lock<T> {
     // A cancel: the outermost one, or an inner one.
     fn cancel(&mut self, daemon: Daemon, holding: Holding) -> Result<Came, NoMemory>
         requires sound { self.old.roll.failed ≡ None }
-        ensures closes { IfOk result (λ came. Acts T.HasGround false (λ m e m'. Serves m daemon holding Event.Cancel e m')
+        ensures closes { IfOk result (λ came. Acts T.HasGround false (λ m e m'.
+            Serves m daemon holding Event.Cancel e m')
             daemon.id Event.Cancel came self.old self.new) }
         ensures err { OnErr result (self.new ≡ self.old) }
         ensures memory { OnErr result (takes_memory Event.Cancel ≡ true) }
@@ -212,7 +223,8 @@ impl<T: Serves> Lock<T> {
     // A daemon without a number draws the next one, at this depth.
     fn draw(&mut self, daemon: Daemon, depth: u64, event: &Event) -> Came
         requires { self.old.roll.drawn < 2 ^ 60 }
-        ensures { Acts T.HasGround false (λ m e m'. Draws m daemon e depth m') daemon.id event.now result self.old self.new }
+        ensures { Acts T.HasGround false (λ m e m'.
+            Draws m daemon e depth m') daemon.id event.now result self.old self.new }
     {
         let number = self.roll.draw(daemon, depth);
         told(Answer::Lock { number })
@@ -221,7 +233,8 @@ impl<T: Serves> Lock<T> {
     // A daemon without a number draws one that can't be served yet.
     fn draw_suspended(&mut self, daemon: Daemon, event: &Event) -> Came
         requires { self.old.roll.drawn < 2 ^ 60 }
-        ensures { Acts T.HasGround false (λ m e m'. IsSuspended m e (m.roll.drawn + 1) (with_number m.roll daemon 0) m')
+        ensures { Acts T.HasGround false (λ m e m'.
+            IsSuspended m e (m.roll.drawn + 1) (with_number m.roll daemon 0) m')
             daemon.id event.now result self.old self.new }
     {
         let serving = self.roll.serving();
@@ -232,7 +245,9 @@ impl<T: Serves> Lock<T> {
     // A look at a ticket of a daemon that is served.
     fn look(&mut self, daemon: Daemon, ticket: u64) -> Came
         requires sound { self.old.roll.failed ≡ None }
-        ensures { Acts T.HasGround false (λ m e m'. Looks m daemon e ticket m.roll m') daemon.id (Event.Look ticket) result self.old self.new }
+        ensures { Acts T.HasGround false (λ m e m'.
+            Looks m daemon e ticket m.roll m') daemon.id (Event.Look ticket) result self.old
+            self.new }
     {
         match sight(&mut self.base, &self.roll, &daemon, ticket) {
             Ok(answer) => {
@@ -248,7 +263,8 @@ impl<T: Serves> Lock<T> {
         requires drawn { self.old.roll.drawn < 2 ^ 60 }
         requires sound { self.old.roll.failed ≡ None }
         requires look { event.now ≡ Event.Look ticket }
-        ensures { Acts T.HasGround false (λ m e m'. ComesLooking m daemon e ticket m') daemon.id event.now result self.old self.new }
+        ensures { Acts T.HasGround false (λ m e m'.
+            ComesLooking m daemon e ticket m') daemon.id event.now result self.old self.new }
     {
         if self.roll.serving() != 0 {
             return self.draw_suspended(daemon, event);
@@ -260,7 +276,8 @@ impl<T: Serves> Lock<T> {
     // A leave of a daemon without a number: it draws one, which is done at once where it is served.
     fn comes_leaving(&mut self, daemon: Daemon, event: &Event) -> Came
         requires { self.old.roll.drawn < 2 ^ 60 }
-        ensures { Acts T.HasGround false (λ m e m'. ComesLeaving m daemon e m') daemon.id event.now result self.old self.new }
+        ensures { Acts T.HasGround false (λ m e m'.
+            ComesLeaving m daemon e m') daemon.id event.now result self.old self.new }
     {
         if self.roll.serving() != 0 {
             return self.draw_suspended(daemon, event);
@@ -273,7 +290,8 @@ impl<T: Serves> Lock<T> {
     // A look under a number that is held.
     fn looks_holding(&mut self, daemon: Daemon, holding: &Holding, ticket: u64) -> Came
         requires sound { self.old.roll.failed ≡ None }
-        ensures { Acts T.HasGround false (λ m e m'. LooksHolding m daemon holding.now ticket e m') daemon.id (Event.Look ticket)
+        ensures { Acts T.HasGround false (λ m e m'.
+            LooksHolding m daemon holding.now ticket e m') daemon.id (Event.Look ticket)
             result self.old self.new }
     {
         let mine = holding.number;
@@ -290,9 +308,11 @@ impl<T: Serves> Lock<T> {
     // A leave under a number that is held.
     fn leave(&mut self, daemon: Daemon, holding: &Holding, event: &Event) -> Came
         requires sound { self.old.roll.failed ≡ None }
-        requires closing { (s : State) → is_closing (transaction_of holding.now s) event.now ≡ true }
+        requires closing { (s : State) → is_closing (transaction_of holding.now s) event.now
+            ≡ true }
         requires no_end { keeps_in holding.now.nesting event.now ≡ false }
-        ensures { Acts T.HasGround false (λ m e m'. LeavesHolding m daemon holding.now event.now e m') daemon.id event.now
+        ensures { Acts T.HasGround false (λ m e m'.
+            LeavesHolding m daemon holding.now event.now e m') daemon.id event.now
             result self.old self.new }
     {
         let mine = holding.number;
@@ -324,7 +344,8 @@ impl<T: Serves> Lock<T> {
     fn come(&mut self, daemon: Daemon, event: &Event) -> Came
         requires drawn { self.old.roll.drawn < 2 ^ 60 }
         requires sound { self.old.roll.failed ≡ None }
-        ensures { Acts T.HasGround false (λ m e m'. Comes m daemon event.now e m') daemon.id event.now result self.old self.new }
+        ensures { Acts T.HasGround false (λ m e m'.
+            Comes m daemon event.now e m') daemon.id event.now result self.old self.new }
     {
         match event {
             Event::Request => self.draw(daemon, 0, event),
@@ -339,7 +360,8 @@ impl<T: Serves> Lock<T> {
     fn hold(&mut self, daemon: Daemon, holding: Holding, event: &Event) -> Result<Came, NoMemory>
         requires sound { self.old.roll.failed ≡ None }
         requires lasts { T.lasts self.old.base 1 }
-        ensures holds { IfOk result (λ came. Acts T.HasGround (keeps_under self.old.roll holding event.now)
+        ensures holds { IfOk result (λ came. Acts T.HasGround
+            (keeps_under self.old.roll holding event.now)
             (λ m e m'. Holds m daemon holding event.now e m') daemon.id event.now came self.old self.new) }
         ensures err { OnErr result (self.new ≡ self.old) }
         ensures memory { OnErr result (takes_memory event.now ≡ true) }
@@ -359,7 +381,8 @@ impl<T: Serves> Lock<T> {
         requires sound { self.old.roll.failed ≡ None }
         requires lasts { T.lasts self.old.base 1 }
         requires within { is_of_work event.now ≡ true }
-        ensures enters { IfOk result (λ came. Acts T.HasGround (keeps_under self.old.roll holding event.now)
+        ensures enters { IfOk result (λ came. Acts T.HasGround
+            (keeps_under self.old.roll holding event.now)
             (λ m e m'. Enters m daemon holding event.now e m') daemon.id event.now came self.old self.new) }
         ensures err { OnErr result (self.new ≡ self.old) }
         ensures memory { OnErr result (takes_memory event.now ≡ true) }
@@ -400,7 +423,8 @@ impl<T: Serves> Lock<T> {
         requires drawn { MayDraw self.old.roll daemon.holds }
         requires sound { self.old.roll.failed ≡ None }
         requires lasts { T.lasts self.old.base 1 }
-        ensures performs { IfOk result (λ came. Acts T.HasGround (keeps_of self.old.roll daemon event.now)
+        ensures performs { IfOk result (λ came. Acts T.HasGround
+            (keeps_of self.old.roll daemon event.now)
             (λ m e m'. Performs m daemon e m') daemon.id event.now came self.old self.new) }
         ensures err { OnErr result (self.new ≡ self.old) }
         ensures memory { OnErr result (takes_memory event.now ≡ true) }
@@ -419,7 +443,8 @@ impl<T: Serves> Lock<T> {
         requires drawn { MayDraw self.old.roll (held_by self.old.roll id) }
         requires sound { self.old.roll.failed ≡ None }
         requires lasts { T.lasts self.old.base 1 }
-        ensures answers { IfOk result (λ came. Acts T.HasGround (keeps_by self.old.roll id event.now) (λ m e m'. Answers m e m')
+        ensures answers { IfOk result (λ came. Acts T.HasGround
+            (keeps_by self.old.roll id event.now) (λ m e m'. Answers m e m')
             id event.now came self.old self.new) }
         ensures err { OnErr result (self.new ≡ self.old) }
         ensures memory { OnErr result (takes_memory event.now ≡ true) }
@@ -434,7 +459,8 @@ impl<T: Serves> Lock<T> {
     pub fn event(&mut self, daemon: u8, event: &Event) -> Result<Came, NoMemory>
         requires drawn { MayDraw self.old.roll (held_by self.old.roll daemon) }
         requires lasts { T.lasts self.old.base 1 }
-        ensures step { IfOk result (λ came. Acts T.HasGround (keeps_by self.old.roll daemon event.now) MachineStep
+        ensures step { IfOk result (λ came. Acts T.HasGround
+            (keeps_by self.old.roll daemon event.now) MachineStep
             daemon event.now came self.old self.new) }
         ensures err { OnErr result (self.new ≡ self.old) }
         ensures memory { OnErr result (takes_memory event.now ≡ true) }

@@ -9,7 +9,8 @@ use sdr_model::Answer;
 
 // Whether the daemon has left, or waits for a ticket that isn't granted.
 fn is_stuck<T: Serves>(base: &mut T, daemon: &Daemon) -> Result<bool, Fault>
-    ensures found { IfOk result (λ stuck. Brings T.stands base.old base.new (Finds (daemon.now ∷ []) stuck)) }
+    ensures found { IfOk result (λ stuck. Brings T.stands base.old base.new
+        (Finds (daemon.now ∷ []) stuck)) }
     ensures fault { OnErr result (MeetsFault T.HasGround base.old base.new) }
     ensures keeps { KeepsGround T.HasGround false base.old base.new }
     ensures any_moment { LeavesBefore T.HasGround base.old base.new }
@@ -28,7 +29,8 @@ fn is_stuck<T: Serves>(base: &mut T, daemon: &Daemon) -> Result<bool, Fault>
 
 // Whether all of these daemons have left, or wait for tickets that aren't granted.
 fn are_stuck<T: Serves>(base: &mut T, daemons: &[Daemon]) -> Result<bool, Fault>
-    ensures found { IfOk result (λ stuck. Brings T.stands base.old base.new (Finds daemons.now stuck)) }
+    ensures found { IfOk result (λ stuck. Brings T.stands base.old base.new
+        (Finds daemons.now stuck)) }
     ensures fault { OnErr result (MeetsFault T.HasGround base.old base.new) }
     ensures keeps { KeepsGround T.HasGround false base.old base.new }
     ensures any_moment { LeavesBefore T.HasGround base.old base.new }
@@ -64,7 +66,8 @@ fn doubt<T: Serves>(
     daemon: &Daemon,
     ticket: u64,
 ) -> Result<Answer, Fault>
-    ensures seen { IfOk result (λ answer. Brings T.stands base.old base.new (Doubts roll.now daemon.now ticket answer)) }
+    ensures seen { IfOk result (λ answer. Brings T.stands base.old base.new
+        (Doubts roll.now daemon.now ticket answer)) }
     ensures kind { IfOk result (λ answer. is_sight answer ≡ true) }
     ensures fault { OnErr result (MeetsFault T.HasGround base.old base.new) }
     ensures keeps { KeepsGround T.HasGround false base.old base.new }
@@ -87,7 +90,8 @@ pub fn sight<T: Serves>(
     daemon: &Daemon,
     ticket: u64,
 ) -> Result<Answer, Fault>
-    ensures seen { IfOk result (λ answer. Brings T.stands base.old base.new (Sees roll.now daemon.now ticket answer)) }
+    ensures seen { IfOk result (λ answer. Brings T.stands base.old base.new
+        (Sees roll.now daemon.now ticket answer)) }
     ensures kind { IfOk result (λ answer. is_sight answer ≡ true) }
     ensures fault { OnErr result (MeetsFault T.HasGround base.old base.new) }
     ensures keeps { KeepsGround T.HasGround false base.old base.new }

@@ -17,8 +17,10 @@ pub trait Serves: HasGround {
     /// Makes a call in the transaction. Want of memory leaves all as before.
     fn call(&mut self, call: &Call) -> Result<Reply, Halt>
         requires { Self.lasts self.old 1 }
-        ensures answered { IfOk result (λ reply. Brings Self.stands self.old self.new (Calls (Self.told self.old) call.now reply)) }
-        ensures gap { IfOk result (λ reply. HasGapCause (Answer.Reply reply) (Self.gaps self.old) (Self.gaps self.new)) }
+        ensures answered { IfOk result (λ reply. Brings Self.stands self.old self.new
+            (Calls (Self.told self.old) call.now reply)) }
+        ensures gap { IfOk result (λ reply. HasGapCause (Answer.Reply reply) (Self.gaps self.old)
+            (Self.gaps self.new)) }
         ensures memory { IsErrOf result Halt.Memory → self.new ≡ self.old }
         ensures fault { IsErrOf result Halt.Fault → MeetsFault Self.HasGround self.old self.new }
         ensures keeps { KeepsGround Self.HasGround true self.old self.new }
@@ -41,7 +43,8 @@ pub trait Serves: HasGround {
 
     /// Whether the ticket is there, and granted, before the transaction.
     fn look(&mut self, ticket: u64) -> Result<Option<bool>, Fault>
-        ensures shown { IfOk result (λ granted. Brings Self.stands self.old self.new (Shows ticket granted)) }
+        ensures shown { IfOk result (λ granted. Brings Self.stands self.old self.new
+            (Shows ticket granted)) }
         ensures fault { OnErr result (MeetsFault Self.HasGround self.old self.new) }
         ensures keeps { KeepsGround Self.HasGround false self.old self.new }
         ensures any_moment { LeavesBefore Self.HasGround self.old self.new };

@@ -30,5 +30,6 @@ pub trait Tells: Serves {
 
     /// Room for what a call that follows may come to; want of memory where the ground serves no such call.
     fn room_for(&self, call: &Call) -> Result<Room, NoMemory>
-        ensures { IfOk result (λ room. (v : Standing) → Self.stands self.now v → HoldsAny room v.now call.now) };
+        ensures { IfOk result (λ room. (v : Standing) → Self.stands self.now v →
+            HoldsAny room v.now call.now) };
 }

@@ -145,7 +145,8 @@ impl Accounts {
     /// Takes out one of both, to be changed and put again.
     pub fn take(&mut self, alloc: Global, acct: Acct) -> Account
         ensures taken { result ≡ account_of self.old acct }
-        ensures again { (account : Account) → with_account self.new acct account ≡ with_account self.old acct account }
+        ensures again { (account : Account) → with_account self.new acct account
+            ≡ with_account self.old acct account }
     {
         let none = Account::fresh(alloc, 0);
         match acct {

@@ -68,7 +68,8 @@ fn granted(ticket: Ticket) -> Ticket
 
 // What is occupied with a grant of so much, where that is at most the room.
 fn occupied_with(occupied: Amounts, maxima: Amounts, asked: Amounts) -> Option<Amounts>
-    ensures { result ≡ (if are_within asked (minus maxima occupied) then Some (plus occupied asked) else None) }
+    ensures { result ≡ (if are_within asked (minus maxima occupied) then Some (plus occupied asked)
+        else None) }
 {
     if !are_within(&asked, &minus(&maxima, &occupied)) {
         return None;

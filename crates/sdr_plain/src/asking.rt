@@ -20,7 +20,8 @@ pub fn pieces_of(
     call: &Call,
 ) -> Result<Option<Items<Piece>>, NoMemory>
     ensures some { IfOk result (λ asked. IfSome asked (HasPieces world.now.now call.now)) }
-    ensures none { result ≡ Ok None → reads_media call.now ≡ true → ¬ AsksBytes world.now.now call.now }
+    ensures none { result ≡ Ok None → reads_media call.now ≡ true →
+        ¬ AsksBytes world.now.now call.now }
 {
     if !call.reads_media() {
         return Ok(None);

@@ -83,7 +83,8 @@ impl Bare {
     /// nothing where it doesn't.
     pub fn pieces(&self, call: &Call) -> Result<Option<Items<Piece>>, NoMemory>
         ensures some { IfOk result (λ asked. IfSome asked (HasPieces self.now.now call.now)) }
-        ensures none { result ≡ Ok None → reads_media call.now ≡ true → ¬ AsksBytes self.now.now call.now }
+        ensures none { result ≡ Ok None → reads_media call.now ≡ true →
+            ¬ AsksBytes self.now.now call.now }
     {
         pieces_of(self.alloc, &self.world, call)
     }

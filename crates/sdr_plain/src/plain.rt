@@ -38,7 +38,8 @@ impl Model for Plain {
 
 // Those of these daemons that haven't left.
 fn staying(alloc: Global, daemons: &[Daemon]) -> Result<Vec<u8>, NoMemory>
-    ensures { IfOk result (λ left. left.items ≡ map (λ d. d.id) (filter (λ d. not d.left) daemons.now)) }
+    ensures { IfOk result (λ left. left.items
+        ≡ map (λ d. d.id) (filter (λ d. not d.left) daemons.now)) }
 {
     daemons
         .iter()
@@ -78,7 +79,8 @@ impl Plain {
     // Makes an event of a daemon. Want of memory leaves all as before.
     fn make(&mut self, daemon: u8, event: &Event) -> Result<Came, NoMemory>
         requires events { self.old.events < 4_194_304 }
-        ensures step { IfOk result (λ came. (line : ℕ) → StepsAt (machine_of self.old) daemon line event.now came (machine_of self.new)) }
+        ensures step { IfOk result (λ came. (line : ℕ) →
+            StepsAt (machine_of self.old) daemon line event.now came (machine_of self.new)) }
         ensures whole { IfOk result (λ came. is_gap came.answer ≡ false) }
         ensures events { OnOk result (self.new.events ≡ self.old.events + 1) }
         ensures daemons { length self.new.roll.daemons ≡ length self.old.roll.daemons }
@@ -93,7 +95,8 @@ impl Plain {
     /// Makes an event of a daemon, for which media aren't asked. Want of memory leaves all as before.
     pub fn event(&mut self, daemon: u8, event: &Event) -> Result<Came, NoMemory>
         requires events { self.old.events < 2_097_152 }
-        ensures step { IfOk result (λ came. (line : ℕ) → StepsAt (machine_of self.old) daemon line event.now came (machine_of self.new)) }
+        ensures step { IfOk result (λ came. (line : ℕ) →
+            StepsAt (machine_of self.old) daemon line event.now came (machine_of self.new)) }
         ensures whole { IfOk result (λ came. is_gap came.answer ≡ false) }
         ensures events { OnOk result (self.new.events ≡ self.old.events + 1) }
         ensures daemons { length self.new.roll.daemons ≡ length self.old.roll.daemons }
@@ -105,7 +108,8 @@ impl Plain {
     /// The pieces that are asked of media before an event is answered: those of the bytes that its call gives. It
     /// changes nothing. Where there are none, `event` answers it.
     pub fn pieces(&self, daemon: u8, event: &Event) -> Result<Option<Items<Piece>>, NoMemory>
-        ensures some { IfOk result (λ asked. IfSome asked (Asks (machine_of self.now) daemon event.now)) }
+        ensures some { IfOk result (λ asked. IfSome asked
+            (Asks (machine_of self.now) daemon event.now)) }
         ensures none { result ≡ Ok None → AsksNothing (machine_of self.now) daemon event.now }
     {
         match event {
@@ -116,8 +120,10 @@ impl Plain {
 
     // The same of a call.
     fn call_pieces(&self, daemon: u8, call: &Call) -> Result<Option<Items<Piece>>, NoMemory>
-        ensures some { IfOk result (λ asked. IfSome asked (Asks (machine_of self.now) daemon (Event.Say call.now))) }
-        ensures none { result ≡ Ok None → AsksNothing (machine_of self.now) daemon (Event.Say call.now) }
+        ensures some { IfOk result (λ asked. IfSome asked
+            (Asks (machine_of self.now) daemon (Event.Say call.now))) }
+        ensures none { result ≡ Ok None → AsksNothing (machine_of self.now) daemon
+            (Event.Say call.now) }
     {
         if !self.lock.makes_calls(daemon) {
             return Ok(None);
@@ -140,8 +146,10 @@ impl Plain {
     // These daemons make a leave each, in this order.
     fn leave_in_turn(&mut self, daemons: &[u8], leave: Leave) -> Result<(), NoMemory>
         requires events { self.old.events + length daemons.now ≤ 4_194_304 }
-        ensures left { OnOk result (LeaveInTurnFrom leave daemons.now (machine_of self.old) (machine_of self.new)) }
-        ensures none { OnOk result (hold_none self.old.roll.daemons ≡ true → hold_none self.new.roll.daemons ≡ true) }
+        ensures left { OnOk result (LeaveInTurnFrom leave daemons.now (machine_of self.old)
+            (machine_of self.new)) }
+        ensures none { OnOk result (hold_none self.old.roll.daemons ≡ true →
+            hold_none self.new.roll.daemons ≡ true) }
     {
         match daemons {
             [] => Ok(()),
@@ -155,9 +163,11 @@ impl Plain {
     // The daemon whose number is served makes a leave, until none is.
     fn holders_leave(&mut self, leave: Leave) -> Result<(), NoMemory>
         requires events { self.old.events + holders self.old.roll.daemons ≤ 4_194_304 }
-        ensures left { OnOk result (HoldersLeaveFrom leave (machine_of self.old) (machine_of self.new)) }
+        ensures left { OnOk result (HoldersLeaveFrom leave (machine_of self.old)
+            (machine_of self.new)) }
         ensures none { OnOk result (hold_none self.new.roll.daemons ≡ true) }
-        ensures events { OnOk result (self.new.events ≤ self.old.events + holders self.old.roll.daemons) }
+        ensures events { OnOk result (self.new.events ≤ self.old.events
+            + holders self.old.roll.daemons) }
         ensures daemons { length self.new.roll.daemons ≡ length self.old.roll.daemons }
     {
         match self.lock.roll().served() {
@@ -173,7 +183,8 @@ impl Plain {
     /// those that haven't left yet do, in their order. No number is held then.
     pub fn leave_all(&mut self, leave: Leave) -> Result<(), NoMemory>
         requires events { self.old.events + 2 * length self.old.roll.daemons ≤ 4_194_304 }
-        ensures left { OnOk result (AllLeaveFrom leave (machine_of self.old) (machine_of self.new)) }
+        ensures left { OnOk result (AllLeaveFrom leave (machine_of self.old)
+            (machine_of self.new)) }
         ensures none { OnOk result (hold_none self.new.roll.daemons ≡ true) }
     {
         self.holders_leave(leave)?;

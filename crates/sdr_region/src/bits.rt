@@ -42,8 +42,10 @@ fn byte_of_bits(spots: &[Spot], byte: u64) -> u8
 // The first of these bytes that isn't that of the start bits, of which it is so far from the first.
 fn first_wrong(line: &[u8], spots: &[Spot], byte: u64) -> Option<usize>
     requires { byte + length line.now < 2 ^ 32 }
-    ensures none { result ≡ None → (i : ℕ) → i < length line.now → get_or line.now i 0 ≡ byte_of_bits (is_told_used spots.now) (byte + i) }
-    ensures some { IfSome result (λ i. IsFirstByte line.now (byte_of_bits (is_told_used spots.now)) byte i) }
+    ensures none { result ≡ None → (i : ℕ) → i < length line.now →
+        get_or line.now i 0 ≡ byte_of_bits (is_told_used spots.now) (byte + i) }
+    ensures some { IfSome result (λ i. IsFirstByte line.now (byte_of_bits (is_told_used spots.now))
+        byte i) }
 {
     for i in 0..line.len() {
         if line[i] != byte_of_bits(spots, byte + i as u64) {

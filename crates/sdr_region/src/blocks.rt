@@ -28,7 +28,8 @@ fn is_small(label: &Label, place: u64, low: u64) -> bool
     requires words { label.now.words < 2 ^ 32 }
     requires place { place ≤ low }
     requires low { low < 2 ^ 32 }
-    ensures { (bytes : List ℕ) → IsLabel bytes place label.now → control_word bytes LOW ≡ low → result ≡ is_small_at bytes place }
+    ensures { (bytes : List ℕ) → IsLabel bytes place label.now → control_word bytes LOW ≡ low →
+        result ≡ is_small_at bytes place }
 {
     label.kind <= LAST_KIND
         && 1 <= label.words
@@ -82,7 +83,8 @@ fn walk_small<C: Cells>(
     requires spots { length spots.old * WORD ≡ length (C.bytes c.old) }
     requires clear { AreSpots [] [] spots.old }
     requires none { found.old ≡ no_findings }
-    ensures walked { OnOk result (SmallWalked (C.bytes c.old) (control_word (C.bytes c.old) LOW) found.new spots.new) }
+    ensures walked { OnOk result (SmallWalked (C.bytes c.old) (control_word (C.bytes c.old) LOW)
+        found.new spots.new) }
     ensures damaged { IfErr result (DamagedBy Why.Block (SmallBreaks (C.bytes c.old))) }
     ensures audits { Audits C.bytes C.transaction C.quiet c.old c.new result }
     ensures length { length spots.new ≡ length spots.old }
@@ -99,7 +101,8 @@ fn has_ends<C: Cells>(c: &mut C, place: u64, label: &Label) -> Result<bool, Stop
     requires region { IsRegionSize (length (C.bytes c.old)) }
     requires label { IsLabel (C.bytes c.old) place label.now }
     requires inside { place + WORD * (LARGE_FRAME + label.now.words) ≤ length (C.bytes c.old) }
-    ensures given { IfOk result (λ yes. yes ≡ has_ends (C.bytes c.old) (large_at (C.bytes c.old) place)) }
+    ensures given { IfOk result (λ yes. yes ≡ has_ends (C.bytes c.old)
+        (large_at (C.bytes c.old) place)) }
     ensures same { C.bytes c.new ≡ C.bytes c.old }
     ensures room { TouchesNone (C.transaction c.old) (C.transaction c.new) result }
     ensures cause { HasReason (C.transaction c.old) (C.transaction c.new) result }
@@ -178,8 +181,10 @@ fn walk_large<C: Cells>(
     requires edges { edges.now ≡ edges_of (C.bytes c.old) }
     requires sound { (C.transaction c.old).failed ≡ false }
     requires spots { length spots.old * WORD ≡ length (C.bytes c.old) }
-    requires walked { SmallWalked (C.bytes c.old) (control_word (C.bytes c.old) LOW) found.old spots.old }
-    ensures walked { OnOk result (LargeWalked (C.bytes c.old) (length (C.bytes c.old)) found.new spots.new) }
+    requires walked { SmallWalked (C.bytes c.old) (control_word (C.bytes c.old) LOW) found.old
+        spots.old }
+    ensures walked { OnOk result (LargeWalked (C.bytes c.old) (length (C.bytes c.old)) found.new
+        spots.new) }
     ensures damaged { IfErr result (DamagedBy Why.Block (LargeBreaks (C.bytes c.old))) }
     ensures audits { Audits C.bytes C.transaction C.quiet c.old c.new result }
     ensures length { length spots.new ≡ length spots.old }

@@ -43,7 +43,8 @@ fn is_maximum_of(first: u64, word: u64) -> bool
 // Whether a control word may have this value, in a region of this size whose large blocks begin at `high`.
 fn may_be(size: u64, high: u64, word: u64, value: u64) -> bool
     requires region { IsRegionSize size }
-    ensures { (bytes : List ℕ) → length bytes ≡ size → control_word bytes HIGH ≡ high → result ≡ may_be bytes word value }
+    ensures { (bytes : List ℕ) → length bytes ≡ size → control_word bytes HIGH ≡ high →
+        result ≡ may_be bytes word value }
 {
     let is_edge = value % WORD == 0 && value <= size;
     if word == SIZE {
@@ -71,8 +72,10 @@ fn check_word<C: Cells>(c: &mut C, size: u64, high: u64, word: u64) -> Result<()
     requires size { length (C.bytes c.old) ≡ size }
     requires high { control_word (C.bytes c.old) HIGH ≡ high }
     requires below { word < CONTROL_WORDS }
-    requires before { (other : ℕ) → other < word → may_be (C.bytes c.old) other (control_word (C.bytes c.old) other) ≡ true }
-    ensures right { OnOk result (may_be (C.bytes c.old) word (control_word (C.bytes c.old) word) ≡ true) }
+    requires before { (other : ℕ) → other < word → may_be (C.bytes c.old) other
+        (control_word (C.bytes c.old) other) ≡ true }
+    ensures right { OnOk result (may_be (C.bytes c.old) word (control_word (C.bytes c.old) word)
+        ≡ true) }
     ensures damaged { IfErr result (DamagedBy Why.Control (IsWrongControl (C.bytes c.old))) }
     ensures audits { Audits C.bytes C.transaction C.quiet c.old c.new result }
 {

@@ -106,7 +106,8 @@ fn has_previous<C: Cells>(c: &mut C, link: &Link) -> Result<bool, Stop>
     requires region { IsRegionSize (length (C.bytes c.old)) }
     requires large { is_small_list link.now.word ≡ false }
     requires frame { 2 * WORD ≤ link.now.addr }
-    requires inside { link.now.addr + WORD * leader_words (link.now.addr - 2 * WORD) (C.bytes c.old) + WORD
+    requires inside { link.now.addr + WORD * leader_words (link.now.addr - 2 * WORD) (C.bytes c.old)
+        + WORD
         ≤ length (C.bytes c.old) }
     ensures given { IfOk result
         (λ yes. yes ≡ has_previous (C.bytes c.old) link.now.word link.now.before link.now.addr) }

@@ -12,7 +12,8 @@ ghost use Rattle.sdr_runs.specs.Choosing.{RunAlike};
 /// call, with which numbers, and after which of its moves; and where media tell nothing, their bytes. So each block
 /// that is taken, and each that is wanting, is decided by the pools, and in memory by the count. It does nothing.
 pub fn runs_decide()
-    ensures { (told : Option Told) (daemons : List ℕ) (first : State) (made others : List Made) (core core' : Core) →
+    ensures { (told : Option Told) (daemons : List ℕ) (first : State) (made others : List Made)
+        (core core' : Core) →
         RunAlike told made others →
         RunsCore told (first_core daemons first) made core →
         RunsCore told (first_core daemons first) others core' →

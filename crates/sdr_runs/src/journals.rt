@@ -20,7 +20,8 @@ ghost use Rattle.sdr_runs.specs.Running.{OfEachRun};
 /// where its events were made one after another. The state before the open transaction is the one after all entries,
 /// from whatever state the run began, and each entry is of one of the daemons. It does nothing.
 pub fn journals_are_legal()
-    ensures legal { (told : Option Told) (daemons : List ℕ) (first : State) (moment : ℕ) (made : List Made) (core : Core) →
+    ensures legal { (told : Option Told) (daemons : List ℕ) (first : State) (moment : ℕ)
+        (made : List Made) (core : Core) →
         first ≡ resting first.world first.base → AreInTime moment made →
         RunsCore told (first_core daemons first) made core → IsLegal told daemons first core.log.journal }
     ensures after { OfEachRun (λ told daemons first core.
@@ -33,7 +34,8 @@ pub fn journals_are_legal()
 /// the state before the open transaction to the one after the event; where none is added, that state stays. It does
 /// nothing.
 pub fn entries_may_stand()
-    ensures added { (told : Option Told) (core : Core) (e : Made) (next : Core) → CoreStep told core e next →
+    ensures added { (told : Option Told) (core : Core) (e : Made) (next : Core) →
+        CoreStep told core e next →
         next.log.journal ≡ core.log.journal ++ option_to_list (entry_added core e next.machine) }
     ensures stands { OfEachRun (λ told daemons first core.
         (e : Made) (next : Core) → CoreStep told core e next → AddsRightly told daemons core e next.machine) }

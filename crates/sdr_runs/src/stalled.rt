@@ -12,7 +12,9 @@ ghost use Rattle.sdr_runs.specs.Running.{OfEachRun};
 /// have stalled by the roll just where the last entry of each is a leave, or a wait for a ticket that isn't granted. It
 /// does nothing.
 pub fn rolls_agree_with_journals()
-    ensures agree { OfEachRun (λ told daemons first core. AgreesWithJournal core.log.journal core.machine.roll) }
-    ensures stalled { OfEachRun (λ told daemons first core. IsDistinct nat_eq daemons → (w : World) →
+    ensures agree { OfEachRun (λ told daemons first core. AgreesWithJournal core.log.journal
+        core.machine.roll) }
+    ensures stalled { OfEachRun (λ told daemons first core. IsDistinct nat_eq daemons →
+        (w : World) →
         is_stalled core.machine.roll w ≡ have_stalled daemons core.log.journal w) }
 {}

@@ -23,7 +23,8 @@ fn catlg<O: Objects>(
     requires spare { 1 ≤ (O.heap o.old).spare }
     requires names { SomeNames (O.heap o.old) }
     requires unmoved { (O.heap o.old).moves ≡ [] }
-    ensures comes { Comes (calls.Catlg name.now kind object) (O.heap o.old) (O.heap o.new) page.old page.new result }
+    ensures comes { Comes (calls.Catlg name.now kind object) (O.heap o.old) (O.heap o.new) page.old
+        page.new result }
     ensures works { Works O.HasHeap 30 o.old o.new result }
     ensures bytes { AreBytes name.now }
     ensures kind { kind < 2 ^ 32 }
@@ -39,7 +40,8 @@ fn find<O: Objects>(o: &mut O, name: &[u8], page: &mut Page) -> Result<Reply, St
     requires kept { KeepsSome (O.keeps o.old) }
     requires names { SomeNames (O.heap o.old) }
     requires unmoved { (O.heap o.old).moves ≡ [] }
-    ensures comes { Comes (calls.Find name.now) (O.heap o.old) (O.heap o.new) page.old page.new result }
+    ensures comes { Comes (calls.Find name.now) (O.heap o.old) (O.heap o.new) page.old page.new
+        result }
     ensures works { Works O.HasHeap 0 o.old o.new result }
 {
     let (kind, second) = sdr_cat::find(o, name)?;
@@ -56,7 +58,8 @@ fn uncatlg<O: Objects>(o: &mut O, name: &[u8], page: &mut Page) -> Result<Reply,
     requires spare { 1 ≤ (O.heap o.old).spare }
     requires names { SomeNames (O.heap o.old) }
     requires unmoved { (O.heap o.old).moves ≡ [] }
-    ensures comes { Comes (calls.Uncatlg name.now) (O.heap o.old) (O.heap o.new) page.old page.new result }
+    ensures comes { Comes (calls.Uncatlg name.now) (O.heap o.old) (O.heap o.new) page.old page.new
+        result }
     ensures works { Works O.HasHeap 27 o.old o.new result }
 {
     sdr_cat::uncatlg(o, name)?;
@@ -69,7 +72,8 @@ fn entry<O: Objects>(o: &mut O, place: u64, page: &mut Page) -> Result<Reply, St
     requires kept { KeepsSome (O.keeps o.old) }
     requires names { SomeNames (O.heap o.old) }
     requires unmoved { (O.heap o.old).moves ≡ [] }
-    ensures comes { Comes (calls.Entry place) (O.heap o.old) (O.heap o.new) page.old page.new result }
+    ensures comes { Comes (calls.Entry place) (O.heap o.old) (O.heap o.new) page.old page.new
+        result }
     ensures works { Works O.HasHeap 0 o.old o.new result }
 {
     let mut name = [0; 255];

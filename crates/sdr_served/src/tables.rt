@@ -22,7 +22,8 @@ fn table<O: Objects>(
     requires kept { KeepsSome (O.keeps o.old) }
     requires spare { 1 ≤ (O.heap o.old).spare }
     requires unmoved { (O.heap o.old).moves ≡ [] }
-    ensures comes { Comes (calls.Table rows size user) (O.heap o.old) (O.heap o.new) page.old page.new result }
+    ensures comes { Comes (calls.Table rows size user) (O.heap o.old) (O.heap o.new) page.old
+        page.new result }
     ensures works { Works O.HasHeap (26 + (24 + rows * size) / 64) o.old o.new result }
     ensures word { IsWord user }
 {
@@ -36,7 +37,8 @@ fn row<O: Objects>(o: &mut O, table: Addr, row: u64, page: &mut Page) -> Result<
     requires kept { KeepsSome (O.keeps o.old) }
     requires table { IsTable ((O.heap o.old).blocks table) }
     requires unmoved { (O.heap o.old).moves ≡ [] }
-    ensures comes { Comes (calls.Row table row) (O.heap o.old) (O.heap o.new) page.old page.new result }
+    ensures comes { Comes (calls.Row table row) (O.heap o.old) (O.heap o.new) page.old page.new
+        result }
     ensures works { Works O.HasHeap 0 o.old o.new result }
 {
     let mut bytes = [0; PAGE];
@@ -56,7 +58,8 @@ fn set_row<O: Objects>(
     requires kept { KeepsSome (O.keeps o.old) }
     requires table { IsTable ((O.heap o.old).blocks table) }
     requires unmoved { (O.heap o.old).moves ≡ [] }
-    ensures comes { Comes (calls.SetRow table row from.now) (O.heap o.old) (O.heap o.new) page.old page.new result }
+    ensures comes { Comes (calls.SetRow table row from.now) (O.heap o.old) (O.heap o.new) page.old
+        page.new result }
     ensures works { Works O.HasHeap (2 + length from.now / 64) o.old o.new result }
     ensures bytes { AreBytes from.now }
 {
@@ -70,7 +73,8 @@ fn dimensions<O: Objects>(o: &mut O, table: Addr, page: &mut Page) -> Result<Rep
     requires kept { KeepsSome (O.keeps o.old) }
     requires table { IsTable ((O.heap o.old).blocks table) }
     requires unmoved { (O.heap o.old).moves ≡ [] }
-    ensures comes { Comes (calls.Dimensions table) (O.heap o.old) (O.heap o.new) page.old page.new result }
+    ensures comes { Comes (calls.Dimensions table) (O.heap o.old) (O.heap o.new) page.old page.new
+        result }
     ensures works { Works O.HasHeap 0 o.old o.new result }
 {
     let (first, second) = sdr_table::dimensions(o, table)?;
@@ -83,7 +87,8 @@ fn table_user<O: Objects>(o: &mut O, table: Addr, page: &mut Page) -> Result<Rep
     requires kept { KeepsSome (O.keeps o.old) }
     requires table { IsTable ((O.heap o.old).blocks table) }
     requires unmoved { (O.heap o.old).moves ≡ [] }
-    ensures comes { Comes (calls.TableUser table) (O.heap o.old) (O.heap o.new) page.old page.new result }
+    ensures comes { Comes (calls.TableUser table) (O.heap o.old) (O.heap o.new) page.old page.new
+        result }
     ensures works { Works O.HasHeap 0 o.old o.new result }
 {
     let value = sdr_table::user_data(o, table)?;
@@ -97,7 +102,8 @@ fn table_destroy<O: Objects>(o: &mut O, table: Addr, page: &mut Page) -> Result<
     requires spare { 1 ≤ (O.heap o.old).spare }
     requires table { IsTable ((O.heap o.old).blocks table) }
     requires unmoved { (O.heap o.old).moves ≡ [] }
-    ensures comes { Comes (calls.TableDestroy table) (O.heap o.old) (O.heap o.new) page.old page.new result }
+    ensures comes { Comes (calls.TableDestroy table) (O.heap o.old) (O.heap o.new) page.old page.new
+        result }
     ensures works { Works O.HasHeap 24 o.old o.new result }
 {
     sdr_table::destroy(o, table)?;

@@ -43,7 +43,8 @@ fn why_text(why: Why) -> &'static [u8]
 // Tells why a heap wasn't opened.
 fn tell_shut<K: Sink>(why: OpenError, output: &mut K) -> u8
     ensures status { result ≡ status_shut why }
-    ensures written { Wrote (seen K.taken K.faults output.old) (seen K.taken K.faults output.new) (line_shut why) }
+    ensures written { Wrote (seen K.taken K.faults output.old) (seen K.taken K.faults output.new)
+        (line_shut why) }
     ensures later { K.faults output.old ≤ K.faults output.new }
 {
     match why {
@@ -74,7 +75,8 @@ fn tell_shut<K: Sink>(why: OpenError, output: &mut K) -> u8
 
 // Tells what a run came to: what stopped it, if anything did.
 fn tell_ran<T, K: Sink>(ran: &Ran<T>, output: &mut K) -> u8
-    ensures told { TellsRan ran.now result (seen K.taken K.faults output.old) (seen K.taken K.faults output.new) }
+    ensures told { TellsRan ran.now result (seen K.taken K.faults output.old)
+        (seen K.taken K.faults output.new) }
     ensures later { K.faults output.old ≤ K.faults output.new }
 {
     if ran.failed {
@@ -112,7 +114,8 @@ fn replay_served<D: Disk, K: Sink>(
     requires few { length script.now ≤ 1_048_577 }
     requires served { AllByRecursion IsServed script.now }
     requires settled { IsSettled D.Disk disk }
-    ensures runs { RunsServed D.Disk disk script.now (seen K.taken K.faults output.old) (seen K.taken K.faults output.new) result }
+    ensures runs { RunsServed D.Disk disk script.now (seen K.taken K.faults output.old)
+        (seen K.taken K.faults output.new) result }
     ensures later { K.faults output.old ≤ K.faults output.new }
 {
     match replay(alloc, script, disk, output) {

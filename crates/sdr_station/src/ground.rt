@@ -125,7 +125,8 @@ impl<D: Disk> HeapGround<D> {
         ensures why { IfErr result (λ shut.
             ExplainsOpen (D.bytes disk) (D.faults disk) (D.faults shut.disk) shut.why) }
         ensures disk { KeepsDisk D.size D.bytes disk (disk_of result) }
-        ensures bytes { IfErr result (λ shut. LeavesBytes (D.bytes disk) (D.bytes shut.disk) shut.why) }
+        ensures bytes { IfErr result (λ shut. LeavesBytes (D.bytes disk) (D.bytes shut.disk)
+            shut.why) }
         ensures later { D.faults disk ≤ D.faults (disk_of result) }
         ensures any_moment { IfTold (D.bytes disk) (λ x.
             MayBeOpened x (D.may_leave disk (D.moment disk))

@@ -65,7 +65,8 @@ impl Notes {
         ensures now { SameNotes self.new.now self.old.now }
         ensures begun { SameNotes self.new.begun self.old.begun }
         ensures touched { OnOk result (Contains self.new.touched addr) }
-        ensures others { (other : ℕ) → Contains self.old.touched other → Contains self.new.touched other }
+        ensures others { (other : ℕ) → Contains self.old.touched other →
+            Contains self.new.touched other }
     {
         if self.log.contains_key(&addr) {
             return Ok(());

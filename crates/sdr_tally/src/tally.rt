@@ -205,7 +205,8 @@ impl Tally {
     /// Counts one more extent of an account at an address that was touched, if there is one.
     pub fn add_use_of(&mut self, acct: Acct, addr: Option<Addr>)
         requires touched { IfSome addr (Contains self.old.notes.touched) }
-        requires small { IfSome addr (λ addr. noted_count (note_at self.old.notes.now addr) acct < 2 ^ 63) }
+        requires small { IfSome addr (λ addr. noted_count (note_at self.old.notes.now addr) acct < 2
+            ^ 63) }
         ensures now { (q : ℕ) → note_at self.new.notes.now q
             ≡ more_uses acct (if is_this addr q then 1 else 0) (note_at self.old.notes.now q) }
         ensures begun { SameNotes self.new.notes.begun self.old.notes.begun }
@@ -236,7 +237,8 @@ impl Tally {
     /// Counts these extents of an account's object, whose sources were touched.
     pub fn add_uses(&mut self, acct: Acct, extents: &[Extent])
         requires touched { All (λ e. Contains self.old.notes.touched e.source) extents.now }
-        requires small { (q : ℕ) → noted_count (note_at self.old.notes.now q) acct + naming q extents.now < 2 ^ 63 }
+        requires small { (q : ℕ) → noted_count (note_at self.old.notes.now q) acct
+            + naming q extents.now < 2 ^ 63 }
         ensures now { UsesMore acct extents.now self.old.notes.now self.new.notes.now }
         ensures begun { SameNotes self.new.notes.begun self.old.notes.begun }
         ensures touched { self.new.notes.touched ≡ self.old.notes.touched }
@@ -251,7 +253,8 @@ impl Tally {
     /// Counts these extents of an account's object no more, whose sources were touched.
     pub fn remove_uses(&mut self, acct: Acct, extents: &[Extent])
         requires touched { All (λ e. Contains self.old.notes.touched e.source) extents.now }
-        requires some { (q : ℕ) → naming q extents.now ≤ noted_count (note_at self.old.notes.now q) acct }
+        requires some { (q : ℕ) → naming q extents.now ≤ noted_count (note_at self.old.notes.now q)
+            acct }
         ensures now { UsesMore acct extents.now self.new.notes.now self.old.notes.now }
         ensures begun { SameNotes self.new.notes.begun self.old.notes.begun }
         ensures touched { self.new.notes.touched ≡ self.old.notes.touched }
@@ -267,7 +270,8 @@ impl Tally {
     pub fn charge(&mut self, acct: Acct, amounts: &Amounts)
         requires small { (space : GhostSpace) →
             amount (charged_to self.old.now acct) space + amount amounts.now space < 2 ^ 63 }
-        ensures now { self.new.now ≡ with_charged self.old.now acct (plus (charged_to self.old.now acct) amounts.now) }
+        ensures now { self.new.now ≡ with_charged self.old.now acct
+            (plus (charged_to self.old.now acct) amounts.now) }
         ensures begun { self.new.begun ≡ self.old.begun }
         ensures notes { self.new.notes ≡ self.old.notes }
     {
@@ -277,7 +281,8 @@ impl Tally {
 
     /// Charges an account so much less.
     pub fn release(&mut self, acct: Acct, amounts: &Amounts)
-        ensures now { self.new.now ≡ with_charged self.old.now acct (minus (charged_to self.old.now acct) amounts.now) }
+        ensures now { self.new.now ≡ with_charged self.old.now acct
+            (minus (charged_to self.old.now acct) amounts.now) }
         ensures begun { self.new.begun ≡ self.old.begun }
         ensures notes { self.new.notes ≡ self.old.notes }
     {
@@ -289,14 +294,16 @@ impl Tally {
     /// touched. It takes the logarithm of the world for each of these.
     pub fn change(&mut self, acct: Acct, by: &Change)
         requires lost_touched { All (λ e. Contains self.old.notes.touched e.source) by.now.lost }
-        requires gained_touched { All (λ e. Contains self.old.notes.touched e.source) by.now.gained }
+        requires gained_touched { All (λ e. Contains self.old.notes.touched e.source)
+            by.now.gained }
         requires lost { (q : ℕ) →
             naming q by.now.lost ≤ noted_count (note_at self.old.notes.now q) acct + naming q by.now.gained }
         requires gained { (q : ℕ) →
             noted_count (note_at self.old.notes.now q) acct + naming q by.now.gained < 2 ^ 63 }
         requires small { (space : GhostSpace) →
             amount (charged_to self.old.now acct) space + amount by.now.charged space < 2 ^ 63 }
-        ensures uses { (q : ℕ) → more_uses acct (naming q by.now.lost) (note_at self.new.notes.now q)
+        ensures uses { (q : ℕ) → more_uses acct (naming q by.now.lost)
+            (note_at self.new.notes.now q)
             ≡ more_uses acct (naming q by.now.gained) (note_at self.old.notes.now q) }
         ensures begun { SameNotes self.new.notes.begun self.old.notes.begun }
         ensures touched { self.new.notes.touched ≡ self.old.notes.touched }

@@ -15,8 +15,10 @@ const PIECE: usize = 128;
 
 fn write_piece<K: Sink>(out: &mut K, piece: &[u8]) -> Result<(), SinkFault>
     requires { length piece.now ≤ 128 }
-    ensures ok { OnOk result (Appends (K.taken out.old) (K.taken out.new) (encode_lower piece.now)) }
-    ensures err { OnErr result (AppendsPart (K.taken out.old) (K.taken out.new) (encode_lower piece.now)) }
+    ensures ok { OnOk result (Appends (K.taken out.old) (K.taken out.new)
+        (encode_lower piece.now)) }
+    ensures err { OnErr result (AppendsPart (K.taken out.old) (K.taken out.new)
+        (encode_lower piece.now)) }
     ensures cause { HasCause (K.faults out.old) (K.faults out.new) result }
 {
     let mut buffer = [0u8; 2 * PIECE];
@@ -28,8 +30,10 @@ fn write_piece<K: Sink>(out: &mut K, piece: &[u8]) -> Result<(), SinkFault>
 // Writes bytes in hexadecimal digits.
 #[tactic(auto, using(sdr_base::proofs::WrittenLemmas::sending))]
 fn write_digits<K: Sink>(out: &mut K, bytes: &[u8]) -> Result<(), SinkFault>
-    ensures ok { OnOk result (Appends (K.taken out.old) (K.taken out.new) (encode_lower bytes.now)) }
-    ensures err { OnErr result (AppendsPart (K.taken out.old) (K.taken out.new) (encode_lower bytes.now)) }
+    ensures ok { OnOk result (Appends (K.taken out.old) (K.taken out.new)
+        (encode_lower bytes.now)) }
+    ensures err { OnErr result (AppendsPart (K.taken out.old) (K.taken out.new)
+        (encode_lower bytes.now)) }
     ensures cause { HasCause (K.faults out.old) (K.faults out.new) result }
 {
     let mut rest = bytes;

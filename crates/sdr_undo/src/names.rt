@@ -108,8 +108,10 @@ impl Names {
 
     /// The entry at a place, from 0, with its name.
     pub fn at(&self, place: usize) -> Option<(&[u8], Named)>
-        ensures name { option_map (λ found. found.0.now) result ≡ option_map (λ n. n.name) (slice_get self.now place) }
-        ensures entry { option_map (λ found. found.1) result ≡ option_map named_of (slice_get self.now place) }
+        ensures name { option_map (λ found. found.0.now) result
+            ≡ option_map (λ n. n.name) (slice_get self.now place) }
+        ensures entry { option_map (λ found. found.1) result
+            ≡ option_map named_of (slice_get self.now place) }
     {
         let (key, entry) = self.entries.get_index(place)?;
         Some((key.as_slice(), *entry))

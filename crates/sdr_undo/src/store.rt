@@ -87,7 +87,8 @@ impl Store {
         ensures begun { self.new.begun ≡ self.old.begun }
         ensures now { self.new.now ≡ self.old.now }
         ensures touched { OnOk result (Contains self.new.touched addr) }
-        ensures others { (other : ℕ) → Contains self.old.touched other → Contains self.new.touched other }
+        ensures others { (other : ℕ) → Contains self.old.touched other →
+            Contains self.new.touched other }
     {
         if self.is_listed(addr) {
             return Ok(());
@@ -129,7 +130,8 @@ impl Store {
         ensures taken { IfOk result (λ thing. map.get self.old.now addr ≡ Some thing) }
         ensures without { OnOk result (self.new.now ≡ map.remove self.old.now addr) }
         ensures touched { OnOk result (Contains self.new.touched addr) }
-        ensures others { (other : ℕ) → Contains self.old.touched other → Contains self.new.touched other }
+        ensures others { (other : ℕ) → Contains self.old.touched other →
+            Contains self.new.touched other }
         ensures begun { self.new.begun ≡ self.old.begun }
         ensures same { OnErr result (self.new.now ≡ self.old.now) }
     {

@@ -41,7 +41,8 @@ fn verb_and_args(
     daemon: u8,
     rest: &[u8],
 ) -> Result<(u64, Args), LineError>
-    ensures { GivesOr result (verb_and_args (is_bound_by draft.now.steps daemon) (fields_of rest.now)) }
+    ensures { GivesOr result (verb_and_args (is_bound_by draft.now.steps daemon)
+        (fields_of rest.now)) }
 {
     let (verb, arguments) = cut_field(rest).ok_or(LineError::Refused)?;
     let place = place_of(verb).ok_or(LineError::Refused)?;

@@ -73,7 +73,8 @@ fn append_source(world: &mut Undoable, asked: &Append) -> Result<Reply, NoMemory
     requires taken { world.old.now.taken < 2 ^ 60 }
     requires object { IsSome (object_at world.old.now asked.now.object) }
     requires source { IsSome (source_at world.old.now asked.now.named) }
-    ensures { Answers (Call.AppendExtent asked.now.object asked.now.ticket asked.now.named asked.now.offset asked.now.bytes)
+    ensures { Answers (Call.AppendExtent asked.now.object asked.now.ticket asked.now.named
+        asked.now.offset asked.now.bytes)
         world.old world.new result }
 {
     let Some(source) = world.sound_source(asked.named) else {
@@ -99,7 +100,8 @@ fn append_raw(world: &mut Undoable, asked: &Append) -> Result<Reply, NoMemory>
     requires taken { world.old.now.taken < 2 ^ 60 }
     requires object { IsSome (object_at world.old.now asked.now.object) }
     requires no_source { source_at world.old.now asked.now.named ≡ None }
-    ensures { Answers (Call.AppendExtent asked.now.object asked.now.ticket asked.now.named asked.now.offset asked.now.bytes)
+    ensures { Answers (Call.AppendExtent asked.now.object asked.now.ticket asked.now.named
+        asked.now.offset asked.now.bytes)
         world.old world.new result }
 {
     let Some(bytes) = raw(world, asked.named) else {
@@ -127,7 +129,8 @@ fn append_raw(world: &mut Undoable, asked: &Append) -> Result<Reply, NoMemory>
 /// Appends a part of a source, or of a raw object, to an object. It is linear in the object's extents.
 pub fn append_extent(world: &mut Undoable, asked: &Append) -> Result<Reply, NoMemory>
     requires taken { world.old.now.taken < 2 ^ 60 }
-    ensures { Answers (Call.AppendExtent asked.now.object asked.now.ticket asked.now.named asked.now.offset asked.now.bytes)
+    ensures { Answers (Call.AppendExtent asked.now.object asked.now.ticket asked.now.named
+        asked.now.offset asked.now.bytes)
         world.old world.new result }
 {
     if object(world, asked.object).is_none() {

@@ -50,7 +50,8 @@ fn add_bonded(
     capsules: &[Capsule],
 ) -> Result<(), NoMemory>
     requires first { first + 24 * length capsules.now < 2 ^ 63 + 2 ^ 62 }
-    ensures { OnOk result (extents.new ≡ extents.old ++ bonded_extents (λ k. first + 8 * k) 0 capsules.now) }
+    ensures { OnOk result (extents.new ≡ extents.old
+        ++ bonded_extents (λ k. first + 8 * k) 0 capsules.now) }
 {
     let mut next = first;
     for capsule in capsules {
@@ -95,7 +96,8 @@ fn bond_change(alloc: Global, first: Addr, capsules: &[Capsule]) -> Result<Chang
     requires first { first + 24 * length capsules.now < 2 ^ 63 + 2 ^ 62 }
     requires small { sum_by (capsule_charge Space.Heap) capsules.now ≤ 2 ^ 41 }
     ensures lost { IfOk result (λ by. by.lost ≡ []) }
-    ensures gained { IfOk result (λ by. by.gained ≡ bonded_extents (λ k. first + 8 * k) 0 capsules.now) }
+    ensures gained { IfOk result (λ by. by.gained ≡ bonded_extents (λ k.
+        first + 8 * k) 0 capsules.now) }
     ensures released { IfOk result (λ by. by.released ≡ no_amounts) }
     ensures charged { IfOk result (λ by. by.charged ≡ amounts_by (bond_charge capsules.now)) }
 {

@@ -26,7 +26,8 @@ fn lose_whole(
 ) -> Result<Reply, NoMemory>
     requires there { object_at world.old.now addr ≡ Some object.now }
     ensures reply { IfOk result (λ reply. reply ≡ Reply.Done) }
-    ensures lost { OnOk result (let extents = object.now.extents in let w = world.old.now in world.new.now
+    ensures lost { OnOk result (let extents = object.now.extents in let w = world.old.now in
+        world.new.now
         ≡ record (with_served (without_thing (without_things w (gone_things w extents extents)) addr) object.now.account) { shown = [] }) }
     ensures begun { world.new.begun ≡ world.old.begun }
     ensures same { OnErr result (world.new.now ≡ world.old.now) }

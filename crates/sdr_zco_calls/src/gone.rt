@@ -26,7 +26,8 @@ fn count_one(counts: &mut BTreeMap<Addr, u64>, addr: Addr) -> Result<u64, NoMemo
 // Adds the source at an address, where it goes with its last extent, behind the raw object that it has taken
 // over.
 fn add_passing(world: &Undoable, addr: Addr, gone: &mut Items<Addr>) -> Result<(), NoMemory>
-    ensures { OnOk result (gone.new ≡ gone.old ++ source_blocks addr (source_at world.now.now addr)) }
+    ensures { OnOk result (gone.new ≡ gone.old
+        ++ source_blocks addr (source_at world.now.now addr)) }
 {
     let Some(Thing::Source(source)) = world.thing(addr) else {
         return Ok(());

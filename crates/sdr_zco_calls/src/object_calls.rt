@@ -28,8 +28,10 @@ pub fn object(world: &Undoable, addr: Addr) -> Option<&ZcoObject>
     ensures bounded { IfSome result (λ z. IsBounded z.now) }
     ensures modest { IfSome result (λ z. IsModest (next_addr world.now.now.taken) z.now) }
     ensures owned { IfSome result (λ z. MayPut world.now addr (Thing.Object z.now)) }
-    ensures charge { IfSome result (λ z. (space : Space) → object_charge world.now.now space z.now ≤ most_amount) }
-    ensures small { IfSome result (λ z. (space : Space) → occupancy world.now.now z.now.account space ≤ most_amount) }
+    ensures charge { IfSome result (λ z. (space : Space) →
+        object_charge world.now.now space z.now ≤ most_amount) }
+    ensures small { IfSome result (λ z. (space : Space) →
+        occupancy world.now.now z.now.account space ≤ most_amount) }
 {
     let object = world.object(addr)?;
     Some(object)

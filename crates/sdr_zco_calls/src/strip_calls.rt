@@ -26,7 +26,8 @@ use std::alloc::Global;
 // How an object is cut to its part, which is then the whole.
 fn cut_to_part(alloc: Global, world: &Undoable, object: &ZcoObject) -> Result<Stripping, NoMemory>
     requires bounded { IsBounded object.now }
-    requires small { (space : GhostSpace) → object_charge world.now.now space object.now ≤ most_amount }
+    requires small { (space : GhostSpace) → object_charge world.now.now space object.now ≤
+        most_amount }
     ensures { IfOk result (Strips world.now.now object.now) }
 {
     let from = object.part.offset;

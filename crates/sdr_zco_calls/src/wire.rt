@@ -129,7 +129,8 @@ impl Gathering {
     // Gathers of an extent.
     fn add_extent(&mut self, world: &Undoable, extent: &Extent) -> Result<(), NoMemory>
         requires ends { EndsInTime extent.now }
-        ensures { OnOk result (Gathers (extent_piece world.now.now extent.now ∷ []) self.old self.new) }
+        ensures { OnOk result (Gathers (extent_piece world.now.now extent.now ∷ []) self.old
+            self.new) }
     {
         match world.thing(extent.source) {
             Some(Thing::Source(source)) => match &source.subject {
@@ -144,7 +145,8 @@ impl Gathering {
     // Gathers of these extents.
     fn add_extents(&mut self, world: &Undoable, extents: &[Extent]) -> Result<(), NoMemory>
         requires ends { All EndsInTime extents.now }
-        ensures { OnOk result (Gathers (extent_pieces world.now.now extents.now) self.old self.new) }
+        ensures { OnOk result (Gathers (extent_pieces world.now.now extents.now) self.old
+            self.new) }
     {
         for extent in extents {
             self.add_extent(world, extent)?;

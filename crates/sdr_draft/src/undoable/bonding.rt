@@ -13,8 +13,10 @@ impl Undoable {
         ensures now { self.new.now ≡ self.old.now }
         ensures begun { self.new.begun ≡ self.old.begun }
         ensures owners { self.new.owners ≡ self.old.owners }
-        ensures touched { OnOk result ((k : ℕ) → k < count → Contains self.new.touched (addr_after self.old.now.taken k)) }
-        ensures noted { OnOk result ((k : ℕ) → k < count → Contains self.new.noted (addr_after self.old.now.taken k)) }
+        ensures touched { OnOk result ((k : ℕ) → k < count →
+            Contains self.new.touched (addr_after self.old.now.taken k)) }
+        ensures noted { OnOk result ((k : ℕ) → k < count →
+            Contains self.new.noted (addr_after self.old.now.taken k)) }
         ensures others { OnOk result ((other : ℕ) →
             Contains self.old.touched other → Contains self.new.touched other) }
         ensures others_noted { OnOk result ((other : ℕ) →

@@ -24,8 +24,10 @@ impl Undoable {
 
     /// What these extents charge. It is linear in them, times the logarithm of the world.
     pub fn extents_charge(&self, extents: &[Extent]) -> Amounts
-        requires small { (space : GhostSpace) → sum_by (extent_charge self.now.now space) extents.now ≤ 2 ^ 41 }
-        ensures { result ≡ amounts_by (λ space. sum_by (extent_charge self.now.now space) extents.now) }
+        requires small { (space : GhostSpace) → sum_by (extent_charge self.now.now space)
+            extents.now ≤ 2 ^ 41 }
+        ensures { result ≡ amounts_by (λ space. sum_by (extent_charge self.now.now space)
+            extents.now) }
     {
         let mut charge = NOTHING;
         for extent in extents {
@@ -37,7 +39,8 @@ impl Undoable {
 
     /// What an object charges. It is linear in it, times the logarithm of the world.
     pub fn object_charge(&self, object: &ZcoObject) -> Amounts
-        requires small { (space : GhostSpace) → object_charge self.now.now space object.now ≤ 2 ^ 41 }
+        requires small { (space : GhostSpace) → object_charge self.now.now space object.now ≤ 2 ^
+            41 }
         ensures { result ≡ amounts_by (λ space. object_charge self.now.now space object.now) }
     {
         let mut charge = self.extents_charge(object.extents.as_slice());

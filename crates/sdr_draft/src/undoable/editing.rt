@@ -23,7 +23,8 @@ fn edit_at(things: &mut Store, addr: Addr, edit: Edit) -> Result<Acct, NoMemory>
         things.new.now ≡ with_at things.old.now addr (Some (Thing.Object (edited edit z))))) }
     ensures account { IfOk result (IsAccountOf (as_object (map.get things.old.now addr))) }
     ensures begun { things.new.begun ≡ things.old.begun }
-    ensures touched { (other : ℕ) → Contains things.old.touched other → Contains things.new.touched other }
+    ensures touched { (other : ℕ) → Contains things.old.touched other →
+        Contains things.new.touched other }
     ensures same { OnErr result (things.new.now ≡ things.old.now) }
 {
     match things.take(addr)? {
@@ -48,7 +49,8 @@ impl Undoable {
             self.new.now ≡ with_object self.old.now addr (edited edit z))) }
         ensures begun { self.new.begun ≡ self.old.begun }
         ensures owners { self.new.owners ≡ self.old.owners }
-        ensures touched { (other : ℕ) → Contains self.old.touched other → Contains self.new.touched other }
+        ensures touched { (other : ℕ) → Contains self.old.touched other →
+            Contains self.new.touched other }
         ensures noted { self.new.noted ≡ self.old.noted }
         ensures saved { self.new.saved ≡ self.old.saved }
         ensures same { OnErr result (self.new.now ≡ self.old.now) }

@@ -26,7 +26,8 @@ use sdr_undo::Store;
 // Counts the extents of the object at an address no more, and charges so much less for it.
 fn count_out(things: &Store, tally: &mut Tally, addr: Addr, charge: &Amounts)
     requires there { MayCountOut (as_object (map.get things.now.now addr)) tally.old }
-    ensures out { CountsOut (as_object (map.get things.now.now addr)) charge.now tally.old tally.new }
+    ensures out { CountsOut (as_object (map.get things.now.now addr)) charge.now tally.old
+        tally.new }
     ensures begun { SameNotes tally.new.notes.begun tally.old.notes.begun }
     ensures touched { tally.new.notes.touched ≡ tally.old.notes.touched }
     ensures sums_begun { tally.new.begun ≡ tally.old.begun }
@@ -40,7 +41,8 @@ fn count_out(things: &Store, tally: &mut Tally, addr: Addr, charge: &Amounts)
 impl Undoable {
     /// What the object at an address charges, nothing where there is none.
     pub fn charge_at(&self, addr: Addr) -> Amounts
-        ensures { IfSome (object_at self.now.now addr) (λ z. result ≡ amounts_by (λ space. object_charge self.now.now space z)) }
+        ensures { IfSome (object_at self.now.now addr) (λ z.
+            result ≡ amounts_by (λ space. object_charge self.now.now space z)) }
     {
         match self.object(addr) {
             Some(object) => self.object_charge(object),

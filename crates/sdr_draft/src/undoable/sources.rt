@@ -63,7 +63,8 @@ impl Undoable {
         ensures charge { IfSome result (λ z.
             (space : Space) → object_charge self.now.now space z.now ≤ most_amount) }
         ensures owned { IfSome result (λ z. MayPut self.now addr (Thing.Object z.now)) }
-        ensures small { (acct : GhostAcct) (space : Space) → occupancy self.now.now acct space ≤ most_amount }
+        ensures small { (acct : GhostAcct) (space : Space) →
+            occupancy self.now.now acct space ≤ most_amount }
     {
         match self.things.get(addr) {
             Some(Thing::Object(object)) => Some(object),
@@ -140,7 +141,8 @@ impl Undoable {
         requires unused { uses_of self.old.now addr ≡ 0 }
         requires length { source.length ≤ longest_source }
         requires noted { IfSome (raw_of source.subject) (Contains self.old.noted) }
-        requires unnamed { IfSome (raw_of source.subject) (λ raw. source_on self.old.now raw ≡ None) }
+        requires unnamed { IfSome (raw_of source.subject) (λ raw.
+            source_on self.old.now raw ≡ None) }
         requires unnamed_here { source_on self.old.now addr ≡ None }
         requires raw_there { IfSome (raw_of source.subject) (λ raw.
             (raw < addr) × (is_plain (thing_at self.old.now raw) ≡ true)) }
@@ -218,7 +220,8 @@ impl Undoable {
     /// Flags the source at an address. Want of memory leaves the world as before.
     pub fn flag_source(&mut self, addr: Addr) -> Result<(), NoMemory>
         requires there { IsSome (source_at self.old.now addr) }
-        ensures flagged { OnOk result (FlagsSource (source_at self.old.now addr) addr self.old.now self.new.now) }
+        ensures flagged { OnOk result (FlagsSource (source_at self.old.now addr) addr self.old.now
+            self.new.now) }
         ensures begun { self.new.begun ≡ self.old.begun }
         ensures same { OnErr result (self.new.now ≡ self.old.now) }
     {

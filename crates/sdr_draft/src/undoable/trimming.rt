@@ -21,8 +21,10 @@ impl Undoable {
     /// What is always known of the object at an address: it keeps to the limits, may be put there again,
     /// and has no more uses of a source than the world; and no more is occupied than the greatest amount.
     pub fn known_object(&self, addr: Addr)
-        ensures modest { IfSome (object_at self.now.now addr) (IsModest (next_addr self.now.now.taken)) }
-        ensures owned { IfSome (object_at self.now.now addr) (λ z. MayPut self.now addr (Thing.Object z)) }
+        ensures modest { IfSome (object_at self.now.now addr)
+            (IsModest (next_addr self.now.now.taken)) }
+        ensures owned { IfSome (object_at self.now.now addr) (λ z.
+            MayPut self.now addr (Thing.Object z)) }
         ensures used { IfSome (object_at self.now.now addr) (λ z.
             (source : ℕ) → naming source z.extents ≤ uses_of self.now.now source) }
         ensures bound { IsBound self.now.now }
