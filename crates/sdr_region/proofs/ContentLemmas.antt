@@ -224,12 +224,15 @@ module _ (bytes : List ℕ) {edges : Edges} (built : IsBuilt bytes edges) where
           AreBlocks bytes small large → IsWrongContent bytes small large (place + 16)
       large_wrong told unfilled small large are =
           let c = large_cut_at small large are in
-          inr (all_small f.below small large are, record {
-            before = f.done;
-            block = large_at bytes place;
-            behind = c.behind;
-            whole = c.whole;
-            right = f.filled;
-            wrong = sym large_same_filled ∙ sym told ∙ unfilled;
-            at = refl;
-          })
+          inr (
+            all_small f.below small large are,
+            record {
+              before = f.done;
+              block = large_at bytes place;
+              behind = c.behind;
+              whole = c.whole;
+              right = f.filled;
+              wrong = sym large_same_filled ∙ sym told ∙ unfilled;
+              at = refl;
+            },
+          )

@@ -19,9 +19,9 @@ pub returns-then-not-branch-clause-damaged : goal.returns-then-not-branch-clause
 returns-then-not-branch-clause-damaged g c = (
   refl,
   large_wrong (g.C.Cells.bytes c.args.c.now) c.requires.built c.args.place c.requires.filled c.requires.more c.in_ok-label.label c.in_ok-label.ensures.given
-  (c.in_ok-is_filled.ensures.given
-  ∙ ap (λ (b : List ℕ). not (is_led c.in_ok-label.label) || is_filled_at b c.args.place (c.args.place + 16)) c.in_ok-label.ensures.same)
-  c.if-not-branch.true,
+      (c.in_ok-is_filled.ensures.given
+      ∙ ap (λ (b : List ℕ). not (is_led c.in_ok-label.label) || is_filled_at b c.args.place (c.args.place + 16)) c.in_ok-label.ensures.same)
+      c.if-not-branch.true,
 )
 
 pub returns-clause-filled : goal.returns-clause-filled
