@@ -1,5 +1,5 @@
 -- The bytes of the start bits by what is told of each word.
-use Rattle.std.proofs.Common.{◌≡◌, ◌≤◌, ◌<◌, ◌+◌, ◌-◌, ◌*◌, ℕ, Bool, List, [], ◌∷◌, Option, None, Some, cond, true, false, length, get_or, arith, ap, ◌∙◌, refl, sym, subst, inl, inr}
+use Rattle.std.proofs.Common.{◌≡◌, ◌≤◌, ◌<◌, ◌+◌, ◌-◌, ◌*◌, ℕ, Bool, List, [], ◌∷◌, Option, None, Some, cond, true, false, length, get_or, take, drop, get_or-take, get_or-drop, arith, ap, ◌∙◌, refl, sym, subst, inl, inr}
 use Rattle.std.specs.Option.{option_map_or, option_or}
 use Rattle.std.proofs.lemmas.Bool.{cases_lt, eq-eqb, ne_eqb}
 use Rattle.std.proofs.lemmas.List.{get_or_past}
@@ -69,6 +69,22 @@ module _ (bytes : List ℕ) (told : List Spot) (small large : List PoolBlock) (r
 
   pub byte_told : (byte : ℕ) → byte_of_bits (is_told_used told) byte ≡ bits_byte small large byte
   byte_told byte = (λ i. byte_of_bits (λ word. begins_told word i) byte)
+
+-- a byte of bits is that of the same eight answers
+same_byte : (f g : ℕ → Bool) (a b : ℕ) → ((k : ℕ) → k < 8 → f (8 * a + k) ≡ g (8 * b + k)) → byte_of_bits f a ≡ byte_of_bits g b
+same_byte f g a b e =
+    (λ i. 0 + cond (e 0 (omega arith) i) 128 0 + cond (e 1 (omega arith) i) 64 0 + cond (e 2 (omega arith) i) 32 0 + cond (e 3 (omega arith) i) 16 0
+    + cond (e 4 (omega arith) i) 8 0 + cond (e 5 (omega arith) i) 4 0 + cond (e 6 (omega arith) i) 2 0 + cond (e 7 (omega arith) i) 1 0)
+
+-- the byte of eight words of those that are told of
+pub byte_of_part : (told : List Spot) (byte n : ℕ) → n ≡ 8 → byte_of_bits (is_told_used (take n (drop (8 * byte) told))) 0 ≡ byte_of_bits (is_told_used told) byte
+byte_of_part told byte n eight =
+    same_byte (is_told_used (take n (drop (8 * byte) told))) (is_told_used told) 0 byte
+    (λ k less.
+    let at : 8 * byte + (8 * 0 + k) ≡ 8 * byte + k = omega arith in
+    ap is_used_spot
+    (get_or-take n (drop (8 * byte) told) (8 * 0 + k) spots.Nothing (omega (arith, less, eight)) ∙ get_or-drop (8 * byte) told (8 * 0 + k) spots.Nothing
+    ∙ ap (λ (n : ℕ). get_or told n spots.Nothing) at))
 
 module _ (bytes : List ℕ) (told : List Spot) (place : ℕ) (line : List ℕ) (right : ControlIsRight bytes) (long : length told * 8 ≡ length bytes) (found : AllFound bytes told)
     (from : 1024 ≤ place) (inside : place + 64 ≤ control_word bytes START) (is : line ≡ part place 64 bytes) (before : BitsBefore bytes place) where

@@ -1,199 +1,238 @@
--- The content of the block that begins with a word.
-use Rattle.std.proofs.Common.{◌≡◌, ◌≤◌, ◌<◌, ◌+◌, ◌-◌, ◌*◌, ◌%◌, ◌||◌, ℕ, Bool, List, Option, None, Some, cond, not, true, false, length, get_or, arith, ap, ◌∙◌, refl, sym, inl, inr}
-use Rattle.std.specs.Option.{option_or}
-use Rattle.std.proofs.lemmas.Bool.{cases_lt, le-ltb, lt-ltb}
+-- The contents of blocks that follow one another.
+use Rattle.std.proofs.Common.{◌≡◌, ◌≤◌, ◌<◌, ◌+◌, ◌-◌, ◌*◌, ◌==◌, ◌||◌, ℕ, Bool, List, [], ◌∷◌, ◌++◌, None, Some, cond, not, true, false, length, arith, ap, ◌∙◌, refl, sym, subst, inl, inr}
+use Rattle.std.specs.Prelude.{find}
+use Rattle.std.specs.List.{All}
+use Rattle.std.specs.Option.{option_map}
+use Rattle.std.proofs.lemmas.Bool.{and_parts, cases_Bool, leb-true}
+use Rattle.std.proofs.lemmas.List.Elements.{All-cons, All-head, All-nil, All-tail}
+use Rattle.sdr_base.specs.LargePool.{extent_of}
 use Rattle.sdr_base.specs.Pools.{PoolBlock}
-use Rattle.sdr_base.specs.Stored.{leader_length}
+use Rattle.sdr_base.specs.Rules.{words_for}
+use Rattle.sdr_base.specs.Stored.{leader_kind, leader_length, leader_words}
 use Rattle.sdr_base.specs.declared.control.TheConstants.{HIGH, LOW, START}
-use Rattle.sdr_region.proofs.BegunLemmas.{begins_above, begins_below, begun_above, begun_addr, begun_below, large_inside, none_small, small_inside, spaced_large, spaced_small}
-use Rattle.sdr_region.proofs.BitsLemmas.{spots_of}
+use Rattle.sdr_region.proofs.BegunLemmas.{or_left, or_right}
+use Rattle.sdr_region.proofs.BitsLemmas.{large_same, small_same}
 use Rattle.sdr_region.proofs.EdgeLemmas.{in_order}
-use Rattle.sdr_region.proofs.SpacedLemmas.{all_before, around, before_next, large_spaced, nothing, small_spaced}
-use Rattle.sdr_region.specs.Content.{ContentIsRight, FilledBefore, IsWrongContent, frame_at, is_filled, is_filled_at}
-use Rattle.sdr_region.specs.Control.{ControlIsRight, control_word}
-use Rattle.sdr_region.specs.Spots.{begun_at, begun_in, is_told_used, is_used_spot, spot_of}
-use Rattle.sdr_region.specs.Walk.{AreBlocks}
-use Rattle.sdr_region.specs.Walked.{AllFound}
-use Rattle.sdr_region.specs.declared.spot.Spot.{Spot}
-use Rattle.sdr_region.specs.declared.spot.Spot.TheVariants as spots
+use Rattle.sdr_region.proofs.FollowLemmas.{large_rises, large_then, small_rises, small_then}
+use Rattle.sdr_region.proofs.SpacedLemmas.{none_some}
+use Rattle.sdr_region.specs.Content.{ContentIsRight, IsWrongContent, LargeFilled, SmallFilled, is_filled, is_filled_at}
+use Rattle.sdr_region.specs.Control.{control_word}
+use Rattle.sdr_region.specs.Labels.{IsLabel, is_led}
+use Rattle.sdr_region.specs.Walk.{AreBlocks, LargeFollow, SmallFollow, first_wrong, is_large_at, is_small_at, large_at, large_holds, small_at, small_holds}
+use Rattle.sdr_region.specs.Walked.{IsBuilt}
+use Rattle.sdr_region.specs.declared.control.Edges.{Edges}
+use Rattle.sdr_region.specs.declared.label.Label.{Label}
 
--- no block that is told of begins there in use: each there is filled
-free_filled : (bytes : List ℕ) (frame : ℕ) (block : PoolBlock) → block.used ≡ false → is_filled bytes frame block ≡ true
-free_filled bytes frame block free = ap (λ (u : Bool). not u || is_filled_at bytes (block.addr - frame) block.addr) free
+-- what holds of blocks, and of one more
+all_then : (P : PoolBlock → Type 0) (done : List PoolBlock) (block : PoolBlock) → All P done → P block → All P (done ++ (block ∷ []))
+all_then P [] block all here = All-cons P block [] here (All-nil P)
+all_then P (x ∷ done) block all here = All-cons P x (done ++ (block ∷ [])) (All-head P x done all) (all_then P done block (All-tail P x done all) here)
 
-used_filled : (bytes : List ℕ) (frame place : ℕ) (block : PoolBlock) → block.used ≡ true → block.addr ≡ place + frame → is_filled bytes frame block ≡ is_filled_at bytes place (place + frame)
-used_filled bytes frame place block used at =
-    ap (λ (u : Bool). not u || is_filled_at bytes (block.addr - frame) block.addr) used
-    ∙ (let e : block.addr - frame ≡ place = omega (arith, at) in (λ i. is_filled_at bytes (e i) (at i)))
+-- where none of some blocks is wrong, each is right
+right_in : (right : PoolBlock → Bool) (frame : ℕ) (done behind : List PoolBlock) (block : PoolBlock) → first_wrong right frame (done ++ (block ∷ behind)) ≡ None →
+    right block ≡ true
+right_in right frame [] behind block none = elim (cases_Bool (right block)) [
+  | inl holds ↦ holds
+  | inr fails ↦
+      absurd (none_some
+      (sym (ap (λ (r : Bool). option_map (λ (b : PoolBlock). b.addr - frame) (cond (not r) (Some block) (find (λ b. not (right b)) behind))) fails) ∙ none) refl)
+]
+right_in right frame (x ∷ done) behind block none = elim (cases_Bool (right x)) [
+  | inl holds ↦
+      right_in right frame done behind block
+      (sym (ap (λ (r : Bool). option_map (λ (b : PoolBlock). b.addr - frame) (cond (not r) (Some x) (find (λ b. not (right b)) (done ++ (block ∷ behind))))) holds) ∙ none)
+  | inr fails ↦
+      absurd (none_some
+      (sym (ap (λ (r : Bool). option_map (λ (b : PoolBlock). b.addr - frame) (cond (not r) (Some x) (find (λ b. not (right b)) (done ++ (block ∷ behind))))) fails) ∙ none) refl)
+]
 
-told_of : {told : Spot} (block : PoolBlock) → told ≡ spot_of (Some block) → is_used_spot told ≡ block.used
-told_of block is = ap is_used_spot is ∙ by_use block.used
-  where
-    by_use : (used : Bool) → is_used_spot (cond used spots.Used spots.Free) ≡ used
-    by_use true = refl
-    by_use false = refl
+-- some small blocks are those that come up to a place, the one whose leader stands there, and others
+pub record SmallCut (bytes : List ℕ) (blocks done : List PoolBlock) (place : ℕ) : Type 0 where
+  pub behind : List PoolBlock
+  pub whole : blocks ≡ done ++ (small_at bytes place ∷ behind)
+  pub here : is_small_at bytes place ≡ true
 
--- where a word is told that a block in use begins with it, one does
-told_some : {told : Spot} (o : Option PoolBlock) → told ≡ spot_of o → is_used_spot told ≡ true → (block : PoolBlock) × (o ≡ Some block) × (block.used ≡ true)
-told_some None is used = let d : false ≡ true = sym (ap is_used_spot is) ∙ used in cc
-told_some (Some block) is used = (block, refl, sym (told_of block is) ∙ used)
+small_cut : (bytes : List ℕ) (blocks done : List PoolBlock) (from place to : ℕ) → SmallFollow bytes from blocks to → SmallFollow bytes from done place → place < to →
+    SmallCut bytes blocks done place
+small_cut bytes [] done from place to at follow before = let r = small_rises bytes done from place follow in absurd (omega (arith, at, r, before))
+small_cut bytes (x ∷ blocks) [] from place to (here, is, more) at before =
+    subst (SmallCut bytes (x ∷ blocks) []) at (record { behind = blocks; whole = ap (λ (b : PoolBlock). b ∷ blocks) is; here = here })
+small_cut bytes (x ∷ blocks) (y ∷ done) from place to (here, is, more) (here', is', more') before =
+    let same : x ≡ y = is ∙ sym is' in
+    let c =
+    small_cut bytes blocks done (from + 8 * (1 + x.words)) place to more
+    (subst (λ (b : PoolBlock). SmallFollow bytes (from + 8 * (1 + b.words)) done place) (sym same) more') before in
+    record { behind = c.behind; whole = λ i. same i ∷ c.whole i; here = c.here }
 
-module _ (bytes : List ℕ) (told : List Spot) (word : ℕ) (right : ControlIsRight bytes) (found : AllFound bytes told) (inside : word < length told) where
-  abbrev place : ℕ
-  place = 8 * word
+-- the same of large ones
+pub record LargeCut (bytes : List ℕ) (blocks done : List PoolBlock) (place : ℕ) : Type 0 where
+  pub behind : List PoolBlock
+  pub whole : blocks ≡ done ++ (large_at bytes place ∷ behind)
+  pub here : is_large_at bytes place ≡ true
 
-  module _ (small large : List PoolBlock) (are : AreBlocks bytes small large) where
-    there : get_or told word spots.Nothing ≡ spot_of (begun_at small large place)
-    there = spots_of bytes told found small large are word inside
+large_cut : (bytes : List ℕ) (blocks done : List PoolBlock) (from place to : ℕ) → LargeFollow bytes from blocks to → LargeFollow bytes from done place → place < to →
+    LargeCut bytes blocks done place
+large_cut bytes [] done from place to at follow before = let r = large_rises bytes done from place follow in absurd (omega (arith, at, r, before))
+large_cut bytes (x ∷ blocks) [] from place to (here, is, more) at before =
+    subst (LargeCut bytes (x ∷ blocks) []) at (record { behind = blocks; whole = ap (λ (b : PoolBlock). b ∷ blocks) is; here = here })
+large_cut bytes (x ∷ blocks) (y ∷ done) from place to (here, is, more) (here', is', more') before =
+    let same : x ≡ y = is ∙ sym is' in
+    let c =
+    large_cut bytes blocks done (from + extent_of x.words) place to more
+    (subst (λ (b : PoolBlock). LargeFollow bytes (from + extent_of b.words) done place) (sym same) more') before in
+    record { behind = c.behind; whole = λ i. same i ∷ c.whole i; here = c.here }
 
-    small_there : (block : PoolBlock) → begun_in 8 small place ≡ Some block → begun_at small large place ≡ Some block
-    small_there block is = ap (λ (o : Option PoolBlock). option_or o (begun_in 16 large place)) is
+module _ (bytes : List ℕ) {edges : Edges} (built : IsBuilt bytes edges) where
+  low_is : edges.low ≡ control_word bytes LOW
+  low_is = ap (λ (e : Edges). e.low) built.between
 
-    large_there : (block : PoolBlock) → begun_in 16 large place ≡ Some block → begun_at small large place ≡ Some block
-    large_there block is =
-        ap (λ (o : Option PoolBlock). option_or o (begun_in 16 large place)) (none_small bytes small large right are place (begins_above bytes small large right are place is)) ∙ is
+  end_is : edges.end ≡ length bytes
+  end_is = ap (λ (e : Edges). e.end) built.between
 
-    -- a block is in use where its word is told so
-    use_told : (block : PoolBlock) → begun_at small large place ≡ Some block → is_told_used told word ≡ block.used
-    use_told block is = told_of block (there ∙ ap spot_of is)
+  -- before any block is looked at
+  pub none_filled : SmallFilled bytes edges.start
+  none_filled =
+      subst (λ (e : Edges). SmallFilled bytes e.start) (sym built.between)
+      (record { done = []; follow = refl; within = (in_order bytes built.right).low; filled = All-nil (λ block. is_filled bytes 8 block ≡ true) })
 
-  whole : place % 8 ≡ 0
-  whole = omega arith
+  -- behind the last small block
+  pub small_filled : (place : ℕ) → SmallFilled bytes place → edges.low ≤ place → SmallFilled bytes (control_word bytes LOW)
+  small_filled place f end =
+      let e : place ≡ control_word bytes LOW = (let w = f.within in omega (arith, w, end, low_is)) in
+      subst (SmallFilled bytes) e f
 
-  -- where each block that begins with the word is filled, those before the next word are
-  filled_next : FilledBefore bytes place →
-      ((small large : List PoolBlock) → AreBlocks bytes small large → (block : PoolBlock) → begun_in 8 small place ≡ Some block → is_filled bytes 8 block ≡ true) →
-      ((small large : List PoolBlock) → AreBlocks bytes small large → (block : PoolBlock) → begun_in 16 large place ≡ Some block → is_filled bytes 16 block ≡ true) →
-      FilledBefore bytes (place + 8)
-  filled_next before below above = record {
-    below = λ small large are.
-        before_next 8 (λ block. is_filled bytes 8 block ≡ true) small (control_word bytes START) (control_word bytes LOW) place (spaced_small bytes small large right are) whole
-        (before.below small large are) (below small large are);
-    above = λ small large are.
-        before_next 16 (λ block. is_filled bytes 16 block ≡ true) large (control_word bytes HIGH) (length bytes) place (spaced_large bytes small large right are) whole
-        (before.above small large are) (above small large are);
-  }
+  -- before any large block is looked at
+  pub large_begin : SmallFilled bytes (control_word bytes LOW) → LargeFilled bytes edges.high
+  large_begin f =
+      subst (λ (e : Edges). LargeFilled bytes e.high) (sym built.between)
+      (record { below = f; done = []; follow = refl; within = (in_order bytes built.right).end; filled = All-nil (λ block. is_filled bytes 16 block ≡ true) })
 
-  -- where no block in use begins with the word
-  pub unused_next : is_told_used told word ≡ false → FilledBefore bytes place → FilledBefore bytes (place + 8)
-  unused_next free before =
-      filled_next before
-      (λ small large are block is. free_filled bytes 8 block (sym (use_told small large are block (small_there small large are block is)) ∙ free))
-      (λ small large are block is. free_filled bytes 16 block (sym (use_told small large are block (large_there small large are block is)) ∙ free))
+  -- all small blocks are filled, whatever the blocks are
+  all_small : SmallFilled bytes (control_word bytes LOW) → (small large : List PoolBlock) → AreBlocks bytes small large → All (λ block. is_filled bytes 8 block ≡ true) small
+  all_small f small large are =
+      subst (All (λ block. is_filled bytes 8 block ≡ true)) (small_same bytes f.done small (control_word bytes START) (control_word bytes LOW) f.follow are.follow.below) f.filled
 
-  module _ (used : is_told_used told word ≡ true) where
-    abbrev frame : ℕ
-    frame = frame_at place (control_word bytes LOW)
+  -- behind the last block the contents of all are right
+  pub content_right : (place : ℕ) → LargeFilled bytes place → edges.end ≤ place → (small large : List PoolBlock) → AreBlocks bytes small large → ContentIsRight bytes small large
+  content_right place f end small large are =
+      let e : place ≡ length bytes = (let w = f.within in omega (arith, w, end, end_is)) in
+      record {
+        below = all_small f.below small large are;
+        above =
+            subst (All (λ block. is_filled bytes 16 block ≡ true))
+            (large_same bytes f.done large (control_word bytes HIGH) (length bytes) (subst (LargeFollow bytes (control_word bytes HIGH) f.done) e f.follow) are.follow.above)
+            f.filled;
+      }
 
-    frame_below : place < control_word bytes LOW → frame ≡ 8
-    frame_below less = ap (λ (t : Bool). cond t 8 16) (lt-ltb place (control_word bytes LOW) less)
+  module _ (place : ℕ) (f : SmallFilled bytes place) (more : place < edges.low) where
+    cut : (small large : List PoolBlock) → AreBlocks bytes small large → SmallCut bytes small f.done place
+    cut small large are =
+        small_cut bytes small f.done (control_word bytes START) place (control_word bytes LOW) are.follow.below f.follow (omega (arith, more, low_is))
 
-    frame_above : control_word bytes LOW ≤ place → frame ≡ 16
-    frame_above ge = ap (λ (t : Bool). cond t 8 16) (le-ltb place (control_word bytes LOW) ge)
+    -- a small block begins there, which ends in time and holds its bytes
+    pub small_inside : place + 8 + leader_length place bytes ≤ length bytes
+    small_inside =
+        let b = built.blocks in
+        let c = cut b.small b.large b.are in
+        let unfit = or_left _ _ (or_left _ _ (or_left _ _ b.are.right)) in
+        let holds =
+        right_in (small_holds bytes) 8 f.done c.behind (small_at bytes place)
+        (subst (λ (l : List PoolBlock). first_wrong (small_holds bytes) 8 l ≡ None) c.whole (or_left _ _ unfit)) in
+        let enough : words_for (leader_length (place + 8 - 8) bytes) ≤ leader_words place bytes = leb-true _ _ (and_parts _ _ holds).0 in
+        let back : place + 8 - 8 ≡ place = omega arith in
+        let enough' : words_for (leader_length place bytes) ≤ leader_words place bytes = subst (λ (n : ℕ). words_for (leader_length n bytes) ≤ leader_words place bytes) back enough in
+        let ends : place + 8 * (1 + leader_words place bytes) ≤ control_word bytes LOW = leb-true _ _ (and_parts _ _ c.here).1 in
+        let o = in_order bytes built.right in
+        let high = o.high in
+        let end = o.end in
+        omega (arith, enough', ends, high, end)
 
-    -- where a block in use begins with the word, and is filled
-    pub used_next : is_filled_at bytes place (place + frame) ≡ true → FilledBefore bytes place → FilledBefore bytes (place + 8)
-    used_next filled before =
-        filled_next before
-        (λ small large are block is.
-        used_filled bytes 8 place block (sym (use_told small large are block (small_there small large are block is)) ∙ used) (begun_addr 8 small place block is)
-        ∙ ap (λ (n : ℕ). is_filled_at bytes place (place + n)) (sym (frame_below (begins_below bytes small large right are place is))) ∙ filled)
-        (λ small large are block is.
-        used_filled bytes 16 place block (sym (use_told small large are block (large_there small large are block is)) ∙ used) (begun_addr 16 large place block is)
-        ∙ ap (λ (n : ℕ). is_filled_at bytes place (place + n)) (sym (frame_above (begins_above bytes small large right are place is))) ∙ filled)
+    module _ (label : Label) (is : IsLabel bytes place label) where
+      filled_same : (not (is_led label) || is_filled_at bytes place (place + 8)) ≡ is_filled bytes 8 (small_at bytes place)
+      filled_same =
+          let back : place + 8 - 8 ≡ place = omega arith in
+          (λ i. not (not (is.kind i == 0)) || is_filled_at bytes place (place + 8))
+          ∙ ap (λ (n : ℕ). not (not (leader_kind place bytes == 0)) || is_filled_at bytes n (place + 8)) (sym back)
 
-    -- its bytes lie inside the region
-    pub inside_here : place + frame + leader_length place bytes ≤ length bytes
-    inside_here =
-        let small = found.small in
-        let large = found.large in
-        let are = found.blocks in
-        let s = told_some (begun_at small large place) (there small large are) used in
-        elim (cases_lt place (control_word bytes LOW)) [
-          | inl less ↦
-              let is = begun_below bytes small large right are place less s.1 in
-              let e = frame_below less in
-              let i = small_inside bytes small large right are place is in
-              omega (arith, e, i)
-          | inr ge ↦
-              let is = begun_above bytes small large right are place ge s.1 in
-              let e = frame_above ge in
-              let i = large_inside bytes small large right are place is in
-              omega (arith, e, i)
-        ]
+      -- one that is filled is one more
+      pub small_next : {yes : Bool} → yes ≡ (not (is_led label) || is_filled_at bytes place (place + 8)) → yes ≡ true → SmallFilled bytes (place + 8 * (1 + label.words))
+      small_next told filled =
+          let b = built.blocks in
+          let c = cut b.small b.large b.are in
+          subst (λ (n : ℕ). SmallFilled bytes (place + 8 * (1 + n))) (sym is.words) (record {
+            done = f.done ++ (small_at bytes place ∷ []);
+            follow = small_then bytes f.done (control_word bytes START) place f.follow c.here;
+            within = leb-true _ _ (and_parts _ _ c.here).1;
+            filled = all_then (λ block. is_filled bytes 8 block ≡ true) f.done (small_at bytes place) f.filled (sym filled_same ∙ sym told ∙ filled);
+          })
 
-    -- where it isn't filled, it is the first whose content is wrong
-    pub wrong_here : is_filled_at bytes place (place + frame) ≡ false → FilledBefore bytes place → (small large : List PoolBlock) → AreBlocks bytes small large →
-        IsWrongContent bytes small large (place + frame)
-    wrong_here unfilled before small large are =
-        let s = told_some (begun_at small large place) (there small large are) used in
-        elim (cases_lt place (control_word bytes LOW)) [
-          | inl less ↦
-              let is = begun_below bytes small large right are place less s.1 in
-              let a =
-              around 8 (λ block. is_filled bytes 8 block ≡ true) small (control_word bytes START) (control_word bytes LOW) place s.0 (spaced_small bytes small large right are)
-              (before.below small large are) is in
-              let at = begun_addr 8 small place s.0 is in
-              inl (record {
-                before = a.before;
-                block = s.0;
-                behind = a.behind;
-                whole = a.whole;
-                right = a.all;
-                wrong =
-                    used_filled bytes 8 place s.0 s.2 at
-                    ∙ ap (λ (n : ℕ). is_filled_at bytes place (place + n)) (sym (frame_below less)) ∙ unfilled;
-                at = ap (λ (n : ℕ). place + n) (frame_below less) ∙ sym at;
-              })
-          | inr ge ↦
-              let is = begun_above bytes small large right are place ge s.1 in
-              let a =
-              around 16 (λ block. is_filled bytes 16 block ≡ true) large (control_word bytes HIGH) (length bytes) place s.0 (spaced_large bytes small large right are)
-              (before.above small large are) is in
-              let at = begun_addr 16 large place s.0 is in
-              inr (
-                all_before 8 (λ block. is_filled bytes 8 block ≡ true) small (control_word bytes START) (control_word bytes LOW) place (spaced_small bytes small large right are) ge
-                    (before.below small large are),
-                record {
-                  before = a.before;
-                  block = s.0;
-                  behind = a.behind;
-                  whole = a.whole;
-                  right = a.all;
-                  wrong =
-                      used_filled bytes 16 place s.0 s.2 at
-                      ∙ ap (λ (n : ℕ). is_filled_at bytes place (place + n)) (sym (frame_above ge)) ∙ unfilled;
-                  at = ap (λ (n : ℕ). place + n) (frame_above ge) ∙ sym at;
-                },
-              )
-        ]
+      -- one that isn't is the first whose content is wrong
+      pub small_wrong : {yes : Bool} → yes ≡ (not (is_led label) || is_filled_at bytes place (place + 8)) → yes ≡ false → (small large : List PoolBlock) →
+          AreBlocks bytes small large → IsWrongContent bytes small large (place + 8)
+      small_wrong told unfilled small large are =
+          let c = cut small large are in
+          inl (record {
+            before = f.done;
+            block = small_at bytes place;
+            behind = c.behind;
+            whole = c.whole;
+            right = f.filled;
+            wrong = sym filled_same ∙ sym told ∙ unfilled;
+            at = refl;
+          })
 
--- before any place at which blocks may begin there is none
-pub filled_none : (bytes : List ℕ) → ControlIsRight bytes → FilledBefore bytes 0
-filled_none bytes right =
-    let o = in_order bytes right in
-    record {
-      below = λ small large are.
-          nothing 8 (λ block. is_filled bytes 8 block ≡ true) small (control_word bytes START) (control_word bytes LOW)
-          (small_spaced bytes small (control_word bytes START) (control_word bytes LOW) are.follow.below o.start_whole);
-      above = λ small large are.
-          nothing 16 (λ block. is_filled bytes 16 block ≡ true) large (control_word bytes HIGH) (length bytes)
-          (large_spaced bytes large (control_word bytes HIGH) (length bytes) are.follow.above o.high_whole);
-    }
+  module _ (place : ℕ) (f : LargeFilled bytes place) (more : place < edges.end) where
+    large_cut_at : (small large : List PoolBlock) → AreBlocks bytes small large → LargeCut bytes large f.done place
+    large_cut_at small large are =
+        large_cut bytes large f.done (control_word bytes HIGH) place (length bytes) are.follow.above f.follow (omega (arith, more, end_is))
 
--- where the contents of all that begin before the end are right, all are
-pub content_right : (bytes : List ℕ) (place : ℕ) → ControlIsRight bytes → FilledBefore bytes place → length bytes ≤ place → (small large : List PoolBlock) →
-    AreBlocks bytes small large → ContentIsRight bytes small large
-content_right bytes place right before end small large are =
-    let o = in_order bytes right in
-    let high = o.high in
-    let last = o.end in
-    record {
-      below =
-          all_before 8 (λ block. is_filled bytes 8 block ≡ true) small (control_word bytes START) (control_word bytes LOW) place
-          (small_spaced bytes small (control_word bytes START) (control_word bytes LOW) are.follow.below o.start_whole) (omega (arith, high, last, end))
-          (before.below small large are);
-      above =
-          all_before 16 (λ block. is_filled bytes 16 block ≡ true) large (control_word bytes HIGH) (length bytes) place
-          (large_spaced bytes large (control_word bytes HIGH) (length bytes) are.follow.above o.high_whole) end (before.above small large are);
-    }
+    -- a large block begins there, which ends in time and holds its bytes
+    pub large_inside : place + 16 + leader_length place bytes ≤ length bytes
+    large_inside =
+        let b = built.blocks in
+        let c = large_cut_at b.small b.large b.are in
+        let unfit = or_left _ _ (or_left _ _ (or_left _ _ b.are.right)) in
+        let holds =
+        right_in (large_holds bytes) 16 f.done c.behind (large_at bytes place)
+        (subst (λ (l : List PoolBlock). first_wrong (large_holds bytes) 16 l ≡ None) c.whole (or_right _ _ unfit)) in
+        let enough : words_for (leader_length (place + 16 - 16) bytes) ≤ leader_words place bytes = leb-true _ _ holds in
+        let back : place + 16 - 16 ≡ place = omega arith in
+        let enough' : words_for (leader_length place bytes) ≤ leader_words place bytes = subst (λ (n : ℕ). words_for (leader_length n bytes) ≤ leader_words place bytes) back enough in
+        let ends : place + 8 * (4 + leader_words place bytes) ≤ length bytes = leb-true _ _ (and_parts _ _ (and_parts _ _ c.here).0).1 in
+        omega (arith, enough', ends)
+
+    module _ (label : Label) (is : IsLabel bytes place label) where
+      large_same_filled : (not (is_led label) || is_filled_at bytes place (place + 16)) ≡ is_filled bytes 16 (large_at bytes place)
+      large_same_filled =
+          let back : place + 16 - 16 ≡ place = omega arith in
+          (λ i. not (not (is.kind i == 0)) || is_filled_at bytes place (place + 16))
+          ∙ ap (λ (n : ℕ). not (not (leader_kind place bytes == 0)) || is_filled_at bytes n (place + 16)) (sym back)
+
+      pub large_next : {yes : Bool} → yes ≡ (not (is_led label) || is_filled_at bytes place (place + 16)) → yes ≡ true → LargeFilled bytes (place + 8 * (4 + label.words))
+      large_next told filled =
+          let b = built.blocks in
+          let c = large_cut_at b.small b.large b.are in
+          subst (λ (n : ℕ). LargeFilled bytes (place + 8 * (4 + n))) (sym is.words) (record {
+            below = f.below;
+            done = f.done ++ (large_at bytes place ∷ []);
+            follow = large_then bytes f.done (control_word bytes HIGH) place f.follow c.here;
+            within = leb-true _ _ (and_parts _ _ (and_parts _ _ c.here).0).1;
+            filled = all_then (λ block. is_filled bytes 16 block ≡ true) f.done (large_at bytes place) f.filled (sym large_same_filled ∙ sym told ∙ filled);
+          })
+
+      pub large_wrong : {yes : Bool} → yes ≡ (not (is_led label) || is_filled_at bytes place (place + 16)) → yes ≡ false → (small large : List PoolBlock) →
+          AreBlocks bytes small large → IsWrongContent bytes small large (place + 16)
+      large_wrong told unfilled small large are =
+          let c = large_cut_at small large are in
+          inr (
+            all_small f.below small large are,
+            record {
+              before = f.done;
+              block = large_at bytes place;
+              behind = c.behind;
+              whole = c.whole;
+              right = f.filled;
+              wrong = sym large_same_filled ∙ sym told ∙ unfilled;
+              at = refl;
+            },
+          )

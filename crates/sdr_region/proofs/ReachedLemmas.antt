@@ -16,10 +16,9 @@ use Rattle.sdr_region.proofs.ListedLemmas.{is_addr, listed_at, marked_counts}
 use Rattle.sdr_region.proofs.ListsLemmas.{addrs_contained, addrs_of, contained_counted, counted_contained, large_list, large_over, large_word, list_right, sized_contained, small_list, small_over, small_word}
 use Rattle.sdr_region.proofs.SpacedLemmas.{AllBefore, IfBefore, Spaced, all_before, around, begun_first, begun_later, none_some, spaced_before}
 use Rattle.sdr_region.proofs.ToldLemmas.{begins_free, large_listed_at, small_listed_at}
-use Rattle.sdr_region.specs.Content.{frame_at}
 use Rattle.sdr_region.specs.Control.{ControlIsRight, control_word}
 use Rattle.sdr_region.specs.Free.{AreListed, IsListIn, IsListWord, IsLost, LargeReached, SmallReached}
-use Rattle.sdr_region.specs.Listed.{GoesOver, IsFirstLost, ListsWalked, frame_in, is_listed, is_lost, is_marked}
+use Rattle.sdr_region.specs.Listed.{GoesOver, IsFirstLost, ListsWalked, frame_at, frame_in, is_listed, is_lost, is_marked}
 use Rattle.sdr_region.specs.Spots.{begun_in, is_free_spot}
 use Rattle.sdr_region.specs.Walk.{AreBlocks}
 use Rattle.sdr_region.specs.Walked.{AllFound}

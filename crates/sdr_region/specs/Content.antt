@@ -1,15 +1,17 @@
 -- What an audit asks of the contents of blocks in use, each by itself: their lengths, the lengths in them, small values and zeros.
-use Rattle.std.specs.Prelude.{◌≡◌, ◌<◌, ◌==◌, ◌+◌, ◌-◌, ◌*◌, ◌&&◌, ◌||◌, ◌^◌, ◌⊎◌, ℕ, Bool, true, false, cond, min, not, nat_le, nat_lt, List, ◌∷◌, ◌++◌, drop, get_or, Option, None, Some}
+use Rattle.std.specs.Prelude.{◌≡◌, ◌≤◌, ◌==◌, ◌+◌, ◌-◌, ◌*◌, ◌&&◌, ◌||◌, ◌^◌, ◌⊎◌, ℕ, Bool, true, false, cond, min, not, nat_le, nat_lt, List, ◌∷◌, ◌++◌, drop, get_or, length, Option, None, Some}
 use Rattle.std.specs.List.{All, list_all}
 use Rattle.sdr_base.specs.Kinds.{kind_of}
 use Rattle.sdr_base.specs.Parts.{part}
 use Rattle.sdr_base.specs.Pools.{PoolBlock}
 use Rattle.sdr_base.specs.Stored.{leader_kind, leader_length, number_at}
+use Rattle.sdr_base.specs.declared.control.TheConstants.{HIGH, LOW, START}
 use Rattle.sdr_base.specs.declared.kind.Kind.{Kind}
 use Rattle.sdr_base.specs.declared.kind.Kind.TheVariants as kinds
 use Rattle.sdr_base.specs.declared.line.TheConstants.{WORD}
 use Rattle.sdr_model.specs.Accounts.{most_amount}
-use Rattle.sdr_region.specs.Walk.{AreBlocks}
+use Rattle.sdr_region.specs.Control.{control_word}
+use Rattle.sdr_region.specs.Walk.{LargeFollow, SmallFollow}
 use Rattle.sdr_model.specs.Limits.{longest_key, longest_raw, longest_source, longest_string, most_buckets, is_no_capsule, is_no_name, is_no_path}
 
 -- the number in a word of a block's bytes, counted from 0
@@ -101,10 +103,6 @@ is_filled_at bytes place addr =
 abbrev pub is_filled : List ℕ → ℕ → PoolBlock → Bool
 is_filled bytes frame block = not block.used || is_filled_at bytes (block.addr - frame) block.addr
 
--- how far before its address the leader of a block stands that begins at a place, where small blocks end at `low`
-abbrev pub frame_at : ℕ → ℕ → ℕ
-frame_at place low = cond (nat_lt place low) WORD (2 * WORD)
-
 -- each of these blocks is free, or has what its kind's layout asks
 abbrev pub AllFilled : List ℕ → ℕ → List PoolBlock → Type 0
 AllFilled bytes frame blocks = All (λ block. is_filled bytes frame block ≡ true) blocks
@@ -129,12 +127,17 @@ abbrev pub IsWrongContent : List ℕ → List PoolBlock → List PoolBlock → �
 IsWrongContent bytes small large addr =
     FirstUnfilled bytes WORD small addr ⊎ (AllFilled bytes WORD small × FirstUnfilled bytes (2 * WORD) large addr)
 
--- each of these blocks that begins before a place is free, or has what its kind's layout asks
-abbrev pub AllFilledBefore : List ℕ → ℕ → List PoolBlock → ℕ → Type 0
-AllFilledBefore bytes frame blocks place =
-    All (λ (block : PoolBlock). block.addr < place + frame → is_filled bytes frame block ≡ true) blocks
+-- small blocks follow one another up to a place, and each of them is free, or has what its kind's layout asks
+pub record SmallFilled (bytes : List ℕ) (place : ℕ) : Type 0 where
+  pub done : List PoolBlock
+  pub follow : SmallFollow bytes (control_word bytes START) done place
+  pub within : place ≤ control_word bytes LOW
+  pub filled : AllFilled bytes WORD done
 
--- the contents of all blocks that begin before a place are right, whatever the blocks are
-pub record FilledBefore (bytes : List ℕ) (place : ℕ) : Type 0 where
-  pub below : (small large : List PoolBlock) → AreBlocks bytes small large → AllFilledBefore bytes WORD small place
-  pub above : (small large : List PoolBlock) → AreBlocks bytes small large → AllFilledBefore bytes (2 * WORD) large place
+-- all small blocks are so, and large ones that follow one another up to a place
+pub record LargeFilled (bytes : List ℕ) (place : ℕ) : Type 0 where
+  pub below : SmallFilled bytes (control_word bytes LOW)
+  pub done : List PoolBlock
+  pub follow : LargeFollow bytes (control_word bytes HIGH) done place
+  pub within : place ≤ length bytes
+  pub filled : AllFilled bytes (2 * WORD) done

@@ -19,6 +19,10 @@ is_small_list word = nat_le word (SMALL_LISTS + MOST_SMALL)
 abbrev pub frame_in : ℕ → ℕ
 frame_in word = cond (is_small_list word) WORD (2 * WORD)
 
+-- how far before its address the leader of a block stands that begins at a place, where small blocks end at `low`
+abbrev pub frame_at : ℕ → ℕ → ℕ
+frame_at place low = cond (nat_lt place low) WORD (2 * WORD)
+
 -- the control word of the list in which the block is, if it is free, whose leader stands at a place
 abbrev pub list_of : List ℕ → ℕ → ℕ
 list_of bytes place =

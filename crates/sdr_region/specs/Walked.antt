@@ -52,6 +52,19 @@ pub record AllFound (bytes : List ℕ) (told : List Spot) : Type 0 where
   pub blocks : AreBlocks bytes small large
   pub spots : AreSpots small large told
 
+-- there are blocks, all of which are right
+pub record HasBlocks (bytes : List ℕ) : Type 0 where
+  pub small : List PoolBlock
+  pub large : List PoolBlock
+  pub are : AreBlocks bytes small large
+
+-- the control words and the blocks are right, and blocks stand between these edges
+pub record IsBuilt (bytes : List ℕ) (edges : Edges) : Type 0 where
+  pub region : IsRegionSize (length bytes)
+  pub right : ControlIsRight bytes
+  pub between : edges ≡ edges_of bytes
+  pub blocks : HasBlocks bytes
+
 -- The control words and the blocks are right, blocks stand between these edges, and it is told of each word what begins with it.
 pub record IsSurveyed (bytes : List ℕ) (edges : Edges) (told : List Spot) : Type 0 where
   pub region : IsRegionSize (length bytes)

@@ -23,25 +23,38 @@ fn weight(spots: &[Spot], word: u64, value: u8) -> u8
     if is_used(spots, word) { value } else { 0 }
 }
 
-// The byte of the start bits of eight words.
+// The byte of the start bits of these eight words.
+fn byte_of_eight(eight: &[Spot]) -> u8
+    requires { length eight.now ≡ 8 }
+    ensures { result ≡ byte_of_bits (is_told_used eight.now) 0 }
+{
+    weight(eight, 0, 128)
+        + weight(eight, 1, 64)
+        + weight(eight, 2, 32)
+        + weight(eight, 3, 16)
+        + weight(eight, 4, 8)
+        + weight(eight, 5, 4)
+        + weight(eight, 6, 2)
+        + weight(eight, 7, 1)
+}
+
+// The byte of the start bits of eight words, 0 behind the region.
 fn byte_of_bits(spots: &[Spot], byte: u64) -> u8
-    requires { byte < 2 ^ 32 }
+    requires few { byte < 2 ^ 32 }
+    requires whole { length spots.now % 8 ≡ 0 }
     ensures { result ≡ byte_of_bits (is_told_used spots.now) byte }
 {
-    let word = 8 * byte;
-    weight(spots, word, 128)
-        + weight(spots, word + 1, 64)
-        + weight(spots, word + 2, 32)
-        + weight(spots, word + 3, 16)
-        + weight(spots, word + 4, 8)
-        + weight(spots, word + 5, 4)
-        + weight(spots, word + 6, 2)
-        + weight(spots, word + 7, 1)
+    let word = 8 * byte as usize;
+    if word >= spots.len() {
+        return 0;
+    }
+    byte_of_eight(&spots[word..word + 8])
 }
 
 // The first of these bytes that isn't that of the start bits, of which it is so far from the first.
 fn first_wrong(line: &[u8], spots: &[Spot], byte: u64) -> Option<usize>
-    requires { byte + length line.now < 2 ^ 32 }
+    requires few { byte + length line.now < 2 ^ 32 }
+    requires whole { length spots.now % 8 ≡ 0 }
     ensures none { result ≡ None → (i : ℕ) → i < length line.now →
         get_or line.now i 0 ≡ byte_of_bits (is_told_used spots.now) (byte + i) }
     ensures some { IfSome result (λ i. IsFirstByte line.now (byte_of_bits (is_told_used spots.now))

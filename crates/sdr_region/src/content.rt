@@ -1,86 +1,113 @@
 // The contents of blocks in use.
-ghost use Rattle.std.specs.Prelude.{◌≡◌, ◌≤◌, ◌<◌, ◌+◌, ◌*◌, ◌%◌, ◌^◌, List, false, true, length, get_or, IfErr, IfOk, OnOk};
+ghost use Rattle.std.specs.Prelude.{◌≡◌, ◌≤◌, ◌<◌, ◌+◌, ◌*◌, ◌^◌, ◌||◌, List, false, length, not, IfErr, IfOk, OnOk};
 ghost use Rattle.sdr_base.specs.Cells.{IsRegionSize};
 ghost use Rattle.sdr_base.specs.Pools.{PoolBlock};
-ghost use Rattle.sdr_base.specs.Stored.{leader_length};
 ghost use Rattle.sdr_base.specs.Transaction.{HasReason, TouchesNone};
+ghost use Rattle.sdr_base.specs.declared.control.TheConstants.{LARGE_FRAME, LOW};
 ghost use Rattle.sdr_base.specs.declared.line.TheConstants.{WORD};
 ghost use Rattle.sdr_region.specs.Auditing.{Audits, DamagedBy, edges_of};
-ghost use Rattle.sdr_region.specs.Content.{ContentIsRight, FilledBefore, IsWrongContent, frame_at, is_filled_at};
-ghost use Rattle.sdr_region.specs.Control.{ControlIsRight};
-ghost use Rattle.sdr_region.specs.Spots.{is_told_used};
+ghost use Rattle.sdr_region.specs.Content.{ContentIsRight, IsWrongContent, LargeFilled, SmallFilled, is_filled_at};
+ghost use Rattle.sdr_region.specs.Control.{ControlIsRight, control_word};
+ghost use Rattle.sdr_region.specs.Labels.{IsLabel, is_led};
 ghost use Rattle.sdr_region.specs.Walk.{AreBlocks};
-ghost use Rattle.sdr_region.specs.Walked.{IsSurveyed};
+ghost use Rattle.sdr_region.specs.Walked.{IsBuilt};
 
 use crate::control::Edges;
 use crate::error::{AuditError, Why};
+use crate::label::{Label, read_label};
 use crate::layout::has_layout;
-use crate::spot::{Spot, is_used};
-use sdr_base::{Cells, Stop, WORD, read_leader};
+use sdr_base::control::LARGE_FRAME;
+use sdr_base::{Cells, Kind, Stop, WORD};
 
-// Whether the block at an address whose leader stands at a place has what its kind's layout asks.
-fn is_filled<C: Cells>(c: &mut C, place: u64, addr: u64) -> Result<bool, Stop>
-    requires place { place + WORD ≤ length (C.bytes c.old) }
-    requires inside { addr + leader_length place (C.bytes c.old) ≤ length (C.bytes c.old) }
-    ensures given { IfOk result (λ yes. yes ≡ is_filled_at (C.bytes c.old) place addr) }
+// Whether the block with this leader, at an address behind it, is free, or has what its kind's layout asks.
+fn is_filled<C: Cells>(c: &mut C, label: &Label, place: u64, addr: u64) -> Result<bool, Stop>
+    requires label { IsLabel (C.bytes c.old) place label.now }
+    requires inside { addr + label.now.length ≤ length (C.bytes c.old) }
+    requires sound { (C.transaction c.old).failed ≡ false }
+    ensures given { IfOk result (λ yes.
+        yes ≡ (not (is_led label.now) || is_filled_at (C.bytes c.old) place addr)) }
     ensures same { C.bytes c.new ≡ C.bytes c.old }
     ensures room { TouchesNone (C.transaction c.old) (C.transaction c.new) result }
     ensures cause { HasReason (C.transaction c.old) (C.transaction c.new) result }
     ensures quiet { C.quiet c.old c.new }
 {
-    let leader = read_leader(c, place)?;
+    if !label.is_used() {
+        return Ok(true);
+    }
     let mut bytes = [0; 96];
-    let first = &mut bytes[..leader.length.min(96) as usize];
+    let first = &mut bytes[..label.length.min(96) as usize];
     c.read(addr, first)?;
-    match leader.kind {
+    match Kind::of(label.kind) {
         None => Ok(false),
-        Some(kind) => Ok(has_layout(kind, leader.length, first)),
+        Some(kind) => Ok(has_layout(kind, label.length, first)),
     }
 }
 
-/// How far before its address the leader of a block stands that begins at a place, where small blocks end at `low`.
-pub fn frame_at(place: u64, low: u64) -> u64
-    ensures { result ≡ frame_at place low }
-{
-    if place < low { WORD } else { 2 * WORD }
-}
-
-// Checks the content of the block that begins with a word, where one in use does.
-fn check_spot<C: Cells>(
-    c: &mut C,
-    edges: &Edges,
-    spots: &[Spot],
-    word: usize,
-) -> Result<(), AuditError>
-    requires surveyed { IsSurveyed (C.bytes c.old) edges.now spots.now }
+// Checks the small block that begins at a place, and answers where the next one does.
+fn check_small<C: Cells>(c: &mut C, edges: &Edges, place: u64) -> Result<u64, AuditError>
+    requires built { IsBuilt (C.bytes c.old) edges.now }
     requires sound { (C.transaction c.old).failed ≡ false }
-    requires inside { word < length spots.now }
-    requires before { FilledBefore (C.bytes c.old) (WORD * word) }
-    ensures before { OnOk result (FilledBefore (C.bytes c.old) (WORD * word + WORD)) }
+    requires filled { SmallFilled (C.bytes c.old) place }
+    requires more { place < edges.now.low }
+    ensures filled { IfOk result (SmallFilled (C.bytes c.old)) }
+    ensures onward { IfOk result (λ next. place < next) }
     ensures damaged { IfErr result (DamagedBy Why.Content (λ at. (small large : List PoolBlock) →
         AreBlocks (C.bytes c.old) small large → IsWrongContent (C.bytes c.old) small large at)) }
     ensures audits { Audits C.bytes C.transaction C.quiet c.old c.new result }
 {
-    if !is_used(spots, word as u64) {
-        return Ok(());
-    }
-    let place = WORD * word as u64;
-    let frame = frame_at(place, edges.low);
-    if is_filled(c, place, place + frame)? {
-        Ok(())
-    } else {
-        Err(AuditError::Damaged {
-            place: place + frame,
+    let label = read_label(c, place)?;
+    if !is_filled(c, &label, place, place + WORD)? {
+        return Err(AuditError::Damaged {
+            place: place + WORD,
             why: Why::Content,
-        })
+        });
     }
+    Ok(place + WORD * (1 + label.words))
 }
 
-/// Checks the contents of the blocks in use that were found, each by itself: its length, the lengths in it, small values and zeros,
-/// by its kind's layout and limits. What is wrong first is told by the block's address. It reads the first 96 bytes of each block,
+// Checks all small blocks.
+fn check_all_small<C: Cells>(c: &mut C, edges: &Edges) -> Result<(), AuditError>
+    requires built { IsBuilt (C.bytes c.old) edges.now }
+    requires sound { (C.transaction c.old).failed ≡ false }
+    ensures filled { OnOk result (SmallFilled (C.bytes c.old) (control_word (C.bytes c.old) LOW)) }
+    ensures damaged { IfErr result (DamagedBy Why.Content (λ at. (small large : List PoolBlock) →
+        AreBlocks (C.bytes c.old) small large → IsWrongContent (C.bytes c.old) small large at)) }
+    ensures audits { Audits C.bytes C.transaction C.quiet c.old c.new result }
+{
+    let mut place = edges.start;
+    while place < edges.low {
+        place = check_small(c, edges, place)?;
+    }
+    Ok(())
+}
+
+// Checks the large block that begins at a place, and answers where the next one does.
+fn check_large<C: Cells>(c: &mut C, edges: &Edges, place: u64) -> Result<u64, AuditError>
+    requires built { IsBuilt (C.bytes c.old) edges.now }
+    requires sound { (C.transaction c.old).failed ≡ false }
+    requires filled { LargeFilled (C.bytes c.old) place }
+    requires more { place < edges.now.end }
+    ensures filled { IfOk result (LargeFilled (C.bytes c.old)) }
+    ensures onward { IfOk result (λ next. place < next) }
+    ensures damaged { IfErr result (DamagedBy Why.Content (λ at. (small large : List PoolBlock) →
+        AreBlocks (C.bytes c.old) small large → IsWrongContent (C.bytes c.old) small large at)) }
+    ensures audits { Audits C.bytes C.transaction C.quiet c.old c.new result }
+{
+    let label = read_label(c, place)?;
+    if !is_filled(c, &label, place, place + 2 * WORD)? {
+        return Err(AuditError::Damaged {
+            place: place + 2 * WORD,
+            why: Why::Content,
+        });
+    }
+    Ok(place + WORD * (LARGE_FRAME + label.words))
+}
+
+/// Checks the contents of the blocks in use, each by itself: its length, the lengths in it, small values and zeros, by its kind's
+/// layout and limits. What is wrong first is told by the block's address. It reads the leader and the first 96 bytes of each block,
 /// and takes no memory.
-pub fn check_content<C: Cells>(c: &mut C, edges: &Edges, spots: &[Spot]) -> Result<(), AuditError>
-    requires surveyed { IsSurveyed (C.bytes c.old) edges.now spots.now }
+pub fn check_content<C: Cells>(c: &mut C, edges: &Edges) -> Result<(), AuditError>
+    requires built { IsBuilt (C.bytes c.old) edges.now }
     requires sound { (C.transaction c.old).failed ≡ false }
     ensures right { OnOk result ((small large : List PoolBlock) →
         AreBlocks (C.bytes c.old) small large → ContentIsRight (C.bytes c.old) small large) }
@@ -88,8 +115,10 @@ pub fn check_content<C: Cells>(c: &mut C, edges: &Edges, spots: &[Spot]) -> Resu
         AreBlocks (C.bytes c.old) small large → IsWrongContent (C.bytes c.old) small large at)) }
     ensures audits { Audits C.bytes C.transaction C.quiet c.old c.new result }
 {
-    for word in 0..spots.len() {
-        check_spot(c, edges, spots, word)?;
+    check_all_small(c, edges)?;
+    let mut place = edges.high;
+    while place < edges.end {
+        place = check_large(c, edges, place)?;
     }
     Ok(())
 }

@@ -11,11 +11,10 @@ ghost use Rattle.sdr_region.specs.Auditing.{Audits, DamagedBy, edges_of};
 ghost use Rattle.sdr_region.specs.Control.{ControlIsRight, control_word};
 ghost use Rattle.sdr_region.specs.Free.{AreListed, IsListWord, IsWrongFree, IsWrongList};
 ghost use Rattle.sdr_region.specs.Labels.{IsLabel};
-ghost use Rattle.sdr_region.specs.Listed.{IsFirstLost, ListWalked, ListsWalked, frame_in, has_previous, is_listed, is_lost, is_small_list, is_told_free, list_of, may_follow, unmarked};
+ghost use Rattle.sdr_region.specs.Listed.{IsFirstLost, ListWalked, ListsWalked, frame_at, frame_in, has_previous, is_listed, is_lost, is_small_list, is_told_free, list_of, may_follow, unmarked};
 ghost use Rattle.sdr_region.specs.Walk.{AreBlocks};
 ghost use Rattle.sdr_region.specs.Walked.{IsSurveyed};
 
-use crate::content::frame_at;
 use crate::control::Edges;
 use crate::error::{AuditError, Why};
 use crate::label::{Label, read_label};
@@ -46,6 +45,13 @@ fn frame_in(word: u64) -> u64
     ensures { result ≡ frame_in word }
 {
     if is_small_list(word) { WORD } else { 2 * WORD }
+}
+
+// How far before its address the leader of a block stands that begins at a place, where small blocks end at `low`.
+fn frame_at(place: u64, low: u64) -> u64
+    ensures { result ≡ frame_at place low }
+{
+    if place < low { WORD } else { 2 * WORD }
 }
 
 // The order of a large block of so many words.

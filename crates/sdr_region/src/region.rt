@@ -38,7 +38,7 @@ fn check_steps<C: Cells>(
     check_blocks(c, &edges, spots)?;
     check_bits(c, &edges, spots)?;
     check_free(c, &edges, spots, reached)?;
-    check_content(c, &edges, spots)
+    check_content(c, &edges)
 }
 
 /// Checks a heap region: its control words, its blocks, their start bits, the lists of free blocks, and the contents of blocks in

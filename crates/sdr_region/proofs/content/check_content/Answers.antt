@@ -1,29 +1,26 @@
-use Rattle.std.proofs.Common.{◌*◌, ℕ, List, subst, arith}
+use Rattle.std.proofs.Common.{ℕ, List, subst}
 use Rattle.sdr_base.specs.Pools.{PoolBlock}
-use Rattle.sdr_region.proofs.AuditLemmas.{audits_none, error_same}
-use Rattle.sdr_region.proofs.ContentLemmas.{content_right, filled_none}
+use Rattle.sdr_region.proofs.AuditLemmas.{error_same}
+use Rattle.sdr_region.proofs.ContentLemmas.{content_right, large_begin}
 use Rattle.sdr_region.specs.Auditing.{DamagedBy}
 use Rattle.sdr_region.specs.Content.{IsWrongContent}
 use Rattle.sdr_region.specs.Walk.{AreBlocks}
 use Rattle.sdr_region.specs.declared.error.Why.TheVariants as whys
 use Rattle.sdr_region.proofs.content.check_content.Goals as goal
 
-pub loop-word-init : goal.loop-word-init
-loop-word-init g c = record {
-  before = filled_none (g.C.Cells.bytes c.args.c.now) c.requires.surveyed.right;
-  audits = audits_none (g.met.C.Cells.quiet_refl c.args.c.now) c.requires.sound;
+pub loop-place-init : goal.loop-place-init
+loop-place-init g c = record {
+  filled = large_begin (g.C.Cells.bytes c.args.c.now) c.requires.built c.in_ok-check_all_small.ensures.filled;
+  audits = c.in_ok-check_all_small.ensures.audits;
 }
 
-pub returns-in_err-check_spot-clause-damaged : goal.returns-in_err-check_spot-clause-damaged
-returns-in_err-check_spot-clause-damaged g c =
+pub returns-in_err-place-clause-damaged : goal.returns-in_err-place-clause-damaged
+returns-in_err-place-clause-damaged g c =
     error_same
     (DamagedBy whys.Content (λ at. (small large : List PoolBlock) → AreBlocks (g.C.Cells.bytes c.args.c.now) small large →
-    IsWrongContent (g.C.Cells.bytes c.args.c.now) small large at)) c.from_residual.result c.from_residual.ensures.1
-    (subst (λ (x : List ℕ). DamagedBy whys.Content (λ at. (small large : List PoolBlock) → AreBlocks x small large → IsWrongContent x small large at) c.in_err-check_spot.field-0.0)
-    c.loop-word.invariant.audits.bytes c.in_err-check_spot.ensures.damaged)
+    IsWrongContent (g.C.Cells.bytes c.args.c.now) small large at)) c.from_residual-in_err-place.result c.from_residual-in_err-place.ensures.1
+    (subst (λ (x : List ℕ). DamagedBy whys.Content (λ at. (small large : List PoolBlock) → AreBlocks x small large → IsWrongContent x small large at) c.in_err-place.field-0.0)
+    c.loop-place.invariant.audits.bytes c.in_err-place.ensures.damaged)
 
 pub returns-clause-right : goal.returns-clause-right
-returns-clause-right g c =
-    let long = c.requires.surveyed.long in
-    let all = c.loop-word-test.false in
-    content_right (g.C.Cells.bytes c.args.c.now) (8 * c.loop-word.word) c.requires.surveyed.right c.loop-word.invariant.before (omega (arith, long, all))
+returns-clause-right g c = content_right (g.C.Cells.bytes c.args.c.now) c.requires.built c.loop-place.place c.loop-place.invariant.filled c.loop-place-test.false

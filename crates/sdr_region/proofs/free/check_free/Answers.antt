@@ -1,9 +1,9 @@
 use Rattle.std.proofs.Common.{◌≡◌, ◌∙◌, ◌+◌, ◌*◌, ℕ, refl, sym, ap, subst, inr}
 use Rattle.sdr_base.specs.declared.control.TheConstants.{LOW}
 use Rattle.sdr_region.proofs.ReachedLemmas.{all_listed, first_is_lost}
-use Rattle.sdr_region.specs.Content.{frame_at}
 use Rattle.sdr_region.specs.Control.{control_word}
 use Rattle.sdr_region.specs.Free.{IsWrongFree}
+use Rattle.sdr_region.specs.Listed.{frame_at}
 use Rattle.sdr_region.specs.declared.control.Edges.{Edges}
 use Rattle.sdr_region.proofs.free.check_free.Goals as goal
 
