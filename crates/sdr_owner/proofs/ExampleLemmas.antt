@@ -13,8 +13,8 @@ use Rattle.sdr_base.specs.Words.{layout}
 use Rattle.sdr_base.specs.declared.account.Acct.TheVariants as accts
 use Rattle.sdr_owner.proofs.MarksLemmas.{once_push}
 use Rattle.sdr_owner.proofs.RulesLemmas.{none_keeps}
-use Rattle.sdr_owner.specs.Chains.{Chain, ChainsReach, IsChain, IsWrongChain}
-use Rattle.sdr_owner.specs.Examples.{fifth, heap_of, looping_list, lost_element, shared_element, unlinked_element, wrong_last}
+use Rattle.sdr_owner.specs.Chains.{AreOnce, Chain, ChainsReach, IsChain, IsWrongChain}
+use Rattle.sdr_owner.specs.Examples.{fifth, heap_of, last_entries, looping_entries, looping_list, lost_element, lost_entries, shared_element, shared_entries, unlinked_element, unlinked_entries, wrong_last}
 use Rattle.sdr_owner.specs.Owned.{BreaksRules}
 use Rattle.sdr_owner.specs.Owners.{owners_of, root_owners}
 use Rattle.sdr_owner.specs.Rules.{IsKept, keeps}
@@ -23,7 +23,6 @@ use Rattle.sdr_owner.specs.declared.owner.Owner.TheVariants as owners
 use Rattle.sdr_owner.specs.declared.owner.Site.TheVariants as sites
 use Rattle.sdr_owner.specs.declared.rules.Rule.{Rule}
 use Rattle.sdr_owner.specs.declared.rules.Rule.TheVariants as which
-use Rattle.sdr_region.specs.Free.{AreOnce}
 
 none_once : AreOnce []
 none_once addr = omega arith
@@ -54,8 +53,9 @@ module _ (es : Entries) where
   -- the chains of the control words, and those of others
   with_roots : (chains : List Chain) → All (IsChain (heap_of es)) chains → All (IsChain (heap_of es)) (empties ++ chains)
   with_roots chains right =
-      All-cons (IsChain (heap_of es)) (empty owners.Catalogue) _ catalogue_empty
-      (All-cons (IsChain (heap_of es)) (empty (owners.Queue accts.Inbound)) _ inbound_empty
+      All-cons (IsChain (heap_of es)) (empty owners.Catalogue)
+      (empty (owners.Queue accts.Inbound) ∷ empty (owners.Queue accts.Outbound) ∷ chains) catalogue_empty
+      (All-cons (IsChain (heap_of es)) (empty (owners.Queue accts.Inbound)) (empty (owners.Queue accts.Outbound) ∷ chains) inbound_empty
       (All-cons (IsChain (heap_of es)) (empty (owners.Queue accts.Outbound)) chains outbound_empty right))
 
   roots_right : ChainsReach (heap_of es) root_owners []
@@ -93,7 +93,7 @@ shared_wrong =
       link = 2136;
       comes = record {
         done =
-            list_right _ chain (record { last = 2136; goes = (refl, (λ e. cc), refl, refl, (refl, refl)); ends = refl }) (owners.List 2056) refl
+            list_right shared_entries chain (record { last = 2136; goes = (refl, (λ e. cc), refl, refl, (refl, refl)); ends = refl }) (owners.List 2056) refl
             (one_once 2136);
         goes = (refl, refl);
         once = one_once 2136;
@@ -113,7 +113,7 @@ looping_wrong = record {
   before = 2136;
   link = 2096;
   comes = record {
-    done = roots_right _;
+    done = roots_right looping_entries;
     goes = (refl, (λ e. cc), refl, refl, (refl, (λ e. cc), refl, refl, (refl, refl)));
     once = two_once 2096 2136 refl;
   };
@@ -132,7 +132,7 @@ unlinked_wrong = record {
   before = 2096;
   link = 2136;
   comes = record {
-    done = roots_right _;
+    done = roots_right unlinked_entries;
     goes = (refl, (λ e. cc), refl, refl, (refl, refl));
     once = one_once 2096;
   };
@@ -151,7 +151,7 @@ last_wrong = record {
   before = 2096;
   link = 0;
   comes = record {
-    done = roots_right _;
+    done = roots_right last_entries;
     goes = (refl, (λ e. cc), refl, refl, (refl, refl));
     once = one_once 2096;
   };
@@ -193,7 +193,7 @@ lost_wrong =
     let chain : Chain = record { owner = owners.List 2056; addrs = [] } in
     record {
       reached = [];
-      chains = list_right _ chain (record { last = 0; goes = (refl, refl); ends = refl }) (owners.List 2056) refl none_once;
+      chains = list_right lost_entries chain (record { last = 0; goes = (refl, refl); ends = refl }) (owners.List 2056) refl none_once;
       broken =
           inr (
             both_keep which.SourceIsThere refl refl,

@@ -9,14 +9,13 @@ use Rattle.std.proofs.lemmas.List.Elements.{All-head, All-tail}
 use Rattle.sdr_owner.proofs.GoesLemmas.{goes_on, goes_same}
 use Rattle.sdr_owner.proofs.MarksLemmas.{once_front, once_new}
 use Rattle.sdr_owner.proofs.RulesLemmas.{kept_unbroken}
-use Rattle.sdr_owner.specs.Chains.{Chain, ChainsReach, Goes, IsChain, IsWrongChain, IsWrongHere, addrs_of, first_of, has_last, is_among, is_member, is_named}
+use Rattle.sdr_owner.specs.Chains.{AreOnce, Chain, ChainsReach, Goes, IsChain, IsWrongChain, IsWrongHere, addrs_of, first_of, has_last, is_among, is_member, is_named}
 use Rattle.sdr_owner.specs.Owned.{IsOwned, IsWrongOwner}
 use Rattle.sdr_owner.specs.Owners.{last_site, owners_of, told_at}
 use Rattle.sdr_owner.specs.Rules.{AreKept, all_rules}
 use Rattle.sdr_owner.specs.View.{View}
 use Rattle.sdr_owner.specs.declared.owner.Owner.{Owner}
 use Rattle.sdr_owner.specs.declared.owner.Site.{Site}
-use Rattle.sdr_region.specs.Free.{AreOnce}
 
 abbrev owner_of : Chain → Owner
 owner_of chain = chain.owner

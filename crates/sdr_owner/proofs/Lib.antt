@@ -7,5 +7,6 @@ pub mod MarksLemmas
 pub mod OneLemmas
 pub mod OwnersLemmas
 pub mod RegionLemmas
+pub mod ResultLemmas
 pub mod RulesLemmas
 pub mod WalkLemmas

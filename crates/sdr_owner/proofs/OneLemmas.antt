@@ -4,7 +4,7 @@ use Rattle.std.specs.Prelude.{Option, Some}
 use Rattle.std.proofs.lemmas.Bool.{both_ways, cases_order}
 use Rattle.std.proofs.lemmas.List.{append-nil, append_assoc}
 use Rattle.sdr_owner.proofs.LawLemmas.{chains_not_wrong, goes_wrong, reached_same}
-use Rattle.sdr_owner.specs.Chains.{ChainComes, ChainsReach, Goes, IsWrongChain, IsWrongHere, first_of, is_among, is_member, next_of}
+use Rattle.sdr_owner.specs.Chains.{AreOnce, ChainComes, ChainsReach, Goes, IsWrongChain, IsWrongHere, first_of, is_among, is_member, next_of}
 use Rattle.sdr_owner.specs.Owned.{IsWrongOwner}
 use Rattle.sdr_owner.specs.Owners.{owners_of, place_of}
 use Rattle.sdr_owner.specs.Rules.{BreaksFirst, IsBroken, all_rules, keeps}
@@ -12,7 +12,6 @@ use Rattle.sdr_owner.specs.View.{View}
 use Rattle.sdr_owner.specs.declared.owner.Owner.{Owner}
 use Rattle.sdr_owner.specs.declared.owner.Site.{Site}
 use Rattle.sdr_owner.specs.declared.rules.Rule.{Rule}
-use Rattle.sdr_region.specs.Free.{AreOnce}
 
 -- two ways to cut a list at an element: at one place, or one before the other
 pub data Cuts {A : Type 0} (xs : List A) (x : A) (ys : List A) (y : A) : Type 0 where
@@ -147,7 +146,7 @@ module _ (heap : View) where
 
   first_once : (reached : List ℕ) (rule : Rule) (p q : ℕ) → BreaksFirst heap reached rule p → BreaksFirst heap reached rule q → p ≡ q
   first_once reached rule p q v w = elim (cases_order p q) [
-    | inl same ↦ same
+    | inl equal ↦ equal
     | inr other ↦ elim other [
       | inl less ↦ absurd (both_ways (keeps heap reached rule p) v.wrong (w.before p less))
       | inr more ↦ absurd (both_ways (keeps heap reached rule q) w.wrong (v.before q more))

@@ -7,13 +7,12 @@ use Rattle.std.proofs.lemmas.List.Concat.{flat_map-append}
 use Rattle.std.proofs.lemmas.List.Elements.{All-nil, All-push}
 use Rattle.sdr_owner.proofs.GoesLemmas.{goes_then}
 use Rattle.sdr_owner.proofs.MarksLemmas.{mark_tells, marked_push, once_push}
-use Rattle.sdr_owner.specs.Chains.{Chain, EndsElsewhere, Goes, IsChain, IsWrongChain, IsWrongHere, addrs_of, first_of, has_last, holder, is_among, is_member, is_named, next_of}
+use Rattle.sdr_owner.specs.Chains.{AreOnce, Chain, EndsElsewhere, Goes, IsChain, IsWrongChain, IsWrongHere, addrs_of, first_of, has_last, holder, is_among, is_member, is_named, next_of}
 use Rattle.sdr_owner.specs.Marks.{AreMarked}
 use Rattle.sdr_owner.specs.View.{View}
 use Rattle.sdr_owner.specs.Walking.{HasWalked, IsWalking}
 use Rattle.sdr_owner.specs.declared.chain.Step.{Step}
 use Rattle.sdr_owner.specs.declared.owner.Owner.{Owner}
-use Rattle.sdr_region.specs.Free.{AreOnce}
 
 -- before any chain nothing is marked
 pub walk_begins : (heap : View) (marks : List Bool) → ((word : ℕ) → get_or marks word false ≡ false) → HasWalked heap [] marks

@@ -1,16 +1,19 @@
 -- When the chains of owners are right, and where they are wrong first.
-use Rattle.std.specs.Prelude.{◌≡◌, ◌≢◌, ◌==◌, ◌&&◌, ◌⊎◌, ℕ, Bool, true, false, not, cond, List, [], ◌∷◌, ◌++◌, map, Option, Some}
+use Rattle.std.specs.Prelude.{◌≡◌, ◌≢◌, ◌≤◌, ◌==◌, ◌&&◌, ◌⊎◌, ℕ, Bool, true, false, not, cond, List, [], ◌∷◌, ◌++◌, map, count_by, Option, Some}
 use Rattle.std.specs.List.{All, flat_map, list_any}
 use Rattle.std.specs.Option.{option_map_or}
 use Rattle.sdr_owner.specs.Owners.{first_site, kind_in, last_site, names_owner, next_field, place_of, told_at}
 use Rattle.sdr_owner.specs.View.{View, is_kind, word_of}
 use Rattle.sdr_owner.specs.declared.owner.Owner.{Owner}
 use Rattle.sdr_owner.specs.declared.owner.Site.{Site}
-use Rattle.sdr_region.specs.Free.{AreOnce}
 
 -- whether an address is among these
 abbrev pub is_among : List ℕ → ℕ → Bool
 is_among addrs addr = list_any (λ other. other == addr) addrs
+
+-- no address stands among these twice
+abbrev pub AreOnce : List ℕ → Type 0
+AreOnce addrs = (addr : ℕ) → count_by (λ other. other == addr) addrs ≤ 1
 
 -- whether there is a block of a chain's kind at an address
 abbrev pub is_member : View → Owner → ℕ → Bool

@@ -1,8 +1,8 @@
 // The walk over a chain of blocks.
-ghost use Rattle.std.specs.Prelude.{◌≡◌, ◌≢◌, ◌<◌, ◌*◌, ◌++◌, ◌∷◌, [], List, length, IfErr, IfOk, OnOk};
+ghost use Rattle.std.specs.Prelude.{◌≡◌, ◌≢◌, ◌<◌, ◌*◌, ◌++◌, ◌∷◌, [], List, length, true, IfErr, IfOk, OnOk};
 ghost use Rattle.sdr_base.specs.Cells.{IsRegionSize};
 ghost use Rattle.sdr_base.specs.declared.line.TheConstants.{WORD};
-ghost use Rattle.sdr_owner.specs.Chains.{ChainComes, IsWrongChain, IsWrongHere, has_last, holder};
+ghost use Rattle.sdr_owner.specs.Chains.{EndsElsewhere, IsWrongChain, has_last, holder};
 ghost use Rattle.sdr_owner.specs.Marks.{unmarked};
 ghost use Rattle.sdr_owner.specs.View.{view_in};
 ghost use Rattle.sdr_owner.specs.Walking.{HasWalked, IsWalking};

@@ -61,7 +61,7 @@ pub fn check_owners<C: Cells>(alloc: Global, c: &mut C) -> Result<Result<(), Own
     ensures memory { OnErr result (c.new ≡ c.old) }
 {
     let size = c.size();
-    let mut heap = vec![in alloc; 0; size as usize]?;
+    let mut heap = vec![in alloc; 0u8; size as usize]?;
     let mut marks = vec![in alloc; false; (size / WORD) as usize]?;
     Ok(check_read(c, &mut heap, &mut marks))
 }

@@ -1,5 +1,5 @@
 // The chains of all owners.
-ghost use Rattle.std.specs.Prelude.{◌≡◌, ◌*◌, ◌/◌, ◌-◌, ◌+◌, ◌++◌, [], List, false, get_or, length, IfErr, OnOk};
+ghost use Rattle.std.specs.Prelude.{◌≡◌, ◌*◌, ◌/◌, ◌-◌, ◌+◌, ◌++◌, [], List, ℕ, false, get_or, length, IfErr, OnOk};
 ghost use Rattle.sdr_base.specs.Cells.{IsRegionSize};
 ghost use Rattle.sdr_base.specs.declared.layout.hash.TheConstants as hash_words;
 ghost use Rattle.sdr_base.specs.declared.line.TheConstants.{WORD};
