@@ -23,11 +23,7 @@ fn check_region(heap: &[u8], marks: &mut [bool]) -> Result<(), Wrong>
 }
 
 // Reads a region, and checks it, with nothing marked before.
-fn check_read<C: Cells>(
-    c: &mut C,
-    heap: &mut [u8],
-    marks: &mut [bool],
-) -> Result<(), OwnerError>
+fn check_read<C: Cells>(c: &mut C, heap: &mut [u8], marks: &mut [bool]) -> Result<(), OwnerError>
     requires region { IsRegionSize (length (C.bytes c.old)) }
     requires room { length heap.old ≡ length (C.bytes c.old) }
     requires long { length marks.old * WORD ≡ length (C.bytes c.old) }

@@ -7,9 +7,7 @@ ghost use Rattle.sdr_owner.specs.Owners.{account_word, first_site, kind_in, last
 ghost use Rattle.sdr_owner.specs.View.{view_in};
 
 use crate::region::{root, word};
-use sdr_base::control::{
-    FIRST_NAME, FIRST_TICKET, INBOUND, LAST_NAME, LAST_TICKET, OUTBOUND,
-};
+use sdr_base::control::{FIRST_NAME, FIRST_TICKET, INBOUND, LAST_NAME, LAST_TICKET, OUTBOUND};
 use sdr_base::layout::{capsule, element, extent, hash_entry, list, name, object, ticket};
 use sdr_base::{Acct, Addr, Kind, WORD};
 

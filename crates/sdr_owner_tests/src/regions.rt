@@ -21,11 +21,7 @@ fn put_words<C: Cells>(c: &mut C, words: &[Word]) -> Result<(), Stop> {
 
 /// What an audit comes to of the owners in a region of 1,024 lines with these words, and then those. All else is 0, but for the
 /// control words of a region without a block. `None`: there is no memory for the region, or for the audit.
-pub fn audited(
-    alloc: Global,
-    words: &[Word],
-    changes: &[Word],
-) -> Option<Result<(), OwnerError>> {
+pub fn audited(alloc: Global, words: &[Word], changes: &[Word]) -> Option<Result<(), OwnerError>> {
     let mut cells = MemoryCells::fresh(alloc, 1024).ok()?;
     put_words(&mut cells, words).ok()?;
     put_words(&mut cells, changes).ok()?;
