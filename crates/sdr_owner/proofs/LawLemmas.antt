@@ -1,5 +1,5 @@
 -- A heap in which each block has its owner isn't wrong anywhere.
-use Rattle.std.proofs.Common.{◌≡◌, ◌==◌, ◌&&◌, ℕ, Bool, List, [], ◌∷◌, ◌++◌, not, true, false, ap, ◌∙◌, refl, sym, subst, inl, inr}
+use Rattle.std.proofs.Common.{◌≡◌, ◌==◌, ◌&&◌, ℕ, List, [], ◌∷◌, ◌++◌, not, true, false, ap, ◌∙◌, refl, sym, subst, inl, inr}
 use Rattle.std.specs.Prelude.{Option, map}
 use Rattle.std.specs.List.{All}
 use Rattle.std.specs.Option.{option_map_or}
@@ -11,7 +11,7 @@ use Rattle.sdr_owner.proofs.MarksLemmas.{once_front, once_new}
 use Rattle.sdr_owner.proofs.RulesLemmas.{kept_unbroken}
 use Rattle.sdr_owner.specs.Chains.{AreOnce, Chain, ChainsReach, Goes, IsChain, IsWrongChain, IsWrongHere, addrs_of, first_of, has_last, is_among, is_member, is_named}
 use Rattle.sdr_owner.specs.Owned.{IsOwned, IsWrongOwner}
-use Rattle.sdr_owner.specs.Owners.{last_site, owners_of, told_at}
+use Rattle.sdr_owner.specs.Owners.{owners_of, told_at}
 use Rattle.sdr_owner.specs.Rules.{AreKept, all_rules}
 use Rattle.sdr_owner.specs.View.{View}
 use Rattle.sdr_owner.specs.declared.owner.Owner.{Owner}

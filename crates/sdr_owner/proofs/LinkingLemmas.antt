@@ -1,13 +1,12 @@
 -- A chain goes over blocks that are linked as a layout says, and over no others.
-use Rattle.std.proofs.Common.{◌≡◌, ◌≢◌, ◌<◌, ◌^◌, ℕ, List, [], ◌∷◌, true, arith, ap, ◌∙◌, refl, sym, subst}
+use Rattle.std.proofs.Common.{◌≡◌, ◌<◌, ◌^◌, ℕ, List, [], ◌∷◌, arith, ap, ◌∙◌, refl, sym, subst}
 use Rattle.std.specs.Prelude.{Option, Some, map}
 use Rattle.std.specs.List.{All}
 use Rattle.std.proofs.lemmas.List.Elements.{All-cons, All-head, All-nil, All-tail}
 use Rattle.sdr_base.specs.Blocks.{Block}
-use Rattle.sdr_base.specs.Entries.{Entries}
 use Rattle.sdr_base.specs.Linked.{first_of, last_of, linked}
 use Rattle.sdr_owner.specs.Chains.{Goes, next_of}
-use Rattle.sdr_owner.specs.Linking.{FitsChain, ReadsBack, StandIn, StandsAt}
+use Rattle.sdr_owner.specs.Linking.{AreRows, FitsChain, ReadsBack, StandIn, StandsAt}
 use Rattle.sdr_owner.specs.Owners.{kind_in, names_owner, next_field}
 use Rattle.sdr_owner.specs.View.{View, is_kind, word_of}
 use Rattle.sdr_owner.specs.declared.owner.Owner.{Owner}
@@ -42,20 +41,15 @@ module _ {X : Type 0} (heap : View) (owner : Owner) (addr : X → ℕ) (block : 
       )
 
   -- what a chain goes over is kept by rows
-  pub record KeptByRows (before link : ℕ) (xs : List X) (last : ℕ) : Type 0 where
-    pub stand : StandIn heap (linked addr block before 0 xs)
-    pub first : link ≡ first_of addr 0 xs
-    pub end : last ≡ last_of addr before xs
-
   pub goes_linked : (read : ℕ → X) → ReadsBack heap owner addr block read → (before link : ℕ) (addrs : List ℕ) (last : ℕ) →
-      Goes heap owner before link addrs last 0 → KeptByRows before link (map read addrs) last
+      Goes heap owner before link addrs last 0 → AreRows heap addr block before link (map read addrs) last
   unfolding linked
   goes_linked read back before link [] last (b, l) = record { stand = All-nil (StandsAt heap); first = l; end = sym b }
   goes_linked read back before link (a ∷ addrs) last (is, some, member, named, more) =
       let at = back.at a in
       let next : ℕ = next_of heap owner a in
-      let rest : KeptByRows (addr (read a)) next (map read addrs) last =
-      subst (λ (n : ℕ). KeptByRows n next (map read addrs) last) (sym at) (goes_linked read back a next addrs last more) in
+      let rest : AreRows heap addr block (addr (read a)) next (map read addrs) last =
+      subst (λ (n : ℕ). AreRows heap addr block n next (map read addrs) last) (sym at) (goes_linked read back a next addrs last more) in
       let own : Block = block before (first_of addr 0 (map read addrs)) (read a) in
       let there : heap.blocks a ≡ Some own = back.is before a member named ∙ ap (λ (n : ℕ). Some (block before n (read a))) rest.first in
       record {

@@ -1,10 +1,10 @@
 -- A heap is wrong first at one place alone.
-use Rattle.std.proofs.Common.{◌≡◌, ◌<◌, ◌⊎◌, ◌==◌, ◌&&◌, ℕ, Bool, List, [], ◌∷◌, ◌++◌, not, true, false, arith, ap, ◌∙◌, refl, sym, subst, inl, inr}
-use Rattle.std.specs.Prelude.{Option, Some}
+use Rattle.std.proofs.Common.{◌≡◌, ◌&&◌, ℕ, List, [], ◌∷◌, ◌++◌, not, ap, ◌∙◌, refl, sym, subst, inl, inr}
+use Rattle.std.specs.Prelude.{Some}
 use Rattle.std.proofs.lemmas.Bool.{both_ways, cases_order}
 use Rattle.std.proofs.lemmas.List.{append-nil, append_assoc}
 use Rattle.sdr_owner.proofs.LawLemmas.{chains_not_wrong, goes_wrong, reached_same}
-use Rattle.sdr_owner.specs.Chains.{AreOnce, ChainComes, ChainsReach, Goes, IsWrongChain, IsWrongHere, first_of, is_among, is_member, next_of}
+use Rattle.sdr_owner.specs.Chains.{AreOnce, ChainComes, Goes, IsWrongChain, IsWrongHere, first_of, is_among, is_member, next_of}
 use Rattle.sdr_owner.specs.Owned.{IsWrongOwner}
 use Rattle.sdr_owner.specs.Owners.{owners_of, place_of}
 use Rattle.sdr_owner.specs.Rules.{BreaksFirst, IsBroken, all_rules, keeps}

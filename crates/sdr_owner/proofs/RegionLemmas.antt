@@ -1,7 +1,7 @@
 -- Blocks in use of a region in memory.
-use Rattle.std.proofs.Common.{◌≡◌, ◌≤◌, ◌<◌, ◌+◌, ◌-◌, ◌*◌, ◌/◌, ◌%◌, ◌==◌, ◌&&◌, ℕ, Bool, true, false, cond, min, List, length, take, drop, get_or, arith, ap, sym, ◌∙◌, refl, subst, inl, inr, length-drop, length-take}
+use Rattle.std.proofs.Common.{◌≡◌, ◌≤◌, ◌<◌, ◌+◌, ◌-◌, ◌*◌, ◌/◌, ◌%◌, ◌==◌, ◌&&◌, ℕ, Bool, true, false, cond, min, List, length, drop, get_or, arith, ap, sym, ◌∙◌, refl, inl, inr, length-drop, length-take}
 use Rattle.std.specs.Prelude.{Option, None, Some, nat_le, nat_lt}
-use Rattle.std.proofs.lemmas.Bool.{and_parts, cases_Bool, cases_lt, cond-true, cond-false, eqb-true, le-ltb, lt-ltb, ltb-true}
+use Rattle.std.proofs.lemmas.Bool.{and_parts, cases_Bool, cond-true, cond-false, eqb-true, le-ltb, lt-ltb, ltb-true}
 use Rattle.byteorder.specs.Endian.{big_from}
 use Rattle.sdr_base.specs.Blocks.{Block, kind_length}
 use Rattle.sdr_base.specs.KeptHeap.{block_in, block_led, block_of, leader_place, led_block, may_begin, pool_place}

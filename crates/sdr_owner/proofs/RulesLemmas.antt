@@ -1,7 +1,7 @@
 -- Rules that each block keeps.
-use Rattle.std.proofs.Common.{◌≡◌, ◌≤◌, ◌<◌, ◌+◌, ◌*◌, ◌/◌, ◌%◌, ◌==◌, ◌&&◌, ◌||◌, ℕ, Bool, List, [], ◌∷◌, not, true, false, length, get_or, arith, ap, ◌∙◌, refl, sym, subst, inl, inr}
+use Rattle.std.proofs.Common.{◌≡◌, ◌≤◌, ◌<◌, ◌+◌, ◌*◌, ◌/◌, ◌==◌, ◌||◌, ℕ, Bool, List, [], ◌∷◌, not, true, false, length, get_or, arith, ap, refl, subst, inl, inr}
 use Rattle.std.specs.Prelude.{Option, None, Some}
-use Rattle.std.proofs.lemmas.Bool.{both_ways, cases_Bool, cases_eq, cases_lt}
+use Rattle.std.proofs.lemmas.Bool.{both_ways, cases_eq, cases_lt}
 use Rattle.sdr_base.specs.Blocks.{Block}
 use Rattle.sdr_base.specs.KeptHeap.{block_in}
 use Rattle.sdr_base.specs.declared.kind.Kind.TheVariants as kinds
@@ -9,7 +9,7 @@ use Rattle.sdr_owner.proofs.MarksLemmas.{mark_tells}
 use Rattle.sdr_owner.proofs.RegionLemmas.{is_part, none_between, none_past}
 use Rattle.sdr_owner.specs.Chains.{is_among}
 use Rattle.sdr_owner.specs.Marks.{AreMarked}
-use Rattle.sdr_owner.specs.Rules.{AreKept, BreaksFirst, IsBroken, IsKept, is_chained, is_source_of, keeps, names_raw, names_source}
+use Rattle.sdr_owner.specs.Rules.{AreKept, IsBroken, IsKept, is_chained, is_source_of, keeps, names_raw, names_source}
 use Rattle.sdr_owner.specs.View.{View, is_kind, view_in, word_of}
 use Rattle.sdr_owner.specs.declared.rules.Rule.{Rule}
 use Rattle.sdr_owner.specs.declared.rules.Rule.TheVariants as which

@@ -1,6 +1,5 @@
 -- The walk over a chain.
-use Rattle.std.proofs.Common.{◌≡◌, ◌≢◌, ◌<◌, ◌*◌, ◌/◌, ◌%◌, ◌==◌, ◌&&◌, ℕ, Bool, List, [], ◌∷◌, ◌++◌, not, true, false, length, get_or, set, arith, ap, ◌∙◌, refl, sym, subst, inl, inr}
-use Rattle.std.specs.Prelude.{map}
+use Rattle.std.proofs.Common.{◌≡◌, ◌≢◌, ◌<◌, ◌/◌, ◌%◌, ℕ, Bool, List, [], ◌∷◌, ◌++◌, not, true, false, length, get_or, set, arith, ap, ◌∙◌, refl, sym, subst, inl, inr}
 use Rattle.std.proofs.lemmas.Bool.{and_left, and_from, and_right, not_from_false, not_from_true}
 use Rattle.std.proofs.lemmas.List.{append-nil, append_assoc, map_push}
 use Rattle.std.proofs.lemmas.List.Concat.{flat_map-append}

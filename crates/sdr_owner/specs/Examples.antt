@@ -1,5 +1,5 @@
 -- Small heaps with one thing wrong in each.
-use Rattle.std.specs.Prelude.{ℕ, List, [], ◌∷◌}
+use Rattle.std.specs.Prelude.{ℕ, [], ◌∷◌}
 use Rattle.sdr_base.specs.Entries.{Entries, at}
 use Rattle.sdr_base.specs.Lists.{ListElement, element_block, list_block}
 use Rattle.sdr_owner.specs.View.{View}

@@ -3,9 +3,9 @@ use Rattle.std.specs.Prelude.{◌≡◌, ◌≢◌, ◌<◌, ◌^◌, ℕ, true,
 use Rattle.std.specs.List.{All}
 use Rattle.sdr_base.specs.Blocks.{Block}
 use Rattle.sdr_base.specs.Entries.{Entries}
-use Rattle.sdr_base.specs.Linked.{first_of, last_of}
+use Rattle.sdr_base.specs.Linked.{first_of, last_of, linked}
 use Rattle.sdr_owner.specs.Chains.{Goes, is_member, is_named, next_of}
-use Rattle.sdr_owner.specs.Owners.{kind_in, names_owner, next_field}
+use Rattle.sdr_owner.specs.Owners.{first_site, kind_in, names_owner, next_field, told_at}
 use Rattle.sdr_owner.specs.View.{View, is_kind, word_of}
 use Rattle.sdr_owner.specs.declared.owner.Owner.{Owner}
 
@@ -38,3 +38,17 @@ GoesOver heap owner addr rows = Goes heap owner 0 (first_of addr 0 rows) (map ad
 -- the addresses of these rows fit a word
 abbrev pub AreSmall : {X : Type 0} → (X → ℕ) → List X → Type 0
 AreSmall addr rows = All (λ row. addr row < 2 ^ 64) rows
+
+-- what a chain goes over from a link behind a block, up to a last block, is kept by these rows, linked as a layout says
+pub record AreRows {X : Type 0} (heap : View) (addr : X → ℕ) (block : ℕ → ℕ → X → Block) (before link : ℕ) (rows : List X) (last : ℕ) : Type 0 where
+  pub stand : StandIn heap (linked addr block before 0 rows)
+  pub first : link ≡ first_of addr 0 rows
+  pub end : last ≡ last_of addr before rows
+
+-- Where each block of an owner's chain is that of what is read of it, a right chain goes over just the blocks of the rows that are
+-- read of it.
+abbrev pub ChainsAreRows : {X : Type 0} → Owner → (X → ℕ) → (ℕ → ℕ → X → Block) → Type 0
+ChainsAreRows {X} owner addr block =
+    (heap : View) (read : ℕ → X) (addrs : List ℕ) (last : ℕ) → ReadsBack heap owner addr block read →
+    Goes heap owner 0 (told_at heap (first_site owner)) addrs last 0 →
+    AreRows heap addr block 0 (told_at heap (first_site owner)) (map read addrs) last

@@ -1,4 +1,4 @@
-use Rattle.std.proofs.Common.{◌≡◌, ◌∙◌, ◌++◌, ◌∷◌, [], ℕ, List, true, ap, refl, sym, subst}
+use Rattle.std.proofs.Common.{◌≡◌, ◌∙◌, ◌++◌, ◌∷◌, [], true, ap, refl, sym, subst}
 use Rattle.sdr_owner.proofs.ResultLemmas.{error_same, if_err, on_ok}
 use Rattle.sdr_owner.proofs.WalkLemmas.{chain_begins, chain_ends, chain_ends_wrong}
 use Rattle.sdr_owner.specs.Chains.{EndsElsewhere, IsWrongChain, has_last}
@@ -6,7 +6,6 @@ use Rattle.sdr_owner.specs.Owners.{told_at}
 use Rattle.sdr_owner.specs.View.{view_in}
 use Rattle.sdr_owner.specs.Walking.{HasWalked}
 use Rattle.sdr_owner.specs.declared.owner.Owner.{Owner}
-use Rattle.sdr_owner.specs.declared.owner.Site.{Site}
 use Rattle.sdr_owner.proofs.chain.check_chain.Goals as goal
 
 pub loop-step-init : goal.loop-step-init

@@ -1,11 +1,11 @@
-use Rattle.std.proofs.Common.{◌≡◌, ◌∙◌, ◌<◌, ◌*◌, ◌/◌, ◌%◌, ℕ, Bool, List, length, true, arith, ap, sym, subst}
+use Rattle.std.proofs.Common.{◌≡◌, ◌∙◌, ◌<◌, ◌*◌, ◌/◌, ◌%◌, ℕ, Bool, List, length, true, arith, ap, sym}
 use Rattle.sdr_base.specs.KeptHeap.{block_in}
 use Rattle.sdr_base.specs.declared.kind.Kind.{Kind}
 use Rattle.sdr_owner.proofs.MarksLemmas.{fewer_unmarked}
 use Rattle.sdr_owner.proofs.RegionLemmas.{is_whole}
 use Rattle.sdr_owner.proofs.WalkLemmas.{chain_goes_on, leads_back, leads_nowhere, leads_to_other}
 use Rattle.sdr_owner.specs.Chains.{is_member}
-use Rattle.sdr_owner.specs.Owners.{kind_in, next_field}
+use Rattle.sdr_owner.specs.Owners.{kind_in}
 use Rattle.sdr_owner.specs.View.{is_kind, view_in, word_of}
 use Rattle.sdr_owner.specs.declared.owner.Owner.{Owner}
 use Rattle.sdr_owner.proofs.chain.follow.Goals as goal

@@ -1,4 +1,4 @@
-use Rattle.std.proofs.Common.{◌≡◌, ◌+◌, ◌≤◌, [], ℕ, List, length, arith, subst}
+use Rattle.std.proofs.Common.{◌+◌, ◌≤◌, [], List, length, arith, subst}
 use Rattle.sdr_owner.proofs.OwnersLemmas.{owners_more, wrong_by}
 use Rattle.sdr_owner.proofs.ResultLemmas.{error_same}
 use Rattle.sdr_owner.proofs.WalkLemmas.{walk_begins}

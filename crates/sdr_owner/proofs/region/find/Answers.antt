@@ -1,4 +1,4 @@
-use Rattle.std.proofs.Common.{◌≡◌, ◌∙◌, ◌-◌, ℕ, length, min, ap, sym}
+use Rattle.std.proofs.Common.{◌∙◌, ◌-◌, ℕ, length, min, ap, sym}
 use Rattle.std.specs.Prelude.{Option, Some}
 use Rattle.sdr_base.specs.declared.kind.Kind.{Kind}
 use Rattle.sdr_owner.proofs.RegionLemmas.{found_clear, found_free, found_nowhere, found_used}

@@ -1,4 +1,4 @@
-use Rattle.std.proofs.Common.{◌≡◌, ◌∙◌, ◌*◌, sym, arith}
+use Rattle.std.proofs.Common.{◌∙◌, sym, arith}
 use Rattle.sdr_owner.proofs.RulesLemmas.{kept_all, kept_more}
 use Rattle.sdr_owner.proofs.rules.check_rule.Goals as goal
 
