@@ -1,5 +1,6 @@
 -- When each block of a heap has its owner, and where this is wrong first.
-use Rattle.std.specs.Prelude.{◌≡◌, ◌/◌, ◌⊎◌, ℕ, List, length, ⊤, Result, Ok, Err}
+use Rattle.std.specs.Prelude.{◌<◌, ◌^◌, ◌≡◌, ◌/◌, ◌⊎◌, ℕ, List, length, ⊤, Result, Ok, Err}
+use Rattle.std.specs.List.{All}
 use Rattle.sdr_base.specs.Transaction.{HasReason, Transaction}
 use Rattle.sdr_base.specs.declared.line.TheConstants.{WORD}
 use Rattle.sdr_base.specs.declared.stop.Stop.{Stop}
@@ -10,6 +11,10 @@ use Rattle.sdr_owner.specs.Rules.{AreKept, IsBroken, all_rules}
 use Rattle.sdr_owner.specs.View.{View, view_in}
 use Rattle.sdr_owner.specs.declared.error.OwnerError.{OwnerError}
 use Rattle.sdr_owner.specs.declared.error.OwnerError.TheVariants as errors
+
+-- each of these is a byte
+abbrev pub AreBytes : List ℕ → Type 0
+AreBytes bytes = All (λ byte. byte < 2 ^ 8) bytes
 
 -- the chains of a heap of so many words are right, and then each block keeps all rules
 pub record IsOwned (heap : View) (words : ℕ) : Type 0 where

@@ -2,7 +2,7 @@
 ghost use Rattle.std.specs.Prelude.{◌≡◌, ◌*◌, ◌/◌, ℕ, false, get_or, length, IfErr, IfOk, OnErr, OnOk};
 ghost use Rattle.sdr_base.specs.Cells.{IsRegionSize};
 ghost use Rattle.sdr_base.specs.declared.line.TheConstants.{WORD};
-ghost use Rattle.sdr_owner.specs.Owned.{IsOwnedRegion, IsWrongRegion, OnlyReads, TellsWrong};
+ghost use Rattle.sdr_owner.specs.Owned.{AreBytes, IsOwnedRegion, IsWrongRegion, OnlyReads, TellsWrong};
 
 use crate::error::{OwnerError, Wrong};
 use crate::owners::check_chains;
@@ -17,6 +17,7 @@ fn check_region(heap: &[u8], marks: &mut [bool]) -> Result<(), Wrong>
     requires clear { (word : ℕ) → get_or marks.old word false ≡ false }
     ensures owned { OnOk result (IsOwnedRegion heap.now) }
     ensures wrong { IfErr result (λ wrong. IsWrongRegion heap.now wrong.place) }
+    ensures bytes { AreBytes heap.now }
 {
     check_chains(heap, marks)?;
     check_rules(heap, marks)
@@ -29,6 +30,7 @@ fn check_read<C: Cells>(c: &mut C, heap: &mut [u8], marks: &mut [bool]) -> Resul
     requires long { length marks.old * WORD ≡ length (C.bytes c.old) }
     requires clear { (word : ℕ) → get_or marks.old word false ≡ false }
     ensures owned { OnOk result (IsOwnedRegion (C.bytes c.old)) }
+    ensures bytes { OnOk result (AreBytes (C.bytes c.old)) }
     ensures damaged { IfErr result (TellsWrong (C.bytes c.old)) }
     ensures reads { OnlyReads C.bytes C.transaction C.quiet c.old c.new result }
 {
@@ -48,10 +50,12 @@ fn check_read<C: Cells>(c: &mut C, heap: &mut [u8], marks: &mut [bool]) -> Resul
 /// 2. Extents' sources are there; sources' raw objects are; the source that a raw object names is its; a source's raw object names
 ///    it; and each element, entry, name, extent, capsule and ticket was reached. Each is asked of all blocks by rising address.
 ///
-/// What is wrong first is told by its place: a control word's in bytes, or a block's address. Memory is taken before anything is
+/// What is wrong first is told by its place: a control word's in bytes, or a block's address. Where nothing is, each of the region's
+/// bytes was read, and is one. Memory is taken before anything is
 /// read, for a copy of the region and a byte for each of its words; where there is none, nothing is done. The region is read once.
 pub fn check_owners<C: Cells>(alloc: Global, c: &mut C) -> Result<Result<(), OwnerError>, NoMemory>
     ensures owned { IfOk result (λ answer. OnOk answer (IsOwnedRegion (C.bytes c.old))) }
+    ensures bytes { IfOk result (λ answer. OnOk answer (AreBytes (C.bytes c.old))) }
     ensures damaged { IfOk result (λ answer. IfErr answer (TellsWrong (C.bytes c.old))) }
     ensures reads { IfOk result (OnlyReads C.bytes C.transaction C.quiet c.old c.new) }
     ensures memory { OnErr result (c.new ≡ c.old) }
