@@ -1,0 +1,12 @@
+pub mod ExampleLemmas
+pub mod GoesLemmas
+pub mod LawLemmas
+pub mod LayoutLemmas
+pub mod LinkingLemmas
+pub mod MarksLemmas
+pub mod OneLemmas
+pub mod OwnersLemmas
+pub mod RegionLemmas
+pub mod ResultLemmas
+pub mod RulesLemmas
+pub mod WalkLemmas

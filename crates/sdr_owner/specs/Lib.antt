@@ -1,0 +1,9 @@
+pub mod Chains
+pub mod Examples
+pub mod Linking
+pub mod Marks
+pub mod Owned
+pub mod Owners
+pub mod Rules
+pub mod View
+pub mod Walking

@@ -1,0 +1,34 @@
+//! An audit of who owns each block of a heap region, behind the audit of the region's structure.
+//!
+//! Blocks are linked into chains: the catalogue's entries, the tickets of both accounts, and the elements, entries, extents and
+//! capsules of lists, hashes and zero-copy objects. It is checked in this order:
+//!
+//! 1. The chains whose ends stand in control words, and then those of the blocks by rising address, are right: each link leads to
+//!    a block of the chain's kind that no chain reached before, and which names its owner and the block before it; and the word
+//!    for the last block is right (`check_chains`).
+//! 2. Extents, sources and raw objects name one another, and each block that only stands in chains was reached (`check_rules`).
+//!
+//! `check_owners` takes both steps over a copy of the region, and tells the first place that is wrong. A heap that passes isn't
+//! wrong anywhere (`owned_heaps_are_not_wrong`), and another is wrong first at one place alone (`one_place_is_wrong_first`). The
+//! blocks that keep a row of things make a chain (`linked_rows_make_chains`), and a right chain's are such (`chains_are_linked_rows`).
+//! Small heaps with one thing wrong in each: `small_heaps_are_wrong_so`.
+#![tactic(auto)]
+
+mod chain;
+mod check;
+mod error;
+mod examples;
+mod laws;
+mod linking;
+mod owner;
+mod owners;
+mod region;
+mod rules;
+
+pub use check::check_owners;
+pub use error::OwnerError;
+pub use examples::small_heaps_are_wrong_so;
+pub use laws::{one_place_is_wrong_first, owned_heaps_are_not_wrong};
+pub use linking::{chains_are_linked_rows, linked_rows_make_chains};
+pub use owner::{Owner, Site};
+pub use rules::Rule;

@@ -1,0 +1,54 @@
+// Rows of things, as their blocks are linked.
+ghost use Rattle.std.specs.Prelude.{◌<◌, ◌^◌, ℕ, List};
+ghost use Rattle.sdr_base.specs.Catalogue.{NameRow, catalogue_entries, name_addr, name_block};
+ghost use Rattle.sdr_base.specs.Hashes.{HashItem, bucket_entries, item_addr, item_block};
+ghost use Rattle.sdr_base.specs.Lists.{ListElement, addr_of, element_block, elements_between};
+ghost use Rattle.sdr_base.specs.Tickets.{TicketRow, ticket_addr, ticket_block, ticket_entries};
+ghost use Rattle.sdr_base.specs.ZcoObjects.{CapsuleRow, ExtentRow, capsule_addr, capsule_block, capsule_entries, extent_addr, extent_block, extent_entries};
+ghost use Rattle.sdr_base.specs.declared.account.Acct.{Acct};
+ghost use Rattle.sdr_owner.specs.Linking.{AreSmall, ChainsAreRows, GoesOver, StandIn};
+ghost use Rattle.sdr_owner.specs.View.{View};
+
+use crate::owner::Owner;
+
+/// A law: where the blocks that keep a row of things stand in a heap, each linked to the next as its layout says, the chain of their
+/// owner goes over them in order. It does nothing.
+pub fn linked_rows_make_chains()
+    ensures names { (heap : View) (rows : List NameRow) → AreSmall name_addr rows →
+        StandIn heap (catalogue_entries rows) → GoesOver heap Owner.Catalogue name_addr rows }
+    ensures tickets { (heap : View) (account : Acct) (rows : List TicketRow) →
+        AreSmall ticket_addr rows → StandIn heap (ticket_entries account rows) →
+        GoesOver heap (Owner.Queue account) ticket_addr rows }
+    ensures elements { (heap : View) (list : ℕ) (rows : List ListElement) → list < 2 ^ 64 →
+        AreSmall addr_of rows → StandIn heap (elements_between list 0 0 rows) →
+        GoesOver heap (Owner.List list) addr_of rows }
+    ensures items { (heap : View) (hash front : ℕ) (rows : List HashItem) →
+        AreSmall item_addr rows → StandIn heap (bucket_entries rows) →
+        GoesOver heap (Owner.Bucket hash front) item_addr rows }
+    ensures headers { (heap : View) (object : ℕ) (rows : List CapsuleRow) →
+        AreSmall capsule_addr rows → StandIn heap (capsule_entries rows) →
+        GoesOver heap (Owner.Headers object) capsule_addr rows }
+    ensures extents { (heap : View) (object : ℕ) (rows : List ExtentRow) →
+        AreSmall extent_addr rows → StandIn heap (extent_entries rows) →
+        GoesOver heap (Owner.Extents object) extent_addr rows }
+    ensures trailers { (heap : View) (object : ℕ) (rows : List CapsuleRow) →
+        AreSmall capsule_addr rows → StandIn heap (capsule_entries rows) →
+        GoesOver heap (Owner.Trailers object) capsule_addr rows }
+{}
+
+/// A law: where each block of a right chain is that of what is read of it, the chain's blocks are just those of the rows that are read,
+/// each linked to the next as its layout says. It does nothing.
+pub fn chains_are_linked_rows()
+    ensures names { ChainsAreRows Owner.Catalogue name_addr name_block }
+    ensures tickets { (account : Acct) →
+        ChainsAreRows (Owner.Queue account) ticket_addr (ticket_block account) }
+    ensures elements { (list : ℕ) → ChainsAreRows (Owner.List list) addr_of (element_block list) }
+    ensures items { (hash front : ℕ) →
+        ChainsAreRows (Owner.Bucket hash front) item_addr item_block }
+    ensures headers { (object : ℕ) →
+        ChainsAreRows (Owner.Headers object) capsule_addr capsule_block }
+    ensures extents { (object : ℕ) →
+        ChainsAreRows (Owner.Extents object) extent_addr extent_block }
+    ensures trailers { (object : ℕ) →
+        ChainsAreRows (Owner.Trailers object) capsule_addr capsule_block }
+{}
