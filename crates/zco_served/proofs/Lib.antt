@@ -1,0 +1,11 @@
+pub mod RetiedLemmas
+pub mod NamedLemmas
+pub mod UsesLemmas
+pub mod SourceLemmas
+pub mod GoodLemmas
+mod StepLemmas
+mod ComingLemmas
+mod MakingCalls
+mod NamingCalls
+mod DroppingCalls
+mod CountingCalls
