@@ -17,8 +17,8 @@ use Rattle.zco_ref.specs.Kept.{CountedSource, KeepsSource, SomeBelow, SomeFew, c
 use Rattle.zco_ref.proofs.KeptLemmas.{count_is, inbound_is, outbound_is, source_words}
 
 -- the counts of both accounts, added
-pub uses_told : {found : Option Block} {i o : ℕ} → HasWord found 2 i → HasWord found 3 o → TellsUses found (i + o)
-uses_told h g = record {
+pub uses_told : {found : Option Block} (i o : ℕ) → HasWord found 2 i → HasWord found 3 o → TellsUses found (i + o)
+uses_told i o h g = record {
   tells = λ s k. let a = inbound_is k h in let b = outbound_is k g in omega (arith, a, b);
 }
 

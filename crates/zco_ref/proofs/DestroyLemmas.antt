@@ -1,6 +1,6 @@
 -- A source is destroyed.
 use Rattle.std.proofs.Common.{◌≡◌, ◌≢◌, ℕ, ◌+◌, ◌-◌, ◌*◌, ◌≤◌, ◌^◌, min, Bool, true, false, refl, sym, ap, ◌∙◌, arith, subst, eq-eqb}
-use Rattle.std.specs.Prelude.{Option, MatchBool, ◌==◌, inr}
+use Rattle.std.specs.Prelude.{Option, MatchBool, ◌==◌}
 use Rattle.std.proofs.lemmas.Bool.{ne_eqb}
 use Rattle.sdr_base.specs.Blocks.{Block, IsKind}
 use Rattle.sdr_base.specs.Objects.{Heap, OnlyUnmoved}

@@ -24,14 +24,6 @@ use Rattle.zco_ref.proofs.CountedLemmas.{detaches_one}
 use Rattle.zco_ref.proofs.GoneLemmas.{unmoved}
 use Rattle.zco_ref.proofs.KeptLemmas.{count_is, flag_is, inbound_is, medium_is, outbound_is}
 
--- a sum that stops at the greatest number is 1 where the sum is
-pub capped_one : (n : ℕ) → (min n (2 ^ 64 - 1) == 1) ≡ (n == 1)
-capped_one zero = refl
-capped_one (suc zero) = refl
-capped_one (suc (suc n)) =
-    ne_eqb (min (suc (suc n)) (2 ^ 64 - 1)) 1 (λ e. omega (arith, e))
-    ∙ sym (ne_eqb (suc (suc n)) 1 (λ e. omega (arith, e)))
-
 -- what is said of the source says whether it goes
 pub goes_told : {found : Option Block} {seen : Seen} → SeesSource found seen → (s : CountedSource) → KeepsSource found s →
     goes_by seen.medium seen.flagged (seen.inbound + seen.outbound) ≡ goes_next s
@@ -74,7 +66,7 @@ going_is {found} s k goes =
     ∙ ap (λ (n : ℕ). going_by (uses_of s) (medium_number s.row.medium) n) f
     ∙ closed s.row.medium s.row.flagged (uses_of s == 1) goes
 
-module _ {addr : ℕ} {acct : Acct} {old : Heap} (seen : Seen) (sees : SeesSource (old.blocks addr) seen)
+module _ (addr : ℕ) (acct : Acct) (old : Heap) (seen : Seen) (sees : SeesSource (old.blocks addr) seen)
     (a : SomeAttached acct old.blocks addr) where
   -- as many as what is said of it tells
   pub going_told : goes_by seen.medium seen.flagged (seen.inbound + seen.outbound) ≡ true →
@@ -159,10 +151,10 @@ detach_stops addr old new MediaFault full some = full
 detach_stops addr old new Failed full some = full
 
 -- since the source doesn't go
-pub stopped_last : {addr : ℕ} (old new : Heap) (seen : Seen) (stop : Stop) → SeesSource (old.blocks addr) seen →
+pub stopped_last : (addr : ℕ) (old new : Heap) (seen : Seen) (stop : Stop) → SeesSource (old.blocks addr) seen →
     goes_by seen.medium seen.flagged (seen.inbound + seen.outbound) ≡ true →
     VanishStops seen.medium seen.subject old new stop → DetachStops addr old new stop
-stopped_last {addr} old new seen stop sees goes v =
+stopped_last addr old new seen stop sees goes v =
     detach_stops addr old new stop (stopped_full seen.medium seen.subject old new stop v)
     (λ lines room is s k.
     let said = sees.sees s k in
@@ -177,8 +169,8 @@ stopped_last {addr} old new seen stop sees goes v =
     subst (λ (addrs : List ℕ). GaveSome addrs old new) same some)
 
 -- or since the count isn't set
-pub stopped_one : {addr : ℕ} (old new : Heap) (stop : Stop) → OnlyUnmoved old new stop → DetachStops addr old new stop
-stopped_one {addr} old new stop u =
+pub stopped_one : (addr : ℕ) (old new : Heap) (stop : Stop) → OnlyUnmoved old new stop → DetachStops addr old new stop
+stopped_one addr old new stop u =
     detach_stops addr old new stop (unmoved_full old new stop u)
     (λ lines room is s k.
     let here : OnlyUnmoved old new (Refused (LogFull lines room)) = subst (OnlyUnmoved old new) is u in

@@ -1,6 +1,7 @@
 -- Sources that are gone.
-use Rattle.std.proofs.Common.{◌≡◌, ◌≢◌, ℕ, ◌+◌, ◌-◌, ◌*◌, ◌≤◌, List, [], ◌∷◌, ◌++◌, length, refl, sym, ap, ◌∙◌, arith, subst, append_assoc, append-nil}
-use Rattle.std.specs.Prelude.{Option, None, Some, ◌⊎◌, inl, inr}
+use Rattle.std.proofs.Common.{◌≡◌, ◌≢◌, ℕ, ◌+◌, ◌-◌, ◌*◌, ◌≤◌, List, [], ◌∷◌, ◌++◌, length, refl, sym, ap, ◌∙◌, arith, subst, append_assoc, inl, inr}
+use Rattle.std.proofs.lemmas.List.{append-nil}
+use Rattle.std.specs.Prelude.{Option, None, Some, ◌⊎◌}
 use Rattle.sdr_base.specs.Blocks.{Block, Blocks, Reaches, with_block}
 use Rattle.sdr_base.specs.Entries.{Changes, Stands}
 use Rattle.sdr_base.specs.Making.{Made, besides, with_moves}
@@ -102,13 +103,13 @@ gone_plain {addr} {old} {new} seen is sees h = record {
     by s bytes (inr e) m = gone_as s bytes media.Bulk (sym m ∙ e) (given s) (record { all = ap besides h })
 
 -- a block that was there is there still, once another one is given back or written
-stays : {old new : Heap} {other : ℕ} {put : Option Block} (addr end : ℕ) → new.blocks ≡ with_block old.blocks other put → addr ≢ other →
+stays : (old new : Heap) (other : ℕ) (put : Option Block) (addr end : ℕ) → new.blocks ≡ with_block old.blocks other put → addr ≢ other →
     Reaches (old.blocks addr) end → Reaches (new.blocks addr) end
-stays {old} {new} {other} {put} addr end e apart r =
+stays old new other put addr end e apart r =
     subst (λ (o : Option Block). Reaches o end)
     (sym (ap (λ (b : Blocks). b addr) e ∙ with_block-apart old.blocks other put addr apart)) r
 
-module _ {addr : ℕ} {old : Heap} (seen : Seen) (sees : SeesSource (old.blocks addr) seen) (t : SomeTied old.blocks addr) where
+module _ (addr : ℕ) (old : Heap) (seen : Seen) (sees : SeesSource (old.blocks addr) seen) (t : SomeTied old.blocks addr) where
   -- the source is there
   pub source_used : Reaches (old.blocks addr) 0
   source_used = source_reaches t.tied.keeps 0 (omega arith)
@@ -138,12 +139,12 @@ module _ {addr : ℕ} {old : Heap} (seen : Seen) (sees : SeesSource (old.blocks 
   -- and the source still, after either
   pub used_after_give : {mid : Heap} → seen.medium ≡ media.Heap → mid ≡ with_given old seen.subject → Reaches (mid.blocks addr) 0
   used_after_give {mid} is g =
-      stays addr 0 (given_blocks seen.subject old mid g)
+      stays old mid seen.subject None addr 0 (given_blocks seen.subject old mid g)
       (stand_apart old.blocks addr seen.subject addr t.source t.bytes t.tied.keeps.block (heap_there is)) source_used
 
   pub used_after_word : {mid : Heap} → seen.medium ≡ media.Obj → mid ≡ with_word old seen.subject 0 0 → Reaches (mid.blocks addr) 0
   used_after_word {mid} is w =
-      stays addr 0 (heap_blocks w)
+      stays old mid seen.subject _ addr 0 (heap_blocks w)
       (stand_apart old.blocks addr seen.subject addr t.source t.bytes t.tied.keeps.block (obj_there is)) source_used
 
 -- why a source doesn't go, by its medium
@@ -157,7 +158,7 @@ unmoved {old} {new} addrs m s = record {
   made = [];
   first = record { rest = gave addrs; whole = refl };
   moves = m ∙ sym (append-nil old.moves);
-  spare = s;
+  spare = omega (arith, s);
 }
 
 -- nor is the raw object that it had taken over given back

@@ -6,3 +6,4 @@ mod CountedLemmas
 mod GoneLemmas
 mod DetachLemmas
 mod DestroyLemmas
+mod RowsOfSources

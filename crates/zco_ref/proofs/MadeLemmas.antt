@@ -1,17 +1,18 @@
 -- Sources of files and items that were made.
-use Rattle.std.proofs.Common.{◌≡◌, ℕ, ◌+◌, ◌*◌, ◌≤◌, List, [], ◌∷◌, ◌++◌, length, take, drop, inl, inr, refl, sym, ap, ◌∙◌, arith, subst}
+use Rattle.std.proofs.Common.{◌≡◌, ℕ, ◌+◌, ◌*◌, ◌≤◌, List, [], ◌∷◌, ◌++◌, length, take, drop, inl, inr, length-append, length-drop, refl, sym, ap, ◌∙◌, arith, subst}
 use Rattle.std.proofs.Math.ListN.{drop_of_length-le}
-use Rattle.std.proofs.lemmas.List.{append-nil}
+use Rattle.std.proofs.lemmas.List.{append-nil, take-append-le, take_all}
 use Rattle.sdr_base.specs.Entries.{Entries}
 use Rattle.sdr_base.specs.Making.{MakesThing}
 use Rattle.sdr_base.specs.Objects.{Heap, OnlyShort}
+use Rattle.sdr_base.specs.Parts.{overwrite}
 use Rattle.sdr_base.specs.Sources.{SourceRow}
 use Rattle.sdr_base.specs.Words.{layout}
 use Rattle.sdr_base.specs.declared.medium.Medium.TheVariants as media
 use Rattle.sdr_base.specs.declared.refusal.Refusal.TheVariants as refusals
 use Rattle.sdr_base.specs.declared.stop.Stop.{Stop}
 use Rattle.sdr_base.specs.declared.stop.Stop.TheVariants.{Refused, DiskFault, MediaFault, Failed}
-use Rattle.sdr_base.proofs.LayoutLemmas.{length-layout}
+use Rattle.sdr_base.proofs.LayoutLemmas.{layout-append, length-layout}
 use Rattle.sdr_base.proofs.MakingLemmas.{taken_makes}
 use Rattle.zco_ref.specs.Kept.{counted_block, counted_entries}
 use Rattle.zco_ref.specs.Making.{BulkStops, FileStops, IsPathLength, MakesBulk, MakesFile, PathRefused, SourceRefused, TakesSource, file_row, plain_row, unused}
@@ -35,15 +36,28 @@ pub bulk_made : {addr : ℕ} {old new : Heap} (item bytes : ℕ) → bytes ≤ 1
     TakesSource (plain_row media.Bulk item bytes) addr old new → MakesBulk item bytes addr old new
 bulk_made item bytes short t = record { short = short; makes = source_made (plain_row media.Bulk item bytes) t }
 
+-- bytes in front, and others behind them to the end
+filled : (front behind x : List ℕ) → length x ≡ length front + length behind →
+    overwrite (length front) behind (overwrite 0 front x) ≡ front ++ behind
+filled front behind x long =
+    let rest = drop (0 + length front) x in
+    let a = length-append front rest in
+    let d = length-drop (0 + length front) x in
+    let whole : length (front ++ rest) ≤ length front + length behind = omega (arith, a, d, long) in
+    ap (λ (l : List ℕ). (l ++ behind) ++ drop (length front + length behind) (front ++ rest))
+    (take-append-le (length front) front rest (omega arith) ∙ take_all (length front) front (omega arith))
+    ∙ ap (λ (l : List ℕ). (front ++ behind) ++ l) (drop_of_length-le (front ++ rest) {i = length front + length behind} whole)
+    ∙ append-nil (front ++ behind)
+
 -- the words in front, and the path behind them
-pub file_is : (bytes : ℕ) (path front behind rest : List ℕ) (n : ℕ) →
-    front ≡ layout (1 ∷ 0 ∷ 0 ∷ 0 ∷ 0 ∷ bytes ∷ []) [] → behind ≡ path → length rest ≤ n →
-    take 48 (front ++ rest) ++ (behind ++ drop n (drop 48 (front ++ rest))) ≡ layout (1 ∷ 0 ∷ 0 ∷ 0 ∷ 0 ∷ bytes ∷ []) path
-unfolding layout
-file_is bytes path front behind rest n f b short =
-    ap (λ (l : List ℕ). take 48 (l ++ rest) ++ (behind ++ drop n (drop 48 (l ++ rest)))) f
-    ∙ ap (λ (l : List ℕ). layout (1 ∷ 0 ∷ 0 ∷ 0 ∷ 0 ∷ bytes ∷ []) (behind ++ l)) (drop_of_length-le rest {i = n} short)
-    ∙ ap (layout (1 ∷ 0 ∷ 0 ∷ 0 ∷ 0 ∷ bytes ∷ [])) (append-nil behind ∙ b)
+pub file_is : (words path head x : List ℕ) → head ≡ layout words [] → length words ≡ 6 → length x ≡ 48 + length path →
+    overwrite 48 path (overwrite 0 head x) ≡ layout words path
+file_is words path head x e six long =
+    let l : length head ≡ 48 = ap length e ∙ length-layout words [] ∙ ap (λ (n : ℕ). 8 * n + 0) six in
+    ap (λ (n : ℕ). overwrite n path (overwrite 0 head x)) (sym l)
+    ∙ filled head path x (omega (arith, l, long))
+    ∙ ap (λ (h : List ℕ). h ++ path) e
+    ∙ layout-append words path
 
 -- why none is made: for its path
 pub path_stops : (path : List ℕ) (bytes : ℕ) (old new : Heap) (stop : Stop) → PathRefused (length path) stop → new ≡ old →

@@ -59,9 +59,9 @@ in_use {blocks} {raw} {named_by} {count} kind h nz t = record {
 }
 
 -- the raw object is there once its source's block is taken
-pub still_reaches : {addr count raw : ℕ} {medium : Medium} {old mid : Heap} → SomeRaw old.blocks raw →
+pub still_reaches : {addr raw : ℕ} {old mid : Heap} (count : ℕ) (medium : Medium) → SomeRaw old.blocks raw →
     TakesSource (plain_row medium raw count) addr old mid → Reaches (mid.blocks raw) 8
-still_reaches {addr} {count} {raw} {medium} {old} {mid} s t =
+still_reaches {addr} {raw} {old} {mid} count medium s t =
     let apart : raw ≢ addr =
     λ e. let d : None ≡ Some (raw_block s.named_by s.bytes) = sym t.fresh ∙ ap old.blocks (sym e) ∙ s.keeps.block in cc in
     subst (λ (o : Option Block). Reaches o 8)

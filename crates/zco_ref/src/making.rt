@@ -10,7 +10,9 @@ ghost use Rattle.zco_ref.specs.Making.{BulkStops, FileStops, IsPathLength, Makes
 ghost use Rattle.zco_ref.specs.Making.{PathRefused, SourceRefused, TakesSource, file_row, plain_row};
 
 use byteorder::{BigEndian, ByteOrder};
-use sdr_base::{Addr, Kind, Medium, Objects, Refusal, Stop, check_failed, take_bytes, take_words};
+use sdr_base::{
+    Addr, Kind, Medium, Objects, Refusal, Stop, check_failed, put_at, take_bytes, take_words,
+};
 
 /// The most bytes of a file's path, which has one at least.
 pub const LONGEST_PATH: usize = 255;
@@ -93,18 +95,19 @@ fn take_file<O: Objects>(o: &mut O, path: &[u8], bytes: u64) -> Result<Addr, Sto
 {
     let mut buffer = [0; PATH_FROM + LONGEST_PATH];
     let block = &mut buffer[..PATH_FROM + path.len()];
-    fill_file(path, bytes, block);
+    fill(number_of(Medium::File), path, bytes, block);
     take_bytes(o, Kind::Source, block)
 }
 
-// Fills a buffer with the block of a source of a file, which no extent names.
-fn fill_file(path: &[u8], bytes: u64, into: &mut [u8])
+// Fills a buffer with the block of a source with a path and the subject 0, which no extent names.
+fn fill(medium: u64, path: &[u8], bytes: u64, into: &mut [u8])
     requires long { length into.old ≡ PATH_FROM + length path.now }
-    ensures { into.new ≡ layout (1 ∷ 0 ∷ 0 ∷ 0 ∷ 0 ∷ bytes ∷ []) path.now }
+    ensures { into.new ≡ layout (medium ∷ 0 ∷ 0 ∷ 0 ∷ 0 ∷ bytes ∷ []) path.now }
 {
-    let head = [number_of(Medium::File), 0, 0, 0, 0, bytes];
-    BigEndian::write_u64_into(&head, &mut into[..PATH_FROM]);
-    into[PATH_FROM..].copy_from_slice(path);
+    let mut head = [0; PATH_FROM];
+    BigEndian::write_u64_into(&[medium, 0, 0, 0, 0, bytes], &mut head);
+    put_at(into, 0, &head);
+    put_at(into, PATH_FROM, path);
 }
 
 // Takes a block for a source without a path, which no extent names.

@@ -7,5 +7,6 @@ mod StepLemmas
 mod ComingLemmas
 mod MakingCalls
 mod NamingCalls
+mod GoingCalls
 mod DroppingCalls
 mod CountingCalls

@@ -12,9 +12,9 @@ word-requires-2-clause-inside g c = rw c.word.ensures.looks.same (source_reaches
 
 pub overflow_add-result : goal.overflow_add-result
 overflow_add-result g c =
-    uses_fit c.in_ok-inbound.inbound c.in_ok-outbound.outbound c.requires.source c.in_ok-inbound.ensures.given
-    (rw c.word.ensures.looks.same at c.in_ok-outbound.ensures.given)
+    let fits = uses_fit c.in_ok-inbound.inbound c.in_ok-outbound.outbound c.requires.source c.in_ok-inbound.ensures.given
+    (rw c.word.ensures.looks.same at c.in_ok-outbound.ensures.given) in omega (arith, fits)
 
 pub returns-clause-given : goal.returns-clause-given
 returns-clause-given g c =
-    uses_told c.in_ok-inbound.ensures.given (rw c.word.ensures.looks.same at c.in_ok-outbound.ensures.given)
+    uses_told c.in_ok-inbound.inbound c.in_ok-outbound.outbound c.in_ok-inbound.ensures.given (rw c.word.ensures.looks.same at c.in_ok-outbound.ensures.given)

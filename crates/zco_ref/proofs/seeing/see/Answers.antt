@@ -26,7 +26,7 @@ word-requires-5-clause-inside g c =
 
 pub returns-clause-seen : goal.returns-clause-seen
 returns-clause-seen g c =
-    sees c.medium_of.result c.in_ok-medium.ensures.given
+    sees c.in_ok-flag.flag c.medium_of.result c.in_ok-medium.ensures.given
     (rw c.word.ensures.looks.same at c.in_ok-flag.ensures.given)
     (rw (c.word-2.ensures.looks.same, c.word.ensures.looks.same) at c.in_ok-inbound.ensures.given)
     (rw (c.word-3.ensures.looks.same, c.word-2.ensures.looks.same, c.word.ensures.looks.same) at c.in_ok-outbound.ensures.given)
