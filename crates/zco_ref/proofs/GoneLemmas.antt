@@ -142,9 +142,10 @@ module _ (addr : ℕ) (old : Heap) (seen : Seen) (sees : SeesSource (old.blocks 
       stays old mid seen.subject None addr 0 (given_blocks seen.subject old mid g)
       (stand_apart old.blocks addr seen.subject addr t.source t.bytes t.tied.keeps.block (heap_there is)) source_used
 
-  pub used_after_word : {mid : Heap} → seen.medium ≡ media.Obj → mid ≡ with_word old seen.subject 0 0 → Reaches (mid.blocks addr) 0
-  used_after_word {mid} is w =
-      stays old mid seen.subject _ addr 0 (heap_blocks w)
+  pub used_after_word : (mid : Heap) (put : Option Block) → seen.medium ≡ media.Obj →
+      mid.blocks ≡ with_block old.blocks seen.subject put → Reaches (mid.blocks addr) 0
+  used_after_word mid put is w =
+      stays old mid seen.subject put addr 0 w
       (stand_apart old.blocks addr seen.subject addr t.source t.bytes t.tied.keeps.block (obj_there is)) source_used
 
 -- why a source doesn't go, by its medium

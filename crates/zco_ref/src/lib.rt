@@ -17,4 +17,4 @@ mod seeing;
 pub use counting::{attach, count, detach};
 pub use dropping::destroy_ref;
 pub use making::{LONGEST_PATH, LONGEST_SOURCE, bulk_ref, file_ref};
-pub use naming::{heap_source, obj_ref};
+pub use naming::{expect_unnamed, heap_source, obj_ref};

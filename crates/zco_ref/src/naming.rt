@@ -48,14 +48,15 @@ fn raw_source<O: Objects>(o: &mut O, raw: Addr, medium: Medium) -> Result<Addr, 
     ensures refused { IfErr result (NamingStops raw (O.heap o.old) (O.heap o.new)) }
     ensures works { Works O.HasHeap 31 o.old o.new result }
 {
-    let bytes = unnamed_bytes(o, raw)?;
+    let bytes = expect_unnamed(o, raw)?;
     let source = take_plain(o, medium, raw, bytes)?;
     set_word(o, raw, words::SOURCE, source)?;
     Ok(source)
 }
 
-// How many bytes a raw object has, where no source names it.
-fn unnamed_bytes<O: Objects>(o: &mut O, raw: Addr) -> Result<u64, Stop>
+/// How many bytes a raw object has, where no source names it. It is refused `InUse` where one does,
+/// with how many extents of both accounts name that.
+pub fn expect_unnamed<O: Objects>(o: &mut O, raw: Addr) -> Result<u64, Stop>
     requires kept { KeepsSome (O.keeps o.old) }
     requires raw { IsRaw (O.heap o.old).blocks raw }
     ensures found { IfOk result (HasUnnamed ((O.heap o.old).blocks raw)) }

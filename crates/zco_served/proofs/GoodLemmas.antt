@@ -8,7 +8,7 @@ use Rattle.sdr_base.specs.Objects.{Heap}
 use Rattle.sdr_model.specs.World.{World}
 use Rattle.sdr_model.specs.Zco.{source_on}
 use Rattle.zco_ref.specs.Kept.{SomeFew}
-use Rattle.zco_served.proofs.SourceLemmas.{named_is_at, source_few, source_is_at, source_tied}
+use Rattle.zco_served.proofs.SourceLemmas.{counted_in, named_is_at, source_few, source_is_at, source_tied}
 use Rattle.zco_served.specs.Answering.{IsGood, IsServed}
 
 pub good_of : (heap : Heap) (w : World) → HeapStandsFor heap w → IsServed w → IsSmall heap → IsGood heap
@@ -17,10 +17,14 @@ good_of heap w s served small = record {
       let f = source_is_at heap w addr s served small kind in source_few heap w addr f.source s served small f.there;
   tied = λ addr kind.
       let f = source_is_at heap w addr s served small kind in
-      let t = source_tied heap w addr f.source s served small f.there in record { source = _; bytes = t.bytes; tied = t.tied };
+      let t = source_tied heap w addr f.source s served small f.there in record {
+        source = counted_in w addr f.source;
+        bytes = t.bytes;
+        tied = t.tied;
+      };
   raws = λ raw kind.
       let r = named_is_at heap w raw s served kind in
-      record { named_by = _; bytes = r.bytes; keeps = r.keeps; named = λ some. by raw (source_on w raw) refl some };
+      record { named_by = or_null (source_on w raw); bytes = r.bytes; keeps = r.keeps; named = λ some. by raw (source_on w raw) refl some };
 }
   where
     by : (raw : ℕ) (o : Option ℕ) → source_on w raw ≡ o → or_null o ≢ 0 → SomeFew (heap.blocks (or_null o))

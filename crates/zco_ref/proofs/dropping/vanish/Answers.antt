@@ -3,6 +3,7 @@ use Rattle.std.proofs.Common.{arith, inl, inr, rules}
 use Rattle.std.specs.Prelude.{◌⊎◌}
 use Rattle.std.proofs.lemmas.Result.{IfErr-weaker, on_ok_weaker}
 use Rattle.sdr_base.specs.declared.medium.Medium.TheVariants as media
+use Rattle.sdr_base.proofs.HeapLemmas.{heap_blocks}
 use Rattle.zco_ref.specs.Going.{VanishStops}
 use Rattle.zco_ref.proofs.GoneLemmas.{first_stops, gone_heap, gone_obj, gone_plain, heap_used, obj_used, second_stops, source_used, stops_as, used_after_give, used_after_word}
 use Rattle.zco_ref.proofs.dropping.vanish.Goals as goal
@@ -29,8 +30,8 @@ set_word-requires-clause-inside g c =
 
 pub give-requires-in-Obj-clause-used : goal.give-requires-in-Obj-clause-used
 give-requires-in-Obj-clause-used g c =
-    used_after_word c.args.source (g.O.HasHeap.heap c.args.o.now) c.args.seen c.requires.seen c.requires.source c.in-Obj.is
-    c.in_ok-set_word-in-Obj.ensures.written
+    used_after_word c.args.source (g.O.HasHeap.heap c.args.o.now) c.args.seen c.requires.seen c.requires.source
+    (g.O.HasHeap.heap c.set_word.new.o) _ c.in-Obj.is (heap_blocks c.in_ok-set_word-in-Obj.ensures.written)
 
 pub returns-in_ok-give-in-Heap-clause-gone : goal.returns-in_ok-give-in-Heap-clause-gone
 returns-in_ok-give-in-Heap-clause-gone g c =

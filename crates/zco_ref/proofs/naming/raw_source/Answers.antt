@@ -8,15 +8,15 @@ pub set_word-requires-clause-inside : goal.set_word-requires-clause-inside
 set_word-requires-clause-inside g c =
     let h = c.in_ok-bytes.ensures.found in
     still_reaches c.in_ok-bytes.bytes c.args.medium (c.requires.raw h.unnamed.kind)
-    (rw c.unnamed_bytes.ensures.looks.same at c.in_ok-source.ensures.taken)
+    (rw c.expect_unnamed.ensures.looks.same at c.in_ok-source.ensures.taken)
 
 pub returns-clause-made : goal.returns-clause-made
 returns-clause-made g c =
     raw_source_made c.args.medium c.args.raw c.in_ok-bytes.ensures.found
-    (rw c.unnamed_bytes.ensures.looks.same at c.in_ok-source.ensures.taken) c.in_ok-set_word.ensures.written
+    (rw c.expect_unnamed.ensures.looks.same at c.in_ok-source.ensures.taken) c.in_ok-set_word.ensures.written
 
 pub returns-in_err-set_word-clause-refused : goal.returns-in_err-set_word-clause-refused
 returns-in_err-set_word-clause-refused g c =
     let s : NamingStops c.args.raw (g.O.HasHeap.heap c.args.o.now) (g.O.HasHeap.heap c.set_word.new.o) c.in_err-set_word.field-0.0 =
     unnamed_stops c.args.medium c.args.raw (g.O.HasHeap.heap c.set_word.new.o) _ c.in_ok-bytes.ensures.found
-    (rw c.unnamed_bytes.ensures.looks.same at c.in_ok-source.ensures.taken) c.in_err-set_word.ensures.refused in search rules
+    (rw c.expect_unnamed.ensures.looks.same at c.in_ok-source.ensures.taken) c.in_err-set_word.ensures.refused in search rules

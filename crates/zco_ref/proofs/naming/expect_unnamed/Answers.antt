@@ -2,7 +2,7 @@
 use Rattle.std.proofs.Common.{arith, refl}
 use Rattle.zco_ref.proofs.KeptLemmas.{raw_reaches}
 use Rattle.zco_ref.proofs.NamedLemmas.{has_unnamed, in_use, naming_few, raw_whole}
-use Rattle.zco_ref.proofs.naming.unnamed_bytes.Goals as goal
+use Rattle.zco_ref.proofs.naming.expect_unnamed.Goals as goal
 
 pub word-requires-clause-inside : goal.word-requires-clause-inside
 word-requires-clause-inside g c =
