@@ -6,7 +6,6 @@ use Rattle.sdr_answers.proofs.EntryLemmas.{source_there}
 use Rattle.sdr_answers.proofs.ListLemmas.{IsSmall}
 use Rattle.sdr_answers.proofs.RowLemmas.{HasMoves, full_refused, gave_back, marks_none, misnamed_refused, moved_nothing, row_refused}
 use Rattle.sdr_answers.specs.Answering.{Aim, IsRefused}
-use Rattle.sdr_audit.proofs.ChangeLemmas.{part_changed}
 use Rattle.sdr_audit.proofs.PartLemmas.{thing_changed, thing_gone}
 use Rattle.sdr_audit.specs.Rows.{medium_of, source_row}
 use Rattle.sdr_audit.specs.Standing.{HeapStandsFor, entries_of, other_entries, thing_entries, with_taken_marked}
@@ -51,7 +50,7 @@ use Rattle.zco_served.proofs.NamedLemmas.{SameSources, naming_of, named_at, same
 use Rattle.zco_served.proofs.NamingCalls.{alike_but, put_here}
 use Rattle.zco_served.proofs.RetiedLemmas.{retied}
 use Rattle.zco_served.proofs.SourceLemmas.{IsRawOf, counted_in, no_source, source_is_at, source_tied}
-use Rattle.zco_served.proofs.StepLemmas.{IsFree, all_changed, answered_later, fits_later, roots_kept}
+use Rattle.zco_served.proofs.StepLemmas.{IsFree, all_changed, answered_later, fits_later, part_changed, roots_kept}
 use Rattle.zco_served.proofs.UsesLemmas.{same_counts}
 use Rattle.zco_served.specs.Answering.{Answered, IsServed}
 

@@ -3,7 +3,7 @@ use Rattle.std.proofs.Common.{◌≡◌, ◌∙◌, ◌⊎◌, ◌+◌, ◌≤�
 use Rattle.std.proofs.lemmas.Bool.Decides.{nat_tests}
 use Rattle.sdr_answers.proofs.RowLemmas.{Moved, row_refused, short_refused, took_one}
 use Rattle.sdr_answers.specs.Answering.{IsRefused}
-use Rattle.sdr_audit.proofs.ChangeLemmas.{nothing_at, part_changed}
+use Rattle.sdr_audit.proofs.ChangeLemmas.{nothing_at}
 use Rattle.sdr_audit.proofs.PartLemmas.{thing_new}
 use Rattle.sdr_audit.specs.Rows.{source_row}
 use Rattle.sdr_audit.specs.Standing.{HeapStandsFor, with_taken_marked}
@@ -33,7 +33,7 @@ use Rattle.sdr_model.specs.declared.zco.Subject.{Subject}
 use Rattle.sdr_model.specs.declared.zco.Subject.TheVariants as subjects
 use Rattle.sdr_model.specs.declared.zco.ZcoSource.{ZcoSource}
 use Rattle.zco_ref.specs.Making.{BulkStops, FileStops, IsNoPath, IsPathLength, IsTooLong, MakesBulk, MakesFile}
-use Rattle.zco_served.proofs.StepLemmas.{IsFree, answered_later, roots_kept}
+use Rattle.zco_served.proofs.StepLemmas.{IsFree, answered_later, part_changed, roots_kept}
 use Rattle.zco_served.proofs.UsesLemmas.{none_counted}
 use Rattle.zco_served.specs.Answering.{Answered, IsServed}
 
@@ -60,11 +60,11 @@ bytes_fit n short = grind (arith, nat_tests, short)
 file_made_row : (w : World) (path : List ℕ) (bytes addr : ℕ) → IsPathLength (length path) → bytes ≤ longest_source →
     ByRow w (source_outcome w (source_need (length path)) (new_source (subjects.File path) bytes) addr) (calls.FileRef path bytes)
 file_made_row w path bytes addr fits short =
-    on_false _ _ _ (path_fits (length path) fits) (on_false _ _ _ (bytes_fit bytes short) (refl, refl, refl))
+    on_false _ _ _ (path_fits (length path) fits) (on_false _ _ _ (bytes_fit bytes short) (refl, (refl, refl)))
 
 bulk_made_row : (w : World) (item bytes addr : ℕ) → bytes ≤ longest_source →
     ByRow w (source_outcome w (source_need 0) (new_source (subjects.Bulk item) bytes) addr) (calls.BulkRef item bytes)
-bulk_made_row w item bytes addr short = on_false _ _ _ (bytes_fit bytes short) (refl, refl, refl)
+bulk_made_row w item bytes addr short = on_false _ _ _ (bytes_fit bytes short) (refl, (refl, refl))
 
 -- a refusal for a length
 refused_as : (bad most count longest : ℕ) → bad ≡ count → most ≡ longest →

@@ -76,7 +76,7 @@ obj_row : (w : World) (raw addr : ℕ) (bytes : List ℕ) → thing_at w raw ≡
     ByRow w (source_outcome w (source_need 0) (new_source (subjects.Obj raw) (length bytes)) addr) (calls.ObjRef raw)
 obj_row w raw addr bytes there unnamed =
     on_some _ _ (as_raw (thing_at w raw)) bytes (ap as_raw there)
-    (on_none _ _ (source_on w raw) unnamed (refl, refl, refl))
+    (on_none _ _ (source_on w raw) unnamed (refl, (refl, refl)))
 
 -- a call on a heap that stands for a world in which it is served
 module _ (old new : Heap) (w : World) (unmoved : old.moves ≡ []) (s : HeapStandsFor old w) (served : IsServed w) where

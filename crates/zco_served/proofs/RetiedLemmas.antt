@@ -55,15 +55,16 @@ module _ {X : Type 0} (f g : ℕ → X → Entries) (k : ℕ) (same : (q : ℕ) 
       elim (nat_cmp k e.0) as
       (λ o. nat_cmp k e.0 ≡ o → cond (is_eq o) (Some e.1) (finite.find nat_cmp k es) ≡ None →
       flat_map (λ e. f e.0 e.1) (e ∷ es) ≡ flat_map (λ e. g e.0 e.1) (e ∷ es)) [
-        | Less ↦ λ is rest. step (other_key e.0 Less is (λ d. cc)) rest
+        | Less ↦ λ is rest. step (other_key e.0 Less is (λ d. cc)) (flat_same es rest)
         | Equal ↦ λ is rest. cc
-        | Greater ↦ λ is rest. step (other_key e.0 Greater is (λ d. cc)) rest
+        | Greater ↦ λ is rest. step (other_key e.0 Greater is (λ d. cc)) (flat_same es rest)
       ] refl none
     where
-      step : e.0 ≢ k → finite.find nat_cmp k es ≡ None → flat_map (λ e. f e.0 e.1) (e ∷ es) ≡ flat_map (λ e. g e.0 e.1) (e ∷ es)
-      step apart rest =
+      step : e.0 ≢ k → flat_map (λ e. f e.0 e.1) es ≡ flat_map (λ e. g e.0 e.1) es →
+          flat_map (λ e. f e.0 e.1) (e ∷ es) ≡ flat_map (λ e. g e.0 e.1) (e ∷ es)
+      step apart others =
           ap (λ (l : Entries). l ++ flat_map (λ e. f e.0 e.1) es) (same e.0 e.1 apart)
-          ∙ ap (λ (l : Entries). g e.0 e.1 ++ l) (flat_same es rest)
+          ∙ ap (λ (l : Entries). g e.0 e.1 ++ l) others
 
   section_same : (m : FinMap nat_cmp X) → finite.get m k ≡ None → section f m ≡ section g m
   section_same m none = flat_same (finite.entries m) (sym (finite.get-entries m k) ∙ none)

@@ -28,6 +28,10 @@ use Rattle.sdr_model.specs.declared.things.Thing.TheVariants as things
 use Rattle.sdr_model.specs.declared.zco.Extent.{Extent}
 use Rattle.sdr_model.specs.declared.zco.ZcoObject.{ZcoObject}
 
+-- how often a test holds
+abbrev weight : Bool → ℕ
+weight b = cond b 1 0
+
 -- one extent more
 naming-cons : (source : ℕ) (e : Extent) (es : List Extent) →
     naming source (e ∷ es) ≡ cond (e.source == source) 1 0 + naming source es
@@ -90,9 +94,9 @@ none_naming w source [] none all = refl
 none_naming w source (e ∷ es) none all =
     let apart : e.source ≢ source =
     λ same. source_there e (source_at w e.source) all.0 (ap (source_at w) same ∙ none) in
-    naming-cons source e es
-    ∙ ap (λ b. cond b 1 0 + naming source es) (ne_eqb e.source source apart)
-    ∙ none_naming w source es none all.1
+    let n = naming-cons source e es in
+    let z = ap weight (ne_eqb e.source source apart) in
+    let ih = none_naming w source es none all.1 in omega (arith, n, z, ih)
 
 none_in : (w : World) (source : ℕ) (acct : Acct) (q : ℕ) (thing : Thing) → FitTogether w → source_at w source ≡ None →
     thing_at w q ≡ Some thing → uses_in source acct thing ≡ 0
@@ -112,16 +116,17 @@ names_some source acct thing = not (uses_in source acct thing == 0)
 sum_unfound : (source : ℕ) (acct : Acct) (es : List (ℕ × Thing)) → find (λ e. names_some source acct e.1) es ≡ None →
     sum_by (λ e. uses_in source acct e.1) es ≡ 0
 sum_unfound source acct [] none = refl
-sum_unfound source acct (e ∷ es) none = by (uses_in source acct e.1 == 0) refl none
+sum_unfound source acct (e ∷ es) none = by (uses_in source acct e.1 == 0) refl none (λ rest. sum_unfound source acct es rest)
   where
     by : (b : Bool) → (uses_in source acct e.1 == 0) ≡ b →
         cond (not b) (Some e) (find (λ x. names_some source acct x.1) es) ≡ None →
+        (find (λ x. names_some source acct x.1) es ≡ None → sum_by (λ x. uses_in source acct x.1) es ≡ 0) →
         sum_by (λ x. uses_in source acct x.1) (e ∷ es) ≡ 0
-    by true is rest =
+    by true is rest others =
         let s = sum_by-cons (λ (x : ℕ × Thing). uses_in source acct x.1) e es in
         let here = eqb-true (uses_in source acct e.1) 0 is in
-        let ih = sum_unfound source acct es rest in omega (arith, s, here, ih)
-    by false is rest = cc
+        let ih = others rest in omega (arith, s, here, ih)
+    by false is rest others = cc
 
 -- so no extent names a source that isn't there
 pub none_counted : (w : World) (source : ℕ) (acct : Acct) → FitTogether w → source_at w source ≡ None →
