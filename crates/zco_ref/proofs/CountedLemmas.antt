@@ -1,8 +1,8 @@
 -- Another number in a word of a source.
-use Rattle.std.proofs.Common.{◌≡◌, ℕ, ◌+◌, ◌-◌, ◌*◌, ◌<◌, ◌≤◌, ◌^◌, List, [], ◌∷◌, length, set, refl, sym, ap, ◌∙◌, arith, subst}
-use Rattle.std.specs.Prelude.{Option, true}
+use Rattle.std.proofs.Common.{◌≡◌, ℕ, ◌+◌, ◌-◌, ◌<◌, ◌^◌, List, [], ◌∷◌, set, refl, ap, arith, subst}
+use Rattle.std.specs.Prelude.{Option}
 use Rattle.sdr_base.specs.Blocks.{Block}
-use Rattle.sdr_base.specs.Entries.{Changes, Stands}
+use Rattle.sdr_base.specs.Entries.{Stands}
 use Rattle.sdr_base.specs.Making.{besides}
 use Rattle.sdr_base.specs.Objects.{Heap}
 use Rattle.sdr_base.specs.Words.{HasWord, layout, with_word}
@@ -11,9 +11,9 @@ use Rattle.sdr_base.specs.declared.account.Acct.TheVariants as accts
 use Rattle.sdr_base.specs.declared.kind.Kind.TheVariants as kinds
 use Rattle.sdr_base.proofs.HeapLemmas.{heap_blocks}
 use Rattle.sdr_base.proofs.WritingLemmas.{block, word_set}
-use Rattle.zco_ref.specs.Counting.{Attaches, Becomes, TellsUses, attached, count_field, detached, with_count}
+use Rattle.zco_ref.specs.Counting.{Attaches, Becomes, TellsUses, count_field, detached, with_count}
 use Rattle.zco_ref.specs.Dropping.{flagged}
-use Rattle.zco_ref.specs.Kept.{CountedSource, KeepsSource, SomeBelow, SomeFew, count_in}
+use Rattle.zco_ref.specs.Kept.{CountedSource, KeepsSource, SomeBelow, SomeFew}
 use Rattle.zco_ref.proofs.KeptLemmas.{count_is, inbound_is, outbound_is, source_words}
 
 -- the counts of both accounts, added

@@ -1,6 +1,6 @@
 -- A source is destroyed.
-use Rattle.std.proofs.Common.{◌≡◌, ◌≢◌, ℕ, ◌+◌, ◌-◌, ◌*◌, ◌≤◌, ◌^◌, min, Bool, true, false, refl, sym, ap, ◌∙◌, arith, subst, eq-eqb}
-use Rattle.std.specs.Prelude.{Option, MatchBool, ◌==◌}
+use Rattle.std.proofs.Common.{◌≡◌, ◌≢◌, ℕ, ◌+◌, ◌-◌, ◌^◌, min, Bool, true, false, refl, sym, ap, ◌∙◌, arith, subst, eq-eqb}
+use Rattle.std.specs.Prelude.{Option, MatchBool}
 use Rattle.std.proofs.lemmas.Bool.{ne_eqb}
 use Rattle.sdr_base.specs.Blocks.{Block, IsKind}
 use Rattle.sdr_base.specs.Objects.{Heap, OnlyUnmoved}
@@ -14,7 +14,7 @@ use Rattle.sdr_base.specs.declared.stop.Stop.TheVariants.{Refused, DiskFault, Me
 use Rattle.zco_ref.specs.Counting.{Becomes}
 use Rattle.zco_ref.specs.Dropping.{DestroysSource, DestroyStops, IsFlagged, IsOwner, MayGo, flagged}
 use Rattle.zco_ref.specs.Going.{Goes, VanishStops, Vanishes, blocks_with, is_owner}
-use Rattle.zco_ref.specs.Kept.{CountedSource, KeepsSource, uses_of}
+use Rattle.zco_ref.specs.Kept.{uses_of}
 use Rattle.zco_ref.specs.Seeing.{SeesSource}
 use Rattle.zco_ref.specs.declared.seeing.Seen.{Seen}
 use Rattle.zco_ref.proofs.CountedLemmas.{flag_set}

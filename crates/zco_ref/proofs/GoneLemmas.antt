@@ -1,5 +1,5 @@
 -- Sources that are gone.
-use Rattle.std.proofs.Common.{◌≡◌, ◌≢◌, ℕ, ◌+◌, ◌-◌, ◌*◌, ◌≤◌, List, [], ◌∷◌, ◌++◌, length, refl, sym, ap, ◌∙◌, arith, subst, append_assoc, inl, inr}
+use Rattle.std.proofs.Common.{◌≡◌, ◌≢◌, ℕ, ◌-◌, List, [], ◌∷◌, ◌++◌, refl, sym, ap, ◌∙◌, arith, subst, append_assoc, inl, inr}
 use Rattle.std.proofs.lemmas.List.{append-nil}
 use Rattle.std.specs.Prelude.{Option, None, Some, ◌⊎◌}
 use Rattle.sdr_base.specs.Blocks.{Block, Blocks, Reaches, with_block}
@@ -20,8 +20,8 @@ use Rattle.sdr_base.proofs.HeapLemmas.{given_blocks, heap_blocks}
 use Rattle.sdr_base.proofs.ObjectsLemmas.{with_block-apart}
 use Rattle.sdr_base.proofs.StandingLemmas.{went}
 use Rattle.sdr_base.proofs.WritingLemmas.{reaches, word_set}
-use Rattle.zco_ref.specs.Going.{GaveSome, Goes, OnlyGave, VanishStops, Vanishes, blocks_with, gave, gone_with, left_by}
-use Rattle.zco_ref.specs.Kept.{CountedSource, KeepsTied, SomeTied, counted_block, counted_entries, raw_part}
+use Rattle.zco_ref.specs.Going.{GaveSome, Goes, OnlyGave, VanishStops, Vanishes, gave, gone_with, left_by}
+use Rattle.zco_ref.specs.Kept.{CountedSource, SomeTied, counted_block, counted_entries, raw_part}
 use Rattle.zco_ref.specs.Seeing.{SeesSource}
 use Rattle.zco_ref.specs.declared.seeing.Seen.{Seen}
 use Rattle.zco_ref.proofs.KeptLemmas.{source_reaches, stand_apart, tied_heap, tied_obj}

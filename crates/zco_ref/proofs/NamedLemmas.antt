@@ -1,15 +1,14 @@
 -- Sources of raw objects that were made.
-use Rattle.std.proofs.Common.{◌≡◌, ◌≢◌, ℕ, ◌+◌, ◌-◌, ◌≤◌, List, [], ◌∷◌, ◌++◌, length, refl, sym, ap, ◌∙◌, arith, subst}
+use Rattle.std.proofs.Common.{◌≡◌, ◌≢◌, ℕ, ◌+◌, ◌-◌, ◌≤◌, List, [], ◌∷◌, length, refl, sym, ap, ◌∙◌, arith, subst}
 use Rattle.std.specs.Prelude.{Option, None, Some}
 use Rattle.sdr_base.specs.Blocks.{Block, Blocks, HasLength, IsKind, Reaches}
 use Rattle.sdr_base.specs.Entries.{Stands}
-use Rattle.sdr_base.specs.Making.{Made, besides}
+use Rattle.sdr_base.specs.Making.{besides}
 use Rattle.sdr_base.specs.Objects.{Heap, OnlyShort, OnlyUnmoved}
 use Rattle.sdr_base.specs.Raws.{raw_block}
 use Rattle.sdr_base.specs.Words.{HasWord, with_word}
 use Rattle.sdr_base.specs.declared.kind.Kind.TheVariants as kinds
 use Rattle.sdr_base.specs.declared.medium.Medium.{Medium}
-use Rattle.sdr_base.specs.declared.moves.Move.TheVariants.{Took}
 use Rattle.sdr_base.specs.declared.refusal.Refusal.TheVariants as refusals
 use Rattle.sdr_base.specs.declared.stop.Stop.{Stop}
 use Rattle.sdr_base.specs.declared.stop.Stop.TheVariants.{Refused, DiskFault, MediaFault, Failed}
@@ -18,7 +17,7 @@ use Rattle.sdr_base.proofs.LayoutLemmas.{length-layout}
 use Rattle.sdr_base.proofs.ObjectsLemmas.{with_block-apart}
 use Rattle.sdr_base.proofs.WritingLemmas.{word_set}
 use Rattle.zco_ref.specs.Counting.{TellsUses}
-use Rattle.zco_ref.specs.Kept.{KeepsRaw, SomeFew, SomeRaw, counted_block, counted_entries}
+use Rattle.zco_ref.specs.Kept.{KeepsRaw, SomeFew, SomeRaw, counted_block}
 use Rattle.zco_ref.specs.Making.{TakesSource, plain_row, unused}
 use Rattle.zco_ref.specs.Naming.{HasUnnamed, IsNamed, IsUnnamed, IsUsed, MakesRawSource, NamingStops, RawStops}
 use Rattle.zco_ref.proofs.KeptLemmas.{named_by_is, raw_reaches}

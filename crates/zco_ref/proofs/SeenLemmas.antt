@@ -1,14 +1,11 @@
 -- What the block of a source says, read word by word.
-use Rattle.std.proofs.Common.{◌≡◌, ℕ, ◌≤◌, Bool, true, false, Option, refl, sym, ap, ◌∙◌, arith}
+use Rattle.std.proofs.Common.{◌≡◌, ℕ, Bool, true, false, Option, refl, ap, ◌∙◌}
 use Rattle.std.specs.Prelude.{◌==◌}
 use Rattle.sdr_base.specs.Blocks.{Block}
-use Rattle.sdr_base.specs.Sources.{flag_word, medium_number}
+use Rattle.sdr_base.specs.Sources.{flag_word}
 use Rattle.sdr_base.specs.Words.{HasWord}
 use Rattle.sdr_base.specs.declared.medium.Medium.{Medium}
-use Rattle.sdr_base.specs.declared.medium.Medium.TheVariants as media
-use Rattle.zco_ref.specs.Kept.{CountedSource, KeepsSource}
-use Rattle.zco_ref.specs.Seeing.{IsMediumOf, IsSeen, SeesSource}
-use Rattle.zco_ref.specs.declared.seeing.Seen.{Seen}
+use Rattle.zco_ref.specs.Seeing.{IsMediumOf, SeesSource}
 use Rattle.zco_ref.proofs.KeptLemmas.{flag_is, inbound_is, medium_is, outbound_is, subject_is}
 
 -- the word of a yes or no

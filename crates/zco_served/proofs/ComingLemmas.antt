@@ -1,5 +1,5 @@
 -- What a call on sources comes to, by what the call below came to.
-use Rattle.std.proofs.Common.{◌≡◌, ℕ, List, [], Result, Err, Ok, subst, sym}
+use Rattle.std.proofs.Common.{◌≡◌, ℕ, List, [], Err, Ok, subst, sym}
 use Rattle.sdr_answers.specs.Answering.{IsRefused}
 use Rattle.sdr_audit.specs.Standing.{HeapStandsFor}
 use Rattle.sdr_base.specs.Objects.{Heap}

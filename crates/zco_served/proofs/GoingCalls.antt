@@ -1,29 +1,22 @@
 -- A source that may go, its rows, and one of a raw object that goes.
-use Rattle.std.proofs.Common.{◌≡◌, ◌≢◌, ◌∙◌, ◌⊎◌, ℕ, ◌+◌, ◌==◌, List, [], ◌∷◌, ◌++◌, Bool, true, false, true≢false, Option, Some, None, inl, inr, refl, sym, ap, subst, arith, append_assoc}
-use Rattle.std.specs.Prelude.{MatchBool, is_some}
+use Rattle.std.proofs.Common.{◌≡◌, ◌≢◌, ◌∙◌, ℕ, ◌==◌, List, [], ◌∷◌, ◌++◌, Bool, true, false, true≢false, Option, Some, None, refl, sym, ap, subst, arith, append_assoc}
+use Rattle.std.specs.Prelude.{is_some}
 use Rattle.std.proofs.lemmas.Bool.{eq-eqb, ne_eqb}
 use Rattle.sdr_answers.proofs.EntryLemmas.{source_there}
-use Rattle.sdr_answers.proofs.ListLemmas.{IsSmall}
-use Rattle.sdr_answers.proofs.RowLemmas.{HasMoves, full_refused, gave_back, marks_none, misnamed_refused, moved_nothing, row_refused}
-use Rattle.sdr_answers.specs.Answering.{Aim, IsRefused}
-use Rattle.sdr_audit.proofs.PartLemmas.{thing_changed, thing_gone}
-use Rattle.sdr_audit.specs.Rows.{medium_of, source_row}
+use Rattle.sdr_answers.proofs.RowLemmas.{HasMoves, gave_back, marks_none}
+use Rattle.sdr_answers.specs.Answering.{Aim}
+use Rattle.sdr_audit.specs.Rows.{medium_of}
 use Rattle.sdr_audit.specs.Standing.{HeapStandsFor, entries_of, other_entries, thing_entries, with_taken_marked}
 use Rattle.sdr_audit.specs.Ties.{Ties, or_null, ties_of}
 use Rattle.sdr_base.proofs.SectionLemmas.{section-gone}
 use Rattle.sdr_base.proofs.StandingLemmas.{focused, swaps_before}
 use Rattle.sdr_base.specs.Entries.{Changes, Entries, Stands, Swaps}
-use Rattle.sdr_base.specs.Kinds.{kind_number}
 use Rattle.sdr_base.specs.Making.{Made}
 use Rattle.sdr_base.specs.Objects.{Heap}
 use Rattle.sdr_base.specs.Raws.{raw_entries}
 use Rattle.sdr_base.specs.Section.{section}
-use Rattle.sdr_base.specs.declared.kind.Kind.TheVariants as kinds
 use Rattle.sdr_base.specs.declared.moves.Move.{Move}
 use Rattle.sdr_base.specs.declared.moves.Move.TheVariants.{Gave}
-use Rattle.sdr_base.specs.declared.refusal.Refusal.{Refusal}
-use Rattle.sdr_base.specs.declared.refusal.Refusal.TheVariants as refusals
-use Rattle.sdr_base.specs.declared.stop.Stop.TheVariants as stops
 use Rattle.sdr_laws.proofs.SourceViews.{apart_at, by_addr, here_at}
 use Rattle.sdr_lock.proofs.WorkLemmas.{on_false, on_some, on_true}
 use Rattle.sdr_model.proofs.ThingsLemmas.{get-removed}
@@ -32,7 +25,7 @@ use Rattle.sdr_model.specs.SourceSteps.{flagged}
 use Rattle.sdr_model.specs.Steps.{Outcome, with_thing, without_thing}
 use Rattle.sdr_model.specs.Valid.{FitTogether}
 use Rattle.sdr_model.specs.World.{World, as_raw, thing_at}
-use Rattle.sdr_model.specs.Zco.{as_object, as_source, is_of_raw, owned_raw, source_at, source_on, taken_over, uses_of}
+use Rattle.sdr_model.specs.Zco.{as_object, as_source, is_of_raw, source_at, source_on, taken_over, uses_of}
 use Rattle.sdr_model.specs.declared.answer.Reply.TheVariants as replies
 use Rattle.sdr_model.specs.declared.call.Call.TheVariants as calls
 use Rattle.sdr_model.specs.declared.things.Thing.{Thing}
@@ -40,16 +33,13 @@ use Rattle.sdr_model.specs.declared.things.Thing.TheVariants as things
 use Rattle.sdr_model.specs.declared.zco.Subject.{Subject}
 use Rattle.sdr_model.specs.declared.zco.Subject.TheVariants as subjects
 use Rattle.sdr_model.specs.declared.zco.ZcoSource.{ZcoSource}
-use Rattle.zco_ref.specs.Counting.{Becomes}
-use Rattle.zco_ref.specs.Dropping as ref
-use Rattle.zco_ref.specs.Dropping.{DestroysSource, DestroyStops, IsFlagged, IsOwner, MayGo}
-use Rattle.zco_ref.specs.Going.{Goes, is_owner}
-use Rattle.zco_ref.specs.Kept.{KeepsSource, KeepsTied, counted_entries}
+use Rattle.zco_ref.specs.Going.{is_owner}
+use Rattle.zco_ref.specs.Kept.{counted_entries}
 use Rattle.zco_served.proofs.NamedLemmas.{SameSources, naming_of, named_at, same_named, ties_but}
 use Rattle.zco_served.proofs.NamingCalls.{alike_but, put_here}
 use Rattle.zco_served.proofs.RetiedLemmas.{retied}
-use Rattle.zco_served.proofs.SourceLemmas.{IsRawOf, counted_in, no_source, source_is_at, source_tied}
-use Rattle.zco_served.proofs.StepLemmas.{IsFree, all_changed, answered_later, fits_later, part_changed, roots_kept}
+use Rattle.zco_served.proofs.SourceLemmas.{counted_in}
+use Rattle.zco_served.proofs.StepLemmas.{IsFree, all_changed, answered_later, fits_later, roots_kept}
 use Rattle.zco_served.proofs.UsesLemmas.{same_counts}
 use Rattle.zco_served.specs.Answering.{Answered, IsServed}
 

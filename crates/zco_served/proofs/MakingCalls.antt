@@ -1,13 +1,12 @@
 -- Sources of files and items that are made, as steps.
-use Rattle.std.proofs.Common.{◌≡◌, ◌∙◌, ◌⊎◌, ◌+◌, ◌≤◌, ◌<◌, ◌||◌, ℕ, List, [], ◌∷◌, Bool, true, false, Some, None, inl, inr, nat_lt, length, refl, sym, ap, subst, arith}
+use Rattle.std.proofs.Common.{◌≡◌, ◌∙◌, ◌⊎◌, ◌≤◌, ◌<◌, ◌||◌, ℕ, List, [], ◌∷◌, Bool, true, false, inl, inr, nat_lt, length, refl, sym, ap, subst, arith}
 use Rattle.std.proofs.lemmas.Bool.Decides.{nat_tests}
-use Rattle.sdr_answers.proofs.RowLemmas.{Moved, row_refused, short_refused, took_one}
+use Rattle.sdr_answers.proofs.RowLemmas.{row_refused, short_refused, took_one}
 use Rattle.sdr_answers.specs.Answering.{IsRefused}
 use Rattle.sdr_audit.proofs.ChangeLemmas.{nothing_at}
 use Rattle.sdr_audit.proofs.PartLemmas.{thing_new}
 use Rattle.sdr_audit.specs.Rows.{source_row}
 use Rattle.sdr_audit.specs.Standing.{HeapStandsFor, with_taken_marked}
-use Rattle.sdr_base.specs.Entries.{Entries}
 use Rattle.sdr_base.specs.Making.{MakesThing}
 use Rattle.sdr_base.specs.Objects.{Heap}
 use Rattle.sdr_base.specs.Sources.{source_entries}
@@ -23,13 +22,12 @@ use Rattle.sdr_model.specs.Rows.{ByRow}
 use Rattle.sdr_model.specs.SourceSteps.{new_source}
 use Rattle.sdr_model.specs.Steps.{Outcome, with_thing}
 use Rattle.sdr_model.specs.Things.{source_need}
-use Rattle.sdr_model.specs.World.{World, thing_at}
+use Rattle.sdr_model.specs.World.{World}
 use Rattle.sdr_model.specs.Zco.{as_source, count_of, is_of_raw}
 use Rattle.sdr_model.specs.declared.answer.Reply.TheVariants as replies
 use Rattle.sdr_model.specs.declared.call.Call.{Call}
 use Rattle.sdr_model.specs.declared.call.Call.TheVariants as calls
 use Rattle.sdr_model.specs.declared.things.Thing.TheVariants as things
-use Rattle.sdr_model.specs.declared.zco.Subject.{Subject}
 use Rattle.sdr_model.specs.declared.zco.Subject.TheVariants as subjects
 use Rattle.sdr_model.specs.declared.zco.ZcoSource.{ZcoSource}
 use Rattle.zco_ref.specs.Making.{BulkStops, FileStops, IsNoPath, IsPathLength, IsTooLong, MakesBulk, MakesFile}

@@ -1,7 +1,6 @@
 -- A source of a raw object that is made, as a step.
-use Rattle.std.proofs.Common.{◌≡◌, ◌≢◌, ◌∙◌, ℕ, ◌+◌, ◌==◌, cond, List, [], ◌∷◌, ◌++◌, Bool, true, false, true≢false, Option, Some, None, inl, length, refl, sym, ap, subst, arith, append_assoc}
+use Rattle.std.proofs.Common.{◌≡◌, ◌≢◌, ◌∙◌, ℕ, cond, List, [], ◌∷◌, ◌++◌, Bool, true≢false, Option, Some, None, inl, length, refl, sym, ap, subst, arith, append_assoc}
 use Rattle.std.proofs.lemmas.Bool.{eq-eqb, ne_eqb}
-use Rattle.std.specs.FinMap as finite
 use Rattle.sdr_answers.proofs.EntryLemmas.{source_there}
 use Rattle.sdr_answers.proofs.ListLemmas.{IsSmall}
 use Rattle.sdr_answers.proofs.RawLemmas.{no_raw}
@@ -13,7 +12,7 @@ use Rattle.sdr_audit.specs.Standing.{HeapStandsFor, entries_of, other_entries, t
 use Rattle.sdr_audit.specs.Ties.{Ties, or_null, ties_of}
 use Rattle.sdr_base.proofs.SectionLemmas.{section-new}
 use Rattle.sdr_base.proofs.StandingLemmas.{at-nowhere, swaps_before, unfocused}
-use Rattle.sdr_base.specs.Blocks.{Blocks, with_at}
+use Rattle.sdr_base.specs.Blocks.{with_at}
 use Rattle.sdr_base.specs.Entries.{Adds, Changes, Entries, Stands, Swaps}
 use Rattle.sdr_base.specs.Objects.{Heap}
 use Rattle.sdr_base.specs.Raws.{raw_entries}

@@ -1,5 +1,5 @@
 -- Sources and raw objects in blocks.
-use Rattle.std.proofs.Common.{◌≡◌, ◌≢◌, ℕ, ◌≤◌, ◌<◌, ◌^◌, List, [], ◌∷◌, true, Option, Some, None, length, refl, sym, ap, ◌∙◌, arith, subst}
+use Rattle.std.proofs.Common.{◌≡◌, ℕ, ◌<◌, ◌^◌, List, [], Option, Some, None, refl, ap, ◌∙◌, arith, subst}
 use Rattle.std.specs.Prelude.{IfSome}
 use Rattle.std.proofs.lemmas.Bool.{eq-eqb}
 use Rattle.sdr_answers.proofs.EntryLemmas.{source_there}
@@ -9,14 +9,14 @@ use Rattle.sdr_answers.proofs.RawLemmas.{IsRawAt, raw_is_at, raw_stands}
 use Rattle.sdr_audit.proofs.ChangeLemmas.{apart}
 use Rattle.sdr_audit.specs.Rows.{source_row}
 use Rattle.sdr_audit.specs.Standing.{HeapStandsFor}
-use Rattle.sdr_audit.specs.Ties.{or_null, ties_of}
+use Rattle.sdr_audit.specs.Ties.{or_null}
 use Rattle.sdr_base.proofs.StandingLemmas.{found}
 use Rattle.sdr_base.specs.Blocks.{IsKind}
 use Rattle.sdr_base.specs.Objects.{Heap}
 use Rattle.sdr_base.specs.Raws.{raw_block}
 use Rattle.sdr_base.specs.declared.account.Acct.TheVariants as accts
 use Rattle.sdr_base.specs.declared.kind.Kind.TheVariants as kinds
-use Rattle.sdr_model.specs.Fields.{FitsSource, FitsSubject, FitsThing, IsWord}
+use Rattle.sdr_model.specs.Fields.{FitsSubject, FitsThing, IsWord}
 use Rattle.sdr_model.specs.Things.{own_block}
 use Rattle.sdr_model.specs.Valid.{HasBytes, HasSubject, IsValid}
 use Rattle.sdr_model.specs.World.{World, as_raw, thing_at}
@@ -26,7 +26,7 @@ use Rattle.sdr_model.specs.declared.things.Thing.TheVariants as things
 use Rattle.sdr_model.specs.declared.zco.Subject.{Subject}
 use Rattle.sdr_model.specs.declared.zco.Subject.TheVariants as subjects
 use Rattle.sdr_model.specs.declared.zco.ZcoSource.{ZcoSource}
-use Rattle.zco_ref.specs.Kept.{CountedSource, IsTiedRaw, KeepsRaw, KeepsSource, KeepsTied, SomeFew, counted_block}
+use Rattle.zco_ref.specs.Kept.{CountedSource, KeepsRaw, KeepsSource, KeepsTied, SomeFew, counted_block}
 use Rattle.zco_served.proofs.NamedLemmas.{named_at}
 use Rattle.zco_served.proofs.UsesLemmas.{counts_small}
 use Rattle.zco_served.specs.Answering.{IsServed}

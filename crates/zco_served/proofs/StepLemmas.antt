@@ -1,7 +1,6 @@
 -- How a call on sources is a step.
-use Rattle.std.proofs.Common.{◌≡◌, ◌∙◌, ℕ, ◌+◌, ◌-◌, ◌≤◌, ◌++◌, List, [], ◌∷◌, true, inl, refl, sym, ap, subst, arith, append-nil}
+use Rattle.std.proofs.Common.{◌≡◌, ◌∙◌, ℕ, List, [], true, inl, refl, sym, ap, subst, arith, append-nil}
 use Rattle.std.specs.Prelude.{All}
-use Rattle.sdr_answers.proofs.RowLemmas.{HasMoves}
 use Rattle.sdr_audit.proofs.ChangeLemmas.{part_becomes}
 use Rattle.sdr_audit.proofs.RootsLemmas.{roots_where}
 use Rattle.sdr_audit.specs.Standing.{HeapStandsFor, entries_of, roots_of, with_taken_marked}
@@ -30,7 +29,6 @@ use Rattle.sdr_model.specs.Things.{Things}
 use Rattle.sdr_model.specs.Valid.{FitTogether, KeepQueues}
 use Rattle.sdr_model.specs.Whole.{IsWhole}
 use Rattle.sdr_model.specs.World.{World}
-use Rattle.sdr_model.specs.declared.accounts.Accounts.{Accounts}
 use Rattle.sdr_model.specs.declared.answer.Reply.{Reply}
 use Rattle.sdr_model.specs.declared.call.Call.{Call}
 use Rattle.zco_served.specs.Answering.{Answered}

@@ -1,8 +1,7 @@
 -- How many extents name a source.
-use Rattle.std.proofs.Common.{◌≡◌, ◌≢◌, ℕ, suc, not, true≢false, find, ◌+◌, ◌*◌, ◌≤◌, ◌<◌, ◌^◌, ◌==◌, List, [], ◌∷◌, ◌++◌, map, Bool, true, false, cond, Option, Some, None, length, refl, sym, ap, ◌∙◌, arith, subst, length-append}
-use Rattle.std.specs.Prelude.{IfSome, sum_by, flat_map, if◌then◌else◌}
+use Rattle.std.proofs.Common.{◌≡◌, ◌≢◌, ℕ, not, true≢false, find, ◌+◌, ◌≤◌, ◌<◌, ◌^◌, ◌==◌, List, [], ◌∷◌, ◌++◌, map, Bool, true, false, cond, Option, Some, None, length, refl, sym, ap, ◌∙◌, arith, length-append}
+use Rattle.std.specs.Prelude.{sum_by, flat_map, if◌then◌else◌}
 use Rattle.std.specs.FinMap as finite
-use Rattle.std.specs.Ordering.{nat_cmp}
 use Rattle.std.proofs.lemmas.Bool.{eqb-true, ne_eqb}
 use Rattle.std.proofs.lemmas.List.{length-map}
 use Rattle.std.proofs.lemmas.List.Sums.{sum_by-cons}
@@ -20,9 +19,9 @@ use Rattle.sdr_laws.proofs.SourceViews.{AllLie, fits_from, source_there, sum_by-
 use Rattle.sdr_model.proofs.SumLemmas.{counted_at}
 use Rattle.sdr_model.specs.Accounts.{is_same_account}
 use Rattle.sdr_model.specs.Things.{with_at}
-use Rattle.sdr_model.specs.Valid.{FitTogether, LiesInside}
+use Rattle.sdr_model.specs.Valid.{FitTogether}
 use Rattle.sdr_model.specs.World.{World, thing_at}
-use Rattle.sdr_model.specs.Zco.{as_object, as_source, count_of, naming, object_at, source_at, uses_in}
+use Rattle.sdr_model.specs.Zco.{as_object, count_of, naming, source_at, uses_in}
 use Rattle.sdr_model.specs.declared.things.Thing.{Thing}
 use Rattle.sdr_model.specs.declared.things.Thing.TheVariants as things
 use Rattle.sdr_model.specs.declared.zco.Extent.{Extent}

@@ -1,5 +1,5 @@
 -- What a call on sources comes to on a heap that stands for a world, whatever that has.
-use Rattle.std.specs.Prelude.{◌≡◌, ◌+◌, ◌/◌, ℕ, Bool, true, false, List, [], length, ⊤, All, Result, Ok, Err}
+use Rattle.std.specs.Prelude.{◌≡◌, ◌+◌, ◌/◌, ℕ, Bool, true, false, List, length, ⊤, All, Result, Ok, Err}
 use Rattle.sdr_answers.specs.Answering.{IsRefused}
 use Rattle.sdr_audit.specs.Standing.{HeapStandsFor}
 use Rattle.sdr_base.specs.Objects.{Heap}

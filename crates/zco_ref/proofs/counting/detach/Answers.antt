@@ -1,9 +1,8 @@
 -- The source goes, or its count is set to one less.
 use Rattle.std.proofs.Common.{◌+◌, ◌*◌, ◌∙◌, sym, arith, rules, Err}
-use Rattle.std.specs.Prelude.{true, false}
 use Rattle.sdr_base.specs.Works.{Works}
 use Rattle.sdr_base.proofs.WorksLemmas.{looks_then, works_more, works_ok}
-use Rattle.zco_ref.specs.Counting.{Detaches, DetachStops}
+use Rattle.zco_ref.specs.Counting.{DetachStops}
 use Rattle.zco_ref.specs.Going.{going}
 use Rattle.zco_ref.proofs.CountedLemmas.{field_below}
 use Rattle.zco_ref.proofs.DetachLemmas.{detached_last, detached_one, going_told, some_counted, stopped_last, stopped_one}

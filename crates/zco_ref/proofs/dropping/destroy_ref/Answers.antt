@@ -1,8 +1,7 @@
 -- The source goes, or is flagged.
-use Rattle.std.proofs.Common.{◌∙◌, ◌≡◌, sym, ap, arith, rules}
-use Rattle.std.proofs.lemmas.Result.{IfErr-weaker, on_ok_weaker}
-use Rattle.zco_ref.specs.Dropping.{DestroyStops}
-use Rattle.zco_ref.proofs.DestroyLemmas.{alone, destroy_stops, destroyed_unused, destroyed_used, is_flagged, may_go, owner, unowned_stops}
+use Rattle.std.proofs.Common.{◌∙◌, sym, arith}
+use Rattle.std.proofs.lemmas.Result.{on_ok_weaker}
+use Rattle.zco_ref.proofs.DestroyLemmas.{destroyed_used, may_go}
 use Rattle.zco_ref.proofs.KeptLemmas.{source_reaches}
 use Rattle.zco_ref.proofs.dropping.destroy_ref.Goals as goal
 

@@ -1,11 +1,10 @@
 -- The raw object goes, or is named by none, and then the source goes.
-use Rattle.std.proofs.Common.{arith, inl, inr, rules}
-use Rattle.std.specs.Prelude.{◌⊎◌}
-use Rattle.std.proofs.lemmas.Result.{IfErr-weaker, on_ok_weaker}
+use Rattle.std.proofs.Common.{rules}
+use Rattle.std.proofs.lemmas.Result.{on_ok_weaker}
 use Rattle.sdr_base.specs.declared.medium.Medium.TheVariants as media
 use Rattle.sdr_base.proofs.HeapLemmas.{heap_blocks}
 use Rattle.zco_ref.specs.Going.{VanishStops}
-use Rattle.zco_ref.proofs.GoneLemmas.{first_stops, gone_heap, gone_obj, gone_plain, heap_used, obj_used, second_stops, source_used, stops_as, used_after_give, used_after_word}
+use Rattle.zco_ref.proofs.GoneLemmas.{first_stops, gone_heap, gone_obj, gone_plain, heap_used, obj_used, stops_as, used_after_give, used_after_word}
 use Rattle.zco_ref.proofs.dropping.vanish.Goals as goal
 
 pub give-requires-clause-used : goal.give-requires-clause-used

@@ -1,8 +1,7 @@
 -- The block that is taken is a source's.
-use Rattle.std.proofs.Common.{rules}
 use Rattle.std.proofs.lemmas.Result.{IfErr-weaker, IfOk-weaker}
 use Rattle.zco_ref.specs.Making.{BulkStops}
-use Rattle.zco_ref.proofs.MadeLemmas.{bulk_made, bulk_refused, bulk_stops}
+use Rattle.zco_ref.proofs.MadeLemmas.{bulk_made, bulk_stops}
 use Rattle.zco_ref.proofs.making.bulk_ref.Goals as goal
 
 pub returns-clause-made : goal.returns-clause-made

@@ -1,8 +1,7 @@
 -- The block that is taken is a source's.
-use Rattle.std.proofs.Common.{rules}
 use Rattle.std.proofs.lemmas.Result.{IfErr-weaker, IfOk-weaker}
 use Rattle.zco_ref.specs.Making.{FileStops}
-use Rattle.zco_ref.proofs.MadeLemmas.{bytes_stops, file_made, file_stops, path_stops}
+use Rattle.zco_ref.proofs.MadeLemmas.{file_made, file_stops}
 use Rattle.zco_ref.proofs.making.file_ref.Goals as goal
 
 pub returns-clause-made : goal.returns-clause-made

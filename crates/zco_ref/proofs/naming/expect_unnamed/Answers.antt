@@ -1,5 +1,5 @@
 -- The source word of the raw object says whether a source names it.
-use Rattle.std.proofs.Common.{arith, refl}
+use Rattle.std.proofs.Common.{refl}
 use Rattle.zco_ref.proofs.KeptLemmas.{raw_reaches}
 use Rattle.zco_ref.proofs.NamedLemmas.{has_unnamed, in_use, naming_few, raw_whole}
 use Rattle.zco_ref.proofs.naming.expect_unnamed.Goals as goal
