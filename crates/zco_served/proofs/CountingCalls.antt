@@ -1,0 +1,52 @@
+-- A count that is read, as a step.
+use Rattle.std.proofs.Common.{◌≡◌, ℕ, List, [], refl, ap}
+use Rattle.sdr_answers.proofs.ListLemmas.{IsSmall}
+use Rattle.sdr_answers.proofs.RowLemmas.{looked, misnamed_refused}
+use Rattle.sdr_answers.specs.Answering as answers
+use Rattle.sdr_answers.specs.Answering.{IsRefused}
+use Rattle.sdr_audit.specs.Standing.{HeapStandsFor}
+use Rattle.sdr_base.specs.Objects.{Heap, Misses}
+use Rattle.sdr_base.specs.declared.kind.Kind.TheVariants as kinds
+use Rattle.sdr_base.specs.declared.refusal.Refusal.{Refusal}
+use Rattle.sdr_base.specs.declared.stop.Stop.TheVariants as stops
+use Rattle.sdr_model.specs.World.{World}
+use Rattle.sdr_model.specs.Zco.{as_source, source_at, uses_of}
+use Rattle.sdr_model.specs.declared.answer.Reply.{Reply}
+use Rattle.sdr_model.specs.declared.answer.Reply.TheVariants as replies
+use Rattle.sdr_model.specs.declared.call.Call.{Call}
+use Rattle.sdr_model.specs.declared.call.Call.TheVariants as calls
+use Rattle.zco_ref.specs.Counting.{CountsUses}
+use Rattle.zco_served.proofs.SourceLemmas.{counted_in, no_source, source_is_at}
+use Rattle.zco_served.specs.Answering.{Answered, IsServed}
+
+-- a call that leaves the ties of things was answered
+pub untied_answered : {w : World} {call : Call} {new : Heap} {shown : List ℕ} {reply : Reply} →
+    answers.Answered w call new shown reply → Answered w call new shown reply
+untied_answered a = record {
+  after = a.after;
+  row = a.row;
+  answered = a.answered;
+  fresh = a.fresh;
+  stands = a.stands;
+  gave = a.gave;
+  words = a.words;
+  accounts = a.accounts;
+  taken = a.taken;
+}
+
+-- a call on a heap that stands for a world in which it is served
+module _ (old new : Heap) (w : World) (unmoved : old.moves ≡ []) (s : HeapStandsFor old w) (served : IsServed w) (same : new ≡ old) where
+  pub count_answered : (addr value : ℕ) → IsSmall old → CountsUses (old.blocks addr) value →
+      Answered w (calls.Count addr) new [] (replies.Value value)
+  count_answered addr value small c =
+      let t = source_is_at old w addr s served small c.kind in
+      untied_answered
+      (looked w (calls.Count addr) addr (source_at w addr) (λ x. []) (λ x. replies.Value (uses_of w addr)) t.source old new
+      (replies.Value value) (λ o h. h) (ap as_source t.there)
+      (ap (λ (n : ℕ). replies.Value n) (c.uses.tells (counted_in w addr t.source) t.keeps)) refl unmoved same s)
+
+  pub count_refused : (addr : ℕ) (was : List ℕ) (refusal : Refusal) → Misses (old.blocks addr) addr kinds.Source (stops.Refused refusal) →
+      IsRefused w (calls.Count addr) old new was was refusal
+  count_refused addr was refusal m =
+      misnamed_refused w (calls.Count addr) addr kinds.Source (source_at w addr) _ old new was (λ o h. h)
+      (no_source old w addr s served.whole.valid) unmoved same s served.whole.valid refusal m

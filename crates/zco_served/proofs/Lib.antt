@@ -1,0 +1,12 @@
+pub mod RetiedLemmas
+pub mod NamedLemmas
+pub mod UsesLemmas
+pub mod SourceLemmas
+pub mod GoodLemmas
+mod StepLemmas
+mod ComingLemmas
+mod MakingCalls
+mod NamingCalls
+mod GoingCalls
+mod DroppingCalls
+mod CountingCalls
