@@ -1,0 +1,5 @@
+pub mod TicketLemmas
+pub mod QueueLemmas
+pub mod GrantLemmas
+mod ChargeLemmas
+pub mod RefusalLemmas
