@@ -149,18 +149,6 @@ some_grant (Some found) k g =
       keeps = found_there k.keeps (g.grants k.tickets k.keeps).first;
     })) (omega arith)
 
--- what is said of a stop goes by what stands beside the blocks
-pub unmoved_since : {old mid : Heap} (new : Heap) (stop : Stop) → besides mid ≡ besides old → OnlyUnmoved mid new stop →
-    OnlyUnmoved old new stop
-unmoved_since new (Refused (refusals.LogFull lines room)) b u = record {
-  moves = u.moves ∙ ap (λ (h : Heap). h.moves) b;
-  spare = u.spare ∙ ap (λ (h : Heap). h.spare) b;
-}
-unmoved_since new (Refused refusal) b u = absurd u
-unmoved_since new DiskFault b u = tt
-unmoved_since new MediaFault b u = absurd u
-unmoved_since new Failed b u = tt
-
 -- a charge that is allowed stops where there is no log room
 pub stops_full : {old : Heap} {acct : Acct} {number : ℕ} {amounts : Amounts} (new : Heap) (stop : Stop) →
     Allows old acct (λ tickets. charge_refusal tickets number amounts (occupied_in old acct) (maxima_in old acct)) →

@@ -1,3 +1,4 @@
+pub mod MoveLemmas
 pub mod TicketLemmas
 pub mod QueueLemmas
 pub mod GrantLemmas

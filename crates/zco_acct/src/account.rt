@@ -5,18 +5,18 @@ ghost use Rattle.sdr_base.specs.Objects.{OnlyFault, OnlyUnmoved};
 ghost use Rattle.sdr_base.specs.Works.{Looks, Works};
 ghost use Rattle.sdr_model.specs.Amounts.{amount, minus};
 ghost use Rattle.zco_acct.specs.Changes.{MaximumStops, SetsMaximum};
-ghost use Rattle.zco_acct.specs.Words.{begin_of, maxima_in, maximum_word, occupancy_word};
-ghost use Rattle.zco_acct.specs.Words.{occupied_in, space_place, with_occupied};
+ghost use Rattle.zco_acct.specs.Words.{begin_of, first_word, last_word, maxima_in, maximum_word};
+ghost use Rattle.zco_acct.specs.Words.{occupancy_word, occupied_in, space_place, with_occupied};
 
 use sdr_base::control::{
-    CONTROL_WORDS, FILE_MAXIMUM, FILE_OCCUPANCY, FIRST_NAME, INBOUND, OUTBOUND,
+    CONTROL_WORDS, FILE_MAXIMUM, FILE_OCCUPANCY, FIRST_NAME, FIRST_TICKET, INBOUND, LAST_TICKET, OUTBOUND,
 };
 use sdr_base::{Acct, Amounts, Objects, Refusal, Space, Stop, check_failed};
 use sdr_model::MOST_AMOUNT;
 use sdr_parts::amounts::minus;
 
-/// Where the control words of an account begin.
-pub fn begin_of(acct: Acct) -> u64
+// Where the control words of an account begin.
+fn begin_of(acct: Acct) -> u64
     ensures word { result ≡ begin_of acct }
     ensures least { INBOUND ≤ result }
     ensures most { result ≤ OUTBOUND }
@@ -55,6 +55,24 @@ fn maximum_word(acct: Acct, space: Space) -> u64
     ensures most { result < CONTROL_WORDS }
 {
     begin_of(acct) + FILE_MAXIMUM + space_place(space)
+}
+
+/// The control word of the first ticket of an account.
+pub fn first_word(acct: Acct) -> u64
+    ensures word { result ≡ first_word acct }
+    ensures least { FIRST_NAME ≤ result }
+    ensures most { result < CONTROL_WORDS }
+{
+    begin_of(acct) + FIRST_TICKET
+}
+
+/// The control word of the last ticket of an account.
+pub fn last_word(acct: Acct) -> u64
+    ensures word { result ≡ last_word acct }
+    ensures least { FIRST_NAME ≤ result }
+    ensures most { result < CONTROL_WORDS }
+{
+    begin_of(acct) + LAST_TICKET
 }
 
 /// How many bytes of a space are occupied in an account.

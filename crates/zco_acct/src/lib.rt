@@ -13,7 +13,7 @@ mod queue;
 mod ticket;
 
 pub use account::{
-    begin_of, maxima, maximum, occupancy, occupied, release, set_maximum, set_occupied,
+    first_word, last_word, maxima, maximum, occupancy, occupied, release, set_maximum, set_occupied,
 };
 pub use charging::charge;
 pub use notice::{Notice, Notify, Stored, Tell};

@@ -1,16 +1,14 @@
 // The walk along an account's queue.
-ghost use Rattle.std.specs.Prelude.{◌≡◌, ◌≤◌, ◌<◌, IfOk, IfErr};
+ghost use Rattle.std.specs.Prelude.{◌≡◌, IfOk, IfErr};
 ghost use Rattle.sdr_base.specs.Moves.{KeepsSome};
 ghost use Rattle.sdr_base.specs.Objects.{OnlyFault};
 ghost use Rattle.sdr_base.specs.Works.{Looks};
 ghost use Rattle.sdr_model.specs.Queue.{stands_before};
 ghost use Rattle.zco_acct.specs.Kept.{SomeQueue};
 ghost use Rattle.zco_acct.specs.Walks.{Searches, is_sought};
-ghost use Rattle.zco_acct.specs.Words.{first_word};
 
-use crate::account::begin_of;
+use crate::account::first_word;
 use crate::ticket::read_ticket;
-use sdr_base::control::{CONTROL_WORDS, FIRST_NAME, FIRST_TICKET};
 use sdr_base::{Acct, Addr, Objects, Stop};
 use sdr_model::Ticket;
 
@@ -56,15 +54,6 @@ impl Sought {
             Sought::Behind(new) => !stands_before(ticket, new),
         }
     }
-}
-
-// The control word of the first ticket of an account.
-fn first_word(acct: Acct) -> u64
-    ensures word { result ≡ first_word acct }
-    ensures least { FIRST_NAME ≤ result }
-    ensures most { result < CONTROL_WORDS }
-{
-    begin_of(acct) + FIRST_TICKET
 }
 
 /// The first ticket in the queue of an account that is sought, where there is one. It is linear in the queue.
