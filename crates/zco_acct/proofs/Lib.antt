@@ -4,3 +4,4 @@ pub mod QueueLemmas
 pub mod GrantLemmas
 mod ChargeLemmas
 pub mod RefusalLemmas
+mod ChargeRows

@@ -25,7 +25,7 @@ use Rattle.zco_space.specs.Links.{Chain, LinksLast, LinksNext, last_if, with_end
 use Rattle.zco_space.specs.Places.{EntersQueue, FindsPlace, IsNew, IsPlace, TakesTicket, at_addr}
 use Rattle.zco_space.specs.declared.requesting.Place.{Place}
 use Rattle.zco_space.proofs.LinkLemmas.{any_previous, last_reaches}
-use Rattle.zco_space.proofs.RootLemmas.{ends_set, last_blocks}
+use Rattle.zco_space.proofs.RootLemmas.{ends_set, first_of_ends, last_blocks, last_of_ends}
 
 -- the ticket's block was taken
 pub took_ticket : {acct : Acct} {new : Ticket} {next addr : ℕ} {old mid : Heap} → TakesTicket acct new next old mid addr →
@@ -36,6 +36,23 @@ took_ticket {acct} {new} {next} {addr} {old} {mid} t = record {
       ∙ ap (λ n. besides (with_moves old (Took n addr ∷ [])))
       (let l = length-layout (words acct next new) [] in let z : 96 + 0 ≡ 96 = omega arith in l ∙ z);
 }
+
+-- the numbers of the tickets fit still
+pub All-entered : {new : Ticket} {addr : ℕ} → IsNew new → addr < 2 ^ 64 → (xs ys : List Ticket) →
+    All TicketFits (xs ++ ys) → All TicketFits (xs ++ (at_addr new addr ∷ ys))
+All-entered {new} {addr} n small [] ys g =
+    All-cons TicketFits (at_addr new addr) ys
+    (record {
+      block = small;
+      number = n.fits.number;
+      coarse = n.fits.coarse;
+      fine = n.fits.fine;
+      asked = n.fits.asked;
+      left = n.fits.left;
+    }) g
+All-entered {new} {addr} n small (x ∷ xs) ys g =
+    All-cons TicketFits x (xs ++ (at_addr new addr ∷ ys)) (All-head TicketFits x (xs ++ ys) g)
+    (All-entered n small xs ys (All-tail TicketFits x (xs ++ ys) g))
 
 module _ {acct : Acct} {new : Ticket} {place : Place} {addr : ℕ} {old mid : Heap}
     (t : TakesTicket acct new place.next old mid addr) where
@@ -121,9 +138,35 @@ module _ {acct : Acct} {new : Ticket} {place : Place} {addr : ℕ} {old mid : He
         sym (last-append block_of (queued_block acct) 0 p.before (at_addr new addr ∷ p.behind)
         ∙ ap (λ (l : List Ticket). last_of block_of addr l) (nonzero k p z p.behind refl))
 
+    -- all but the blocks
+    rest_of : {tickets : List Ticket} → KeepsQueue old acct tickets → (p : IsPlace new tickets place) →
+        besides now
+        ≡ besides (with_ends (with_moves old (Took 96 addr ∷ [])) acct (p.before ++ (at_addr new addr ∷ p.behind)))
+    rest_of k p =
+        let queue = p.before ++ (at_addr new addr ∷ p.behind) in
+        let base = with_moves old (Took 96 addr ∷ []) in
+        let front : lk.roots (first_word acct) ≡ first_of block_of 0 queue =
+        (chain k p k.rest k.stands).first
+        ∙ sym (first-append block_of (queued_block acct) 0 p.before (at_addr new addr ∷ p.behind)) in
+        let first : besides lk ≡ besides (with_root base (first_word acct) (first_of block_of 0 queue)) =
+        l.same
+        ∙ ap (λ (h : Heap). with_root h (first_word acct) (lk.roots (first_word acct))) (took_ticket t).all
+        ∙ ap (λ v. besides (with_root base (first_word acct) v)) front in
+        ap besides e.links
+        ∙ ends_set base lk acct queue addr place.next first (ended k p) (follows k p p.behind refl)
+
+    -- the blocks
+    stands_of : {tickets : List Ticket} → KeepsQueue old acct tickets → (p : IsPlace new tickets place) → (rest : Entries) →
+        Stands old.blocks (queue_entries acct tickets ++ rest) →
+        Stands now.blocks (queue_entries acct (p.before ++ (at_addr new addr ∷ p.behind)) ++ rest)
+    stands_of k p rest s =
+        subst (λ (b : Blocks). Stands b (queue_entries acct (p.before ++ (at_addr new addr ∷ p.behind)) ++ rest))
+        (sym same_blocks)
+        (subst (λ (es : Entries). Stands lk.blocks es) (joined p rest) (chain k p rest s).stands)
+
     -- the whole call
-    pub enters : FindsPlace acct new old place → EntersQueue acct new old now addr
-    enters f = record {
+    pub enters : IsNew new → FindsPlace acct new old place → EntersQueue acct new old now addr
+    enters n f = record {
       adds = λ tickets k. record {
         nonzero = t.nonzero;
         small = t.small;
@@ -132,47 +175,23 @@ module _ {acct : Acct} {new : Ticket} {place : Place} {addr : ℕ} {old mid : He
           kept = λ rest s.
               let p = f.finds tickets k in
               subst (λ (q : List Ticket). Stands now.blocks (queue_entries acct q ++ rest)) (sym (p.enters addr))
-              (subst (λ (b : Blocks). Stands b (queue_entries acct (p.before ++ (at_addr new addr ∷ p.behind)) ++ rest))
-              (sym same_blocks)
-              (subst (λ (es : Entries). Stands lk.blocks es) (joined p rest) (chain k p rest s).stands));
+              (stands_of k p rest s);
         };
       };
-      others = λ tickets k.
+      keeps = λ tickets k.
           let p = f.finds tickets k in
           let queue = p.before ++ (at_addr new addr ∷ p.behind) in
-          let made = (took_ticket t).all in
           let base = with_moves old (Took 96 addr ∷ []) in
-          let front : lk.roots (first_word acct) ≡ first_of block_of 0 queue =
-          (chain k p k.rest k.stands).first
-          ∙ sym (first-append block_of (queued_block acct) 0 p.before (at_addr new addr ∷ p.behind)) in
-          let first : besides lk ≡ besides (with_root base (first_word acct) (first_of block_of 0 queue)) =
-          l.same
-          ∙ ap (λ (h : Heap). with_root h (first_word acct) (lk.roots (first_word acct))) made
-          ∙ ap (λ v. besides (with_root base (first_word acct) v)) front in
-          ap besides e.links
-          ∙ ends_set base lk acct queue addr place.next first (ended k p) (follows k p p.behind refl)
-          ∙ ap (λ (q : List Ticket). besides (with_ends base acct q)) (sym (p.enters addr));
+          let small = t.small in
+          subst (KeepsQueue now acct) (sym (p.enters addr)) (record {
+            rest = k.rest;
+            stands = stands_of k p k.rest k.stands;
+            first = ap (λ (h : Heap). h.roots (first_word acct)) (rest_of k p) ∙ first_of_ends base acct queue;
+            last = ap (λ (h : Heap). h.roots (last_word acct)) (rest_of k p) ∙ last_of_ends base acct queue;
+            fits = All-entered n (omega (arith, small)) p.before p.behind (subst (All TicketFits) p.whole k.fits);
+          });
+      others = λ tickets k.
+          let p = f.finds tickets k in
+          rest_of k p
+          ∙ ap (λ (q : List Ticket). besides (with_ends (with_moves old (Took 96 addr ∷ [])) acct q)) (sym (p.enters addr));
     }
-
--- the numbers of the tickets fit still
-pub All-entered : {tickets : List Ticket} {new : Ticket} {place : Place} {addr : ℕ} → IsNew new → addr < 2 ^ 64 →
-    IsPlace new tickets place → All TicketFits tickets → All TicketFits (enqueued tickets (at_addr new addr))
-All-entered {new = new} {addr = addr} n small p f =
-    subst (All TicketFits) (sym (p.enters addr))
-    (entered p.before p.behind (subst (All TicketFits) p.whole f))
-  where
-    fits : TicketFits (at_addr new addr)
-    fits = record {
-      block = small;
-      number = n.fits.number;
-      coarse = n.fits.coarse;
-      fine = n.fits.fine;
-      asked = n.fits.asked;
-      left = n.fits.left;
-    }
-
-    entered : (xs ys : List Ticket) → All TicketFits (xs ++ ys) → All TicketFits (xs ++ (at_addr new addr ∷ ys))
-    entered [] ys g = All-cons TicketFits (at_addr new addr) ys fits g
-    entered (x ∷ xs) ys g =
-        All-cons TicketFits x (xs ++ (at_addr new addr ∷ ys)) (All-head TicketFits x (xs ++ ys) g)
-        (entered xs ys (All-tail TicketFits x (xs ++ ys) g))

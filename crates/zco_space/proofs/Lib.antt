@@ -6,3 +6,6 @@ mod PlaceLemmas
 mod EnterLemmas
 mod OutLemmas
 mod FindLemmas
+mod RequestLemmas
+mod ShredLemmas
+mod ServedRows

@@ -25,7 +25,7 @@ use Rattle.zco_acct.proofs.TicketLemmas.{words}
 use Rattle.zco_space.specs.Links.{Chain, LinksLast, LinksNext, with_ends}
 use Rattle.zco_space.specs.Shreds.{SomeFirst, TakesOut, without_number}
 use Rattle.zco_space.proofs.LinkLemmas.{any_previous, last_reaches}
-use Rattle.zco_space.proofs.RootLemmas.{ends_set, last_blocks}
+use Rattle.zco_space.proofs.RootLemmas.{ends_set, first_of_ends, last_blocks, last_of_ends}
 
 -- the tickets without the first of a number
 without : (number : ℕ) (xs : List Ticket) (t : Ticket) (ys : List Ticket) → find (has_number number) xs ≡ None →
@@ -133,21 +133,12 @@ module _ {acct : Acct} {found_one : Found} {old mid last : Heap}
       ∙ last-append block_of (queued_block acct) 0 f.before (found_one.ticket ∷ y ∷ ys)
       ∙ sym (last-append block_of (queued_block acct) 0 f.before (y ∷ ys))
 
-  -- the whole call
-  pub takes_out : (new : Heap) → new ≡ with_given last found_one.ticket.block → TakesOut acct found_one old new
-  takes_out new w = record {
-    changes = λ test tickets k f. record {
-      kept = λ rest s.
-          let t = found_one.ticket in
-          let c = linked_past k f rest s in
-          let gone : new.blocks ≡ with_block mid.blocks t.block None =
-          given_blocks t.block last new w ∙ ap (λ (b : Blocks). with_block b t.block None) same_blocks in
-          taken_out block_of (queued_block acct) mid.blocks new.blocks [] rest 0 0 f.before
-          (queued_block acct 0 (first_of block_of 0 f.behind) t) t.block f.behind gone
-          (subst (λ n. Stands mid.blocks
-          (linked block_of (queued_block acct) 0 n f.before ++ from_it acct f.before t f.behind rest)) f.at_next c.stands);
-    };
-    others = λ test tickets k f.
+  module _ (new : Heap) (w : new ≡ with_given last found_one.ticket.block) where
+    -- all but the blocks
+    rest_of : {test : Ticket → Bool} {tickets : List Ticket} → KeepsQueue old acct tickets →
+        (f : IsFirst test tickets found_one) →
+        besides new ≡ besides (with_ends (with_moves old (Gave found_one.ticket.block ∷ [])) acct (f.before ++ f.behind))
+    rest_of k f =
         let queue = f.before ++ f.behind in
         let c = linked_past k f k.rest k.stands in
         let front : mid.roots (first_word acct) ≡ first_of block_of 0 queue =
@@ -159,8 +150,39 @@ module _ {acct : Acct} {found_one : Found} {old mid last : Heap}
         ap besides e.links
         ∙ ends_set old mid acct queue found_one.previous found_one.next first (ended k f) (follows k f f.behind refl) in
         ap besides w
-        ∙ ap (λ (x : Heap). record x { moves = x.moves ++ Gave found_one.ticket.block ∷ []; spare = x.spare - 1 }) lasts;
-  }
+        ∙ ap (λ (x : Heap). record x { moves = x.moves ++ Gave found_one.ticket.block ∷ []; spare = x.spare - 1 }) lasts
+
+    -- the blocks
+    stands_of : {test : Ticket → Bool} {tickets : List Ticket} → KeepsQueue old acct tickets →
+        (f : IsFirst test tickets found_one) → (rest : Entries) → Stands old.blocks (queue_entries acct tickets ++ rest) →
+        Stands new.blocks (queue_entries acct (f.before ++ f.behind) ++ rest)
+    stands_of k f rest s =
+        let t = found_one.ticket in
+        let c = linked_past k f rest s in
+        let gone : new.blocks ≡ with_block mid.blocks t.block None =
+        given_blocks t.block last new w ∙ ap (λ (b : Blocks). with_block b t.block None) same_blocks in
+        taken_out block_of (queued_block acct) mid.blocks new.blocks [] rest 0 0 f.before
+        (queued_block acct 0 (first_of block_of 0 f.behind) t) t.block f.behind gone
+        (subst (λ n. Stands mid.blocks
+        (linked block_of (queued_block acct) 0 n f.before ++ from_it acct f.before t f.behind rest)) f.at_next c.stands)
+
+    -- the whole call
+    pub takes_out : TakesOut acct found_one old new
+    takes_out = record {
+      changes = λ test tickets k f. record { kept = λ rest s. stands_of k f rest s };
+      keeps = λ test tickets k f.
+          let base = with_moves old (Gave found_one.ticket.block ∷ []) in
+          record {
+            rest = k.rest;
+            stands = stands_of k f k.rest k.stands;
+            first = ap (λ (h : Heap). h.roots (first_word acct)) (rest_of k f)
+                ∙ first_of_ends base acct (f.before ++ f.behind);
+            last = ap (λ (h : Heap). h.roots (last_word acct)) (rest_of k f)
+                ∙ last_of_ends base acct (f.before ++ f.behind);
+            fits = All-without f k.fits;
+          };
+      others = λ test tickets k f. rest_of k f;
+    }
 
 -- the ticket before it is there
 pub previous_reaches : {old : Heap} {acct : Acct} {found_one : Found} → SomeFirst acct found_one old →

@@ -4,13 +4,14 @@ use Rattle.std.specs.Prelude.{All, IfSome, count_by, not}
 use Rattle.std.proofs.lemmas.List.Elements.{All-cons, All-head, All-tail}
 use Rattle.std.proofs.lemmas.List.Sums.{sum_by-cons}
 use Rattle.std.specs.List.{sum_by}
+use Rattle.sdr_base.specs.Linked.{first_of, last_of}
 use Rattle.sdr_base.specs.declared.account.Amounts.{Amounts}
 use Rattle.sdr_base.specs.declared.kind.Space.{Space}
 use Rattle.sdr_model.specs.Amounts.{amount, are_within, minus, plus}
 use Rattle.sdr_model.specs.Queue.{front_waiting, granted, served}
 use Rattle.sdr_model.specs.declared.accounts.Ticket.{Ticket}
 use Rattle.sdr_parts.proofs.AmountLemmas.{amount-by, amount-plus, same_amounts}
-use Rattle.zco_acct.specs.Kept.{TicketFits}
+use Rattle.zco_acct.specs.Kept.{TicketFits, block_of}
 use Rattle.zco_space.specs.Places.{at_addr}
 use Rattle.zco_space.specs.Served.{granted_in, newly_granted, occupied_after}
 
@@ -209,3 +210,20 @@ All-served m o (t ∷ ts) f =
     (All-cons TicketFits (granted t) (served m (plus o t.asked) ts) (fits_granted (All-head TicketFits t ts f))
     (All-served m (plus o t.asked) ts (All-tail TicketFits t ts f))))
     (λ e g. rw (served-waits m o t ts e g) f)
+
+-- the first and the last ticket stay where they are
+pub first-served : (m o : Amounts) (ts : List Ticket) → first_of block_of 0 (served m o ts) ≡ first_of block_of 0 ts
+first-served m o [] = refl
+first-served m o (t ∷ ts) =
+    by_case _ t.granted (are_within t.asked (minus m o)) (λ e. ap (first_of block_of 0) (served-granted m o t ts e))
+    (λ e f. ap (first_of block_of 0) (served-fits m o t ts e f))
+    (λ e f. ap (first_of block_of 0) (served-waits m o t ts e f))
+
+pub last-served : (prev : ℕ) (m o : Amounts) (ts : List Ticket) →
+    last_of block_of prev (served m o ts) ≡ last_of block_of prev ts
+last-served prev m o [] = refl
+last-served prev m o (t ∷ ts) =
+    by_case _ t.granted (are_within t.asked (minus m o))
+    (λ e. ap (last_of block_of prev) (served-granted m o t ts e) ∙ last-served t.block m o ts)
+    (λ e f. ap (last_of block_of prev) (served-fits m o t ts e f) ∙ last-served t.block m (plus o t.asked) ts)
+    (λ e f. ap (last_of block_of prev) (served-waits m o t ts e f))

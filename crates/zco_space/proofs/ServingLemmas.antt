@@ -17,14 +17,14 @@ use Rattle.sdr_model.specs.Queue.{front_waiting, granted, served}
 use Rattle.sdr_model.specs.declared.accounts.Ticket.{Ticket}
 use Rattle.zco_acct.specs.Kept.{KeepsQueue, KeepsTicket, SomeQueue, SomeTicket, TicketFits, block_of, queue_entries, queued_block}
 use Rattle.zco_acct.specs.Tickets.{TellsTicket, with_grant}
-use Rattle.zco_acct.specs.Words.{first_word, maxima_in, occupied_in, with_occupied}
+use Rattle.zco_acct.specs.Words.{first_word, last_word, maxima_in, occupied_in, with_occupied}
 use Rattle.zco_acct.specs.declared.ticket.Queued.{Queued}
 use Rattle.zco_acct.proofs.GrantLemmas.{regranted}
 use Rattle.zco_acct.proofs.MoveLemmas.{unmoved_since}
 use Rattle.zco_acct.proofs.QueueLemmas.{HasFirst, empty_or, fits_from, has_first, stands_there}
 use Rattle.zco_space.specs.Served.{GrantsTicket, ServesQueue, newly_granted, occupied_after, queue_served}
-use Rattle.zco_space.proofs.RootLemmas.{occupied_again, occupied_same}
-use Rattle.zco_space.proofs.ServedLemmas.{count-fits, count-granted, count-waits, count_after, count_served, front_waits, served-fits, served-granted, served-waits, sum-fits, sum-granted, sum-waits, sum_after, sum_served}
+use Rattle.zco_space.proofs.RootLemmas.{first_of_occupied, last_of_occupied, occupied_again, occupied_same}
+use Rattle.zco_space.proofs.ServedLemmas.{All-served, count-fits, count-granted, count-waits, count_after, count_served, first-served, front_waits, last-served, served-fits, served-granted, served-waits, sum-fits, sum-granted, sum-waits, sum_after, sum_served}
 
 -- of a queue so many tickets were passed, and so many of them granted; with those as they are now, what is left comes to what
 -- the whole queue comes to
@@ -258,6 +258,22 @@ module _ {old now : Heap} {acct : Acct} {taken : Amounts} {cursor count i : ℕ}
           subst (λ (l : List Ticket). Stands now.blocks (queue_entries acct l ++ rest)) (sym (ends tickets k).comes)
           ((s.serving tickets k).stands rest t);
     };
+    keeps = λ tickets k.
+        let w = s.serving tickets k in
+        let m = maxima_in old acct in
+        let o = occupied_in old acct in
+        let same = w.others in
+        record {
+          rest = k.rest;
+          stands =
+              subst (λ (l : List Ticket). Stands now.blocks (queue_entries acct l ++ k.rest)) (sym (ends tickets k).comes)
+              (w.stands k.rest k.stands);
+          first = ap (λ (h : Heap). h.roots (first_word acct)) same ∙ first_of_occupied old acct taken ∙ k.first
+              ∙ sym (first-served m o tickets);
+          last = ap (λ (h : Heap). h.roots (last_word acct)) same ∙ last_of_occupied old acct taken ∙ k.last
+              ∙ sym (last-served 0 m o tickets);
+          fits = All-served m o tickets k.fits;
+        };
     others = λ tickets k.
         (s.serving tickets k).others
         ∙ ap (λ a. besides (with_occupied old acct a)) (sym (ends tickets k).sum ∙ sum_after (maxima_in old acct) (occupied_in old acct) tickets);

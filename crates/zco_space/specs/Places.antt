@@ -47,5 +47,7 @@ pub record FindsPlace (acct : Acct) (new : Ticket) (heap : Heap) (place : Place)
 pub record EntersQueue (acct : Acct) (new : Ticket) (old now : Heap) (addr : ℕ) : Type 0 where
   pub adds : (tickets : List Ticket) → KeepsQueue old acct tickets →
       Adds old.blocks now.blocks addr (queue_entries acct tickets) (queue_entries acct (enqueued tickets (at_addr new addr)))
+  pub keeps : (tickets : List Ticket) → KeepsQueue old acct tickets →
+      KeepsQueue now acct (enqueued tickets (at_addr new addr))
   pub others : (tickets : List Ticket) → KeepsQueue old acct tickets →
       besides now ≡ besides (with_ends (with_moves old (Took 96 addr ∷ [])) acct (enqueued tickets (at_addr new addr)))

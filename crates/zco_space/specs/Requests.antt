@@ -1,6 +1,6 @@
 -- What a request comes to, and why it is refused.
-use Rattle.std.specs.Prelude.{◌≡◌, ◌<◌, ◌+◌, ℕ, Bool, List, [], ◌∷◌, ◌++◌, nat_le, Option, None, Some, if◌then◌else◌}
-use Rattle.std.specs.Option.{option_map, option_or}
+use Rattle.std.specs.Prelude.{◌≡◌, ◌<◌, ◌+◌, ℕ, Bool, List, [], ◌∷◌, ◌++◌, false, find, nat_le, Option, None, Some, if◌then◌else◌}
+use Rattle.std.specs.Option.{option_map, option_map_or, option_or}
 use Rattle.sdr_base.specs.Entries.{Adds}
 use Rattle.sdr_base.specs.Making.{besides, with_moves}
 use Rattle.sdr_base.specs.Objects.{Heap, OnlyFault, OnlyShort, with_root}
@@ -18,6 +18,7 @@ use Rattle.sdr_model.specs.Amounts.{amount, first_above}
 use Rattle.sdr_model.specs.Queue.{enqueued}
 use Rattle.sdr_model.specs.declared.accounts.Ticket.{Ticket}
 use Rattle.zco_acct.specs.Kept.{KeepsQueue, queue_entries}
+use Rattle.zco_acct.specs.Walks.{has_number}
 use Rattle.zco_acct.specs.Words.{maxima_in, occupied_in, with_occupied}
 use Rattle.zco_space.specs.Links.{with_ends}
 use Rattle.zco_space.specs.Served.{newly_granted, occupied_after, queue_served}
@@ -55,10 +56,13 @@ requests_granted heap acct asked coarse fine tickets =
     newly_granted (requested heap asked coarse fine tickets 0)
     (queue_served heap acct (requested heap asked coarse fine tickets 0))
 
--- this is whether the ticket at an address is granted
-pub record TellsGranted (tickets : List Ticket) (addr : ℕ) (answer : Bool) : Type 0 where
-  pub tells : (before : List Ticket) (t : Ticket) (behind : List Ticket) → tickets ≡ before ++ (t ∷ behind) →
-      t.block ≡ addr → answer ≡ t.granted
+-- whether the ticket of a number is granted
+abbrev pub number_granted : List Ticket → ℕ → Bool
+number_granted tickets number = option_map_or (λ (t : Ticket). t.granted) (find (has_number number) tickets) false
+
+-- so it is in whichever queue is kept
+pub record TellsGranted (acct : Acct) (number : ℕ) (heap : Heap) (answer : Bool) : Type 0 where
+  pub tells : (tickets : List Ticket) → KeepsQueue heap acct tickets → answer ≡ number_granted tickets number
 
 -- the heap with a queue once a ticket was taken for a request, which got its number
 abbrev pub with_request : Heap → Acct → ℕ → List Ticket → Heap
@@ -79,7 +83,7 @@ pub record RequestsTicket (acct : Acct) (asked : Amounts) (coarse fine : ℕ) (o
       ≡ besides (with_occupied (with_request old acct addr queue) acct
       (occupied_after (occupied_in old acct) queue (queue_served old acct queue)))
   pub granted : (tickets : List Ticket) → KeepsQueue old acct tickets →
-      TellsGranted (queue_served old acct (requested old asked coarse fine tickets addr)) addr value.1
+      value.1 ≡ number_granted (queue_served old acct (requested old asked coarse fine tickets addr)) value.0
 
 -- why it is refused, and all is as before; or there is no block, or no log room; or a fault
 abbrev pub RequestStops : Acct → Amounts → Heap → Heap → Stop → Type 0

@@ -35,6 +35,8 @@ queue_served heap acct tickets = served (maxima_in heap acct) (occupied_in heap 
 pub record ServesQueue (acct : Acct) (old new : Heap) (count : ℕ) : Type 0 where
   pub changes : (tickets : List Ticket) → KeepsQueue old acct tickets →
       Changes old.blocks new.blocks (queue_entries acct tickets) (queue_entries acct (queue_served old acct tickets))
+  pub keeps : (tickets : List Ticket) → KeepsQueue old acct tickets →
+      KeepsQueue new acct (queue_served old acct tickets)
   pub others : (tickets : List Ticket) → KeepsQueue old acct tickets →
       besides new
       ≡ besides (with_occupied old acct (occupied_after (occupied_in old acct) tickets (queue_served old acct tickets)))

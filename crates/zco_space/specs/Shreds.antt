@@ -34,6 +34,8 @@ pub record TakesOut (acct : Acct) (found : Found) (old new : Heap) : Type 0 wher
   pub changes : (test : Ticket → Bool) (tickets : List Ticket) → KeepsQueue old acct tickets →
       (f : IsFirst test tickets found) →
       Changes old.blocks new.blocks (queue_entries acct tickets) (queue_entries acct (f.before ++ f.behind))
+  pub keeps : (test : Ticket → Bool) (tickets : List Ticket) → KeepsQueue old acct tickets →
+      (f : IsFirst test tickets found) → KeepsQueue new acct (f.before ++ f.behind)
   pub others : (test : Ticket → Bool) (tickets : List Ticket) → KeepsQueue old acct tickets →
       (f : IsFirst test tickets found) →
       besides new ≡ besides (with_ends (with_moves old (Gave found.ticket.block ∷ [])) acct (f.before ++ f.behind))

@@ -7,13 +7,12 @@ ghost use Rattle.sdr_base.specs.ZcoObjects.{account_number};
 ghost use Rattle.sdr_model.specs.declared.accounts.Ticket.{Ticket as GhostTicket};
 ghost use Rattle.zco_acct.specs.Kept.{KeepsQueue, SomeQueue};
 ghost use Rattle.zco_space.specs.Places.{EntersQueue, FindsPlace, IsNew, TakesTicket};
-ghost use Rattle.zco_space.specs.Requests.{IsNumbered, NumberStops, RequestsTicket, RequestStops, requests_granted};
+ghost use Rattle.zco_space.specs.Requests.{IsNumbered, NumberStops, RequestsTicket, RequestStops, TellsGranted, requests_granted};
 
 use crate::linking::{link_last, link_next};
 use crate::serving::serve;
 use sdr_base::control::NEXT_TICKET;
-use sdr_base::layout::ticket as words;
-use sdr_base::{Acct, Addr, Amounts, Kind, Objects, Refusal, Stop, take_words, word};
+use sdr_base::{Acct, Addr, Amounts, Kind, Objects, Refusal, Stop, take_words};
 use sdr_model::{MOST_AMOUNT, Ticket};
 use sdr_parts::amounts::{NOTHING, amount, first_above};
 use zco_acct::{Notice, Notify, Sought, last_word, maxima, search};
@@ -50,11 +49,25 @@ pub fn request<O: Objects, F: Notify>(
         left: NOTHING,
         granted: false,
     };
-    let added = enqueue(o, acct, &new)?;
+    enqueue(o, acct, &new)?;
     o.set_root(NEXT_TICKET, number + 1)?;
     serve(o, acct, notice)?;
-    let granted = word(o, added, words::GRANTED)?;
-    Ok((number, granted == 1))
+    let granted = is_granted(o, acct, number)?;
+    Ok((number, granted))
+}
+
+// Whether the ticket of a number is granted.
+fn is_granted<O: Objects>(o: &mut O, acct: Acct, number: u64) -> Result<bool, Stop>
+    requires kept { KeepsSome (O.keeps o.old) }
+    requires queue { SomeQueue (O.heap o.old) acct }
+    ensures told { IfOk result (TellsGranted acct number (O.heap o.old)) }
+    ensures refused { IfErr result OnlyFault }
+    ensures looks { Looks O.HasHeap o.old o.new result }
+{
+    match search(o, acct, &Sought::Number(number))? {
+        Some(found) => Ok(found.ticket.granted),
+        None => Ok(false),
+    }
 }
 
 // The number of a new ticket that asks for so much, which isn't above a maximum.
