@@ -28,21 +28,21 @@ use Rattle.zco_acct.proofs.QueueLemmas.{found_is, found_there}
 use Rattle.zco_acct.proofs.TicketLemmas.{ticket_reaches}
 
 -- the ticket that a charge names isn't refused
-pub usable : {number : ℕ} {tickets : List Ticket} (grant : Option Found) → IsGrant number tickets grant →
+pub usable : (number : ℕ) (tickets : List Ticket) (grant : Option Found) → IsGrant number tickets grant →
     ticket_refusal tickets number ≡ None
-usable {number} {tickets} None is =
-    ap (λ b. cond b None (unusable number (find (has_number number) tickets))) (sym (eq-eqb number 0 is))
-usable {number} {tickets} (Some found) is =
+usable number tickets None is =
+    ap (λ b. cond b None (unusable number (find (has_number number) tickets))) (eq-eqb number 0 is)
+usable number tickets (Some found) is =
     ap (λ b. cond b None (unusable number (find (has_number number) tickets))) is.nonzero
     ∙ ap (unusable number) (found_is is.first)
     ∙ ap (λ b. cond b None (Some (refusals.NotAwarded number))) is.granted
 
 -- what is left of its grant
-pub left_is : {number : ℕ} {tickets : List Ticket} (grant : Option Found) → IsGrant number tickets grant →
+pub left_is : (number : ℕ) (tickets : List Ticket) (grant : Option Found) → IsGrant number tickets grant →
     ticket_left (named_ticket tickets number) ≡ left_of grant
-left_is {number} {tickets} None is =
-    ap (λ b. ticket_left (cond b None (find (has_number number) tickets))) (sym (eq-eqb number 0 is))
-left_is {number} {tickets} (Some found) is =
+left_is number tickets None is =
+    ap (λ b. ticket_left (cond b None (find (has_number number) tickets))) (eq-eqb number 0 is)
+left_is number tickets (Some found) is =
     ap (λ b. ticket_left (cond b None (find (has_number number) tickets))) is.nonzero
     ∙ ap ticket_left (found_is is.first)
 
@@ -80,15 +80,15 @@ charged_is {number} {tickets} {found} amounts is =
     (sym (still_granted found.ticket (minus found.ticket.left amounts) is.granted))
 
 -- the blocks of the queue after a charge
-stands_charged : {old mid : Heap} {acct : Acct} {number : ℕ} {amounts : Amounts} {tickets : List Ticket} (grant : Option Found) →
+stands_charged : (old mid : Heap) (acct : Acct) (number : ℕ) (amounts : Amounts) (tickets : List Ticket) (grant : Option Found) →
     IsGrant number tickets grant → UsesGrant grant amounts old mid → (rest : Entries) →
     Stands old.blocks (queue_entries acct tickets ++ rest) →
     Stands mid.blocks (queue_entries acct (charged tickets number amounts) ++ rest)
-stands_charged {old} {mid} {acct} {number} {amounts} {tickets} None is u rest s =
+stands_charged old mid acct number amounts tickets None is u rest s =
     subst (λ (b : Blocks). Stands b (queue_entries acct (charged tickets number amounts) ++ rest)) (sym (heap_blocks u))
     (subst (λ (ts : List Ticket). Stands old.blocks (queue_entries acct ts ++ rest))
-    (sym (ap (λ b. cond b tickets (with_used number amounts tickets)) (sym (eq-eqb number 0 is)))) s)
-stands_charged {old} {mid} {acct} {number} {amounts} {tickets} (Some found) is u rest s =
+    (sym (ap (λ b. cond b tickets (with_used number amounts tickets)) (eq-eqb number 0 is))) s)
+stands_charged old mid acct number amounts tickets (Some found) is u rest s =
     let f = is.first in
     subst (λ (ts : List Ticket). Stands mid.blocks (queue_entries acct ts ++ rest)) (sym (charged_is amounts is))
     (regranted old.blocks mid.blocks acct rest f.before found.ticket f.behind (minus found.ticket.left amounts)
@@ -96,44 +96,44 @@ stands_charged {old} {mid} {acct} {number} {amounts} {tickets} (Some found) is u
     (subst (λ (ts : List Ticket). Stands old.blocks (queue_entries acct ts ++ rest)) f.whole s))
 
 -- all but the blocks stays where a grant is used
-pub used_besides : {old mid : Heap} {amounts : Amounts} (grant : Option Found) → UsesGrant grant amounts old mid →
+pub used_besides : (old mid : Heap) (amounts : Amounts) (grant : Option Found) → UsesGrant grant amounts old mid →
     besides mid ≡ besides old
-used_besides None u = ap besides u
-used_besides (Some found) u = ap besides u
+used_besides old mid amounts None u = ap besides u
+used_besides old mid amounts (Some found) u = ap besides u
 
 -- a charge is allowed where its ticket may be used and there is room for what isn't covered
-pub may_charge : {heap : Heap} {acct : Acct} {number : ℕ} {amounts : Amounts} (grant : Option Found) →
+pub may_charge : {heap : Heap} {acct : Acct} {number : ℕ} (amounts : Amounts) (grant : Option Found) →
     GrantsOf heap acct number grant →
     Allows heap acct (λ tickets. room_refusal tickets (minus amounts (left_of grant)) (occupied_in heap acct) (maxima_in heap acct)) →
     Allows heap acct (λ tickets. charge_refusal tickets number amounts (occupied_in heap acct) (maxima_in heap acct))
-may_charge {heap} {acct} {number} {amounts} grant g free = record {
+may_charge {heap} {acct} {number} amounts grant g free = record {
   none = λ tickets k.
       ap (λ (o : Option Refusal). option_or o
       (room_refusal tickets (uncovered_by tickets number amounts) (occupied_in heap acct) (maxima_in heap acct)))
-      (usable grant (g.grants tickets k))
+      (usable number tickets grant (g.grants tickets k))
       ∙ ap (λ a. room_refusal tickets (minus amounts a) (occupied_in heap acct) (maxima_in heap acct))
-      (left_is grant (g.grants tickets k))
+      (left_is number tickets grant (g.grants tickets k))
       ∙ free.none tickets k;
 }
 
 -- the whole call
-pub charges : {old mid new : Heap} {acct : Acct} {number : ℕ} {amounts after : Amounts} (grant : Option Found) →
+pub charges : (old mid new : Heap) {acct : Acct} {number : ℕ} {amounts after : Amounts} (grant : Option Found) →
     GrantsOf old acct number grant →
     after ≡ plus (occupied_in old acct) (minus amounts (left_of grant)) →
     Allows old acct (λ tickets. room_refusal tickets (minus amounts (left_of grant)) (occupied_in old acct) (maxima_in old acct)) →
     UsesGrant grant amounts old mid → new ≡ with_occupied mid acct after → ChargesAccount acct number amounts old new
-charges {old} {mid} {new} {acct} {number} {amounts} {after} grant g sum free u w = record {
-  allows = may_charge grant g free;
+charges old mid new {acct} {number} {amounts} {after} grant g sum free u w = record {
+  allows = may_charge amounts grant g free;
   changes = λ tickets k. record {
     kept = λ rest s.
         subst (λ (b : Blocks). Stands b (queue_entries acct (charged tickets number amounts) ++ rest)) (sym (heap_blocks w))
-        (stands_charged grant (g.grants tickets k) u rest s);
+        (stands_charged old mid acct number amounts tickets grant (g.grants tickets k) u rest s);
   };
   others = λ tickets k.
-      ap besides w ∙ ap (λ (h : Heap). with_occupied h acct after) (used_besides grant u)
+      ap besides w ∙ ap (λ (h : Heap). with_occupied h acct after) (used_besides old mid amounts grant u)
       ∙ ap (λ a. besides (with_occupied old acct a)) sum
       ∙ ap (λ a. besides (with_occupied old acct (plus (occupied_in old acct) (minus amounts a))))
-      (sym (left_is grant (g.grants tickets k)));
+      (sym (left_is number tickets grant (g.grants tickets k)));
 }
 
 -- the grant is there
@@ -150,20 +150,20 @@ some_grant (Some found) k g =
     })) (omega arith)
 
 -- a charge that is allowed stops where there is no log room
-pub stops_full : {old : Heap} {acct : Acct} {number : ℕ} {amounts : Amounts} (new : Heap) (stop : Stop) →
+pub stops_full : (old : Heap) (acct : Acct) (number : ℕ) (amounts : Amounts) (new : Heap) (stop : Stop) →
     Allows old acct (λ tickets. charge_refusal tickets number amounts (occupied_in old acct) (maxima_in old acct)) →
     OnlyUnmoved old new stop → ChargeStops acct number amounts old new stop
-stops_full new (Refused (refusals.LogFull lines room)) allows u = (allows, u)
-stops_full new (Refused refusal) allows u = absurd u
-stops_full new DiskFault allows u = tt
-stops_full new MediaFault allows u = absurd u
-stops_full new Failed allows u = tt
+stops_full old acct number amounts new (Refused (refusals.LogFull lines room)) allows u = (allows, u)
+stops_full old acct number amounts new (Refused refusal) allows u = absurd u
+stops_full old acct number amounts new DiskFault allows u = tt
+stops_full old acct number amounts new MediaFault allows u = absurd u
+stops_full old acct number amounts new Failed allows u = tt
 
 -- a charge stops for its ticket
-pub stops_ticket : {old : Heap} {acct : Acct} {number : ℕ} {amounts : Amounts} (new : Heap) (stop : Stop) → new ≡ old →
+pub stops_ticket : (old : Heap) (acct : Acct) (number : ℕ) (amounts : Amounts) (new : Heap) (stop : Stop) → new ≡ old →
     RefusedAs old acct (λ tickets. ticket_refusal tickets number) stop → ChargeStops acct number amounts old new stop
-stops_ticket new (Refused (refusals.LogFull lines room)) same r = absurd r
-stops_ticket {old} {acct} {number} {amounts} new (Refused refusal) same r = (
+stops_ticket old acct number amounts new (Refused (refusals.LogFull lines room)) same r = absurd r
+stops_ticket old acct number amounts new (Refused refusal) same r = (
   record {
     some = λ tickets k.
         ap (λ (o : Option Refusal). option_or o
@@ -172,28 +172,28 @@ stops_ticket {old} {acct} {number} {amounts} new (Refused refusal) same r = (
   },
   same,
 )
-stops_ticket new DiskFault same r = tt
-stops_ticket new MediaFault same r = absurd r
-stops_ticket new Failed same r = tt
+stops_ticket old acct number amounts new DiskFault same r = tt
+stops_ticket old acct number amounts new MediaFault same r = absurd r
+stops_ticket old acct number amounts new Failed same r = tt
 
 -- it stops for what its ticket's grant doesn't cover
-pub stops_room : {old : Heap} {acct : Acct} {number : ℕ} {amounts : Amounts} (grant : Option Found) (new : Heap) (stop : Stop) →
+pub stops_room : (old : Heap) (acct : Acct) (number : ℕ) (amounts : Amounts) (grant : Option Found) (new : Heap) (stop : Stop) →
     GrantsOf old acct number grant → new ≡ old →
     RefusedAs old acct (λ tickets. room_refusal tickets (minus amounts (left_of grant)) (occupied_in old acct) (maxima_in old acct)) stop →
     ChargeStops acct number amounts old new stop
-stops_room grant new (Refused (refusals.LogFull lines room)) g same r = absurd r
-stops_room {old} {acct} {number} {amounts} grant new (Refused refusal) g same r = (
+stops_room old acct number amounts grant new (Refused (refusals.LogFull lines room)) g same r = absurd r
+stops_room old acct number amounts grant new (Refused refusal) g same r = (
   record {
     some = λ tickets k.
         ap (λ (o : Option Refusal). option_or o
         (room_refusal tickets (uncovered_by tickets number amounts) (occupied_in old acct) (maxima_in old acct)))
-        (usable grant (g.grants tickets k))
+        (usable number tickets grant (g.grants tickets k))
         ∙ ap (λ a. room_refusal tickets (minus amounts a) (occupied_in old acct) (maxima_in old acct))
-        (left_is grant (g.grants tickets k))
+        (left_is number tickets grant (g.grants tickets k))
         ∙ r.some tickets k;
   },
   same,
 )
-stops_room grant new DiskFault g same r = tt
-stops_room grant new MediaFault g same r = absurd r
-stops_room grant new Failed g same r = tt
+stops_room old acct number amounts grant new DiskFault g same r = tt
+stops_room old acct number amounts grant new MediaFault g same r = absurd r
+stops_room old acct number amounts grant new Failed g same r = tt

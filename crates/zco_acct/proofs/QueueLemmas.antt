@@ -17,6 +17,7 @@ use Rattle.sdr_model.specs.declared.accounts.Ticket.{Ticket}
 use Rattle.zco_acct.specs.Kept.{KeepsQueue, KeepsTicket, SomeQueue, SomeTicket, TicketFits, block_of, queue_entries, queued_block}
 use Rattle.zco_acct.specs.Tickets.{TellsTicket}
 use Rattle.zco_acct.specs.Walks.{IsFirst, Searches, Walked, Walks}
+use Rattle.zco_acct.specs.Words.{first_word}
 use Rattle.zco_acct.specs.declared.queue.Found.{Found}
 use Rattle.zco_acct.specs.declared.ticket.Queued.{Queued}
 
@@ -133,17 +134,16 @@ module _ {test : Ticket → Bool} {tickets : List Ticket} {previous cursor i : �
   pub not_found : w.left ≡ [] → find test tickets ≡ None
   not_found none = ap (find test) (all_passed none) ∙ w.none
 
-pub begun : {heap : Heap} {acct : Acct} {test : Ticket → Bool} {cursor : ℕ} (word : ℕ) → cursor ≡ heap.roots word →
-    ((tickets : List Ticket) → KeepsQueue heap acct tickets → heap.roots word ≡ first_of block_of 0 tickets) →
+pub begun : {heap : Heap} {acct : Acct} {test : Ticket → Bool} {cursor : ℕ} → cursor ≡ heap.roots (first_word acct) →
     Walks heap acct test 0 cursor 0
-begun word e first = record {
+begun e = record {
   walked = λ tickets k. record {
     passed = [];
     left = tickets;
     whole = refl;
     counted = refl;
     none = refl;
-    at_cursor = e ∙ first tickets k;
+    at_cursor = e ∙ k.first;
     at_previous = refl;
   };
 }

@@ -50,10 +50,10 @@ module _ {heap : Heap} {acct : Acct} {number : ℕ} where
         ∙ ap (λ b. cond b None (Some (refusals.NotAwarded number))) waiting;
   }
 
-module _ {heap : Heap} {acct : Acct} (uncovered : Amounts) where
-  abbrev barred : Option Ticket → Option Refusal
-  barred = option_map (λ (t : Ticket). refusals.Queue t.number)
+abbrev barred : Option Ticket → Option Refusal
+barred = option_map (λ (t : Ticket). refusals.Queue t.number)
 
+module _ (heap : Heap) (acct : Acct) (uncovered : Amounts) where
   -- nothing is to be charged
   pub free_for_nothing : is_nothing uncovered ≡ true → Allows heap acct (λ tickets. queue_refusal tickets uncovered)
   free_for_nothing e = record { none = λ tickets k. ap (λ b. barred (cond b None (front_waiting tickets))) e }

@@ -18,7 +18,8 @@ use Rattle.sdr_base.proofs.StoredLemmas.{big_number-same}
 use Rattle.sdr_base.proofs.WritingLemmas.{reaches, reaches_less}
 use Rattle.sdr_model.specs.declared.accounts.Ticket.{Ticket}
 use Rattle.zco_acct.specs.Kept.{AmountsFit, KeepsTicket, SomeTicket, TicketFits, queued_block, row_of}
-use Rattle.zco_acct.specs.Tickets.{TellsTicket, amounts_at, grant_bytes, granted_with, queued_at}
+use Rattle.zco_acct.specs.Tickets.{TellsTicket, amounts_at, grant_bytes, granted_with, queued_at, with_grant}
+use Rattle.sdr_base.specs.Objects.{Heap, with_bytes}
 use Rattle.zco_acct.specs.declared.ticket.Queued.{Queued}
 
 -- the number in the first eight bytes from a place on
@@ -124,3 +125,8 @@ pub grant_written : (acct : Acct) (previous next : ℕ) (t : Ticket) (left : Amo
     ≡ Some (queued_block acct previous next (granted_with t left))
 unfolding layout
 grant_written acct previous next t left = refl
+
+-- so it is where these bytes were put
+pub grant_put : (old new : Heap) (addr : ℕ) (left : Amounts) (bytes : List ℕ) → bytes ≡ grant_bytes left →
+    new ≡ with_bytes old addr 56 bytes → new ≡ with_grant old addr left
+grant_put old new addr left bytes e w = w ∙ ap (λ (l : List ℕ). with_bytes old addr 56 l) e

@@ -9,7 +9,8 @@ ghost use Rattle.zco_acct.specs.Words.{begin_of, first_word, last_word, maxima_i
 ghost use Rattle.zco_acct.specs.Words.{occupancy_word, occupied_in, space_place, with_occupied};
 
 use sdr_base::control::{
-    CONTROL_WORDS, FILE_MAXIMUM, FILE_OCCUPANCY, FIRST_NAME, FIRST_TICKET, INBOUND, LAST_TICKET, OUTBOUND,
+    CONTROL_WORDS, FILE_MAXIMUM, FILE_OCCUPANCY, FIRST_NAME, FIRST_TICKET, INBOUND, LAST_TICKET,
+    OUTBOUND,
 };
 use sdr_base::{Acct, Amounts, Objects, Refusal, Space, Stop, check_failed};
 use sdr_model::MOST_AMOUNT;
@@ -123,12 +124,7 @@ pub fn maxima<O: Objects>(o: &mut O, acct: Acct) -> Result<Amounts, Stop>
 }
 
 /// Sets the maximum of a space in an account, in bytes, of which 2^40 are the most. It doesn't serve the account's queue.
-pub fn set_maximum<O: Objects>(
-    o: &mut O,
-    acct: Acct,
-    space: Space,
-    value: u64,
-) -> Result<(), Stop>
+pub fn set_maximum<O: Objects>(o: &mut O, acct: Acct, space: Space, value: u64) -> Result<(), Stop>
     requires kept { KeepsSome (O.keeps o.old) }
     ensures set { OnOk result (SetsMaximum acct space value (O.heap o.old) (O.heap o.new)) }
     ensures refused { IfErr result (MaximumStops space value (O.heap o.old) (O.heap o.new)) }

@@ -45,7 +45,7 @@ fn stands_before(ticket: &Ticket, new: &Ticket) -> bool
 
 impl Sought {
     // Whether it is this ticket.
-    fn is(&self, ticket: &Ticket) -> bool
+    fn passes(&self, ticket: &Ticket) -> bool
         ensures { result ≡ is_sought self.now ticket.now }
     {
         match self {
@@ -71,7 +71,7 @@ pub fn search<O: Objects>(o: &mut O, acct: Acct, sought: &Sought) -> Result<Opti
             return Ok(None);
         }
         let here = read_ticket(o, addr)?;
-        if sought.is(&here.ticket) {
+        if sought.passes(&here.ticket) {
             return Ok(Some(Found {
                 previous,
                 ticket: here.ticket,

@@ -25,7 +25,7 @@ pub struct Queued {
 
 // The number in a word of a ticket's bytes.
 fn number(bytes: &[u8; 96], field: u64) -> u64
-    requires within { field < words::WORDS }
+    requires within { field < 12 }
     ensures { result ≡ number_at (8 * field) bytes.now }
 {
     BigEndian::read_u64(&bytes[8 * field as usize..])
@@ -78,7 +78,7 @@ pub fn read_ticket<O: Objects>(o: &mut O, addr: Addr) -> Result<Queued, Stop>
 /// Grants a ticket, of which so much is left, in bytes of each space.
 pub fn put_grant<O: Objects>(o: &mut O, addr: Addr, left: &Amounts) -> Result<(), Stop>
     requires kept { KeepsSome (O.keeps o.old) }
-    requires inside { UsesRange (O.heap o.old).blocks addr (8 * words::LEFT_FILE) 32 }
+    requires inside { UsesRange (O.heap o.old).blocks addr 56 32 }
     ensures granted { OnOk result (O.heap o.new ≡ with_grant (O.heap o.old) addr left.now) }
     ensures refused { IfErr result (OnlyUnmoved (O.heap o.old) (O.heap o.new)) }
     ensures works { Works O.HasHeap 2 o.old o.new result }

@@ -1,6 +1,6 @@
 mod RootLemmas
 mod ServedLemmas
-mod ServingLemmas
+pub mod ServingLemmas
 mod LinkLemmas
 mod PlaceLemmas
 mod EnterLemmas

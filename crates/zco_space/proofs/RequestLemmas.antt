@@ -80,7 +80,7 @@ module _ {heap : Heap} {acct : Acct} (asked : Amounts) (most : Amounts) (m : mos
       IsNumbered acct asked heap number
   numbered number e n lt = record {
     allowed = no_number false e (ap (nat_le most_amount) (sym n) ∙ lt-leb most_amount number lt);
-    number = n;
+    is_next = n;
     small = lt;
   }
 
@@ -142,7 +142,7 @@ module _ {acct : Acct} {asked : Amounts} {coarse fine number addr : ℕ} {old mi
   module _ {tickets : List Ticket} (k : KeepsQueue old acct tickets) where
     -- the queue with it
     enters_as : enqueued tickets (at_addr (asking number asked coarse fine) addr) ≡ requested old asked coarse fine tickets addr
-    enters_as = ap (λ x. enqueued tickets (new_ticket x addr asked coarse fine)) n.number
+    enters_as = ap (λ x. enqueued tickets (new_ticket x addr asked coarse fine)) n.is_next
 
     -- is kept
     pub kept_back : KeepsQueue back acct (requested old asked coarse fine tickets addr)
@@ -184,7 +184,7 @@ module _ {acct : Acct} {asked : Amounts} {coarse fine number addr : ℕ} {old mi
   requests {new} {count} {answer} v t = record {
     addr = addr;
     allowed = n.allowed;
-    number = n.number;
+    number = n.is_next;
     adds = λ tickets k.
         let a = e.adds tickets k in
         let queue = requested old asked coarse fine tickets addr in
@@ -210,7 +210,7 @@ module _ {acct : Acct} {asked : Amounts} {coarse fine number addr : ℕ} {old mi
         ∙ ap (λ (h : Heap). besides (with_occupied h acct after)) w
         ∙ ap (λ (h : Heap). with_occupied (with_root h 108 (number + 1)) acct after) (e.others tickets k)
         ∙ ap (λ (l : List Ticket). besides (with_occupied (with_root (with_ends home acct l) 108 (number + 1)) acct after)) (enters_as k)
-        ∙ ap (λ x. besides (with_occupied (with_root (with_ends home acct queue) 108 (x + 1)) acct after)) n.number
+        ∙ ap (λ x. besides (with_occupied (with_root (with_ends home acct queue) 108 (x + 1)) acct after)) n.is_next
         ∙ ap (λ (a : Amounts). besides (with_occupied (with_request old acct addr queue) acct
         (occupied_after a queue (queue_served back acct queue)))) (occupied_back k)
         ∙ ap (λ (l : List Ticket). besides (with_occupied (with_request old acct addr queue) acct

@@ -1,5 +1,5 @@
 -- What is occupied, and how many tickets are granted, where a queue is served.
-use Rattle.std.proofs.Common.{◌≡◌, ◌≤◌, ◌+◌, ◌-◌, ℕ, List, [], ◌∷◌, ◌++◌, Bool, true, false, cond, refl, sym, ap, ◌∙◌, arith}
+use Rattle.std.proofs.Common.{◌≡◌, ◌≤◌, ◌+◌, ◌-◌, ℕ, List, [], ◌∷◌, ◌++◌, Bool, true, false, cond, Some, refl, sym, ap, ◌∙◌, arith, subst}
 use Rattle.std.specs.Prelude.{All, IfSome, count_by, not}
 use Rattle.std.proofs.lemmas.List.Elements.{All-cons, All-head, All-tail}
 use Rattle.std.proofs.lemmas.List.Sums.{sum_by-cons}
@@ -168,17 +168,37 @@ count_is m o (t ∷ ts) =
 pub count_after : (m o : Amounts) (ts : List Ticket) → count_served m o ts ≡ newly_granted ts (served m o ts)
 count_after m o ts = let c = count_is m o ts in omega (arith, c)
 
+-- the front one of these that waits doesn't fit where so much is occupied
+abbrev IsBlocked : Amounts → Amounts → List Ticket → Type 0
+IsBlocked m o tickets = IfSome (front_waiting tickets) (λ t. are_within t.asked (minus m o) ≡ false)
+
+-- the first one waits, or it doesn't
+blocked_first : (m o : Amounts) (t : Ticket) (ts : List Ticket) → t.granted ≡ false →
+    are_within t.asked (minus m o) ≡ false → IsBlocked m o (t ∷ ts)
+blocked_first m o t ts e f =
+    subst (λ b. IfSome (cond (not b) (Some t) (front_waiting ts)) (λ t. are_within t.asked (minus m o) ≡ false)) (sym e) f
+
+blocked_later : (m o : Amounts) (t : Ticket) (ts : List Ticket) → t.granted ≡ true → IsBlocked m o ts →
+    IsBlocked m o (t ∷ ts)
+blocked_later m o t ts e f =
+    subst (λ b. IfSome (cond (not b) (Some t) (front_waiting ts)) (λ t. are_within t.asked (minus m o) ≡ false)) (sym e) f
+
+blocked_as : (m : Amounts) {o p : Amounts} {ts us : List Ticket} → o ≡ p → ts ≡ us → IsBlocked m p us → IsBlocked m o ts
+blocked_as m {o} {p} {ts} {us} a l f =
+    subst (λ o. IsBlocked m o ts) (sym a) (subst (λ (ts : List Ticket). IsBlocked m p ts) (sym l) f)
+
 -- the front one that waits doesn't fit
 pub front_waits : (m o : Amounts) (ts : List Ticket) →
     IfSome (front_waiting (served m o ts)) (λ t. are_within t.asked (minus m (sum_served m o ts)) ≡ false)
 front_waits m o [] = tt
 front_waits m o (t ∷ ts) =
     by_case _ t.granted (are_within t.asked (minus m o))
-    (λ e.
-    rw (served-granted m o t ts e, sum-granted m o t ts e, e) (front_waits m o ts))
-    (λ e f.
-    rw (served-fits m o t ts e f, sum-fits m o t ts e f) (front_waits m (plus o t.asked) ts))
-    (λ e f. rw (served-waits m o t ts e f, sum-waits m o t ts e f, e) f)
+    (λ e. blocked_as m (sum-granted m o t ts e) (served-granted m o t ts e)
+    (blocked_later m (sum_served m o ts) t (served m o ts) e (front_waits m o ts)))
+    (λ e f. blocked_as m (sum-fits m o t ts e f) (served-fits m o t ts e f)
+    (blocked_later m (sum_served m (plus o t.asked) ts) (granted t) (served m (plus o t.asked) ts) refl
+    (front_waits m (plus o t.asked) ts)))
+    (λ e f. blocked_as m (sum-waits m o t ts e f) (served-waits m o t ts e f) (blocked_first m o t ts e f))
 
 -- where a ticket stands doesn't matter
 pub count-moved : (m o : Amounts) (xs : List Ticket) (t : Ticket) (a b : ℕ) (ys : List Ticket) →
@@ -204,12 +224,12 @@ pub All-served : (m o : Amounts) (ts : List Ticket) → All TicketFits ts → Al
 All-served m o [] f = f
 All-served m o (t ∷ ts) f =
     by_case _ t.granted (are_within t.asked (minus m o))
-    (λ e. rw (served-granted m o t ts e)
+    (λ e. subst (All TicketFits) (sym (served-granted m o t ts e))
     (All-cons TicketFits t (served m o ts) (All-head TicketFits t ts f) (All-served m o ts (All-tail TicketFits t ts f))))
-    (λ e g. rw (served-fits m o t ts e g)
+    (λ e g. subst (All TicketFits) (sym (served-fits m o t ts e g))
     (All-cons TicketFits (granted t) (served m (plus o t.asked) ts) (fits_granted (All-head TicketFits t ts f))
     (All-served m (plus o t.asked) ts (All-tail TicketFits t ts f))))
-    (λ e g. rw (served-waits m o t ts e g) f)
+    (λ e g. subst (All TicketFits) (sym (served-waits m o t ts e g)) f)
 
 -- the first and the last ticket stay where they are
 pub first-served : (m o : Amounts) (ts : List Ticket) → first_of block_of 0 (served m o ts) ≡ first_of block_of 0 ts

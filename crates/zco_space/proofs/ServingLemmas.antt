@@ -12,15 +12,19 @@ use Rattle.sdr_base.specs.declared.stop.Stop.{Stop}
 use Rattle.sdr_base.proofs.HeapLemmas.{heap_blocks}
 use Rattle.sdr_base.proofs.LinkedLemmas.{length-linked}
 use Rattle.sdr_base.proofs.StandingLemmas.{at-nowhere}
+use Rattle.sdr_base.proofs.WritingLemmas.{reaches_less}
 use Rattle.sdr_model.specs.Amounts.{are_within, minus, plus}
 use Rattle.sdr_model.specs.Queue.{front_waiting, granted, served}
 use Rattle.sdr_model.specs.declared.accounts.Ticket.{Ticket}
-use Rattle.zco_acct.specs.Kept.{KeepsQueue, KeepsTicket, SomeQueue, SomeTicket, TicketFits, block_of, queue_entries, queued_block}
+use Rattle.sdr_base.specs.declared.kind.Space.TheVariants as spaces
+use Rattle.sdr_parts.proofs.AmountLemmas.{within_in}
+use Rattle.zco_acct.specs.Kept.{AmountsFit, KeepsQueue, KeepsTicket, SomeQueue, SomeTicket, TicketFits, block_of, queue_entries, queued_block}
 use Rattle.zco_acct.specs.Tickets.{TellsTicket, with_grant}
 use Rattle.zco_acct.specs.Words.{first_word, last_word, maxima_in, occupied_in, with_occupied}
 use Rattle.zco_acct.specs.declared.ticket.Queued.{Queued}
 use Rattle.zco_acct.proofs.GrantLemmas.{regranted}
 use Rattle.zco_acct.proofs.MoveLemmas.{unmoved_since}
+use Rattle.zco_acct.proofs.TicketLemmas.{ticket_reaches}
 use Rattle.zco_acct.proofs.QueueLemmas.{HasFirst, empty_or, fits_from, has_first, stands_there}
 use Rattle.zco_space.specs.Served.{GrantsTicket, ServesQueue, newly_granted, occupied_after, queue_served}
 use Rattle.zco_space.proofs.RootLemmas.{first_of_occupied, last_of_occupied, occupied_again, occupied_same}
@@ -41,6 +45,12 @@ pub record Serving (old now : Heap) (acct : Acct) (m taken : Amounts) (cursor co
   pub comes : served m (occupied_in old acct) tickets ≡ done ++ served m taken left
   pub sum : sum_served m (occupied_in old acct) tickets ≡ sum_served m taken left
   pub counted : count_served m (occupied_in old acct) tickets ≡ count + count_served m taken left
+
+-- what is left stays as it is: the queue comes to what it is now
+pub record Ends (m first taken : Amounts) (count : ℕ) (done left tickets : List Ticket) : Type 0 where
+  pub comes : served m first tickets ≡ done ++ left
+  pub sum : sum_served m first tickets ≡ taken
+  pub counted : count_served m first tickets ≡ count
 
 -- so it is with whichever queue is kept
 pub record Serves (old now : Heap) (acct : Acct) (taken : Amounts) (cursor count i : ℕ) : Type 0 where
@@ -152,14 +162,8 @@ module _ {old now : Heap} {acct : Acct} {m taken : Amounts} {cursor count i : �
         let z : count + (1 + n) ≡ count + 1 + n = omega arith in z);
   }
 
-  -- what is left stays as it is
-  pub record Ends : Type 0 where
-    pub comes : served m (occupied_in old acct) tickets ≡ w.done ++ w.left
-    pub sum : sum_served m (occupied_in old acct) tickets ≡ taken
-    pub counted : count_served m (occupied_in old acct) tickets ≡ count
-
   -- for none is left
-  pub ends_with_none : w.left ≡ [] → Ends
+  pub ends_with_none : w.left ≡ [] → Ends m (occupied_in old acct) taken count w.done w.left tickets
   ends_with_none none = record {
     comes = w.comes ∙ ap (λ (l : List Ticket). w.done ++ served m taken l) none
         ∙ ap (λ (l : List Ticket). w.done ++ l) (sym none);
@@ -169,7 +173,8 @@ module _ {old now : Heap} {acct : Acct} {m taken : Amounts} {cursor count i : �
 
   -- for the first of them doesn't fit
   pub ends_with_one : (e : HasFirst w.left) → e.ticket.granted ≡ false →
-      are_within e.ticket.asked (minus m taken) ≡ false → Ends
+      are_within e.ticket.asked (minus m taken) ≡ false →
+      Ends m (occupied_in old acct) taken count w.done w.left tickets
   ends_with_one e g fails = record {
     comes = w.comes ∙ ap (λ (l : List Ticket). w.done ++ served m taken l) e.is
         ∙ ap (λ (l : List Ticket). w.done ++ l) (served-waits m taken e.ticket e.behind g fails)
@@ -213,12 +218,30 @@ module _ {old now : Heap} {acct : Acct} {m taken : Amounts} {cursor count i : �
       let c = w.counted_passed in
       nothing w.left (omega (arith, n, a, l, whole, both, c, small, all))
 
+-- where what is asked fits, the sum fits a word
+pub sum_fits : {m o a : Amounts} → AmountsFit m → AmountsFit o → are_within a (minus m o) ≡ true → AmountsFit (plus o a)
+sum_fits {m} {o} {a} f h e = record {
+  file = let w = within_in a (minus m o) spaces.File e in let x = f.file in let y = h.file in omega (arith, w, x, y);
+  bulk = let w = within_in a (minus m o) spaces.Bulk e in let x = f.bulk in let y = h.bulk in omega (arith, w, x, y);
+  heap = let w = within_in a (minus m o) spaces.Heap e in let x = f.heap in let y = h.heap in omega (arith, w, x, y);
+}
+
 module _ {old now : Heap} {acct : Acct} {taken : Amounts} {cursor count i : ℕ} (s : Serves old now acct taken cursor count i) where
   -- the ticket at the cursor is there
   pub some_here : SomeQueue old acct → cursor ≢ 0 → SomeTicket (now.blocks cursor)
   some_here q n =
       let w = s.serving q.tickets q.keeps in
       record { acct = acct; next = _; ticket = (more q.keeps w n).ticket; keeps = at_cursor q.keeps w (more q.keeps w n) }
+
+  -- so its grant may be written
+  pub inside_here : {value : Queued} → SomeQueue old acct → cursor ≢ 0 → TellsTicket (now.blocks cursor) cursor value →
+      Reaches (now.blocks value.ticket.block) 88
+  inside_here {value} q n t =
+      let w = s.serving q.tickets q.keeps in
+      let e = more q.keeps w n in
+      let one : value.ticket ≡ e.ticket = ap (λ (v : Queued). v.ticket) (read_here q.keeps w e t) in
+      subst (λ p. Reaches (now.blocks p) 88) (cursor_is q.keeps w e ∙ sym (ap (λ (x : Ticket). x.block) one))
+      (reaches_less _ 96 88 (ticket_reaches (some_here q n)) (omega arith))
 
   -- it is passed
   pub passes : {value : Queued} → cursor ≢ 0 → TellsTicket (now.blocks cursor) cursor value → value.ticket.granted ≡ true →
@@ -250,7 +273,8 @@ module _ {old now : Heap} {acct : Acct} {taken : Amounts} {cursor count i : ℕ}
   }
 
   -- the queue was served
-  serves : ((tickets : List Ticket) → (k : KeepsQueue old acct tickets) → Ends k (s.serving tickets k)) →
+  serves : ((tickets : List Ticket) → (k : KeepsQueue old acct tickets) →
+      Ends (maxima_in old acct) (occupied_in old acct) taken count (s.serving tickets k).done (s.serving tickets k).left tickets) →
       ServesQueue acct old now count
   serves ends = record {
     changes = λ tickets k. record {

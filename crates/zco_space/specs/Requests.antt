@@ -34,7 +34,7 @@ request_refusal heap acct asked =
 -- the request isn't refused, and its ticket gets this number
 pub record IsNumbered (acct : Acct) (asked : Amounts) (heap : Heap) (number : ℕ) : Type 0 where
   pub allowed : request_refusal heap acct asked ≡ None
-  pub number : number ≡ heap.roots NEXT_TICKET
+  pub is_next : number ≡ heap.roots NEXT_TICKET
   pub small : number < most_amount
 
 -- why it gets none; or a fault
