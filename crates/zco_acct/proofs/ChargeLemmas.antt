@@ -1,14 +1,13 @@
 -- What a charge comes to, from what its parts do.
-use Rattle.std.proofs.Common.{◌≡◌, ◌≢◌, ◌==◌, ℕ, List, [], ◌∷◌, ◌++◌, Bool, true, false, cond, None, Some, refl, sym, ap, ◌∙◌, subst, arith, eq-eqb}
+use Rattle.std.proofs.Common.{◌≡◌, ℕ, List, [], ◌∷◌, ◌++◌, true, false, cond, None, Some, sym, ap, ◌∙◌, subst, arith, eq-eqb}
 use Rattle.std.specs.Prelude.{Option, find}
 use Rattle.std.specs.Option.{option_or}
-use Rattle.sdr_base.specs.Blocks.{Blocks, Reaches}
+use Rattle.sdr_base.specs.Blocks.{Blocks}
 use Rattle.sdr_base.specs.Entries.{Entries, Stands}
 use Rattle.sdr_base.specs.Making.{besides}
 use Rattle.sdr_base.specs.Objects.{Heap, OnlyUnmoved}
 use Rattle.sdr_base.specs.declared.account.Acct.{Acct}
 use Rattle.sdr_base.specs.declared.account.Amounts.{Amounts}
-use Rattle.sdr_base.specs.declared.kind.Kind.TheVariants as kinds
 use Rattle.sdr_base.specs.declared.refusal.Refusal.{Refusal}
 use Rattle.sdr_base.specs.declared.refusal.Refusal.TheVariants as refusals
 use Rattle.sdr_base.specs.declared.stop.Stop.{Stop}
@@ -18,9 +17,9 @@ use Rattle.sdr_base.proofs.WritingLemmas.{reaches_less}
 use Rattle.sdr_model.specs.Amounts.{minus, plus}
 use Rattle.sdr_model.specs.declared.accounts.Ticket.{Ticket}
 use Rattle.zco_acct.specs.Charges.{ChargesAccount, ChargeStops, SomeGrant, UsesGrant, charged, with_used}
-use Rattle.zco_acct.specs.Kept.{KeepsQueue, SomeQueue, queue_entries}
+use Rattle.zco_acct.specs.Kept.{SomeQueue, queue_entries}
 use Rattle.zco_acct.specs.Refusals.{Allows, GrantsOf, IsGrant, IsUsable, RefusedAs, charge_refusal, left_of, named_ticket, room_refusal, ticket_left, ticket_refusal, uncovered_by, unusable}
-use Rattle.zco_acct.specs.Walks.{IsFirst, Searches, has_number}
+use Rattle.zco_acct.specs.Walks.{has_number}
 use Rattle.zco_acct.specs.Words.{maxima_in, occupied_in, with_occupied}
 use Rattle.zco_acct.specs.declared.queue.Found.{Found}
 use Rattle.zco_acct.proofs.GrantLemmas.{regranted}

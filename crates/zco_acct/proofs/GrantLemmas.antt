@@ -1,6 +1,6 @@
 -- A grant is written in the middle of a queue.
-use Rattle.std.proofs.Common.{◌≡◌, ℕ, List, [], ◌∷◌, ◌++◌, Some, sym, ap, ◌∙◌, subst, append_assoc}
-use Rattle.sdr_base.specs.Blocks.{Block, Blocks, overwritten, with_block}
+use Rattle.std.proofs.Common.{◌≡◌, List, ◌∷◌, ◌++◌, Some, sym, ap, ◌∙◌, subst, append_assoc}
+use Rattle.sdr_base.specs.Blocks.{Blocks, overwritten, with_block}
 use Rattle.sdr_base.specs.Entries.{Entries, Stands}
 use Rattle.sdr_base.specs.Linked.{first_of, last_of, linked}
 use Rattle.sdr_base.specs.declared.account.Acct.{Acct}

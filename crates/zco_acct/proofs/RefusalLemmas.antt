@@ -1,5 +1,5 @@
 -- What was found in the queue, and in the control words, means for a charge.
-use Rattle.std.proofs.Common.{◌≡◌, ◌≢◌, ◌==◌, ℕ, List, Bool, true, false, cond, None, Some, refl, sym, ap, ◌∙◌}
+use Rattle.std.proofs.Common.{◌≡◌, ◌≢◌, ℕ, true, false, cond, None, Some, sym, ap, ◌∙◌}
 use Rattle.std.specs.Prelude.{Option, find}
 use Rattle.std.specs.Option.{option_map, option_or}
 use Rattle.std.proofs.lemmas.Bool.{ne_eqb}
@@ -12,7 +12,7 @@ use Rattle.sdr_base.specs.declared.refusal.Refusal.TheVariants as refusals
 use Rattle.sdr_base.specs.declared.stop.Stop.{Stop}
 use Rattle.sdr_base.specs.declared.stop.Stop.TheVariants.{Refused, DiskFault, MediaFault, Failed}
 use Rattle.sdr_model.specs.Amounts.{first_above, is_nothing, minus}
-use Rattle.sdr_model.specs.Queue.{barrier, front_waiting}
+use Rattle.sdr_model.specs.Queue.{front_waiting}
 use Rattle.sdr_model.specs.declared.accounts.Ticket.{Ticket}
 use Rattle.zco_acct.specs.Refusals.{Allows, GrantsOf, RefusedAs, Refuses, no_space, queue_refusal, room_refusal, ticket_refusal, unusable}
 use Rattle.zco_acct.specs.Walks.{Searches, has_number, waits}

@@ -1,5 +1,5 @@
 -- A ticket's block, as it is read and as its grant is written.
-use Rattle.std.proofs.Common.{◌≡◌, ◌≤◌, ◌<◌, ◌*◌, ◌+◌, ◌-◌, ◌^◌, ◌==◌, ℕ, List, [], ◌∷◌, ◌++◌, length, take, drop, Bool, true, false, Some, refl, sym, ap, ◌∙◌, arith, subst, get_or}
+use Rattle.std.proofs.Common.{◌≡◌, ◌≤◌, ◌<◌, ◌*◌, ◌^◌, ◌==◌, ℕ, List, [], take, drop, Bool, true, false, Some, refl, sym, ap, ◌∙◌, arith, subst, get_or}
 use Rattle.std.specs.Prelude.{Option}
 use Rattle.std.proofs.lemmas.List.{get_or-take, get_or-drop}
 use Rattle.byteorder.specs.Endian.{big_number}
@@ -8,16 +8,14 @@ use Rattle.sdr_base.specs.Sources.{flag_word}
 use Rattle.sdr_base.specs.Stored.{number_at}
 use Rattle.sdr_base.specs.Tickets.{ticket_words}
 use Rattle.sdr_base.specs.Words.{layout}
-use Rattle.sdr_base.specs.ZcoObjects.{account_number}
 use Rattle.sdr_base.specs.declared.account.Acct.{Acct}
-use Rattle.sdr_base.specs.declared.account.Acct.TheVariants as accts
 use Rattle.sdr_base.specs.declared.account.Amounts.{Amounts}
 use Rattle.sdr_base.specs.declared.kind.Kind.TheVariants as kinds
 use Rattle.sdr_base.proofs.LayoutLemmas.{number_at-layout}
 use Rattle.sdr_base.proofs.StoredLemmas.{big_number-same}
-use Rattle.sdr_base.proofs.WritingLemmas.{reaches, reaches_less}
+use Rattle.sdr_base.proofs.WritingLemmas.{reaches}
 use Rattle.sdr_model.specs.declared.accounts.Ticket.{Ticket}
-use Rattle.zco_acct.specs.Kept.{AmountsFit, KeepsTicket, SomeTicket, TicketFits, queued_block, row_of}
+use Rattle.zco_acct.specs.Kept.{KeepsTicket, SomeTicket, queued_block, row_of}
 use Rattle.zco_acct.specs.Tickets.{TellsTicket, amounts_at, grant_bytes, granted_with, queued_at, with_grant}
 use Rattle.sdr_base.specs.Objects.{Heap, with_bytes}
 use Rattle.zco_acct.specs.declared.ticket.Queued.{Queued}

@@ -1,46 +1,60 @@
 -- A new ticket enters a queue.
-use Rattle.std.proofs.Common.{◌≡◌, ◌≢◌, ◌<◌, ◌^◌, ℕ, List, [], ◌∷◌, ◌++◌, length, refl, sym, ap, ◌∙◌, arith, subst, append_assoc, append-nil}
+use Rattle.std.proofs.Common.{◌≡◌, ◌+◌, ◌≢◌, ◌<◌, ◌^◌, ℕ, List, [], ◌∷◌, ◌++◌, refl, sym, ap, ◌∙◌, arith, subst, append_assoc}
 use Rattle.std.specs.Prelude.{All}
 use Rattle.std.proofs.lemmas.List.Elements.{All-cons, All-head, All-tail}
-use Rattle.sdr_base.specs.Blocks.{Block, Blocks, Reaches}
+use Rattle.sdr_base.specs.Blocks.{Blocks, Reaches}
 use Rattle.sdr_base.specs.Entries.{Entries, Stands}
 use Rattle.sdr_base.specs.Linked.{first_of, last_of, linked}
 use Rattle.sdr_base.specs.Making.{Made, besides, with_moves}
 use Rattle.sdr_base.specs.Objects.{Heap, with_root}
-use Rattle.sdr_base.specs.Words.{TakesBytes}
+use Rattle.sdr_base.specs.Sources.{flag_word}
+use Rattle.sdr_base.specs.Words.{TakesBytes, layout}
+use Rattle.sdr_base.specs.ZcoObjects.{account_number}
+use Rattle.sdr_base.specs.declared.kind.Kind.TheVariants as kinds
 use Rattle.sdr_base.specs.declared.account.Acct.{Acct}
 use Rattle.sdr_base.specs.declared.moves.Move.TheVariants.{Took}
-use Rattle.sdr_base.proofs.HeapLemmas.{heap_blocks}
 use Rattle.sdr_base.proofs.LayoutLemmas.{length-layout}
 use Rattle.sdr_base.proofs.LinkedLemmas.{first-append, last-append, linked-append}
 use Rattle.sdr_base.proofs.StandingLemmas.{came}
-use Rattle.sdr_model.specs.Queue.{enqueued}
 use Rattle.sdr_model.specs.declared.accounts.Ticket.{Ticket}
 use Rattle.zco_acct.specs.Kept.{KeepsQueue, SomeQueue, TicketFits, block_of, queue_entries, queued_block}
 use Rattle.zco_acct.specs.Words.{first_word, last_word}
 use Rattle.zco_acct.proofs.GrantLemmas.{queue-around}
 use Rattle.zco_acct.proofs.QueueLemmas.{here, none_at_zero}
 use Rattle.zco_acct.proofs.TicketLemmas.{words}
-use Rattle.zco_space.specs.Links.{Chain, LinksLast, LinksNext, last_if, with_ends}
+use Rattle.zco_space.specs.Links.{Chain, LinksLast, LinksNext, with_ends}
 use Rattle.zco_space.specs.Places.{EntersQueue, FindsPlace, IsNew, IsPlace, TakesTicket, at_addr}
 use Rattle.zco_space.specs.declared.requesting.Place.{Place}
 use Rattle.zco_space.proofs.LinkLemmas.{any_previous, last_reaches}
 use Rattle.zco_space.proofs.RootLemmas.{ends_set, first_of_ends, last_blocks, last_of_ends}
+
+-- the words of a ticket that is new
+pub takes_new : (acct : Acct) (new : Ticket) (next : ℕ) (old mid : Heap) (addr account : ℕ) → IsNew new →
+    account ≡ account_number acct →
+    TakesBytes kinds.Ticket
+    (layout (new.number ∷ account ∷ new.coarse ∷ new.fine ∷ new.asked.file ∷ new.asked.bulk ∷ new.asked.heap ∷ 0 ∷ 0 ∷ 0 ∷ 0
+    ∷ next ∷ []) []) addr old mid → TakesTicket acct new next old mid addr
+takes_new acct new next old mid addr account n e t = record {
+  takes =
+      subst (λ (ws : List ℕ). TakesBytes kinds.Ticket (layout ws []) addr old mid)
+      (λ i. new.number ∷ e i ∷ new.coarse ∷ new.fine ∷ new.asked.file ∷ new.asked.bulk ∷ new.asked.heap
+      ∷ (sym n.left i).file ∷ (sym n.left i).bulk ∷ (sym n.left i).heap ∷ flag_word (sym n.waiting i) ∷ next ∷ []) t;
+}
 
 -- the ticket's block was taken
 pub took_ticket : {acct : Acct} {new : Ticket} {next addr : ℕ} {old mid : Heap} → TakesTicket acct new next old mid addr →
     Made (Took 96 addr ∷ []) old mid
 took_ticket {acct} {new} {next} {addr} {old} {mid} t = record {
   all =
-      ap besides t.taken
+      ap besides t.takes.taken
       ∙ ap (λ n. besides (with_moves old (Took n addr ∷ [])))
       (let l = length-layout (words acct next new) [] in let z : 96 + 0 ≡ 96 = omega arith in l ∙ z);
 }
 
 -- the numbers of the tickets fit still
-pub All-entered : {new : Ticket} {addr : ℕ} → IsNew new → addr < 2 ^ 64 → (xs ys : List Ticket) →
+pub All-entered : {new : Ticket} (addr : ℕ) → IsNew new → addr < 2 ^ 64 → (xs ys : List Ticket) →
     All TicketFits (xs ++ ys) → All TicketFits (xs ++ (at_addr new addr ∷ ys))
-All-entered {new} {addr} n small [] ys g =
+All-entered {new} addr n small [] ys g =
     All-cons TicketFits (at_addr new addr) ys
     (record {
       block = small;
@@ -50,21 +64,21 @@ All-entered {new} {addr} n small [] ys g =
       asked = n.fits.asked;
       left = n.fits.left;
     }) g
-All-entered {new} {addr} n small (x ∷ xs) ys g =
+All-entered {new} addr n small (x ∷ xs) ys g =
     All-cons TicketFits x (xs ++ (at_addr new addr ∷ ys)) (All-head TicketFits x (xs ++ ys) g)
-    (All-entered n small xs ys (All-tail TicketFits x (xs ++ ys) g))
+    (All-entered addr n small xs ys (All-tail TicketFits x (xs ++ ys) g))
+
+-- what stands behind those before it
+abbrev from_it : Acct → Ticket → ℕ → ℕ → List Ticket → List Ticket → Entries → Entries
+from_it acct new next addr xs ys rest =
+    (addr, queued_block acct 0 next (at_addr new addr)) ∷ (linked block_of (queued_block acct) (last_of block_of 0 xs) 0 ys ++ rest)
 
 module _ {acct : Acct} {new : Ticket} {place : Place} {addr : ℕ} {old mid : Heap}
     (t : TakesTicket acct new place.next old mid addr) where
-  -- what stands behind those before it
-  abbrev from_it : List Ticket → List Ticket → Entries → Entries
-  from_it xs ys rest =
-      (addr, queued_block acct 0 place.next (at_addr new addr)) ∷ (linked block_of (queued_block acct) (last_of block_of 0 xs) 0 ys ++ rest)
-
   -- the queue is opened at its place
   pub opened : {tickets : List Ticket} → KeepsQueue old acct tickets → (p : IsPlace new tickets place) → (rest : Entries) →
       Stands old.blocks (queue_entries acct tickets ++ rest) →
-      Chain mid acct p.before (first_of block_of 0 p.behind) (from_it p.before p.behind rest)
+      Chain mid acct p.before (first_of block_of 0 p.behind) (from_it acct new place.next addr p.before p.behind rest)
   opened {tickets} k p rest s =
       let xs = p.before in
       let ys = p.behind in
@@ -78,9 +92,9 @@ module _ {acct : Acct} {new : Ticket} {place : Place} {addr : ℕ} {old mid : He
       record {
         stands =
             subst (λ (b : Blocks). Stands b (A ++ ((addr, queued_block acct 0 place.next (at_addr new addr)) ∷ (B ++ rest))))
-            (sym (ap (λ (h : Heap). h.blocks) t.taken))
-            (came old.blocks addr (queued_block acct 0 place.next (at_addr new addr)) A (B ++ rest) t.nonzero t.fresh cut);
-        first = ap (λ (h : Heap). h.roots (first_word acct)) t.taken ∙ k.first ∙ ap (first_of block_of 0) p.whole
+            (sym (ap (λ (h : Heap). h.blocks) t.takes.taken))
+            (came old.blocks addr (queued_block acct 0 place.next (at_addr new addr)) A (B ++ rest) t.takes.nonzero t.takes.fresh cut);
+        first = ap (λ (h : Heap). h.roots (first_word acct)) t.takes.taken ∙ k.first ∙ ap (first_of block_of 0) p.whole
             ∙ first-append block_of (queued_block acct) 0 xs ys;
       }
 
@@ -93,13 +107,13 @@ module _ {acct : Acct} {new : Ticket} {place : Place} {addr : ℕ} {old mid : He
 
   module _ {lk now : Heap} (l : LinksNext acct place.previous addr mid lk) (e : LinksLast acct place.next addr lk now) where
     chain : {tickets : List Ticket} → KeepsQueue old acct tickets → (p : IsPlace new tickets place) → (rest : Entries) →
-        Stands old.blocks (queue_entries acct tickets ++ rest) → Chain lk acct p.before addr (from_it p.before p.behind rest)
+        Stands old.blocks (queue_entries acct tickets ++ rest) → Chain lk acct p.before addr (from_it acct new place.next addr p.before p.behind rest)
     chain k p rest s =
-        l.links p.before (first_of block_of 0 p.behind) (from_it p.before p.behind rest) p.at_previous (opened k p rest s)
+        l.links p.before (first_of block_of 0 p.behind) (from_it acct new place.next addr p.before p.behind rest) p.at_previous (opened k p rest s)
 
     -- linked on either side, it stands in the queue
     joined : {tickets : List Ticket} (p : IsPlace new tickets place) (rest : Entries) →
-        linked block_of (queued_block acct) 0 addr p.before ++ from_it p.before p.behind rest
+        linked block_of (queued_block acct) 0 addr p.before ++ from_it acct new place.next addr p.before p.behind rest
         ≡ queue_entries acct (p.before ++ (at_addr new addr ∷ p.behind)) ++ rest
     joined p rest =
         let xs = p.before in
@@ -168,9 +182,9 @@ module _ {acct : Acct} {new : Ticket} {place : Place} {addr : ℕ} {old mid : He
     pub enters : IsNew new → FindsPlace acct new old place → EntersQueue acct new old now addr
     enters n f = record {
       adds = λ tickets k. record {
-        nonzero = t.nonzero;
-        small = t.small;
-        fresh = t.fresh;
+        nonzero = t.takes.nonzero;
+        small = t.takes.small;
+        fresh = t.takes.fresh;
         changes = record {
           kept = λ rest s.
               let p = f.finds tickets k in
@@ -182,13 +196,13 @@ module _ {acct : Acct} {new : Ticket} {place : Place} {addr : ℕ} {old mid : He
           let p = f.finds tickets k in
           let queue = p.before ++ (at_addr new addr ∷ p.behind) in
           let base = with_moves old (Took 96 addr ∷ []) in
-          let small = t.small in
+          let small = t.takes.small in
           subst (KeepsQueue now acct) (sym (p.enters addr)) (record {
             rest = k.rest;
             stands = stands_of k p k.rest k.stands;
             first = ap (λ (h : Heap). h.roots (first_word acct)) (rest_of k p) ∙ first_of_ends base acct queue;
             last = ap (λ (h : Heap). h.roots (last_word acct)) (rest_of k p) ∙ last_of_ends base acct queue;
-            fits = All-entered n (omega (arith, small)) p.before p.behind (subst (All TicketFits) p.whole k.fits);
+            fits = All-entered addr n (omega (arith, small)) p.before p.behind (subst (All TicketFits) p.whole k.fits);
           });
       others = λ tickets k.
           let p = f.finds tickets k in

@@ -1,5 +1,5 @@
 -- A ticket by its number, in the queue of either account.
-use Rattle.std.proofs.Common.{◌≡◌, ℕ, List, ◌++◌, Bool, true, false, cond, None, Some, refl, sym, ap, ◌∙◌}
+use Rattle.std.proofs.Common.{◌≡◌, ℕ, List, true, false, cond, None, Some, refl, ap, ◌∙◌}
 use Rattle.std.specs.Prelude.{Option, find}
 use Rattle.std.specs.Option.{option_map, option_or}
 use Rattle.std.proofs.lemmas.List.Folds.{find-append}
@@ -13,7 +13,7 @@ use Rattle.zco_acct.specs.Refusals.{unusable}
 use Rattle.zco_acct.specs.Walks.{Searches, has_number}
 use Rattle.zco_acct.specs.declared.queue.Found.{Found}
 use Rattle.zco_acct.proofs.QueueLemmas.{found_is}
-use Rattle.zco_space.specs.Located.{IsAwarded, RefusesAward, StandsIn, StandsNowhere, award_refusal}
+use Rattle.zco_space.specs.Located.{IsAwarded, RefusesAward, StandsIn, StandsNowhere}
 use Rattle.zco_space.specs.Shreds.{LacksTicket, SomeFirst, located, queue_of}
 
 -- it stands in the inbound queue
@@ -50,6 +50,16 @@ located_is {heap} {number} accts.Outbound found s inbound outbound k l =
     ((s.before refl).searched inbound k)
     ∙ ap (option_map (λ (t : Ticket). (accts.Outbound, t))) (found_is (s.first.searched outbound l))
 
+-- one of both queues
+pub queue_kept : {heap : Heap} (acct : Acct) → SomeQueue heap accts.Inbound → SomeQueue heap accts.Outbound → SomeQueue heap acct
+queue_kept accts.Inbound k l = k
+queue_kept accts.Outbound k l = l
+
+pub kept_of : {heap : Heap} (acct : Acct) {inbound outbound : List Ticket} → KeepsQueue heap accts.Inbound inbound →
+    KeepsQueue heap accts.Outbound outbound → KeepsQueue heap acct (queue_of acct inbound outbound)
+kept_of accts.Inbound k l = k
+kept_of accts.Outbound k l = l
+
 module _ {heap : Heap} {number : ℕ} where
   pub awarded : (acct : Acct) (found : Found) → StandsIn heap number acct found → found.ticket.granted ≡ true →
       IsAwarded heap number
@@ -85,16 +95,6 @@ module _ {heap : Heap} {number : ℕ} where
         (s.inbound.searched inbound k)
         ∙ ap (option_map (λ (t : Ticket). (accts.Outbound, t))) (s.outbound.searched outbound l);
   }
-
-  -- one of both queues
-  pub queue_kept : (acct : Acct) → SomeQueue heap accts.Inbound → SomeQueue heap accts.Outbound → SomeQueue heap acct
-  queue_kept accts.Inbound k l = k
-  queue_kept accts.Outbound k l = l
-
-  pub kept_of : (acct : Acct) {inbound outbound : List Ticket} → KeepsQueue heap accts.Inbound inbound →
-      KeepsQueue heap accts.Outbound outbound → KeepsQueue heap acct (queue_of acct inbound outbound)
-  kept_of accts.Inbound k l = k
-  kept_of accts.Outbound k l = l
 
   pub some_first : (acct : Acct) (found : Found) → StandsIn heap number acct found → SomeQueue heap acct →
       SomeFirst acct found heap

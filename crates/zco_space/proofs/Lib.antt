@@ -1,3 +1,4 @@
+mod StopLemmas
 mod RootLemmas
 mod ServedLemmas
 pub mod ServingLemmas

@@ -39,9 +39,9 @@ without number (x ∷ xs) t ys n is =
       | false ↦ λ k. ap (λ (l : List Ticket). x ∷ l) (without number xs t ys k is)
     ] n
 
-pub without_is : {number : ℕ} {tickets : List Ticket} {found : Found} → (f : IsFirst (has_number number) tickets found) →
+pub without_is : (number : ℕ) {tickets : List Ticket} {found : Found} → (f : IsFirst (has_number number) tickets found) →
     without_number number tickets ≡ f.before ++ f.behind
-without_is {number} {tickets} {found} f =
+without_is number {tickets} {found} f =
     ap (without_number number) f.whole ∙ without number f.before found.ticket f.behind f.none f.passes
 
 -- their numbers fit still
@@ -81,7 +81,7 @@ opened {heap} {acct} {test} {tickets} {found} k f rest s =
       first = k.first ∙ ap (first_of block_of 0) f.whole ∙ first-append block_of (queued_block acct) 0 xs (t ∷ ys);
     }
 
-module _ {acct : Acct} {found_one : Found} {old mid last : Heap}
+module _ {acct : Acct} (found_one : Found) {old mid last : Heap}
     (l : LinksNext acct found_one.previous found_one.next old mid)
     (e : LinksLast acct found_one.next found_one.previous mid last) where
   linked_past : {test : Ticket → Bool} {tickets : List Ticket} → KeepsQueue old acct tickets →

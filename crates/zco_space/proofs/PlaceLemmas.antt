@@ -2,17 +2,14 @@
 use Rattle.std.proofs.Common.{◌≡◌, ◌+◌, ℕ, suc, List, [], ◌∷◌, ◌++◌, Bool, true, false, cond, None, Some, refl, sym, ap, ◌∙◌, arith, append-nil}
 use Rattle.std.specs.Prelude.{find, insert, not}
 use Rattle.std.specs.List.{prefix_len}
-use Rattle.sdr_base.specs.Linked.{first_of, last_of}
 use Rattle.sdr_base.specs.Objects.{Heap}
 use Rattle.sdr_base.specs.declared.account.Acct.{Acct}
 use Rattle.sdr_model.specs.Queue.{enqueued, stands_before}
 use Rattle.sdr_model.specs.declared.accounts.Ticket.{Ticket}
-use Rattle.zco_acct.specs.Kept.{KeepsQueue, block_of}
 use Rattle.zco_acct.specs.Walks.{Searches, is_behind}
 use Rattle.zco_acct.specs.Words.{last_word}
 use Rattle.zco_acct.specs.declared.queue.Found.{Found}
 use Rattle.zco_space.specs.Places.{FindsPlace, at_addr}
-use Rattle.zco_space.specs.declared.requesting.Place.{Place}
 
 not_true : (b : Bool) → not b ≡ true → b ≡ false
 not_true true e = cc

@@ -1,13 +1,13 @@
 -- A new ticket gets its number and its place, and the queue is served.
-use Rattle.std.proofs.Common.{◌≡◌, ◌≤◌, ◌<◌, ◌+◌, ℕ, List, [], ◌∷◌, ◌++◌, Bool, true, false, cond, None, Some, refl, sym, ap, ◌∙◌, arith, subst, take, drop}
-use Rattle.std.specs.Prelude.{Option, find, nat_le}
+use Rattle.std.proofs.Common.{◌≡◌, ◌≤◌, ◌<◌, ◌+◌, ℕ, List, [], ◌∷◌, ◌++◌, Bool, true, false, cond, None, Some, refl, sym, ap, ◌∙◌, subst, take, drop}
+use Rattle.std.specs.Prelude.{Option, nat_le}
 use Rattle.std.specs.List.{prefix_len}
 use Rattle.std.specs.Option.{option_map, option_map_or, option_or}
 use Rattle.std.proofs.lemmas.Bool.{le-leb, lt-leb}
 use Rattle.sdr_base.specs.Blocks.{Blocks}
 use Rattle.sdr_base.specs.Entries.{Stands}
 use Rattle.sdr_base.specs.Making.{besides, with_moves}
-use Rattle.sdr_base.specs.Objects.{Heap, OnlyShort, OnlyUnmoved, TookNoMore, with_root}
+use Rattle.sdr_base.specs.Objects.{Heap, OnlyShort, OnlyUnmoved, with_root}
 use Rattle.sdr_base.specs.declared.account.Acct.{Acct}
 use Rattle.sdr_base.specs.declared.account.Amounts.{Amounts}
 use Rattle.sdr_base.specs.declared.kind.Space.{Space}
@@ -50,12 +50,12 @@ told_none s = record {
 }
 
 -- a number is given, or why not
-module _ {heap : Heap} {acct : Acct} (asked : Amounts) (most : Amounts) (m : most ≡ maxima_in heap acct) where
+abbrev used_up : Bool → Option Refusal
+used_up b = cond b (Some (refusals.BadTicket most_amount)) None
+
+module _ (heap : Heap) (acct : Acct) (asked most : Amounts) (m : most ≡ maxima_in heap acct) where
   abbrev above : Option Space → Option Refusal
   above = option_map (λ (space : Space). refusals.TooLarge space (amount asked space) (amount (maxima_in heap acct) space))
-
-  abbrev used_up : Bool → Option Refusal
-  used_up b = cond b (Some (refusals.BadTicket most_amount)) None
 
   pub too_large : (space : Space) → first_above asked most ≡ Some space →
       request_refusal heap acct asked ≡ Some (refusals.TooLarge space (amount asked space) (amount most space))
@@ -85,24 +85,24 @@ module _ {heap : Heap} {acct : Acct} (asked : Amounts) (most : Amounts) (m : mos
   }
 
 -- a request is refused for want of a number, or of room
-pub stops_unnumbered : {acct : Acct} {asked : Amounts} {old : Heap} (new : Heap) (stop : Stop) → new ≡ old →
+pub stops_unnumbered : (acct : Acct) (asked : Amounts) (old new : Heap) (stop : Stop) → new ≡ old →
     NumberStops acct asked old stop → RequestStops acct asked old new stop
-stops_unnumbered new (Refused (refusals.TooLarge space much most)) same s = (s, same)
-stops_unnumbered new (Refused (refusals.BadTicket ticket)) same s = (s, same)
-stops_unnumbered new (Refused refusal) same s = absurd s
-stops_unnumbered new DiskFault same s = s
-stops_unnumbered new MediaFault same s = s
-stops_unnumbered new Failed same s = s
+stops_unnumbered acct asked old new (Refused (refusals.TooLarge space much most)) same s = (s, same)
+stops_unnumbered acct asked old new (Refused (refusals.BadTicket ticket)) same s = (s, same)
+stops_unnumbered acct asked old new (Refused refusal) same s = absurd s
+stops_unnumbered acct asked old new DiskFault same s = s
+stops_unnumbered acct asked old new MediaFault same s = s
+stops_unnumbered acct asked old new Failed same s = s
 
 -- or for want of a block or of log room
-pub stops_short : {acct : Acct} {asked : Amounts} {old : Heap} (new : Heap) (stop : Stop) →
+pub stops_short : (acct : Acct) (asked : Amounts) (old new : Heap) (stop : Stop) →
     request_refusal old acct asked ≡ None → OnlyShort 96 old new stop → RequestStops acct asked old new stop
-stops_short new (Refused (refusals.NoBlock need)) a u = (a, u)
-stops_short new (Refused (refusals.LogFull lines room)) a u = (a, u)
-stops_short new (Refused refusal) a u = absurd u
-stops_short new DiskFault a u = tt
-stops_short new MediaFault a u = absurd u
-stops_short new Failed a u = tt
+stops_short acct asked old new (Refused (refusals.NoBlock need)) a u = (a, u)
+stops_short acct asked old new (Refused (refusals.LogFull lines room)) a u = (a, u)
+stops_short acct asked old new (Refused refusal) a u = absurd u
+stops_short acct asked old new DiskFault a u = tt
+stops_short acct asked old new MediaFault a u = absurd u
+stops_short acct asked old new Failed a u = tt
 
 -- a stop once the ticket is in its queue
 pub short_since : {acct : Acct} {new : Ticket} {addr : ℕ} {old mid : Heap} (back last : Heap) (stop : Stop) → SomeQueue old acct →
@@ -135,7 +135,7 @@ moved_there heap acct asked coarse fine tickets addr =
 abbrev pub asking : ℕ → Amounts → ℕ → ℕ → Ticket
 asking number asked coarse fine = new_ticket number 0 asked coarse fine
 
-module _ {acct : Acct} {asked : Amounts} {coarse fine number addr : ℕ} {old mid back : Heap}
+module _ {acct : Acct} (asked : Amounts) (coarse fine : ℕ) {number addr : ℕ} {old mid back : Heap}
     (n : IsNumbered acct asked old number)
     (e : EntersQueue acct (asking number asked coarse fine) old mid addr)
     (w : back ≡ with_root mid 108 (number + 1)) where

@@ -3,7 +3,6 @@ use Rattle.std.proofs.Common.{◌≡◌, ◌≤◌, ◌+◌, ◌-◌, ℕ, List,
 use Rattle.std.specs.Prelude.{All, IfSome, count_by, not}
 use Rattle.std.proofs.lemmas.List.Elements.{All-cons, All-head, All-tail}
 use Rattle.std.proofs.lemmas.List.Sums.{sum_by-cons}
-use Rattle.std.specs.List.{sum_by}
 use Rattle.sdr_base.specs.Linked.{first_of, last_of}
 use Rattle.sdr_base.specs.declared.account.Amounts.{Amounts}
 use Rattle.sdr_base.specs.declared.kind.Space.{Space}
@@ -86,6 +85,10 @@ by_case P true b f g h = f refl
 by_case P false true f g h = g refl refl
 by_case P false false f g h = h refl refl
 
+-- a number that isn't chosen
+nothing_for : (b : Bool) (n : ℕ) → b ≡ false → cond b n 0 ≡ 0
+nothing_for b n e = ap (λ v. cond v n 0) e
+
 -- what a ticket asks of a space, where it is granted
 granted-cons : (space : Space) (t : Ticket) (ts : List Ticket) →
     granted_in space (t ∷ ts) ≡ cond t.granted (amount t.asked space) 0 + granted_in space ts
@@ -150,7 +153,7 @@ count_is m o (t ∷ ts) =
     (λ e f.
     let ih = count_is m (plus o t.asked) ts in
     let now = ap (λ (l : List Ticket). count_by (λ (t : Ticket). t.granted) l) (served-fits m o t ts e f) in
-    let none : cond t.granted 1 0 ≡ 0 = ap (λ b. cond b 1 0) e in
+    let none = nothing_for t.granted 1 e in
     omega (
       arith,
       ih,

@@ -1,7 +1,7 @@
 -- A queue is served, ticket by ticket.
-use Rattle.std.proofs.Common.{inl, inr, ◌≡◌, ◌≢◌, ◌≤◌, ◌<◌, ◌+◌, ◌*◌, ◌^◌, ℕ, List, [], ◌∷◌, ◌++◌, length, true, false, None, Some, refl, sym, ap, ◌∙◌, arith, subst, append_assoc, append-nil, length-append}
+use Rattle.std.proofs.Common.{inl, inr, ◌≡◌, ◌≢◌, ◌≤◌, ◌+◌, ◌*◌, ℕ, List, [], ◌∷◌, ◌++◌, length, true, false, None, Some, refl, sym, ap, ◌∙◌, arith, subst, append_assoc, length-append}
 use Rattle.std.specs.Prelude.{All, IfSome, ◌⊎◌}
-use Rattle.sdr_base.specs.Blocks.{Blocks, Reaches}
+use Rattle.sdr_base.specs.Blocks.{Reaches}
 use Rattle.sdr_base.specs.Entries.{Entries, Few, Stands}
 use Rattle.sdr_base.specs.Linked.{first_of}
 use Rattle.sdr_base.specs.Making.{besides}
@@ -26,7 +26,7 @@ use Rattle.zco_acct.proofs.GrantLemmas.{regranted}
 use Rattle.zco_acct.proofs.MoveLemmas.{unmoved_since}
 use Rattle.zco_acct.proofs.TicketLemmas.{ticket_reaches}
 use Rattle.zco_acct.proofs.QueueLemmas.{HasFirst, empty_or, fits_from, has_first, stands_there}
-use Rattle.zco_space.specs.Served.{GrantsTicket, ServesQueue, newly_granted, occupied_after, queue_served}
+use Rattle.zco_space.specs.Served.{GrantsTicket, ServesQueue, newly_granted, queue_served}
 use Rattle.zco_space.proofs.RootLemmas.{first_of_occupied, last_of_occupied, occupied_again, occupied_same}
 use Rattle.zco_space.proofs.ServedLemmas.{All-served, count-fits, count-granted, count-waits, count_after, count_served, first-served, front_waits, last-served, served-fits, served-granted, served-waits, sum-fits, sum-granted, sum-waits, sum_after, sum_served}
 
@@ -219,8 +219,8 @@ module _ {old now : Heap} {acct : Acct} {m taken : Amounts} {cursor count i : �
       nothing w.left (omega (arith, n, a, l, whole, both, c, small, all))
 
 -- where what is asked fits, the sum fits a word
-pub sum_fits : {m o a : Amounts} → AmountsFit m → AmountsFit o → are_within a (minus m o) ≡ true → AmountsFit (plus o a)
-sum_fits {m} {o} {a} f h e = record {
+pub sum_fits : {m o : Amounts} (a : Amounts) → AmountsFit m → AmountsFit o → are_within a (minus m o) ≡ true → AmountsFit (plus o a)
+sum_fits {m} {o} a f h e = record {
   file = let w = within_in a (minus m o) spaces.File e in let x = f.file in let y = h.file in omega (arith, w, x, y);
   bulk = let w = within_in a (minus m o) spaces.Bulk e in let x = f.bulk in let y = h.bulk in omega (arith, w, x, y);
   heap = let w = within_in a (minus m o) spaces.Heap e in let x = f.heap in let y = h.heap in omega (arith, w, x, y);
@@ -357,4 +357,4 @@ module _ {old now : Heap} {acct : Acct} {taken : Amounts} {cursor count i : ℕ}
   pub unmoved : (next : Heap) (stop : Stop) → OnlyUnmoved now next stop → SomeQueue old acct → OnlyUnmoved old next stop
   unmoved next stop u q =
       let o = (s.serving q.tickets q.keeps).others in
-      unmoved_since next stop (ap (λ (h : Heap). h.moves) o) (ap (λ (h : Heap). h.spare) o) u
+      unmoved_since old now next stop (ap (λ (h : Heap). h.moves) o) (ap (λ (h : Heap). h.spare) o) u

@@ -1,5 +1,5 @@
 -- A ticket goes, what was left of it is given back, and the queue is served.
-use Rattle.std.proofs.Common.{◌≡◌, ◌-◌, ℕ, List, [], ◌∷◌, ◌++◌, length, Some, refl, sym, ap, ◌∙◌, arith, subst, append-nil}
+use Rattle.std.proofs.Common.{◌≡◌, ℕ, List, [], ◌∷◌, ◌++◌, refl, sym, ap, ◌∙◌, arith, subst, append-nil}
 use Rattle.std.specs.Option.{option_map_or}
 use Rattle.std.specs.Prelude.{Option}
 use Rattle.sdr_base.specs.Blocks.{Blocks}
@@ -18,7 +18,7 @@ use Rattle.sdr_model.specs.Amounts.{minus}
 use Rattle.sdr_model.specs.Queue.{served}
 use Rattle.sdr_model.specs.declared.accounts.Ticket.{Ticket}
 use Rattle.zco_acct.specs.Kept.{KeepsQueue, SomeQueue, queue_entries}
-use Rattle.zco_acct.specs.Walks.{IsFirst, has_number}
+use Rattle.zco_acct.specs.Walks.{has_number}
 use Rattle.zco_acct.specs.Words.{first_word, last_word, maxima_in, occupied_in, with_occupied}
 use Rattle.zco_acct.specs.declared.queue.Found.{Found}
 use Rattle.zco_space.specs.Links.{with_ends}
@@ -38,7 +38,7 @@ module _ {number : ℕ} {acct : Acct} {found : Found} {old mid back : Heap} (s :
     kept_back =
         let m = t.keeps (has_number number) tickets k (s.first.searched tickets k) in
         let amounts = minus (occupied_in mid acct) found.ticket.left in
-        subst (KeepsQueue back acct) (sym (without_is (s.first.searched tickets k))) (record {
+        subst (KeepsQueue back acct) (sym (without_is number (s.first.searched tickets k))) (record {
           rest = m.rest;
           stands = subst (λ (b : Blocks). Stands b (queue_entries acct ((s.first.searched tickets k).before
               ++ (s.first.searched tickets k).behind) ++ m.rest)) (sym (heap_blocks w)) m.stands;
@@ -81,7 +81,7 @@ module _ {number : ℕ} {acct : Acct} {found : Found} {old mid back : Heap} (s :
           let f = s.first.searched tickets k in
           subst (λ (q : List Ticket). Stands new.blocks (queue_entries acct q ++ rest)) (served_back k)
           ((v.changes (without_number number tickets) (kept_back k)).kept rest
-          (subst (λ (q : List Ticket). Stands back.blocks (queue_entries acct q ++ rest)) (sym (without_is f))
+          (subst (λ (q : List Ticket). Stands back.blocks (queue_entries acct q ++ rest)) (sym (without_is number f))
           (subst (λ (b : Blocks). Stands b (queue_entries acct (f.before ++ f.behind) ++ rest)) (sym (heap_blocks w))
           ((t.changes (has_number number) tickets k f).kept rest z))));
     };
@@ -95,7 +95,7 @@ module _ {number : ℕ} {acct : Acct} {found : Found} {old mid back : Heap} (s :
         ∙ ap (λ (h : Heap). besides (with_occupied h acct after)) w
         ∙ ap besides (occupied_again mid acct amounts after)
         ∙ ap (λ (h : Heap). with_occupied h acct after) (t.others (has_number number) tickets k f)
-        ∙ ap (λ (l : List Ticket). besides (with_occupied (with_ends home acct l) acct after)) (sym (without_is f))
+        ∙ ap (λ (l : List Ticket). besides (with_occupied (with_ends home acct l) acct after)) (sym (without_is number f))
         ∙ ap (λ (a : Amounts). besides (with_occupied (with_ends home acct q) acct
         (occupied_after a q (queue_served back acct q)))) (occupied_back k)
         ∙ ap (λ (l : List Ticket). besides (with_occupied (with_ends home acct q) acct

@@ -27,8 +27,8 @@ abbrev pub at_addr : Ticket → ℕ → Ticket
 at_addr t addr = record t { block = addr }
 
 -- a block for a ticket was taken, before another
-abbrev pub TakesTicket : Acct → Ticket → ℕ → Heap → Heap → ℕ → Type 0
-TakesTicket acct t next old new addr = TakesBytes kinds.Ticket (layout (ticket_words acct next (row_of t)) []) addr old new
+pub record TakesTicket (acct : Acct) (t : Ticket) (next : ℕ) (old new : Heap) (addr : ℕ) : Type 0 where
+  pub takes : TakesBytes kinds.Ticket (layout (ticket_words acct next (row_of t)) []) addr old new
 
 -- this is where a new ticket goes in a queue
 pub record IsPlace (new : Ticket) (tickets : List Ticket) (place : Place) : Type 0 where

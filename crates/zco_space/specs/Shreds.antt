@@ -1,9 +1,9 @@
 -- What the end of a ticket comes to, and why it is refused.
-use Rattle.std.specs.Prelude.{◌≡◌, ◌==◌, ◌-◌, ℕ, Bool, List, [], ◌∷◌, ◌++◌, length, find, Option, None, Some, if◌then◌else◌}
+use Rattle.std.specs.Prelude.{◌≡◌, ◌-◌, ℕ, Bool, List, [], ◌∷◌, ◌++◌, length, find, Option, None, Some, if◌then◌else◌}
 use Rattle.std.specs.Option.{option_map, option_map_or, option_or}
 use Rattle.sdr_base.specs.Entries.{Changes}
 use Rattle.sdr_base.specs.Making.{besides, with_moves}
-use Rattle.sdr_base.specs.Objects.{AreFirstOf, Heap, OnlyFault, OnlyUnmoved}
+use Rattle.sdr_base.specs.Objects.{AreFirstOf, Heap, OnlyFault}
 use Rattle.sdr_base.specs.declared.account.Acct.{Acct}
 use Rattle.sdr_base.specs.declared.account.Acct.TheVariants as accts
 use Rattle.sdr_base.specs.declared.account.Amounts.{Amounts}

@@ -36,16 +36,17 @@ pub fn request<O: Objects, F: Notify>(
     ensures refused { IfErr result (RequestStops acct asked.now (O.heap o.old) (O.heap o.new)) }
     ensures works { (tickets : List GhostTicket) → KeepsQueue (O.heap o.old) acct tickets →
         Works O.HasHeap
-            (33 + 32 * requests_granted (O.heap o.old) acct asked.now coarse fine tickets)
-            o.old o.new result }
+        (33 + 32 * requests_granted (O.heap o.old) acct asked.now coarse fine tickets)
+        o.old o.new result }
 {
     let number = next_number(o, acct, asked)?;
+    let Amounts { file, bulk, heap } = *asked;
     let new = Ticket {
         block: 0,
         number,
         coarse,
         fine,
-        asked: *asked,
+        asked: Amounts { file, bulk, heap },
         left: NOTHING,
         granted: false,
     };

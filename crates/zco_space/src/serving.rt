@@ -15,7 +15,8 @@ use sdr_base::{Acct, Amounts, Objects, Stop};
 use sdr_model::Ticket;
 use sdr_parts::amounts::{minus, plus};
 use zco_acct::{
-    MOST_TICKETS, Notice, Notify, first_word, maxima, occupied, put_grant, read_ticket, set_occupied,
+    MOST_TICKETS, Notice, Notify, first_word, maxima, occupied, put_grant, read_ticket,
+    set_occupied,
 };
 
 /// Serves the queue of an account, and answers how many tickets it has granted: the first that waits is granted while
@@ -27,7 +28,7 @@ pub fn serve<O: Objects, F: Notify>(o: &mut O, acct: Acct, notice: &Notice<F>) -
     ensures refused { IfErr result (OnlyUnmoved (O.heap o.old) (O.heap o.new)) }
     ensures works { (tickets : List GhostTicket) → KeepsQueue (O.heap o.old) acct tickets →
         Works O.HasHeap (32 * newly_granted tickets (queue_served (O.heap o.old) acct tickets))
-            o.old o.new result }
+        o.old o.new result }
 {
     let most = maxima(o, acct)?;
     let mut taken = occupied(o, acct)?;
@@ -53,7 +54,12 @@ pub fn serve<O: Objects, F: Notify>(o: &mut O, acct: Acct, notice: &Notice<F>) -
 }
 
 // Grants a ticket all that it asks, and answers what is occupied in the account then.
-fn grant<O: Objects>(o: &mut O, acct: Acct, ticket: &Ticket, taken: &Amounts) -> Result<Amounts, Stop>
+fn grant<O: Objects>(
+    o: &mut O,
+    acct: Acct,
+    ticket: &Ticket,
+    taken: &Amounts,
+) -> Result<Amounts, Stop>
     requires kept { KeepsSome (O.keeps o.old) }
     requires inside { UsesRange (O.heap o.old).blocks ticket.now.block 56 32 }
     requires fits { AmountsFit (plus taken.now ticket.now.asked) }

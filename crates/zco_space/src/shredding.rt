@@ -27,7 +27,7 @@ pub fn shred<O: Objects, F: Notify>(o: &mut O, ticket: u64, notice: &Notice<F>) 
         KeepsQueue (O.heap o.old) accts.Inbound inbound →
         KeepsQueue (O.heap o.old) accts.Outbound outbound →
         Works O.HasHeap (30 + 32 * shreds_granted (O.heap o.old) ticket inbound outbound)
-            o.old o.new result }
+        o.old o.new result }
 {
     let Some(standing) = find_ticket(o, ticket)? else {
         return Err(Stop::Refused(Refusal::BadTicket { ticket }));

@@ -4,9 +4,9 @@ use Rattle.std.proofs.lemmas.Result.{IfErr-weaker, on_ok_weaker}
 use Rattle.sdr_base.specs.Objects.{Heap}
 use Rattle.sdr_model.specs.Amounts.{minus, plus}
 use Rattle.zco_acct.specs.Charges.{ChargeStops}
-use Rattle.zco_acct.specs.Refusals.{Allows, RefusedAs, left_of, room_refusal}
+use Rattle.zco_acct.specs.Refusals.{Allows, RefusedAs, room_refusal}
 use Rattle.zco_acct.specs.Words.{maxima_in, occupied_in}
-use Rattle.zco_acct.proofs.ChargeLemmas.{charges, may_charge, some_grant, stops_full, stops_room, stops_ticket, used_besides}
+use Rattle.zco_acct.proofs.ChargeLemmas.{charges, may_charge, some_grant, stops_full, stops_room, used_besides}
 use Rattle.zco_acct.proofs.MoveLemmas.{unmoved_since}
 use Rattle.zco_acct.proofs.charging.charge.Goals as goal
 

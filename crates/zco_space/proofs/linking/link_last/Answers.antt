@@ -2,7 +2,7 @@
 use Rattle.std.proofs.Common.{◌∙◌, ap}
 use Rattle.std.proofs.lemmas.Result.{on_ok_weaker}
 use Rattle.sdr_base.specs.Objects.{with_root}
-use Rattle.zco_space.proofs.LinkLemmas.{links_last, links_on}
+use Rattle.zco_space.proofs.LinkLemmas.{links_last}
 use Rattle.zco_space.proofs.linking.link_last.Goals as goal
 
 pub returns-then-next-eq0-clause-linked : goal.returns-then-next-eq0-clause-linked
