@@ -123,7 +123,8 @@ pub fn maxima<O: Objects>(o: &mut O, acct: Acct) -> Result<Amounts, Stop>
     Ok(Amounts { file, bulk, heap })
 }
 
-/// Sets the maximum of a space in an account, in bytes, of which 2^40 are the most. It doesn't serve the account's queue.
+/// Sets the maximum of a space in an account, in bytes, of which 2^40 are the most. It doesn't
+/// serve the account's queue.
 pub fn set_maximum<O: Objects>(o: &mut O, acct: Acct, space: Space, value: u64) -> Result<(), Stop>
     requires kept { KeepsSome (O.keeps o.old) }
     ensures set { OnOk result (SetsMaximum acct space value (O.heap o.old) (O.heap o.new)) }
@@ -153,8 +154,8 @@ pub fn set_occupied<O: Objects>(o: &mut O, acct: Acct, amounts: &Amounts) -> Res
     o.set_root(occupancy_word(acct, Space::Heap), amounts.heap)
 }
 
-/// Gives space of an account back, in bytes of each space: what isn't occupied can't be given back, and nothing is left of
-/// that space then. It doesn't serve the account's queue.
+/// Gives space of an account back, in bytes of each space: what isn't occupied can't be given back,
+/// and nothing is left of that space then. It doesn't serve the account's queue.
 pub fn release<O: Objects>(o: &mut O, acct: Acct, amounts: &Amounts) -> Result<(), Stop>
     requires kept { KeepsSome (O.keeps o.old) }
     ensures released { OnOk result (O.heap o.new

@@ -16,8 +16,9 @@ use crate::ticket::put_grant;
 use sdr_base::{Acct, Amounts, Objects, Refusal, Space, Stop, check_failed};
 use sdr_parts::amounts::{NOTHING, amount, first_above, is_nothing, minus, plus};
 
-/// Charges an account so many bytes of each space. What is left of the grant of the ticket of this number covers what it
-/// can, and gives that up; what it doesn't cover is occupied from then on. 0 is no ticket.
+/// Charges an account so many bytes of each space. What is left of the grant of the ticket of this
+/// number covers what it can, and gives that up; what it doesn't cover is occupied from then on. 0
+/// is no ticket.
 pub fn charge<O: Objects>(o: &mut O, acct: Acct, ticket: u64, amounts: &Amounts) -> Result<(), Stop>
     requires kept { KeepsSome (O.keeps o.old) }
     requires queue { SomeQueue (O.heap o.old) acct }
@@ -85,7 +86,8 @@ fn check_queue<O: Objects>(o: &mut O, acct: Acct, uncovered: &Amounts) -> Result
     }
 }
 
-// What is occupied in an account with these amounts more, where no ticket waits before them and there is room.
+// What is occupied in an account with these amounts more, where no ticket waits before them and
+// there is room.
 fn occupied_with<O: Objects>(o: &mut O, acct: Acct, uncovered: &Amounts) -> Result<Amounts, Stop>
     requires kept { KeepsSome (O.keeps o.old) }
     requires queue { SomeQueue (O.heap o.old) acct }

@@ -4,14 +4,16 @@ ghost use Rattle.sdr_model.specs.Amounts.{are_within};
 
 use sdr_base::Amounts;
 
-/// What is told each time space is made available, of what the front waiting ticket asks and of the room of its account.
+/// What is told each time space is made available, of what the front waiting ticket asks and of the
+/// room of its account.
 pub trait Notify {
     /// Whether each amount asked is at most the room.
     fn told(&self, asked: &Amounts, room: &Amounts) -> bool
         ensures { result ≡ are_within asked.now room.now };
 }
 
-/// A callback, beside the fact that it answers whether each amount asked is at most the room: its bound keeps that.
+/// A callback, beside the fact that it answers whether each amount asked is at most the room: its
+/// bound keeps that.
 #[derive(Drop)]
 pub struct Notice<F: Notify> {
     pub by: F,
@@ -36,8 +38,8 @@ impl<F: Notify> Notice<F> {
 /// A function that is told of an amount asked and of the room.
 pub type Tell = fn(&Amounts, &Amounts) -> bool;
 
-/// A function that is stored, beside the facts that it may be called on any two amounts and answers whether the first is
-/// at most the second in each space.
+/// A function that is stored, beside the facts that it may be called on any two amounts and answers
+/// whether the first is at most the second in each space.
 #[derive(Drop)]
 pub struct Stored {
     tell: Tell,
@@ -49,7 +51,8 @@ impl Stored {
     /// Stores a function.
     pub fn new(tell: Tell) -> Stored
         requires callable { (a b : _) → Tell.pre tell a b }
-        requires answers { (a b : _) (r : Bool) → Tell.post tell a b r → r ≡ are_within a.now b.now }
+        requires answers { (a b : _) (r : Bool) → Tell.post tell a b r
+            → r ≡ are_within a.now b.now }
     {
         Stored { tell }
     }

@@ -56,7 +56,8 @@ impl Sought {
     }
 }
 
-/// The first ticket in the queue of an account that is sought, where there is one. It is linear in the queue.
+/// The first ticket in the queue of an account that is sought, where there is one. It is linear in
+/// the queue.
 pub fn search<O: Objects>(o: &mut O, acct: Acct, sought: &Sought) -> Result<Option<Found>, Stop>
     requires kept { KeepsSome (O.keeps o.old) }
     requires queue { SomeQueue (O.heap o.old) acct }

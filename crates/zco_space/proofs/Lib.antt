@@ -1,7 +1,8 @@
 mod StopLemmas
 mod RootLemmas
 mod ServedLemmas
-pub mod ServingLemmas
+mod ServingLemmas
+mod ServesLemmas
 mod LinkLemmas
 mod PlaceLemmas
 mod EnterLemmas
@@ -10,3 +11,4 @@ mod FindLemmas
 mod RequestLemmas
 mod ShredLemmas
 mod ServedRows
+mod RequestRows

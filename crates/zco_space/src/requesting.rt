@@ -17,9 +17,9 @@ use sdr_model::{MOST_AMOUNT, Ticket};
 use sdr_parts::amounts::{NOTHING, amount, first_above};
 use zco_acct::{Notice, Notify, Sought, last_word, maxima, search};
 
-/// Asks an account for so many bytes of each space, and serves its queue. Of two tickets that wait, the one of the greater
-/// coarse priority goes first, then that of the greater fine one, then the older. It answers the new ticket's number, and
-/// whether it was granted at once.
+/// Asks an account for so many bytes of each space, and serves its queue. Of two tickets that wait,
+/// the one of the greater coarse priority goes first, then that of the greater fine one, then the
+/// older. It answers the new ticket's number, and whether it was granted at once.
 pub fn request<O: Objects, F: Notify>(
     o: &mut O,
     acct: Acct,

@@ -19,8 +19,8 @@ use zco_acct::{
     set_occupied,
 };
 
-/// Serves the queue of an account, and answers how many tickets it has granted: the first that waits is granted while
-/// each amount that it asks is at most the room. It is linear in the queue.
+/// Serves the queue of an account, and answers how many tickets it has granted: the first that
+/// waits is granted while each amount that it asks is at most the room. It is linear in the queue.
 pub fn serve<O: Objects, F: Notify>(o: &mut O, acct: Acct, notice: &Notice<F>) -> Result<u64, Stop>
     requires kept { KeepsSome (O.keeps o.old) }
     requires queue { SomeQueue (O.heap o.old) acct }

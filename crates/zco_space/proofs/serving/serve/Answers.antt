@@ -5,7 +5,8 @@ use Rattle.sdr_base.proofs.WorksLemmas.{looks_looks, looks_works, works_more, wo
 use Rattle.sdr_model.specs.Amounts.{are_within}
 use Rattle.zco_acct.specs.Kept.{AmountsFit}
 use Rattle.zco_space.proofs.StopLemmas.{works_stopped}
-use Rattle.zco_space.proofs.ServingLemmas.{count_below, count_most, goes_on, inside_here, passes, serves_all, serves_most, serves_some, some_here, starts, sum_fits, unmoved}
+use Rattle.zco_space.proofs.ServesLemmas.{count_below, count_most, goes_on, inside_here, passes, serves_all, serves_most, serves_some, some_here, sum_fits, unmoved}
+use Rattle.zco_space.proofs.ServingLemmas.{starts}
 use Rattle.zco_space.proofs.serving.serve.Goals as goal
 
 pub loop-i-init : goal.loop-i-init
