@@ -1,0 +1,14 @@
+mod StopLemmas
+mod RootLemmas
+mod ServedLemmas
+mod ServingLemmas
+mod ServesLemmas
+mod LinkLemmas
+mod PlaceLemmas
+mod EnterLemmas
+mod OutLemmas
+mod FindLemmas
+mod RequestLemmas
+mod ShredLemmas
+mod ServedRows
+mod RequestRows

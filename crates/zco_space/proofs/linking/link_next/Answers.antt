@@ -1,0 +1,20 @@
+-- The word that is set is the link.
+use Rattle.std.proofs.Common.{◌∙◌, ap}
+use Rattle.std.proofs.lemmas.Result.{on_ok_weaker}
+use Rattle.sdr_base.specs.Objects.{with_root}
+use Rattle.zco_space.proofs.LinkLemmas.{links_first, links_next}
+use Rattle.zco_space.proofs.linking.link_next.Goals as goal
+
+pub returns-then-prev-eq0-clause-linked : goal.returns-then-prev-eq0-clause-linked
+returns-then-prev-eq0-clause-linked g c =
+    let old = g.O.HasHeap.heap c.args.o.now in
+    on_ok_weaker _
+    (λ w. links_first {old = old} {new = g.O.HasHeap.heap c.set_root.new.self} c.if-prev-eq0.true
+    (w ∙ ap (λ n. with_root old n c.args.next) c.first_word.ensures.word))
+    c.set_root.ensures.written
+
+pub returns-else-prev-eq0-clause-linked : goal.returns-else-prev-eq0-clause-linked
+returns-else-prev-eq0-clause-linked g c =
+    on_ok_weaker _
+    (λ w. links_next {old = g.O.HasHeap.heap c.args.o.now} {new = g.O.HasHeap.heap c.set_word.new.o} c.if-prev-eq0.false w)
+    c.set_word.ensures.written

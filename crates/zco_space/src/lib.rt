@@ -1,0 +1,20 @@
+//! Tickets: requests for space, granted in the order of their account's queue.
+//!
+//! 1. A new ticket goes behind those that stand before it: those that are granted, and those of no
+//!    less priority.
+//! 2. The first ticket that waits is granted while each amount that it asks is at most the room,
+//!    and a grant is occupied from then on. The stored callback is told of what is asked and of the
+//!    room, and its answer counts.
+//! 3. A ticket that is shredded goes, and what is left of its grant is given back.
+#![tactic(auto)]
+
+mod finding;
+mod linking;
+mod requesting;
+mod serving;
+mod shredding;
+
+pub use finding::awarded;
+pub use requesting::request;
+pub use serving::serve;
+pub use shredding::shred;
