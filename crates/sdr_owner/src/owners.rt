@@ -23,7 +23,8 @@ fn check_each(heap: &[u8], marks: &mut [bool], owners: &[Owner]) -> Result<(), W
     ensures walked { (earlier : List Owner) → HasWalked (view_in heap.now) earlier marks.old →
         OnOk result (HasWalked (view_in heap.now) (earlier ++ owners.now) marks.new) }
     ensures wrong { (earlier : List Owner) → HasWalked (view_in heap.now) earlier marks.old →
-        IfErr result (λ wrong. IsWrongChain (view_in heap.now) (earlier ++ owners.now) wrong.place) }
+        IfErr result (λ wrong. IsWrongChain (view_in heap.now) (earlier ++ owners.now)
+        wrong.place) }
 {
     for i in 0..owners.len() {
         check_chain(heap, marks, owners[i])?;
