@@ -7,7 +7,7 @@ ghost use Rattle.sdr_kept.specs.Sums.{charge_there, names_there, uses_there};
 ghost use Rattle.sdr_model.specs.Accounts.{most_amount};
 ghost use Rattle.sdr_model.specs.Amounts.{amounts_by};
 ghost use Rattle.sdr_model.specs.Charges.{occupancy};
-ghost use Rattle.sdr_model.specs.Zco.{count_of, naming, source_on, uses_of};
+ghost use Rattle.sdr_model.specs.Zco.{naming, source_on, uses_of};
 
 use crate::Undoable;
 use sdr_base::{Acct, Addr, Amounts};
@@ -16,7 +16,7 @@ use sdr_parts::amounts::{NOTHING, plus};
 use sdr_undo::Place;
 
 // Whether what is at a place is a source of a raw object.
-fn names(place: &Place, raw: Addr) -> bool
+fn is_source_of(place: &Place, raw: Addr) -> bool
     ensures { result ≡ names_there raw place.now.thing }
 {
     match place.current() {
@@ -35,14 +35,12 @@ fn naming(source: Addr, extents: &[Extent]) -> u64
     extents.iter().filter(|extent| extent.source == source).count() as u64
 }
 
-// How many extents of what is at a place name a source, where it is an object of this account.
-fn uses_on(place: &Place, source: Addr, acct: Acct) -> u64
-    ensures { result ≡ uses_there source acct place.now.thing }
+// How many extents of what is at a place name a source, where it is an object.
+fn uses_on(place: &Place, source: Addr) -> u64
+    ensures { result ≡ uses_there source place.now.thing }
 {
     match place.current() {
-        Some(Thing::Object(object)) if object.account == acct => {
-            naming(source, object.extents.as_slice())
-        }
+        Some(Thing::Object(object)) => naming(source, object.extents.as_slice()),
         _ => 0,
     }
 }
@@ -53,30 +51,22 @@ impl Undoable {
         ensures { result ≡ source_on self.now.now raw }
     {
         for (addr, place) in self.things.places() {
-            if names(place, raw) {
+            if is_source_of(place, raw) {
                 return Some(*addr);
             }
         }
         None
     }
 
-    /// How many extents of an account's objects name the source at an address. It looks at each of them.
-    pub fn uses_by(&self, source: Addr, acct: Acct) -> u64
-        ensures value { result ≡ count_of self.now.now source acct }
-        ensures small { result ≤ most_amount }
-    {
-        let mut uses = 0;
-        for (_, place) in self.things.places() {
-            uses += uses_on(place, source, acct);
-        }
-        uses
-    }
-
     /// How many extents name the source at an address. It looks at each extent.
     pub fn uses(&self, source: Addr) -> u64
         ensures { result ≡ uses_of self.now.now source }
     {
-        self.uses_by(source, Acct::Inbound) + self.uses_by(source, Acct::Outbound)
+        let mut uses = 0;
+        for (_, place) in self.things.places() {
+            uses += uses_on(place, source);
+        }
+        uses
     }
 
     // What is at a place charges an account.
