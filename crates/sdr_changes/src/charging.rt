@@ -63,7 +63,7 @@ pub fn charge_account(
     }
 }
 
-/// What is occupied of a space in an account. It is linear in the account's queue.
+/// What is occupied of a space in an account. It looks at each extent of its objects, and is linear in its queue.
 pub fn occupancy(world: &Undoable, acct: Acct, space: Space) -> u64
     ensures { result ≡ occupancy world.now.now acct space }
 {

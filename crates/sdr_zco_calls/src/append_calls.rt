@@ -124,7 +124,8 @@ fn append_raw(world: &mut Undoable, asked: &Append) -> Result<Reply, NoMemory>
     Ok(Reply::Done)
 }
 
-/// Appends a part of a source, or of a raw object, to an object. It is linear in the object's extents.
+/// Appends a part of a source, or of a raw object, to an object. It looks at each extent of the account's objects,
+/// and for a raw object at each thing.
 pub fn append_extent(world: &mut Undoable, asked: &Append) -> Result<Reply, NoMemory>
     requires taken { world.old.now.taken < 2 ^ 60 }
     ensures { Answers (Call.AppendExtent asked.now.object asked.now.ticket asked.now.named

@@ -87,8 +87,8 @@ fn bonded(alloc: Global, object: &ZcoObject, first: Addr) -> Result<ZcoObject, N
 }
 
 /// Makes an extent of each header and trailer of an object: its text becomes a raw object with a source of
-/// its own. The part is then the whole. It is linear in the object, and takes the logarithm of the world for
-/// each header and trailer.
+/// its own. The part is then the whole. It looks at each extent of the account's objects, and takes the logarithm of
+/// the world for each header and trailer.
 pub fn bond(alloc: Global, world: &mut Undoable, addr: Addr, number: u64) -> Result<Reply, NoMemory>
     requires taken { world.old.now.taken < 2 ^ 60 }
     requires few { HasFewPieces most_pieces world.old.now.things }

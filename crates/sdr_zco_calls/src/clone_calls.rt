@@ -57,7 +57,7 @@ fn cloned(
 }
 
 /// Makes an object of a part of another's part, in the same account. It has extents of the same sources, and
-/// no header or trailer. No byte is copied. It is linear in the object, times the logarithm of the world.
+/// no header or trailer. No byte is copied. It looks at each extent of the account's objects.
 pub fn clone_part(
     alloc: Global,
     world: &mut Undoable,

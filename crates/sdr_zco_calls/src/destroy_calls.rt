@@ -43,8 +43,8 @@ fn lose_whole(
     Ok(Reply::Done)
 }
 
-/// Destroys an object, with each source that goes with its last extent. It is linear in the object, times the
-/// logarithm of the world.
+/// Destroys an object, with each source that goes with its last extent. It looks at each extent of the account's
+/// objects, and of the world for each source that may go.
 pub fn destroy(alloc: Global, world: &mut Undoable, addr: Addr) -> Result<Reply, NoMemory>
     ensures { Answers (Call.Destroy addr) world.old world.new result }
 {

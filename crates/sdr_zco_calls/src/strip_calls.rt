@@ -63,8 +63,8 @@ fn put_stripped(
     Ok(Reply::Done)
 }
 
-/// Cuts an object to its part, and lets each source go that goes with its last extent. It looks at each
-/// extent, and takes the logarithm of the world for each outside the part and for those at its ends.
+/// Cuts an object to its part, and lets each source go that goes with its last extent. It looks at each extent of
+/// the account's objects, and of the world for each source that may go.
 pub fn strip(alloc: Global, world: &mut Undoable, addr: Addr) -> Result<Reply, NoMemory>
     ensures { Answers (Call.Strip addr) world.old world.new result }
 {
