@@ -2,7 +2,6 @@
 ghost use Rattle.std.specs.List.{All};
 ghost use Rattle.std.specs.Prelude.{◌≡◌, ℕ, Contains, OnOk};
 ghost use Rattle.sdr_model.specs.Gone.{without_things};
-ghost use Rattle.sdr_model.specs.Steps.{without_thing};
 ghost use Rattle.sdr_kept.specs.Drops.{MayGo};
 
 use sdr_base::{Addr, NoMemory};
@@ -24,20 +23,6 @@ pub fn touch_all(world: &mut Undoable, addrs: &[Addr]) -> Result<(), NoMemory>
     Ok(())
 }
 
-// Lets what is at an address go, where it may.
-fn drop_one(world: &mut Undoable, addr: Addr)
-    requires may { MayGo world.old addr }
-    ensures dropped { world.new.now ≡ without_thing world.old.now addr }
-    ensures begun { world.new.begun ≡ world.old.begun }
-    ensures touched { world.new.touched ≡ world.old.touched }
-    ensures saved { world.new.saved ≡ world.old.saved }
-{
-    match world.source(addr) {
-        Some(_) => world.drop_source(addr),
-        None => world.drop_plain(addr),
-    }
-}
-
 /// Lets what is at these addresses go, one after another, where it may. It takes the logarithm of the
 /// world for each.
 pub fn drop_all(world: &mut Undoable, addrs: &[Addr])
@@ -47,6 +32,6 @@ pub fn drop_all(world: &mut Undoable, addrs: &[Addr])
     ensures saved { world.new.saved ≡ world.old.saved }
 {
     for addr in addrs {
-        drop_one(world, *addr);
+        world.let_go(*addr);
     }
 }

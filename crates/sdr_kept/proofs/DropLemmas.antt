@@ -57,16 +57,11 @@ pub MayGo-without : (d d' : Draft) (k addr : ℕ) → d'.now ≡ without_thing d
     → MayGo d addr → MayGo d' addr
 MayGo-without d d' k addr now touched may = record {
   touched = subst (λ ts. Contains ts addr) (sym touched) may.touched;
-  no_object = ap as_object at ∙ object_stays (is_at (nat_cmp addr) k);
   unused = subst (λ t. IfSome (as_source t) (λ s. uses_of d'.now addr ≡ 0)) (sym at) (stays (is_at (nat_cmp addr) k));
 }
   where
     at : thing_at d'.now addr ≡ cond (is_at (nat_cmp addr) k) None (thing_at d.now addr)
     at = ap (λ (w : World). thing_at w addr) now ∙ thing_at-without d.now k addr
-
-    object_stays : (b : Bool) → as_object (cond b None (thing_at d.now addr)) ≡ None
-    object_stays true = refl
-    object_stays false = may.no_object
 
     none : uses_of d.now addr ≡ 0 → uses_of d'.now addr ≡ 0
     none zero = omega (arith, ap (λ (w : World). uses_of w addr) now, fewer_uses d.now k addr, zero)
@@ -184,16 +179,11 @@ pub MayGo-lost : (d d' : Draft) (k addr : ℕ) (z : ZcoObject) → object_at d.n
     → d'.touched ≡ d.touched → Contains d.touched addr → GoesWith d.now z.extents addr → MayGo d' addr
 MayGo-lost d d' k addr z there now touched is goes = record {
   touched = subst (λ ts. Contains ts addr) (sym touched) is;
-  no_object = ap as_object at ∙ object_stays (is_at (nat_cmp addr) k);
   unused = subst (λ t. IfSome (as_source t) (λ s. uses_of d'.now addr ≡ 0)) (sym at) (stays (is_at (nat_cmp addr) k));
 }
   where
     at : thing_at d'.now addr ≡ cond (is_at (nat_cmp addr) k) None (thing_at d.now addr)
     at = ap (λ (w : World). thing_at w addr) now ∙ thing_at-without d.now k addr
-
-    object_stays : (b : Bool) → as_object (cond b None (thing_at d.now addr)) ≡ None
-    object_stays true = refl
-    object_stays false = goes.no_object
 
     none : uses_of d.now addr ≡ naming addr z.extents → uses_of d'.now addr ≡ 0
     none used =

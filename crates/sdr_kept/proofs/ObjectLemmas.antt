@@ -17,7 +17,7 @@ use Rattle.sdr_kept.specs.Edits.{HasRoomInPlace}
 use Rattle.sdr_kept.specs.Sound.{AreSound, IsKept, IsSound, RawsArePlain, is_plain, world_of}
 use Rattle.sdr_parts.specs.Bounds.{IsModest}
 use Rattle.sdr_model.specs.World.{World}
-use Rattle.sdr_model.specs.Zco.{as_object, as_source, names_raw, source_on}
+use Rattle.sdr_model.specs.Zco.{as_object, as_source, names_raw, source_on, uses_of}
 use Rattle.sdr_model.specs.declared.accounts.Accounts.{Accounts}
 use Rattle.sdr_model.specs.declared.things.Thing.{Thing}
 use Rattle.sdr_model.specs.declared.things.Thing.TheVariants as things
@@ -27,7 +27,8 @@ use Rattle.sdr_kept.proofs.RawLemmas.{raws-plain, raws-with_at}
 use Rattle.sdr_model.proofs.SumLemmas.{counted_at}
 use Rattle.sdr_model.proofs.ThingsLemmas.{get-with_at}
 use Rattle.sdr_kept.proofs.SumBounds.{source_on-none, unnamed_by, unnamed_raws}
-use Rattle.sdr_kept.proofs.SoundLemmas.{All-each, AreSound-of, charged-with_at, plain_source, same_spaces, sound-with_at}
+use Rattle.sdr_kept.proofs.SourceLemmas.{IsKept-dropped}
+use Rattle.sdr_kept.proofs.SoundLemmas.{All-each, AllSound-plain, AreSound-of, charged-with_at, plain_source, same_spaces, sound-with_at}
 
 -- what the thing at an address charges
 abbrev pub charge_at : World → ℕ → Acct → Space → Option Thing → ℕ
@@ -176,3 +177,29 @@ unnamed-with_at w w' k raw o is none unnamed =
     by : (addr : ℕ) (thing : Thing) (b : Bool) → cond b o (get w.things addr) ≡ Some thing → names_raw raw thing ≡ false
     by addr thing true here = no_names raw o thing none here
     by addr thing false here = unnamed_by w raw unnamed addr thing here
+
+-- what a world in the making keeps where what is at an address goes, which isn't a source that any extent names
+pub IsKept-gone : (owners : Owners) (next : ℕ) (store changed : Store) (ledger : Ledger) (k : ℕ) → changed.begun ≡ store.begun
+    → changed.now ≡ with_at store.now k None
+    → IfSome (as_source (get store.now k)) (λ s. uses_of (world_of store.now ledger.now) k ≡ 0)
+    → IsKept owners next store ledger → IsKept owners next changed ledger
+IsKept-gone owners next store changed ledger k begun now unused kept = by (get store.now k) refl
+  where
+    plain : is_plain (get store.now k) ≡ true → IsKept owners next changed ledger
+    plain is = record {
+      own = record {
+        begun = subst (OwnInside owners next) (sym begun) kept.own.begun;
+        now = subst (OwnInside owners next) (sym now) (OwnInside-remove owners next store.now k kept.own.now);
+      };
+      sound = AllSound-plain next store changed ledger k None begun now is refl tt kept.sound;
+    }
+
+    by : (o : Option Thing) → get store.now k ≡ o → IsKept owners next changed ledger
+    by None is = plain (ap is_plain is)
+    by (Some (things.Source s)) is =
+        IsKept-dropped owners next store changed ledger k s begun kept now is
+        (subst (λ o. IfSome (as_source o) (λ s. uses_of (world_of store.now ledger.now) k ≡ 0)) is unused)
+    by (Some (things.Object z)) is =
+        IsKept-changed owners next store changed ledger k None begun now tt
+        (Changes-removed next store.now ledger.now k z kept.sound.now is) kept
+    by (Some thing) is = plain (ap is_plain is)

@@ -1,5 +1,5 @@
 -- What a world keeps where a source comes, goes or is flagged.
-use Rattle.std.proofs.Common.{◌≡◌, ◌≤◌, ◌<◌, ◌+◌, ◌==◌, ℕ, arith, Bool, true, false, List, [], ◌∷◌, cond, Option, Some, None, ap, sym, ◌∙◌, refl, subst, unwrap_or, true≢false, ◌⊎◌, inl, inr}
+use Rattle.std.proofs.Common.{◌≡◌, ◌≢◌, ◌≤◌, ◌<◌, ◌+◌, ◌==◌, ℕ, arith, Bool, true, false, List, [], ◌∷◌, cond, Option, Some, None, ap, sym, ◌∙◌, refl, subst, unwrap_or, true≢false}
 use Rattle.std.proofs.lemmas.Bool.{eqb-false, eqb-true}
 use Rattle.std.proofs.lemmas.List.Elements.{All-cons, All-head, All-nil, All-tail, All-weaker}
 use Rattle.std.proofs.lemmas.List.Sums.{sum_by-cons}
@@ -135,7 +135,7 @@ module _ (owners : Owners) (next : ℕ) (store changed : Store) (ledger : Ledger
     (begun : changed.begun ≡ store.begun) (kept : IsKept owners next store ledger) where
   pub IsKept-put : changed.now ≡ with_at store.now k (Some (things.Source s))
       → k < next → is_plain (get store.now k) ≡ true
-      → uses_of (world_of store.now ledger.now) k ≡ 0 ⊎ space_of s.subject ≡ spaces.Heap
+      → (space_of s.subject ≢ spaces.Heap → uses_of (world_of store.now ledger.now) k ≡ 0)
       → s.length ≤ longest_source
       → source_on (world_of store.now ledger.now) k ≡ None
       → IfSome (raw_of s.subject) (λ raw. (raw < k) × (is_plain (get store.now raw) ≡ true))
@@ -151,21 +151,33 @@ module _ (owners : Owners) (next : ℕ) (store changed : Store) (ledger : Ledger
       begun = AreSound-of next store.begun changed.begun ledger.begun ledger.begun begun refl kept.sound.begun;
       now = AreSound-of next (with_at store.now k (Some (things.Source s))) changed.now ledger.now ledger.now now refl
           (AreSound-source next store.now ledger.now k (Some (things.Source s))
-          (plain_no_object (get store.now k) plain) refl small (stay unused)
+          (plain_no_object (get store.now k) plain) refl small stay
           (raws-with_at next store.now k (Some (things.Source s)) own
           (λ addr is. absurd (unnamed_raws (world_of store.now ledger.now) k unnamed addr is)) kept.sound.now.raws)
           kept.sound.now);
     };
   }
     where
-      stay : uses_of (world_of store.now ledger.now) k ≡ 0 ⊎ space_of s.subject ≡ spaces.Heap
-          → (q : ℕ) (z : ZcoObject) → get (with_at store.now k (Some (things.Source s))) q ≡ Some (things.Object z)
+      abbrev Stays : Type 0
+      Stays = (q : ℕ) (z : ZcoObject) → get (with_at store.now k (Some (things.Source s))) q ≡ Some (things.Object z)
           → All (SameSpace (world_of store.now ledger.now) (world_of (with_at store.now k (Some (things.Source s))) ledger.now)) z.extents
-      stay (inl none) = unused_spaces store.now ledger.now k (Some (things.Source s)) refl none
-      stay (inr heap) = λ q z there. All-each
+
+      in_heap : space_of s.subject ≡ spaces.Heap → Stays
+      in_heap heap = λ q z there. All-each
           (SameSpace (world_of store.now ledger.now) (world_of (with_at store.now k (Some (things.Source s))) ledger.now))
           (λ e. same_spaces store.now ledger.now k (Some (things.Source s))
           (heap ∙ sym (ap space_in (plain_source (get store.now k) plain))) e.source) z.extents
+
+      outside : space_of s.subject ≢ spaces.Heap → Stays
+      outside away = unused_spaces store.now ledger.now k (Some (things.Source s)) refl (unused away)
+
+      stay : Stays
+      stay = by (space_of s.subject) refl
+        where
+          by : (of : Space) → space_of s.subject ≡ of → Stays
+          by spaces.Heap is = in_heap is
+          by spaces.File is = outside (λ heap. let same : spaces.File ≡ spaces.Heap = sym is ∙ heap in cc)
+          by spaces.Bulk is = outside (λ heap. let same : spaces.Bulk ≡ spaces.Heap = sym is ∙ heap in cc)
 
       own : (raw : ℕ) → raw_of s.subject ≡ Some raw → (raw < next) × ((raw ≡ k → ⊥) × (is_plain (get store.now raw) ≡ true))
       own raw is =
@@ -261,9 +273,3 @@ unused_next next w k sound above = omega (arith, none accts.Inbound, none accts.
     none : (acct : Acct) → count_of w k acct ≡ 0
     none acct =
         sum_by-things (λ e. uses_in k acct e.1) (λ e. 0) w.things (each acct) ∙ sum_by-nothing (entries w.things)
-
--- the source that is there
-pub source_there : (o : Option Thing) → IsSome (as_source o) → (s : ZcoSource) × (o ≡ Some (things.Source s))
-source_there None none = absurd (true≢false (sym none))
-source_there (Some (things.Source s)) some = (s, refl)
-source_there (Some thing) none = absurd (true≢false (sym none))

@@ -162,7 +162,6 @@ pub MayGo-replaced : (d d' : Draft) (k addr : ℕ) (z y : ZcoObject) (out : List
     → GoesWith d.now out addr → MayGo d' addr
 MayGo-replaced d d' k addr z y out there same names now touched is goes = record {
   touched = touched addr is;
-  no_object = ap as_object at ∙ goes.no_object;
   unused = subst (λ t. IfSome (as_source t) (λ s. uses_of d'.now addr ≡ 0)) (sym at)
       (weaker (uses_of d.now addr ≡ naming addr out) (uses_of d'.now addr ≡ 0) (as_source (thing_at d.now addr)) none goes.unused);
 }

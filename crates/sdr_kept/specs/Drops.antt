@@ -10,8 +10,7 @@ pub record GoesWith (w : World) (extents : List Extent) (addr : ℕ) : Type 0 wh
   pub no_object : object_at w addr ≡ None
   pub unused : IfSome (source_at w addr) (λ s. uses_of w addr ≡ naming addr extents)
 
--- what is at an address that was touched may go: it isn't an object, and if it is a source, no extent names it
+-- what is at an address that was touched may go: if it is a source, no extent names it
 pub record MayGo (d : Draft) (addr : ℕ) : Type 0 where
   pub touched : Contains d.touched addr
-  pub no_object : object_at d.now addr ≡ None
   pub unused : IfSome (source_at d.now addr) (λ s. uses_of d.now addr ≡ 0)

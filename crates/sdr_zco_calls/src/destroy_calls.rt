@@ -36,7 +36,7 @@ fn lose_whole(
     world.touch(addr)?;
     touch_all(world, gone.as_slice())?;
     world.save_accounts()?;
-    world.lose_object(addr);
+    world.let_go(addr);
     drop_all(world, gone.as_slice());
     world.serve(object.account);
     world.hide();

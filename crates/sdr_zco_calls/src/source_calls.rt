@@ -114,7 +114,7 @@ fn lose_source(world: &mut Undoable, addr: Addr) -> Result<Reply, NoMemory>
     ensures same { OnErr result (world.new.now ≡ world.old.now) }
 {
     world.touch(addr)?;
-    world.drop_source(addr);
+    world.let_go(addr);
     world.hide();
     Ok(Reply::Done)
 }

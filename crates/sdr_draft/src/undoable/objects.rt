@@ -1,12 +1,12 @@
 // The objects of a world in the making.
-ghost use Rattle.std.specs.Prelude.{◌≡◌, ◌≤◌, ◌+◌, true, None, IfSome, IsSome, Contains};
+ghost use Rattle.std.specs.Prelude.{◌≡◌, ◌≤◌, ◌+◌, true, None, Contains};
 ghost use Rattle.sdr_base.specs.declared.kind.Space.{Space as GhostSpace};
 ghost use Rattle.sdr_model.specs.Accounts.{most_amount};
 ghost use Rattle.sdr_model.specs.Charges.{object_charge, occupancy};
 ghost use Rattle.sdr_model.specs.Dry.{next_addr};
-ghost use Rattle.sdr_model.specs.Steps.{with_thing, without_thing};
+ghost use Rattle.sdr_model.specs.Steps.{with_thing};
 ghost use Rattle.sdr_model.specs.World.{thing_at};
-ghost use Rattle.sdr_model.specs.Zco.{object_at, source_on};
+ghost use Rattle.sdr_model.specs.Zco.{source_on};
 ghost use Rattle.sdr_model.specs.declared.things.Thing.{Thing};
 ghost use Rattle.sdr_parts.specs.Bounds.{IsModest};
 ghost use Rattle.sdr_kept.specs.Sound.{is_plain};
@@ -17,19 +17,6 @@ use sdr_base::Addr;
 use sdr_model::{Thing, ZcoObject};
 
 impl Undoable {
-    /// Lets the object at an address that was touched go.
-    pub fn lose_object(&mut self, addr: Addr)
-        requires touched { Contains self.old.touched addr }
-        requires there { IsSome (object_at self.old.now addr) }
-        ensures lost { self.new.now ≡ without_thing self.old.now addr }
-        ensures begun { self.new.begun ≡ self.old.begun }
-        ensures owners { self.new.owners ≡ self.old.owners }
-        ensures touched { self.new.touched ≡ self.old.touched }
-        ensures saved { self.new.saved ≡ self.old.saved }
-    {
-        self.things.put(addr, None);
-    }
-
     /// Puts an object at an address that was touched, where neither a source nor an object is.
     pub fn add_object(&mut self, addr: Addr, object: ZcoObject)
         requires touched { Contains self.old.touched addr }

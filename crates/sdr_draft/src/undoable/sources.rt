@@ -1,25 +1,23 @@
 // The sources of a world in the making.
 ghost use Rattle.std.specs.Option.{option_copied};
-ghost use Rattle.std.specs.Prelude.{◌≡◌, ◌≤◌, ◌<◌, ◌+◌, ◌^◌, ℕ, IfSome, IsSome, OnOk, OnErr, None, Some, Contains, true, length};
+ghost use Rattle.std.specs.Prelude.{◌≡◌, ◌≢◌, ◌≤◌, ◌<◌, ◌+◌, ◌^◌, ℕ, IfSome, IsSome, OnOk, OnErr, None, Some, Contains, true, length};
 ghost use Rattle.sdr_base.specs.declared.account.Acct.{Acct as GhostAcct};
 ghost use Rattle.sdr_base.specs.declared.kind.Space.{Space};
 ghost use Rattle.sdr_model.specs.Accounts.{most_amount};
 ghost use Rattle.sdr_model.specs.Charges.{object_charge, occupancy};
 ghost use Rattle.sdr_model.specs.Dry.{next_addr};
 ghost use Rattle.sdr_model.specs.Limits.{longest_raw, longest_source};
-ghost use Rattle.sdr_model.specs.SourceSteps.{new_source};
 ghost use Rattle.sdr_model.specs.Steps.{with_thing, without_thing};
 ghost use Rattle.sdr_model.specs.World.{as_raw, thing_at};
-ghost use Rattle.sdr_model.specs.Zco.{raw_of, object_at, source_at, source_on, uses_of};
+ghost use Rattle.sdr_model.specs.Zco.{raw_of, object_at, source_at, source_on, space_of, uses_of};
 ghost use Rattle.sdr_model.specs.declared.things.Thing.{Thing};
-ghost use Rattle.sdr_model.specs.declared.zco.Subject.{Subject};
 ghost use Rattle.sdr_parts.specs.Bounds.{IsModest};
 ghost use Rattle.sdr_kept.specs.Sound.{FlagsSource, is_plain, raw_at};
 ghost use Rattle.sdr_undo.specs.Owners.{MayPut};
 
 use crate::Undoable;
 use sdr_base::{Addr, Bytes, NoMemory};
-use sdr_model::{Subject, Thing, ZcoObject, ZcoSource};
+use sdr_model::{Thing, ZcoObject, ZcoSource};
 
 impl Undoable {
     /// The bytes of the raw object at an address.
@@ -108,13 +106,13 @@ impl Undoable {
         self.things.touch(addr)
     }
 
-    /// Puts a source at an address that was touched, where neither a source nor an object is, and which no
-    /// extent and no source names.
+    /// Puts a source at an address that was touched, where neither a source nor an object is, and which no source
+    /// names. Extents may name it already where its bytes are in heap space, since those of no source are too.
     pub fn put_source(&mut self, addr: Addr, source: ZcoSource)
         requires below { addr < next_addr self.old.now.taken }
         requires touched { Contains self.old.touched addr }
         requires plain { is_plain (thing_at self.old.now addr) ≡ true }
-        requires unused { uses_of self.old.now addr ≡ 0 }
+        requires unused { space_of source.subject ≢ Space.Heap → uses_of self.old.now addr ≡ 0 }
         requires length { source.length ≤ longest_source }
         requires unnamed { source_on self.old.now addr ≡ None }
         requires raw_there { IfSome (raw_of source.subject) (λ raw.
@@ -128,48 +126,11 @@ impl Undoable {
         self.things.put(addr, Some(Thing::Source(source)));
     }
 
-    /// Puts a source of this length, which takes over a raw object, at an address that was touched, where
-    /// neither a source nor an object is, and which no source names. Extents may name it already: the bytes of
-    /// no source are in heap space too.
-    pub fn take_over(&mut self, addr: Addr, raw: Addr, length: u64)
-        requires below { addr < next_addr self.old.now.taken }
+    /// Lets what is at an address that was touched go. If it is a source, no extent names it.
+    pub fn let_go(&mut self, addr: Addr)
         requires touched { Contains self.old.touched addr }
-        requires plain { is_plain (thing_at self.old.now addr) ≡ true }
-        requires length { length ≤ longest_source }
-        requires unnamed { source_on self.old.now addr ≡ None }
-        requires raw_below { raw < addr }
-        requires raw_plain { is_plain (thing_at self.old.now raw) ≡ true }
-        ensures put { self.new.now ≡ with_thing self.old.now addr
-            (Thing.Source (new_source (Subject.Heap raw) length)) }
-        ensures begun { self.new.begun ≡ self.old.begun }
-    {
-        let source = ZcoSource {
-            subject: Subject::Heap(raw),
-            length,
-            flagged: false,
-        };
-        self.things.put(addr, Some(Thing::Source(source)));
-    }
-
-    /// Lets the source at an address that was touched go, which no extent names.
-    pub fn drop_source(&mut self, addr: Addr)
-        requires touched { Contains self.old.touched addr }
-        requires unused { uses_of self.old.now addr ≡ 0 }
-        requires there { IsSome (source_at self.old.now addr) }
-        ensures dropped { self.new.now ≡ without_thing self.old.now addr }
-        ensures begun { self.new.begun ≡ self.old.begun }
-        ensures owners { self.new.owners ≡ self.old.owners }
-        ensures touched { self.new.touched ≡ self.old.touched }
-        ensures saved { self.new.saved ≡ self.old.saved }
-    {
-        self.things.put(addr, None);
-    }
-
-    /// Lets the thing at an address that was touched go, which is neither a source nor an object.
-    pub fn drop_plain(&mut self, addr: Addr)
-        requires touched { Contains self.old.touched addr }
-        requires plain { is_plain (thing_at self.old.now addr) ≡ true }
-        ensures dropped { self.new.now ≡ without_thing self.old.now addr }
+        requires unused { IfSome (source_at self.old.now addr) (λ s. uses_of self.old.now addr ≡ 0) }
+        ensures gone { self.new.now ≡ without_thing self.old.now addr }
         ensures begun { self.new.begun ≡ self.old.begun }
         ensures owners { self.new.owners ≡ self.old.owners }
         ensures touched { self.new.touched ≡ self.old.touched }

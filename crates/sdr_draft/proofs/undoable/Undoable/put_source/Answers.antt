@@ -1,4 +1,4 @@
-use Rattle.std.proofs.Common.{◌≡◌, true, None, sym, subst, inl}
+use Rattle.std.proofs.Common.{◌≡◌, true, None, sym, subst}
 use Rattle.std.specs.Prelude.{◌<◌, IfSome}
 use Rattle.sdr_model.specs.Dry.{next_addr}
 use Rattle.sdr_model.specs.Zco.{raw_of, source_on, uses_of}
@@ -16,7 +16,7 @@ invariant_of-self c =
     c.put.ensures.begun c.self.invariant c.put.ensures.now
     (subst (λ d. k < next_addr d.now.taken) view c.requires.below)
     (subst (λ d. is_plain (thing_at d.now k) ≡ true) view c.requires.plain)
-    (inl (subst (λ d. uses_of d.now k ≡ 0) view c.requires.unused))
+    (λ outside. subst (λ d. uses_of d.now k ≡ 0) view (c.requires.unused outside))
     c.requires.length
     (subst (λ d. source_on d.now k ≡ None) view c.requires.unnamed)
     (subst (λ d. IfSome (raw_of c.args.source.subject) (λ raw. (raw < k) × (is_plain (thing_at d.now raw) ≡ true))) view c.requires.raw_there)
