@@ -32,13 +32,6 @@ use Rattle.sdr_kept.proofs.SourceLemmas.{plain_no_object}
 use Rattle.sdr_model.proofs.SumLemmas.{counted_at, sum_by-removed}
 use Rattle.sdr_kept.proofs.SoundLemmas.{plain_source}
 
--- what is neither a source nor an object is plain
-pub plain_of : (t : Option Thing) → as_object t ≡ None → as_source t ≡ None → is_plain t ≡ true
-plain_of None object source = refl
-plain_of (Some (things.Object z)) object source = let some : Some z ≡ None = object in absurd cc
-plain_of (Some (things.Source s)) object source = let some : Some s ≡ None = source in absurd cc
-plain_of (Some thing) object source = refl
-
 -- no more extents name a source where a thing is gone
 pub fewer_uses : (w : World) (k source : ℕ) → uses_of (without_thing w k) source ≤ uses_of w source
 fewer_uses w k source =
