@@ -151,33 +151,26 @@ module _ (owners : Owners) (next : ℕ) (store changed : Store) (ledger : Ledger
       begun = AreSound-of next store.begun changed.begun ledger.begun ledger.begun begun refl kept.sound.begun;
       now = AreSound-of next (with_at store.now k (Some (things.Source s))) changed.now ledger.now ledger.now now refl
           (AreSound-source next store.now ledger.now k (Some (things.Source s))
-          (plain_no_object (get store.now k) plain) refl small stay
+          (plain_no_object (get store.now k) plain) refl small (stay (space_of s.subject) refl)
           (raws-with_at next store.now k (Some (things.Source s)) own
           (λ addr is. absurd (unnamed_raws (world_of store.now ledger.now) k unnamed addr is)) kept.sound.now.raws)
           kept.sound.now);
     };
   }
     where
-      abbrev Stays : Type 0
-      Stays = (q : ℕ) (z : ZcoObject) → get (with_at store.now k (Some (things.Source s))) q ≡ Some (things.Object z)
+      stay : (of : Space) → space_of s.subject ≡ of
+          → (q : ℕ) (z : ZcoObject) → get (with_at store.now k (Some (things.Source s))) q ≡ Some (things.Object z)
           → All (SameSpace (world_of store.now ledger.now) (world_of (with_at store.now k (Some (things.Source s))) ledger.now)) z.extents
-
-      in_heap : space_of s.subject ≡ spaces.Heap → Stays
-      in_heap heap = λ q z there. All-each
+      stay spaces.Heap is = λ q z there. All-each
           (SameSpace (world_of store.now ledger.now) (world_of (with_at store.now k (Some (things.Source s))) ledger.now))
           (λ e. same_spaces store.now ledger.now k (Some (things.Source s))
-          (heap ∙ sym (ap space_in (plain_source (get store.now k) plain))) e.source) z.extents
-
-      outside : space_of s.subject ≢ spaces.Heap → Stays
-      outside away = unused_spaces store.now ledger.now k (Some (things.Source s)) refl (unused away)
-
-      stay : Stays
-      stay = by (space_of s.subject) refl
-        where
-          by : (of : Space) → space_of s.subject ≡ of → Stays
-          by spaces.Heap is = in_heap is
-          by spaces.File is = outside (λ heap. let same : spaces.File ≡ spaces.Heap = sym is ∙ heap in cc)
-          by spaces.Bulk is = outside (λ heap. let same : spaces.Bulk ≡ spaces.Heap = sym is ∙ heap in cc)
+          (is ∙ sym (ap space_in (plain_source (get store.now k) plain))) e.source) z.extents
+      stay spaces.File is =
+          unused_spaces store.now ledger.now k (Some (things.Source s)) refl
+          (unused (λ heap. let same : spaces.File ≡ spaces.Heap = sym is ∙ heap in cc))
+      stay spaces.Bulk is =
+          unused_spaces store.now ledger.now k (Some (things.Source s)) refl
+          (unused (λ heap. let same : spaces.Bulk ≡ spaces.Heap = sym is ∙ heap in cc))
 
       own : (raw : ℕ) → raw_of s.subject ≡ Some raw → (raw < next) × ((raw ≡ k → ⊥) × (is_plain (get store.now raw) ≡ true))
       own raw is =

@@ -1,6 +1,5 @@
 // Sums over all things of a world in the making, made where they are asked for.
-ghost use Rattle.std.specs.FinMap as map;
-ghost use Rattle.std.specs.Prelude.{◌≡◌, ◌≤◌, ◌+◌, ◌^◌};
+ghost use Rattle.std.specs.Prelude.{◌≡◌, ◌≤◌, ◌^◌};
 ghost use Rattle.sdr_base.specs.declared.kind.Space.{Space};
 ghost use Rattle.sdr_kept.specs.Sound.{charged};
 ghost use Rattle.sdr_kept.specs.Sums.{charge_there, names_there, uses_there};
