@@ -7,6 +7,7 @@ ghost use Rattle.sdr_model.specs.Accounts.{most_amount};
 ghost use Rattle.sdr_model.specs.Amounts.{amounts_by};
 ghost use Rattle.sdr_model.specs.Charges.{occupancy};
 ghost use Rattle.sdr_model.specs.Zco.{naming, source_on, uses_of};
+ghost use Rattle.sdr_undo.specs.Store.{now_at};
 
 use crate::Undoable;
 use sdr_base::{Acct, Addr, Amounts};
@@ -16,7 +17,7 @@ use sdr_undo::Place;
 
 // Whether what is at a place is a source of a raw object.
 fn is_source_of(place: &Place, raw: Addr) -> bool
-    ensures { result ≡ names_there raw place.now.thing }
+    ensures { result ≡ names_there raw (now_at place.now) }
 {
     match place.current() {
         Some(Thing::Source(source)) => match &source.subject {
@@ -36,7 +37,7 @@ fn naming(source: Addr, extents: &[Extent]) -> u64
 
 // How many extents of what is at a place name a source, where it is an object.
 fn uses_on(place: &Place, source: Addr) -> u64
-    ensures { result ≡ uses_there source place.now.thing }
+    ensures { result ≡ uses_there source (now_at place.now) }
 {
     match place.current() {
         Some(Thing::Object(object)) => naming(source, object.extents.as_slice()),
@@ -70,10 +71,10 @@ impl Undoable {
 
     // What is at a place charges an account.
     fn charge_on(&self, place: &Place, acct: Acct) -> Amounts
-        requires small { (space : Space) → charge_there self.now.now acct space place.now.thing ≤ 2 ^
-            41 }
+        requires small { (space : Space) →
+            charge_there self.now.now acct space (now_at place.now) ≤ 2 ^ 41 }
         ensures { result ≡ amounts_by (λ space.
-            charge_there self.now.now acct space place.now.thing) }
+            charge_there self.now.now acct space (now_at place.now)) }
     {
         match place.current() {
             Some(Thing::Object(object)) if object.account == acct => self.object_charge(object),
