@@ -28,7 +28,7 @@ use Rattle.sdr_model.specs.declared.zco.Subject.TheVariants as subjects
 use Rattle.sdr_kept.proofs.SourceLemmas.{no_charge}
 use Rattle.sdr_model.proofs.ThingsLemmas.{get-with_at, same_address, same_things}
 use Rattle.sdr_model.proofs.SumLemmas.{counted_at}
-use Rattle.sdr_kept.proofs.SoundLemmas.{All-each, SameSpace, charged-with_at, same_spaces, sum_same}
+use Rattle.sdr_kept.proofs.ThingSums.{All-each, SameSpace, charged-with_at, same_spaces, sum_same}
 use Rattle.sdr_undo.proofs.TakenLemmas.{addr_after-next}
 
 -- what is put at an address leaves what is at the others

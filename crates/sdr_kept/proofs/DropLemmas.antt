@@ -30,7 +30,7 @@ use Rattle.sdr_model.specs.declared.zco.ZcoSource.{ZcoSource}
 use Rattle.sdr_model.proofs.FewLemmas.{object_is}
 use Rattle.sdr_kept.proofs.SourceLemmas.{plain_no_object}
 use Rattle.sdr_model.proofs.SumLemmas.{counted_at, sum_by-removed}
-use Rattle.sdr_kept.proofs.SoundLemmas.{plain_source}
+use Rattle.sdr_kept.proofs.ThingSums.{plain_source}
 
 -- no more extents name a source where a thing is gone
 pub fewer_uses : (w : World) (k source : ℕ) → uses_of (without_thing w k) source ≤ uses_of w source

@@ -15,4 +15,5 @@ pub mod SoundLemmas
 pub mod SourceLemmas
 pub mod StripLemmas
 pub mod SumBounds
+pub mod ThingSums
 pub mod TrimLemmas

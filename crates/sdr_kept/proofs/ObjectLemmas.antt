@@ -28,7 +28,8 @@ use Rattle.sdr_model.proofs.SumLemmas.{counted_at}
 use Rattle.sdr_model.proofs.ThingsLemmas.{get-with_at}
 use Rattle.sdr_kept.proofs.SumBounds.{source_on-none, unnamed_by, unnamed_raws}
 use Rattle.sdr_kept.proofs.SourceLemmas.{IsKept-dropped}
-use Rattle.sdr_kept.proofs.SoundLemmas.{All-each, AllSound-plain, AreSound-of, charged-with_at, plain_source, same_spaces, sound-with_at}
+use Rattle.sdr_kept.proofs.SoundLemmas.{AllSound-plain, AreSound-of}
+use Rattle.sdr_kept.proofs.ThingSums.{All-each, charged-with_at, plain_source, same_spaces, sound-with_at}
 
 -- what the thing at an address charges
 abbrev pub charge_at : World → ℕ → Acct → Space → Option Thing → ℕ

@@ -36,7 +36,8 @@ use Rattle.sdr_kept.proofs.RawLemmas.{raws-plain, raws-with_at}
 use Rattle.sdr_model.proofs.ThingsLemmas.{get-with_at, same_address, at_itself}
 use Rattle.sdr_model.proofs.SumLemmas.{counted_at, sum_by-removed}
 use Rattle.sdr_kept.proofs.SumBounds.{unnamed_raws}
-use Rattle.sdr_kept.proofs.SoundLemmas.{All-each, AreSound-of, SameSpace, charged-with_at, plain_source, same_spaces, sound-with_at, sum_by-nothing, sum_by-things, sum_same}
+use Rattle.sdr_kept.proofs.SoundLemmas.{AreSound-of}
+use Rattle.sdr_kept.proofs.ThingSums.{All-each, SameSpace, charged-with_at, plain_source, same_spaces, sound-with_at, sum_by-nothing, sum_by-things, sum_same}
 
 -- what isn't an object charges nothing
 module _ (k : ℕ) (o : Option Thing) (no_object : as_object o ≡ None) where

@@ -20,7 +20,7 @@ use Rattle.sdr_model.specs.declared.zco.ZcoObject.{ZcoObject}
 use Rattle.sdr_undo.proofs.SpotLemmas.{first_there, rest_there, right_of}
 use Rattle.sdr_model.proofs.SumLemmas.{counted_at, sum_by-removed}
 use Rattle.sdr_kept.proofs.RawLemmas.{names_own, own_named}
-use Rattle.sdr_kept.proofs.SoundLemmas.{sum_by-most}
+use Rattle.sdr_kept.proofs.ThingSums.{sum_by-most}
 
 -- the first source of a raw object is found where any is
 module _ (raw : ℕ) where
