@@ -1,5 +1,5 @@
 -- Sums over the things on places, one place after another.
-use Rattle.std.proofs.Common.{◌≡◌, ◌+◌, ℕ, arith, Bool, true, false, List, [], ◌∷◌, cond, Option, Some, None, refl}
+use Rattle.std.proofs.Common.{◌≡◌, ◌+◌, ℕ, arith, Bool, true, false, List, ◌∷◌, cond, Option, Some, None, ap, ◌∙◌, refl}
 use Rattle.std.proofs.lemmas.List.Sums.{sum_by-cons}
 use Rattle.std.specs.List.{cons_option, filter_map, find, sum_by}
 use Rattle.std.specs.Option.{option_map}
@@ -27,8 +27,20 @@ uses-either source (things.Object z) = by z.account
     by accts.Outbound = omega arith
 uses-either source thing = refl
 
+-- how many extents of these things name a source
+abbrev pub used : ℕ → List (ℕ × Thing) → ℕ
+used source es = sum_by (λ e. uses_in source accts.Inbound e.1) es + sum_by (λ e. uses_in source accts.Outbound e.1) es
+
+-- the first of these things that is a source of a raw object
+abbrev pub source_among : ℕ → List (ℕ × Thing) → Option ℕ
+source_among raw es = option_map (λ e. e.0) (find (λ e. names_raw raw e.1) es)
+
+-- what these things charge an account
+abbrev pub charge_of : World → Acct → Space → List (ℕ × Thing) → ℕ
+charge_of w acct space es = sum_by (λ e. thing_charge w acct space e.1) es
+
 -- the things on the first of these places, and on the others
-module _ (k : ℕ) (place : Place) (es : List (ℕ × Place)) where
+module _ (k : ℕ) (place : Place) (es all : List (ℕ × Place)) (first : all ≡ (k, place) ∷ es) where
   abbrev rest : List (ℕ × Thing)
   rest = filter_map thing_on es
 
@@ -36,17 +48,10 @@ module _ (k : ℕ) (place : Place) (es : List (ℕ × Place)) where
   with_first o = cons_option (option_map (λ thing. (k, thing)) o) rest
 
   -- how many extents name a source
-  pub uses-first : (source : ℕ)
-      → sum_by (λ e. uses_in source accts.Inbound e.1) (filter_map thing_on ((k, place) ∷ es))
-      + sum_by (λ e. uses_in source accts.Outbound e.1) (filter_map thing_on ((k, place) ∷ es))
-      ≡ uses_there source place.thing
-      + (sum_by (λ e. uses_in source accts.Inbound e.1) rest + sum_by (λ e. uses_in source accts.Outbound e.1) rest)
-  uses-first source = by place.thing
+  pub uses-first : (source : ℕ) → used source (filter_map thing_on all) ≡ uses_there source place.thing + used source rest
+  uses-first source = ap (λ es. used source (filter_map thing_on es)) first ∙ by place.thing
     where
-      by : (o : Option Thing)
-          → sum_by (λ e. uses_in source accts.Inbound e.1) (with_first o) + sum_by (λ e. uses_in source accts.Outbound e.1) (with_first o)
-          ≡ uses_there source o
-          + (sum_by (λ e. uses_in source accts.Inbound e.1) rest + sum_by (λ e. uses_in source accts.Outbound e.1) rest)
+      by : (o : Option Thing) → used source (with_first o) ≡ uses_there source o + used source rest
       by None = omega arith
       by (Some thing) =
           omega (
@@ -58,28 +63,24 @@ module _ (k : ℕ) (place : Place) (es : List (ℕ × Place)) where
 
   -- what they charge an account
   pub charge-first : (w : World) (acct : Acct) (space : Space)
-      → sum_by (λ e. thing_charge w acct space e.1) (filter_map thing_on ((k, place) ∷ es))
-      ≡ charge_there w acct space place.thing + sum_by (λ e. thing_charge w acct space e.1) rest
-  charge-first w acct space = by place.thing
+      → charge_of w acct space (filter_map thing_on all) ≡ charge_there w acct space place.thing + charge_of w acct space rest
+  charge-first w acct space = ap (λ es. charge_of w acct space (filter_map thing_on es)) first ∙ by place.thing
     where
-      by : (o : Option Thing) → sum_by (λ e. thing_charge w acct space e.1) (with_first o)
-          ≡ charge_there w acct space o + sum_by (λ e. thing_charge w acct space e.1) rest
+      by : (o : Option Thing) → charge_of w acct space (with_first o) ≡ charge_there w acct space o + charge_of w acct space rest
       by None = omega arith
       by (Some thing) = sum_by-cons (λ (e : ℕ × Thing). thing_charge w acct space e.1) (k, thing) rest
 
   -- the source that names a raw object
   pub source-first : (raw : ℕ)
-      → option_map (λ e. e.0) (find (λ e. names_raw raw e.1) (filter_map thing_on ((k, place) ∷ es)))
-      ≡ cond (names_there raw place.thing) (Some k) (option_map (λ e. e.0) (find (λ e. names_raw raw e.1) rest))
-  source-first raw = by place.thing
+      → source_among raw (filter_map thing_on all) ≡ cond (names_there raw place.thing) (Some k) (source_among raw rest)
+  source-first raw = ap (λ es. source_among raw (filter_map thing_on es)) first ∙ by place.thing
     where
       picked : (b : Bool) (thing : Thing)
           → option_map (λ (e : ℕ × Thing). e.0) (cond b (Some (k, thing)) (find (λ e. names_raw raw e.1) rest))
-          ≡ cond b (Some k) (option_map (λ (e : ℕ × Thing). e.0) (find (λ e. names_raw raw e.1) rest))
+          ≡ cond b (Some k) (source_among raw rest)
       picked true thing = refl
       picked false thing = refl
 
-      by : (o : Option Thing) → option_map (λ (e : ℕ × Thing). e.0) (find (λ e. names_raw raw e.1) (with_first o))
-          ≡ cond (names_there raw o) (Some k) (option_map (λ (e : ℕ × Thing). e.0) (find (λ e. names_raw raw e.1) rest))
+      by : (o : Option Thing) → source_among raw (with_first o) ≡ cond (names_there raw o) (Some k) (source_among raw rest)
       by None = refl
       by (Some thing) = picked (names_raw raw thing) thing

@@ -9,15 +9,8 @@ use Rattle.sdr_model.specs.declared.things.Thing.{Thing}
 use Rattle.sdr_undo.specs.Store.{Places, now_at, thing_on, things_at}
 use Rattle.sdr_undo.specs.declared.place.Place.{Place}
 use Rattle.sdr_model.proofs.ThingsLemmas.{same_things}
+use Rattle.sdr_undo.proofs.SpotLemmas.{left_of, right_of}
 use Rattle.sdr_undo.proofs.StoreLemmas.{get-things_at}
-
-left_of : (a b : Bool) → T (a && b) → T a
-left_of true b h = tt
-left_of false b h = absurd h
-
-right_of : (a b : Bool) → T (a && b) → T b
-right_of true b h = h
-right_of false b h = absurd h
 
 both : (a b : Bool) → T a → T b → T (a && b)
 both true b p q = q
