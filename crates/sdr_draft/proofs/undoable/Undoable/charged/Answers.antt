@@ -1,4 +1,4 @@
-use Rattle.std.proofs.Common.{◌+◌, ◌∙◌, arith, ap, sym}
+use Rattle.std.proofs.Common.{◌≡◌, ◌∙◌, arith, ap, sym}
 use Rattle.std.proofs.lemmas.Map.Iter.{rest_all, rest_more}
 use Rattle.std.specs.FinMap.{entries}
 use Rattle.std.specs.List.{filter_map}
@@ -22,23 +22,26 @@ loop-place-init c space =
       arith,
       nothing_in space,
       ap (charge_of c.args.self.now.now c.args.acct space)
-      (sym c.places.ensures ∙ ap (λ (d : Draft). entries d.now.things) c.self.view_is),
+      (ap (filter_map thing_on) c.into_iter-place-iterator.ensures.into_iter_gives ∙ sym c.places-place-items.ensures ∙ ap (λ (d : Draft). entries d.now.things) c.self.view_is),
     )
 
-pub charge_on-requires-clause-small : goal.charge_on-requires-clause-small
-charge_on-requires-clause-small c space =
+pub charge_on-requires : goal.charge_on-requires
+charge_on-requires c =
     let w = world_of c.self.inside.things.now c.self.inside.accounts.now in
     let more = rest_more deref_pair _ _ _ _ c.in-Some.is c.next.ensures.steps in
-    omega (
-      arith,
-      c.loop-place.invariant space,
-      charge-first _ _ _ _ more c.args.self.now.now c.args.acct space,
-      ap (λ (d : Draft). charged d.now c.args.acct space) c.self.view_is,
-      charged-small _ w c.self.invariant.sound.now c.args.acct space,
-    )
+    record {
+      small = λ space.
+          omega (
+            arith,
+            c.loop-place.invariant space,
+            charge-first _ _ _ _ more c.args.self.now.now c.args.acct space,
+            ap (λ (d : Draft). charged d.now c.args.acct space) c.self.view_is,
+            charged-small _ w c.self.invariant.sound.now c.args.acct space,
+          );
+    }
 
-pub plus-requires-clause-file : goal.plus-requires-clause-file
-plus-requires-clause-file c =
+pub plus-charge-requires-clause-file : goal.plus-charge-requires-clause-file
+plus-charge-requires-clause-file c =
     let w = world_of c.self.inside.things.now c.self.inside.accounts.now in
     let more = rest_more deref_pair _ _ _ _ c.in-Some.is c.next.ensures.steps in
     omega (
@@ -50,8 +53,8 @@ plus-requires-clause-file c =
       charged-small _ w c.self.invariant.sound.now c.args.acct spaces.File,
     )
 
-pub plus-requires-clause-bulk : goal.plus-requires-clause-bulk
-plus-requires-clause-bulk c =
+pub plus-charge-requires-clause-bulk : goal.plus-charge-requires-clause-bulk
+plus-charge-requires-clause-bulk c =
     let w = world_of c.self.inside.things.now c.self.inside.accounts.now in
     let more = rest_more deref_pair _ _ _ _ c.in-Some.is c.next.ensures.steps in
     omega (
@@ -63,8 +66,8 @@ plus-requires-clause-bulk c =
       charged-small _ w c.self.invariant.sound.now c.args.acct spaces.Bulk,
     )
 
-pub plus-requires-clause-heap : goal.plus-requires-clause-heap
-plus-requires-clause-heap c =
+pub plus-charge-requires-clause-heap : goal.plus-charge-requires-clause-heap
+plus-charge-requires-clause-heap c =
     let w = world_of c.self.inside.things.now c.self.inside.accounts.now in
     let more = rest_more deref_pair _ _ _ _ c.in-Some.is c.next.ensures.steps in
     omega (
@@ -82,7 +85,7 @@ loop-place-preserved c space =
     omega (
       arith,
       c.loop-place.invariant space,
-      ap (λ (a : Amounts). amount a space) c.plus.ensures ∙ amount-plus c.loop-place.charge c.charge_on.result space,
+      ap (λ (a : Amounts). amount a space) c.plus-charge.ensures ∙ amount-plus c.loop-place.charge c.charge_on.result space,
       ap (λ (a : Amounts). amount a space) c.charge_on.ensures
       ∙ amount-by (λ space. charge_there c.args.self.now.now c.args.acct space c.in-Some.place.now.thing) space,
       charge-first _ _ _ _ more c.args.self.now.now c.args.acct space,

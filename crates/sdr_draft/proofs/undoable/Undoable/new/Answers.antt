@@ -8,5 +8,5 @@ pub invariant_of-result : goal.invariant_of-result
 invariant_of-result c = record {
   own = subst₂ (AllOwnInside _ _) (sym (ap (λ s. s.begun) c.new.ensures)) (sym (ap (λ s. s.now) c.new.ensures))
       (record { begun = OwnInside-empty _ _; now = OwnInside-empty _ _ });
-  sound = AllSound-empty _ _ _ _ _ c.new-5.ensures c.new.ensures c.new-4.ensures;
+  sound = AllSound-empty _ _ _ _ c.new.ensures c.new-4.ensures;
 }

@@ -10,7 +10,7 @@ use Rattle.sdr_draft.proofs.undoable.Undoable.source_on.Goals as goal
 
 pub loop-addr-init : goal.loop-addr-init
 loop-addr-init c =
-    ap (source_among c.args.raw) (sym c.places.ensures ∙ ap (λ (d : Draft). entries d.now.things) c.self.view_is)
+    ap (source_among c.args.raw) (ap (filter_map thing_on) c.into_iter-addr-iterator.ensures.into_iter_gives ∙ sym c.places-addr-items.ensures ∙ ap (λ (d : Draft). entries d.now.things) c.self.view_is)
 
 pub loop-addr-preserved : goal.loop-addr-preserved
 loop-addr-preserved c =

@@ -14,17 +14,19 @@ use Rattle.sdr_draft.proofs.undoable.Undoable.uses.Goals as goal
 
 pub loop-place-init : goal.loop-place-init
 loop-place-init c =
-    ap (used c.args.source) (sym c.places.ensures ∙ ap (λ (d : Draft). entries d.now.things) c.self.view_is)
+    let es = ap (filter_map thing_on) c.into_iter-place-iterator.ensures.into_iter_gives ∙ sym c.places-place-items.ensures
+    ∙ ap (λ (d : Draft). entries d.now.things) c.self.view_is in
+    omega (arith, ap (used c.args.source) es)
 
-pub overflow : goal.overflow
-overflow c =
+pub overflow_add-uses : goal.overflow_add-uses
+overflow_add-uses c =
     let w = world_of c.self.inside.things.now c.self.inside.accounts.now in
     let sound = c.self.invariant.sound.now in
     let more = rest_more deref_pair _ _ _ _ c.in-Some.is c.next.ensures.steps in
     omega (
       arith,
       c.loop-place.invariant,
-      c.uses_on.ensures,
+      c.uses_on-uses.ensures,
       uses-first _ _ _ _ more c.args.source,
       ap (λ (d : Draft). uses_of d.now c.args.source) c.self.view_is,
       count_of-small _ w sound c.args.source accts.Inbound,
@@ -34,7 +36,7 @@ overflow c =
 pub loop-place-preserved : goal.loop-place-preserved
 loop-place-preserved c =
     let more = rest_more deref_pair _ _ _ _ c.in-Some.is c.next.ensures.steps in
-    omega (arith, c.loop-place.invariant, c.uses_on.ensures, uses-first _ _ _ _ more c.args.source)
+    omega (arith, c.loop-place.invariant, c.uses_on-uses.ensures, uses-first _ _ _ _ more c.args.source)
 
 pub returns : goal.returns
 returns c =
