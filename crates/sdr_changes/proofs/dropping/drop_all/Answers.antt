@@ -23,7 +23,7 @@ loop-addr-preserved c =
     let i = c.loop-addr.addr-index in
     let a = get_or all i 0 in
     let old = c.loop-addr.world in
-    let new = c.let_go.new.world in
+    let new = c.let_go.new.self in
     let more = drop_more all i 0 c.loop-addr-test.true in
     record {
       may = All-weaker (MayGo old) (MayGo new)
