@@ -1,5 +1,5 @@
 -- An object that is cut to its part may come in its own place.
-use Rattle.std.proofs.Common.{◌≡◌, ◌≤◌, ◌+◌, ℕ, Option, None, Some, ap, sym, ◌∙◌, refl, subst, subst₂, arith}
+use Rattle.std.proofs.Common.{◌≡◌, ℕ, Option, None, Some, ap, sym, ◌∙◌, refl, subst, subst₂, arith}
 use Rattle.sdr_kept.specs.Allowed.{IsBound}
 use Rattle.sdr_undo.specs.Draft.{Draft}
 use Rattle.sdr_model.specs.Dry.{next_addr}

@@ -1,9 +1,6 @@
 -- Objects that get one more component.
-use Rattle.std.proofs.Common.{◌≡◌, ◌≤◌, ◌<◌, ◌+◌, ℕ, arith, length, cond, Option, Some, None, Ok, Err, ap, sym, ◌∙◌, refl, subst, true≢false}
-use Rattle.std.specs.FinMap.{get}
+use Rattle.std.proofs.Common.{◌≡◌, ◌≤◌, ◌<◌, ◌+◌, ℕ, arith, length, Option, Some, None, Ok, Err, ap, ◌∙◌, refl, subst}
 use Rattle.std.specs.Prelude.{Result, IfErr, IfOk, IfSome}
-use Rattle.sdr_base.specs.declared.account.Acct.{Acct}
-use Rattle.sdr_base.specs.declared.account.Acct.TheVariants as accts
 use Rattle.sdr_base.specs.declared.account.Amounts.{Amounts}
 use Rattle.sdr_base.specs.declared.kind.Space.{Space}
 use Rattle.sdr_base.specs.declared.kind.Space.TheVariants as spaces
@@ -20,10 +17,9 @@ use Rattle.sdr_undo.specs.Owners.{IsOwned, OwnsInside}
 use Rattle.sdr_parts.specs.Sides.{component_on, with_capsule}
 use Rattle.sdr_parts.specs.Bounds.{IsModest, IsShort}
 use Rattle.sdr_kept.specs.Edits.{HasRoomInPlace}
-use Rattle.sdr_model.specs.Things.{Owners, Things}
+use Rattle.sdr_model.specs.Things.{Owners}
 use Rattle.sdr_model.specs.World.{World}
 use Rattle.sdr_model.specs.Zco.{object_at, source_on}
-use Rattle.sdr_model.specs.declared.accounts.Accounts.{Accounts}
 use Rattle.sdr_parts.specs.declared.component.Side.{Side}
 use Rattle.sdr_parts.specs.declared.component.Side.TheVariants as sides
 use Rattle.sdr_parts.specs.declared.component.Component.{Component}

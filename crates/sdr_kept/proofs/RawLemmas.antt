@@ -1,5 +1,5 @@
 -- The raw objects of sources, where things change.
-use Rattle.std.proofs.Common.{◌≡◌, ◌≤◌, ◌<◌, ◌==◌, ℕ, arith, Bool, true, false, cond, Option, Some, None, ap, sym, ◌∙◌, refl, subst, unwrap_or, true≢false}
+use Rattle.std.proofs.Common.{◌≡◌, ◌≤◌, ◌<◌, ◌==◌, ℕ, arith, Bool, true, false, cond, Option, Some, None, ap, sym, ◌∙◌, refl, unwrap_or, true≢false}
 use Rattle.std.proofs.lemmas.Bool.{eq-eqb, eqb-true}
 use Rattle.std.specs.BTreeMap.{is_at}
 use Rattle.std.specs.FinMap.{empty, get, get-empty}

@@ -1,5 +1,5 @@
 -- What a world keeps where a source comes, goes or is flagged.
-use Rattle.std.proofs.Common.{◌≡◌, ◌≢◌, ◌≤◌, ◌<◌, ◌+◌, ◌==◌, ℕ, arith, Bool, true, false, List, [], ◌∷◌, cond, Option, Some, None, ap, sym, ◌∙◌, refl, subst, unwrap_or, true≢false}
+use Rattle.std.proofs.Common.{◌≡◌, ◌≢◌, ◌≤◌, ◌<◌, ◌+◌, ◌==◌, ℕ, arith, Bool, true, false, List, [], ◌∷◌, cond, Option, Some, None, ap, sym, ◌∙◌, refl, subst, true≢false}
 use Rattle.std.proofs.lemmas.Bool.{eqb-false, eqb-true}
 use Rattle.std.proofs.lemmas.List.Elements.{All-cons, All-head, All-nil, All-tail, All-weaker}
 use Rattle.std.proofs.lemmas.List.Sums.{sum_by-cons}
@@ -7,7 +7,7 @@ use Rattle.std.specs.BTreeMap.{is_at}
 use Rattle.std.specs.FinMap.{entries, get}
 use Rattle.std.specs.List.{All}
 use Rattle.std.specs.Ordering.{nat_cmp}
-use Rattle.std.specs.Prelude.{IfSome, IsSome}
+use Rattle.std.specs.Prelude.{IfSome}
 use Rattle.sdr_base.specs.declared.account.Acct.{Acct}
 use Rattle.sdr_base.specs.declared.account.Acct.TheVariants as accts
 use Rattle.sdr_base.specs.declared.kind.Space.{Space}
@@ -27,13 +27,11 @@ use Rattle.sdr_model.specs.declared.accounts.Accounts.{Accounts}
 use Rattle.sdr_model.specs.declared.things.Thing.{Thing}
 use Rattle.sdr_model.specs.declared.things.Thing.TheVariants as things
 use Rattle.sdr_model.specs.declared.zco.Extent.{Extent}
-use Rattle.sdr_model.specs.declared.zco.Subject.{Subject}
-use Rattle.sdr_model.specs.declared.zco.Subject.TheVariants as subjects
 use Rattle.sdr_model.specs.declared.zco.ZcoObject.{ZcoObject}
 use Rattle.sdr_model.specs.declared.zco.ZcoSource.{ZcoSource}
 use Rattle.sdr_undo.proofs.OwnersLemmas.{OwnInside-insert, OwnInside-remove, owns_nothing}
 use Rattle.sdr_kept.proofs.RawLemmas.{raws-plain, raws-with_at}
-use Rattle.sdr_model.proofs.ThingsLemmas.{get-with_at, same_address, at_itself}
+use Rattle.sdr_model.proofs.ThingsLemmas.{get-with_at, same_address}
 use Rattle.sdr_model.proofs.SumLemmas.{counted_at, sum_by-removed}
 use Rattle.sdr_kept.proofs.SumBounds.{unnamed_raws}
 use Rattle.sdr_kept.proofs.SoundLemmas.{AreSound-of}

@@ -25,7 +25,7 @@ use Rattle.sdr_model.specs.Steps.{without_thing}
 use Rattle.sdr_parts.specs.Bounds.{EndsInTime, IsModest}
 use Rattle.sdr_model.specs.Things.{Owners, extent_block}
 use Rattle.sdr_model.specs.World.{World, thing_at}
-use Rattle.sdr_model.specs.Zco.{as_object, as_source, extents_length, naming, object_at, source_at, uses_in, uses_of}
+use Rattle.sdr_model.specs.Zco.{as_source, extents_length, naming, object_at, source_at, uses_in, uses_of}
 use Rattle.sdr_model.specs.declared.things.Thing.TheVariants as things
 use Rattle.sdr_model.specs.declared.zco.Extent.{Extent}
 use Rattle.sdr_model.specs.declared.zco.ZcoObject.{ZcoObject}

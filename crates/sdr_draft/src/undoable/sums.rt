@@ -32,7 +32,10 @@ fn is_source_of(place: &Place, raw: Addr) -> bool
 fn naming(source: Addr, extents: &[Extent]) -> u64
     ensures { result ≡ naming source extents.now }
 {
-    extents.iter().filter(|extent| extent.source == source).count() as u64
+    extents
+        .iter()
+        .filter(|extent| extent.source == source)
+        .count() as u64
 }
 
 // How many extents of what is at a place name a source, where it is an object.

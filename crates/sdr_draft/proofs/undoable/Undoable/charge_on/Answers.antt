@@ -1,4 +1,4 @@
-use Rattle.std.proofs.Common.{◌≡◌, ◌≤◌, ◌^◌, ◌∙◌, Bool, true, Some, arith, ap, cond, refl, subst, sym, true≢false}
+use Rattle.std.proofs.Common.{◌≡◌, ◌∙◌, Bool, true, Some, arith, ap, cond, refl, sym, true≢false}
 use Rattle.std.specs.Option.{option_copied}
 use Rattle.sdr_base.specs.contracts.account.Acct.{the_type}
 use Rattle.sdr_base.specs.declared.account.Acct.{Acct}

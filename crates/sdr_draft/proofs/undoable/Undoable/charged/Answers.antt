@@ -22,7 +22,7 @@ loop-place-init c space =
       arith,
       nothing_in space,
       ap (charge_of c.args.self.now.now c.args.acct space)
-      (ap (filter_map thing_on) c.into_iter-place-iterator.ensures.into_iter_gives ∙ sym c.places-place-items.ensures ∙ ap (λ (d : Draft). entries d.now.things) c.self.view_is),
+          (ap (filter_map thing_on) c.into_iter-place-iterator.ensures.into_iter_gives ∙ sym c.places-place-items.ensures ∙ ap (λ (d : Draft). entries d.now.things) c.self.view_is),
     )
 
 pub charge_on-requires : goal.charge_on-requires
@@ -87,7 +87,7 @@ loop-place-preserved c space =
       c.loop-place.invariant space,
       ap (λ (a : Amounts). amount a space) c.plus-charge.ensures ∙ amount-plus c.loop-place.charge c.charge_on.result space,
       ap (λ (a : Amounts). amount a space) c.charge_on.ensures
-      ∙ amount-by (λ space. charge_there c.args.self.now.now c.args.acct space c.in-Some.place.now.thing) space,
+          ∙ amount-by (λ space. charge_there c.args.self.now.now c.args.acct space c.in-Some.place.now.thing) space,
       charge-first _ _ _ _ more c.args.self.now.now c.args.acct space,
     )
 

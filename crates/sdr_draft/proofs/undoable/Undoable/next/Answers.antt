@@ -1,5 +1,5 @@
-use Rattle.std.proofs.Common.{◌≡◌, ◌<◌, Bool, true, false, None, arith, ap, subst, ◌∙◌}
-use Rattle.sdr_kept.specs.Sound.{raw_of_thing, world_of}
+use Rattle.std.proofs.Common.{◌≡◌, None, arith, subst}
+use Rattle.sdr_kept.specs.Sound.{world_of}
 use Rattle.sdr_model.specs.Zco.{source_on, uses_of}
 use Rattle.sdr_draft.specs.contracts.undoable.Undoable.{the_view}
 use Rattle.sdr_kept.proofs.SourceLemmas.{unused_next}

@@ -1,4 +1,4 @@
-use Rattle.std.proofs.Common.{◌≡◌, Some, arith, ap, sym, subst, refl, ◌∙◌}
+use Rattle.std.proofs.Common.{◌≡◌, Some, arith, sym, subst, refl}
 use Rattle.std.specs.FinMap.{get}
 use Rattle.std.specs.Prelude.{◌+◌, ◌<◌, None, IfSome, IsSome}
 use Rattle.sdr_kept.specs.Allowed.{HasRoomFor}
