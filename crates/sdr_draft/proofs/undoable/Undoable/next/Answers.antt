@@ -1,4 +1,4 @@
-use Rattle.std.proofs.Common.{◌≡◌, None, arith, subst}
+use Rattle.std.proofs.Common.{◌≡◌, None, subst}
 use Rattle.sdr_kept.specs.Sound.{world_of}
 use Rattle.sdr_model.specs.Zco.{source_on, uses_of}
 use Rattle.sdr_draft.specs.contracts.undoable.Undoable.{the_view}
