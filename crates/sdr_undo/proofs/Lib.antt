@@ -1,4 +1,5 @@
 pub mod BlocksLemmas
+pub mod EntriesLemmas
 pub mod NamesLemmas
 pub mod OwnersLemmas
 pub mod SpotLemmas
