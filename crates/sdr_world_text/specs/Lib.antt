@@ -1,0 +1,4 @@
+pub mod AccountText
+pub mod ThingText
+pub mod Tied
+pub mod WorldText
