@@ -1,4 +1,0 @@
-pub mod AccountText
-pub mod ThingText
-pub mod Tied
-pub mod WorldText
