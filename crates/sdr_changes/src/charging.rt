@@ -8,7 +8,7 @@ ghost use Rattle.sdr_model.specs.Charges.{occupancy};
 ghost use Rattle.sdr_model.specs.Charging.{grant_left, with_used};
 ghost use Rattle.sdr_model.specs.Dry.{with_taken, next_addr};
 ghost use Rattle.sdr_model.specs.Queue.{with_served};
-ghost use Rattle.sdr_kept.specs.Allowed.{HasRoomFor, MayCharge, MayTakeBack, RefusesCharge, with_back};
+ghost use Rattle.sdr_tally.specs.Allowed.{HasRoomFor, MayCharge, MayTakeBack, RefusesCharge, with_back};
 
 use sdr_base::{Acct, Amounts, NoMemory, Refusal, Space};
 use sdr_draft::Undoable;
@@ -63,7 +63,7 @@ pub fn charge_account(
     }
 }
 
-/// What is occupied of a space in an account. It looks at each extent of its objects, and is linear in its queue.
+/// What is occupied of a space in an account. It is linear in the account's queue.
 pub fn occupancy(world: &Undoable, acct: Acct, space: Space) -> u64
     ensures { result ≡ occupancy world.now.now acct space }
 {

@@ -41,10 +41,10 @@ use std::alloc::Global;
 /// first change of a thing in a transaction in that thing. A key is looked for in its bucket alone; a new or
 /// removed one moves the entries of its hash behind it. A call that is refused for an address at which no
 /// thing begins is linear in the list, hash or object that has or had a block there, and in the catalogue.
-/// Calls on objects are at most linear in what is in them. Calls that charge an account or give it back look at
-/// each extent of its objects, and are linear in its queue. `count` and `destroy_ref` look at each extent, calls
-/// that ask which source names a raw object at each thing, `destroy` and `strip` at each extent for each source
-/// that may go. All others take about the logarithm of the world.
+/// Calls on objects are at most linear in what is in them. `destroy`, `clone_part` and those that give bytes
+/// take the logarithm of the world for each extent, `strip` for each outside the part, `bond` for each header
+/// and trailer, and the others once. Calls that charge an account or give it back are linear in its queue.
+/// All others take about the logarithm of the world.
 pub fn apply(alloc: Global, world: &mut Undoable, call: &Call) -> Result<Reply, NoMemory>
     requires taken { world.old.now.taken < 2 ^ 60 }
     requires few { HasFewPieces most_pieces world.old.now.things }

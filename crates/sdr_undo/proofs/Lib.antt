@@ -1,5 +1,4 @@
 pub mod BlocksLemmas
-pub mod EntriesLemmas
 pub mod NamesLemmas
 pub mod OwnersLemmas
 pub mod SpotLemmas

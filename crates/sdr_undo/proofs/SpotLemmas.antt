@@ -21,7 +21,7 @@ use Rattle.sdr_model.specs.declared.things.Thing.TheVariants as things
 use Rattle.sdr_undo.proofs.OwnersLemmas.{All-from_map}
 use Rattle.sdr_model.proofs.ThingsLemmas.{at_itself, same_address}
 
-pub left_of : (a b : Bool) → T (a && b) → T a
+left_of : (a b : Bool) → T (a && b) → T a
 left_of true b h = tt
 left_of false b h = absurd h
 

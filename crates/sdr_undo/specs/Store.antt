@@ -5,7 +5,6 @@ use Rattle.sdr_undo.specs.declared.place.Place.{Place}
 use Rattle.sdr_model.specs.declared.things.Thing.{Thing}
 use Rattle.std.specs.Coded.{Coded, code_by, coded×, coded_ℕ, coded_list}
 use Rattle.std.specs.FinMap as finite
-use Rattle.std.specs.Option.{option_map}
 use Rattle.std.specs.Ordering.{nat_cmp}
 use Rattle.std.specs.Prelude.{◌≡◌, ◌||◌, ℕ, Bool, true, false, cond, List, [], ◌∷◌, Option, None, Some, Contains, is_some, if◌then◌else◌, refl}
 
@@ -30,10 +29,6 @@ begun_at place = if place.touched then place.begun else place.thing
 -- what is at it now
 abbrev pub now_at : Place → Option Thing
 now_at place = place.thing
-
--- the thing that is at a place now, if there is one, with its address
-abbrev pub thing_on : ℕ × Place → Option (ℕ × Thing)
-thing_on e = option_map (λ thing. (e.0, thing)) e.1.thing
 
 -- the places by their addresses
 abbrev pub Places : Type 0

@@ -1,17 +1,15 @@
 // The things of a world in the making, which can be put back to what they were at the begin.
 ghost use Rattle.std.specs.Prelude.{◌≡◌, ℕ, IfOk, OnOk, OnErr, IsSome, Some, None, Contains, [], true};
 ghost use Rattle.std.specs.FinMap as map;
-ghost use Rattle.std.specs.List.{filter_map};
 ghost use Rattle.std.specs.Option.{option_copied};
 ghost use Rattle.sdr_model.specs.Things.{with_at};
-ghost use Rattle.sdr_undo.specs.Store.{thing_on, with_place};
+ghost use Rattle.sdr_undo.specs.Store.{with_place};
 
 use crate::place::Place;
 use crate::places::Places;
 use sdr_base::{Addr, NoMemory};
 use sdr_model::Thing;
 use std::alloc::Global;
-use std::collections::btree_map::Iter;
 use std::marker::Model;
 
 /// The things of a world by their addresses, now and at the begin of the open transaction. A thing is
@@ -71,13 +69,6 @@ impl Store {
             Some(place) => place.current(),
             None => None,
         }
-    }
-
-    /// All places with their addresses, by rising address. The things are those that are there now.
-    pub fn places(&self) -> Iter<'_, u64, Place>
-        ensures { map.entries self.now.now ≡ filter_map thing_on result }
-    {
-        self.places.iter()
     }
 
     // Whether an address was touched.

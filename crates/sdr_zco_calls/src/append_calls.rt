@@ -1,7 +1,6 @@
 // What the call that adds an extent does to a world.
 ghost use Rattle.std.specs.Prelude.{◌≡◌, ◌<◌, ◌^◌, ◌||◌, ◌+◌, ◌==◌, IsSome, None, nat_lt};
 ghost use Rattle.sdr_calls.specs.Answers.{Answers};
-ghost use Rattle.sdr_model.specs.SourceSteps.{new_source};
 ghost use Rattle.sdr_model.specs.Zco.{object_at, source_at};
 ghost use Rattle.sdr_parts.specs.declared.component.Component.TheVariants as components;
 
@@ -10,7 +9,7 @@ use sdr_base::{Addr, NoMemory, Refusal};
 use sdr_calls::raw_calls::{in_use, misnamed, raw};
 use sdr_changes::growing::add_component;
 use sdr_draft::Undoable;
-use sdr_model::{Call, Extent, Reply, Subject, ZcoSource};
+use sdr_model::{Call, Extent, Reply};
 use sdr_parts::component::Component;
 
 /// An append that is asked.
@@ -87,23 +86,13 @@ fn append_source(world: &mut Undoable, asked: &Append) -> Result<Reply, NoMemory
     if is_outside(asked.offset, asked.bytes, source.length) {
         return Ok(bad_range(asked, source.length));
     }
+    world.touch(asked.named)?;
     let extent = asked.extent(world.next(), asked.named);
     let _granted = match add_component(world, asked.object, asked.ticket, extent, 0)? {
         Ok(granted) => granted,
         Err(refusal) => return Ok(Reply::Refused(refusal)),
     };
     Ok(Reply::Done)
-}
-
-// A source that takes over a raw object of so many bytes.
-fn taking_source(raw: Addr, length: u64) -> ZcoSource
-    ensures { result ≡ new_source (Subject.Heap raw) length }
-{
-    ZcoSource {
-        subject: Subject::Heap(raw),
-        length,
-        flagged: false,
-    }
 }
 
 // Appends a part of a raw object, which a new source takes over, to an object that is there, which isn't copied.
@@ -127,17 +116,17 @@ fn append_raw(world: &mut Undoable, asked: &Append) -> Result<Reply, NoMemory>
     }
     let source = world.next();
     world.touch(source)?;
+    world.touch(asked.named)?;
     let extent = asked.extent(source + 8, source);
     let _granted = match add_component(world, asked.object, asked.ticket, extent, 1)? {
         Ok(granted) => granted,
         Err(refusal) => return Ok(Reply::Refused(refusal)),
     };
-    world.put_source(source, taking_source(asked.named, have));
+    world.take_over(source, asked.named, have);
     Ok(Reply::Done)
 }
 
-/// Appends a part of a source, or of a raw object, to an object. It looks at each extent of the account's objects,
-/// and for a raw object at each thing.
+/// Appends a part of a source, or of a raw object, to an object. It is linear in the object's extents.
 pub fn append_extent(world: &mut Undoable, asked: &Append) -> Result<Reply, NoMemory>
     requires taken { world.old.now.taken < 2 ^ 60 }
     ensures { Answers (Call.AppendExtent asked.now.object asked.now.ticket asked.now.named

@@ -11,6 +11,7 @@ use crate::object_calls::object;
 use sdr_base::{Addr, Items, NoMemory, Refusal};
 use sdr_calls::raw_calls::misnamed;
 use sdr_changes::taking::charge_blocks;
+use sdr_changes::touching::touch_object;
 use sdr_draft::Undoable;
 use sdr_model::{Call, Extent, Reply, ZcoObject};
 use sdr_parts::object::{asked_extents, object_of};
@@ -57,7 +58,7 @@ fn cloned(
 }
 
 /// Makes an object of a part of another's part, in the same account. It has extents of the same sources, and
-/// no header or trailer. No byte is copied. It looks at each extent of the account's objects.
+/// no header or trailer. No byte is copied. It is linear in the object, times the logarithm of the world.
 pub fn clone_part(
     alloc: Global,
     world: &mut Undoable,
@@ -87,7 +88,7 @@ pub fn clone_part(
     let clone = cloned(alloc, object, made, offset, bytes)?;
     let charge = world.object_charge(&clone);
     let blocks = 1 + clone.extents.len() as u64;
-    world.touch(made)?;
+    touch_object(world, made, &clone)?;
     let _granted = match charge_blocks(world, acct, number, &charge, made, blocks)? {
         Ok(granted) => granted,
         Err(refusal) => return Ok(Reply::Refused(refusal)),

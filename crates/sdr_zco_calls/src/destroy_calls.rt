@@ -11,6 +11,7 @@ use crate::object_calls::object;
 use sdr_base::{Addr, NoMemory};
 use sdr_calls::raw_calls::misnamed;
 use sdr_changes::dropping::{drop_all, touch_all};
+use sdr_changes::touching::touch_object;
 use sdr_draft::Undoable;
 use sdr_model::{Call, Reply, ZcoObject};
 use std::alloc::Global;
@@ -33,18 +34,18 @@ fn lose_whole(
 {
     world.known_object(addr);
     let gone = gone_things(alloc, world, object.extents.as_slice())?;
-    world.touch(addr)?;
+    touch_object(world, addr, object)?;
     touch_all(world, gone.as_slice())?;
     world.save_accounts()?;
-    world.let_go(addr);
+    world.lose_object(addr);
     drop_all(world, gone.as_slice());
     world.serve(object.account);
     world.hide();
     Ok(Reply::Done)
 }
 
-/// Destroys an object, with each source that goes with its last extent. It looks at each extent of the account's
-/// objects, and of the world for each source that may go.
+/// Destroys an object, with each source that goes with its last extent. It is linear in the object, times the
+/// logarithm of the world.
 pub fn destroy(alloc: Global, world: &mut Undoable, addr: Addr) -> Result<Reply, NoMemory>
     ensures { Answers (Call.Destroy addr) world.old world.new result }
 {

@@ -1,7 +1,7 @@
 // What goes with extents.
 ghost use Rattle.std.specs.BTreeMap.{get};
 ghost use Rattle.std.specs.Ordering.{nat_cmp};
-ghost use Rattle.std.specs.Prelude.{◌≡◌, ◌≤◌, ◌<◌, ◌+◌, ◌^◌, ◌++◌, ◌==◌, ℕ, false, unwrap_or, [], IfOk, OnOk, if◌then◌else◌};
+ghost use Rattle.std.specs.Prelude.{◌≡◌, ◌≤◌, ◌<◌, ◌+◌, ◌^◌, ◌++◌, ◌==◌, ℕ, unwrap_or, [], IfOk, OnOk, if◌then◌else◌};
 ghost use Rattle.sdr_model.specs.Gone.{gone_things, source_blocks};
 ghost use Rattle.sdr_model.specs.Zco.{naming, source_at, uses_of};
 
@@ -42,20 +42,7 @@ fn add_passing(world: &Undoable, addr: Addr, gone: &mut Items<Addr>) -> Result<(
     Ok(())
 }
 
-// Whether the source at an address, if there is one, goes with its last extent.
-fn passes(world: &Undoable, addr: Addr) -> bool
-    ensures { result ≡ false → source_blocks addr (source_at world.now.now addr) ≡ [] }
-{
-    match world.source(addr) {
-        Some(source) => match &source.subject {
-            Subject::Heap(_) => true,
-            _ => source.flagged,
-        },
-        None => false,
-    }
-}
-
-// Adds it where it loses its last extent, as so many that go name it. Extents are counted where it may go alone.
+// Adds it where it loses its last extent, as so many that go name it.
 fn add_last(
     world: &Undoable,
     addr: Addr,
@@ -65,9 +52,6 @@ fn add_last(
     ensures { OnOk result (gone.new ≡ gone.old ++
         (if count == uses_of world.now.now addr then source_blocks addr (source_at world.now.now addr) else [])) }
 {
-    if !passes(world, addr) {
-        return Ok(());
-    }
     if count == world.uses(addr) {
         add_passing(world, addr, gone)?;
     }
@@ -75,8 +59,8 @@ fn add_last(
 }
 
 /// The addresses of the things that go where these extents of an object go: each source that loses its last
-/// extent and goes with it, behind the raw object that it has taken over. It takes a logarithm for each extent, and
-/// looks at each extent of the world for each source that may go.
+/// extent and goes with it, behind the raw object that it has taken over. It is linear in the extents, times
+/// a logarithm.
 pub fn gone_things(
     alloc: Global,
     world: &Undoable,

@@ -5,7 +5,7 @@ ghost use Rattle.sdr_model.specs.ObjectSteps.{with_object};
 ghost use Rattle.sdr_model.specs.Queue.{with_served};
 ghost use Rattle.sdr_model.specs.Zco.{object_at};
 ghost use Rattle.sdr_parts.specs.Trims.{MayTrim, trimmed};
-ghost use Rattle.sdr_kept.specs.Sound.{IsAccountOf};
+ghost use Rattle.sdr_tally.specs.Tallies.{IsAccountOf};
 
 use crate::object_calls::object;
 use sdr_base::{Acct, Addr, NoMemory, Refusal};
@@ -31,8 +31,8 @@ fn put_trimmed(world: &mut Undoable, addr: Addr, acct: Acct, trim: Trim) -> Resu
     Ok(Reply::Done)
 }
 
-/// Takes the first header of an object off, which moves the others. It looks at each extent of the account's
-/// objects.
+/// Takes the first header of an object off, which moves the others. All else takes about the logarithm of the
+/// world.
 #[tactic(auto, using(sdr_model::proofs::DryLemmas::gives))]
 pub fn discard_first_header(world: &mut Undoable, addr: Addr) -> Result<Reply, NoMemory>
     ensures { Answers (Call.DiscardFirstHeader addr) world.old world.new result }
@@ -47,7 +47,7 @@ pub fn discard_first_header(world: &mut Undoable, addr: Addr) -> Result<Reply, N
     put_trimmed(world, addr, acct, Trim::FirstHeader)
 }
 
-/// Takes the last trailer of an object off. It looks at each extent of the account's objects.
+/// Takes the last trailer of an object off. It takes about the logarithm of the world.
 #[tactic(auto, using(sdr_model::proofs::DryLemmas::gives))]
 pub fn discard_last_trailer(world: &mut Undoable, addr: Addr) -> Result<Reply, NoMemory>
     ensures { Answers (Call.DiscardLastTrailer addr) world.old world.new result }

@@ -1,14 +1,14 @@
 // What calls on sources do to a world.
-ghost use Rattle.std.specs.Prelude.{◌≡◌, ◌≤◌, ◌<◌, ◌^◌, ◌++◌, ◌∷◌, [], IfOk, IfSome, IsSome, OnErr, OnOk, true};
+ghost use Rattle.std.specs.Prelude.{◌≡◌, ◌≤◌, ◌<◌, ◌^◌, ◌++◌, ◌∷◌, [], ℕ, IfOk, IfSome, IsSome, Contains, OnErr, OnOk, None, true};
 ghost use Rattle.sdr_calls.specs.Answers.{Answers};
 ghost use Rattle.sdr_model.specs.Dry.{with_taken, next_addr};
 ghost use Rattle.sdr_model.specs.Limits.{longest_source};
 ghost use Rattle.sdr_model.specs.SourceSteps.{new_source};
 ghost use Rattle.sdr_model.specs.Steps.{with_thing, without_thing};
 ghost use Rattle.sdr_model.specs.World.{thing_at};
-ghost use Rattle.sdr_model.specs.Zco.{raw_of, source_at, uses_of};
+ghost use Rattle.sdr_model.specs.Zco.{raw_of, source_at, source_on, uses_of};
 ghost use Rattle.sdr_model.specs.declared.things.Thing.TheVariants as things;
-ghost use Rattle.sdr_kept.specs.Sound.{is_plain};
+ghost use Rattle.sdr_tally.specs.Tallies.{is_plain};
 
 use sdr_base::{Addr, Bytes, Kind, NoMemory, Refusal};
 use sdr_calls::raw_calls::{bad_length, in_use, misnamed, raw};
@@ -17,10 +17,25 @@ use sdr_model::limits::{LONGEST_PATH, LONGEST_SOURCE};
 use sdr_model::{Call, Reply, Subject, ZcoSource};
 use std::alloc::Global;
 
-// Makes a source that isn't flagged at the next address.
+// Takes note that what names a raw object, if there is one, may be changed.
+fn touch_raw(world: &mut Undoable, raw: Option<Addr>) -> Result<(), NoMemory>
+    ensures now { world.new.now ≡ world.old.now }
+    ensures begun { world.new.begun ≡ world.old.begun }
+    ensures noted { OnOk result (IfSome raw (Contains world.new.noted)) }
+    ensures others { OnOk result ((other : ℕ) →
+        Contains world.old.touched other → Contains world.new.touched other) }
+{
+    match raw {
+        Some(raw) => world.touch(raw),
+        None => Ok(()),
+    }
+}
+
+// Makes a source that isn't flagged of a subject that none names, at the next address.
 fn make_source(world: &mut Undoable, subject: Subject, length: u64) -> Result<Addr, NoMemory>
     requires taken { world.old.now.taken < 2 ^ 60 }
     requires length { length ≤ longest_source }
+    requires unnamed { IfSome (raw_of subject) (λ raw. source_on world.old.now raw ≡ None) }
     requires there { IfSome (raw_of subject) (λ raw.
         (raw < next_addr world.old.now.taken) × (is_plain (thing_at world.old.now raw) ≡ true)) }
     ensures addr { IfOk result (λ addr. addr ≡ next_addr world.old.now.taken) }
@@ -31,6 +46,7 @@ fn make_source(world: &mut Undoable, subject: Subject, length: u64) -> Result<Ad
 {
     let addr = world.next();
     world.touch(addr)?;
+    touch_raw(world, subject.raw())?;
     world.mark_next()?;
     world.count();
     world.put_source(
@@ -48,6 +64,7 @@ fn make_source(world: &mut Undoable, subject: Subject, length: u64) -> Result<Ad
 fn made(world: &mut Undoable, subject: Subject, length: u64) -> Result<Reply, NoMemory>
     requires taken { world.old.now.taken < 2 ^ 60 }
     requires length { length ≤ longest_source }
+    requires unnamed { IfSome (raw_of subject) (λ raw. source_on world.old.now raw ≡ None) }
     requires there { IfSome (raw_of subject) (λ raw.
         (raw < next_addr world.old.now.taken) × (is_plain (thing_at world.old.now raw) ≡ true)) }
     ensures reply { IfOk result (λ reply. reply ≡ Reply.At (next_addr world.old.now.taken)) }
@@ -113,8 +130,10 @@ fn lose_source(world: &mut Undoable, addr: Addr) -> Result<Reply, NoMemory>
     ensures begun { world.new.begun ≡ world.old.begun }
     ensures same { OnErr result (world.new.now ≡ world.old.now) }
 {
+    let raw = world.raw_at(addr);
     world.touch(addr)?;
-    world.let_go(addr);
+    touch_raw(world, raw)?;
+    world.drop_source(addr);
     world.hide();
     Ok(Reply::Done)
 }

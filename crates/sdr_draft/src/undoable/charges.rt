@@ -11,13 +11,6 @@ use sdr_model::{Extent, ZcoObject};
 use sdr_parts::amounts::{NOTHING, plus};
 use sdr_parts::charges::{bytes_charge, capsules_charge};
 
-/// A source that was looked up, and the space that its bytes are in.
-#[derive(Clone, Copy)]
-struct Looked {
-    source: Addr,
-    space: Space,
-}
-
 impl Undoable {
     /// The space that the bytes of a source are in, heap space where there is no such source.
     pub fn space_of(&self, source: Addr) -> Space
@@ -29,20 +22,7 @@ impl Undoable {
         }
     }
 
-    // The same of a source, which isn't looked up again where it was the last one.
-    fn look(&self, last: Looked, source: Addr) -> Looked
-        requires last { last.space ≡ space_in (source_at self.now.now last.source) }
-        ensures source { result.source ≡ source }
-        ensures space { result.space ≡ space_in (source_at self.now.now source) }
-    {
-        if last.source == source {
-            return last;
-        }
-        let space = self.space_of(source);
-        Looked { source, space }
-    }
-
-    /// What these extents charge. It is linear in them, times the logarithm of the world where their sources change.
+    /// What these extents charge. It is linear in them, times the logarithm of the world.
     pub fn extents_charge(&self, extents: &[Extent]) -> Amounts
         requires small { (space : GhostSpace) → sum_by (extent_charge self.now.now space)
             extents.now ≤ 2 ^ 41 }
@@ -50,13 +30,8 @@ impl Undoable {
             extents.now) }
     {
         let mut charge = NOTHING;
-        let mut last = Looked {
-            source: 0,
-            space: self.space_of(0),
-        };
         for extent in extents {
-            last = self.look(last, extent.source);
-            let one = bytes_charge(last.space, extent.length);
+            let one = bytes_charge(self.space_of(extent.source), extent.length);
             charge = plus(&charge, &one);
         }
         charge

@@ -8,7 +8,7 @@ ghost use Rattle.sdr_model.specs.Charges.{occupancies};
 ghost use Rattle.sdr_model.specs.Charging.{with_used};
 ghost use Rattle.sdr_model.specs.Queue.{enqueued, with_served};
 ghost use Rattle.sdr_parts.specs.Grants.{KeepGrants};
-ghost use Rattle.sdr_kept.specs.Allowed.{IsBound, IsGrantOf, MayTakeBack, RefusesCharge, refusal_of, with_back};
+ghost use Rattle.sdr_tally.specs.Allowed.{IsBound, IsGrantOf, MayTakeBack, RefusesCharge, refusal_of, with_back};
 
 use crate::Undoable;
 use sdr_base::{Acct, Amounts, NoMemory, Refusal};
@@ -24,14 +24,14 @@ impl Undoable {
         self.accounts.now()
     }
 
-    /// What is occupied in an account. It looks at each extent of its objects, and is linear in its queue.
+    /// What is occupied in an account. It is linear in the account's queue.
     pub fn occupied(&self, acct: Acct) -> Amounts
         ensures value { result ≡ occupancies self.now.now acct }
         ensures small { (space : GhostSpace) → amount result space ≤ most_amount }
         ensures keep { KeepGrants self.now.now.accounts }
     {
         let account = self.accounts.now().account(acct);
-        plus(&self.charged(acct), &left(account.tickets.as_slice()))
+        plus(&self.tally.now.to(acct), &left(account.tickets.as_slice()))
     }
 
     /// Copies the accounts, so that they may be changed. Want of memory leaves the world as before.
@@ -42,7 +42,7 @@ impl Undoable {
         self.accounts.save()
     }
 
-    /// Serves the queue of an account. It looks at each extent of its objects, and is linear in the queue.
+    /// Serves the queue of an account. It is linear in the queue.
     pub fn serve(&mut self, acct: Acct)
         requires saved { self.old.saved ≡ true }
         ensures { self.new ≡ record self.old { now = with_served self.old.now acct } }

@@ -2,20 +2,21 @@ use Rattle.std.proofs.Common.{◌+◌, ap, sym, ◌∙◌, drop, get_or, subst}
 use Rattle.std.proofs.lemmas.List.{drop_more}
 use Rattle.std.proofs.lemmas.List.Elements.{All-head, All-tail, All-weaker}
 use Rattle.std.specs.List.{All}
-use Rattle.sdr_kept.specs.Drops.{MayGo}
+use Rattle.sdr_tally.specs.Drops.{MayGo}
 use Rattle.sdr_model.specs.Gone.{without_things}
 use Rattle.sdr_model.specs.World.{World}
-use Rattle.sdr_kept.proofs.DropLemmas.{MayGo-without}
+use Rattle.sdr_tally.proofs.DropLemmas.{MayGo-without}
 use Rattle.sdr_changes.proofs.dropping.drop_all.Goals as goal
 
-pub let_go-requires : goal.let_go-requires
-let_go-requires c =
+pub drop_one-requires : goal.drop_one-requires
+drop_one-requires c =
     let all = c.args.addrs.now in
     let i = c.loop-addr.addr-index in
     let P = MayGo c.loop-addr.world in
-    let may = All-head P (get_or all i 0) (drop (i + 1) all)
-    (subst (All P) (drop_more all i 0 c.loop-addr-test.true) c.loop-addr.invariant.may) in
-    record { touched = may.touched; unused = may.unused }
+    record {
+      may = All-head P (get_or all i 0) (drop (i + 1) all)
+          (subst (All P) (drop_more all i 0 c.loop-addr-test.true) c.loop-addr.invariant.may);
+    }
 
 pub loop-addr-preserved : goal.loop-addr-preserved
 loop-addr-preserved c =
@@ -23,14 +24,14 @@ loop-addr-preserved c =
     let i = c.loop-addr.addr-index in
     let a = get_or all i 0 in
     let old = c.loop-addr.world in
-    let new = c.let_go.new.self in
+    let new = c.drop_one.new.world in
     let more = drop_more all i 0 c.loop-addr-test.true in
     record {
       may = All-weaker (MayGo old) (MayGo new)
-          (λ addr may. MayGo-without old new a addr c.let_go.ensures.gone c.let_go.ensures.touched may)
+          (λ addr may. MayGo-without old new a addr c.drop_one.ensures.dropped c.drop_one.ensures.touched c.drop_one.ensures.noted_stay may)
           (drop (i + 1) all) (All-tail (MayGo old) a (drop (i + 1) all) (subst (All (MayGo old)) more c.loop-addr.invariant.may));
-      dropped = ap (λ (w : World). without_things w (drop (i + 1) all)) c.let_go.ensures.gone
+      dropped = ap (λ (w : World). without_things w (drop (i + 1) all)) c.drop_one.ensures.dropped
           ∙ sym (ap (without_things old.now) more) ∙ c.loop-addr.invariant.dropped;
-      begun = c.let_go.ensures.begun ∙ c.loop-addr.invariant.begun;
-      saved = c.let_go.ensures.saved ∙ c.loop-addr.invariant.saved;
+      begun = c.drop_one.ensures.begun ∙ c.loop-addr.invariant.begun;
+      saved = c.drop_one.ensures.saved ∙ c.loop-addr.invariant.saved;
     }

@@ -9,13 +9,13 @@ use Rattle.sdr_draft.proofs.undoable.Undoable.mark_inside.Goals as goal
 pub invariant_of-self-in_err-push : goal.invariant_of-self-in_err-push
 invariant_of-self-in_err-push c = record {
   own = AllOwnInside-noted _ _ _ _ (omega arith) _ _ _ c.in_ok-insert.ensures.ok c.self.invariant.own;
-  sound = c.self.invariant.sound;
+  told = c.self.invariant.told;
 }
 
 pub invariant_of-self-2 : goal.invariant_of-self-2
 invariant_of-self-2 c = record {
   own = AllOwnInside-noted _ _ _ _ (omega arith) _ _ _ c.in_ok-insert.ensures.ok c.self.invariant.own;
-  sound = c.self.invariant.sound;
+  told = c.self.invariant.told;
 }
 
 pub returns-clause-noted : goal.returns-clause-noted

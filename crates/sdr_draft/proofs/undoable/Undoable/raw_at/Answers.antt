@@ -2,7 +2,7 @@ use Rattle.std.proofs.Common.{◌≡◌, ℕ, true, Option, Some, None, ap, sym,
 use Rattle.std.specs.FinMap.{get}
 use Rattle.std.specs.Option.{option_copied}
 use Rattle.std.specs.Prelude.{IfSome}
-use Rattle.sdr_kept.specs.Sound.{RawsArePlain, is_plain, raw_of_thing}
+use Rattle.sdr_tally.specs.Tallies.{RawsArePlain, is_plain, raw_of_thing}
 use Rattle.sdr_model.specs.Things.{Things}
 use Rattle.sdr_model.specs.World.{thing_at}
 use Rattle.sdr_draft.proofs.undoable.Undoable.raw_at.Goals as goal
@@ -16,5 +16,5 @@ plain_there next addr m (Some raw) raws is = (raws.each addr raw (sym is)).1
 pub returns-in-Some-Source-clause-plain : goal.returns-in-Some-Source-clause-plain
 returns-in-Some-Source-clause-plain c =
     subst (λ d. IfSome c.raw.result (λ raw. is_plain (thing_at d.now raw) ≡ true)) c.self.view_is
-    (plain_there _ c.args.addr c.self.inside.things.now c.raw.result c.self.invariant.sound.now.raws
+    (plain_there _ c.args.addr c.self.inside.things.now c.raw.result c.self.invariant.told.now.raws
     (c.raw.ensures ∙ ap raw_of_thing (sym (sym c.get.ensures ∙ ap option_copied c.in-Some-Source.is ∙ ap Some c.in-Some-Source.field-0-is))))

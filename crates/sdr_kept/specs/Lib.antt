@@ -1,6 +1,0 @@
-pub mod Allowed
-pub mod Drops
-pub mod Edits
-pub mod Sound
-pub mod Strips
-pub mod Sums
