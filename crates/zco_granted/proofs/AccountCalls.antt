@@ -195,9 +195,9 @@ pub maximum_refused : (old new : Heap) (w : World) (acct : Acct) (space : Space)
     IsRefused w (calls.SetMaximum acct space value) old new was was refusal
 maximum_refused old new w acct space value was (refusals.TooLarge of asked most) unmoved m = record {
   step = inl (row_refused w (calls.SetMaximum acct space value) new (refusals.TooLarge of asked most)
-      (ap (λ (h : Heap). h.moves) m.1.1.1.1 ∙ unmoved)
-      (on_true _ _ (nat_lt most_amount value) (above value m.1.1.1.0)
-      (refl, refl, λ i. replies.Refused (refusals.TooLarge (m.0 i) (m.1.0 i) (m.1.1.0 i)))));
+      (ap (λ (h : Heap). h.moves) m.4 ∙ unmoved)
+      (on_true _ _ (nat_lt most_amount value) (above value m.3)
+      (refl, refl, λ i. replies.Refused (refusals.TooLarge (m.0 i) (m.1 i) (m.2 i)))));
   left = λ reads. absurd (true≢false (sym reads));
   gave = refl;
 }

@@ -163,7 +163,7 @@ module _ (old new : Heap) (w : World) (acct : Acct) (asked : Amounts) (coarse fi
       }) (asks acct asked coarse fine)
   request_row addr a =
       on_none _ _ (first_above asked maxima) a.within
-      (on_false _ _ (w.accounts.next == most_amount) a.numbered (refl, refl, refl))
+      (on_false _ _ (w.accounts.next == most_amount) a.numbered (refl, (refl, refl)))
 
   pub request_aim : IsAllowed → TakesAim w (asks acct asked coarse fine) 96
   request_aim a = record { after = _; reply = _; row = request_row 0 a; answered = refl }
