@@ -24,6 +24,7 @@ use Rattle.sdr_laws.proofs.QueueLemmas.{all_gone}
 use Rattle.sdr_laws.specs.Fresh.{AreFresh}
 use Rattle.sdr_lock.proofs.WorkLemmas.{on_false, on_none, on_some, on_true}
 use Rattle.sdr_lock.specs.Demand.{grants_between}
+use Rattle.sdr_lock.specs.Serving.{shown_among}
 use Rattle.sdr_model.specs.AccountSteps.{pending_of, without_ticket}
 use Rattle.sdr_model.specs.Accounts.{account_of, tickets_of}
 use Rattle.sdr_model.specs.Amounts.{minus}
@@ -42,16 +43,18 @@ use Rattle.zco_acct.specs.Kept.{block_of, queue_entries}
 use Rattle.zco_acct.specs.Refusals.{unusable}
 use Rattle.zco_acct.specs.Walks.{has_number}
 use Rattle.zco_acct.specs.Words.{first_word, last_word, maxima_in, occupied_in}
+use Rattle.zco_acct.specs.declared.queue.Found.{Found}
 use Rattle.zco_granted.proofs.AccountLemmas.{account_becomes, account_with, account_words, roots_before, served_words, unmarked, world_with}
 use Rattle.zco_granted.proofs.ComingLemmas.{tickets_kept, untied_answered}
-use Rattle.zco_granted.proofs.FoundLemmas.{HasNone, IsPending, located_pending, pending_at, pending_or, unlocated}
+use Rattle.zco_granted.proofs.FoundLemmas.{HasNone, IsPending, located_pending, pending_at, pending_nowhere, pending_or, unlocated}
 use Rattle.zco_granted.proofs.GrantLemmas.{grants_many, left_await}
 use Rattle.zco_granted.proofs.OccupiedLemmas.{occupied_less, occupied_with, served_occupied}
 use Rattle.zco_granted.proofs.QueueLemmas.{maxima_are, occupied_is, queue_kept}
 use Rattle.zco_granted.proofs.WordLemmas.{AccountWords, ends_set, occupied_set, roots_with, set_occupied}
-use Rattle.zco_granted.specs.Answering.{Answered, grants_of, left_by}
+use Rattle.zco_granted.specs.Answering.{Answered, Sees, grants_of, left_by}
 use Rattle.zco_served.specs.Answering.{IsServed}
-use Rattle.zco_space.specs.Located.{AwardStops, IsAwarded}
+use Rattle.zco_space.proofs.FindLemmas.{located_is}
+use Rattle.zco_space.specs.Located.{AwardStops, IsAwarded, StandsIn, StandsNowhere}
 use Rattle.zco_space.specs.Served.{newly_granted, occupied_after}
 use Rattle.zco_space.specs.Shreds.{ShredStops, ShredsTicket, given_back, located, queue_of, shredded, shreds_granted, without_number}
 
@@ -309,3 +312,24 @@ shred_grants old w number s served =
         let left : grants_of w (calls.Shred number) ≡ grants_between w (without_ticket w (pending_at q.0 p.found.place q.1)) =
         ap (λ (o : Option Pending). grants_between w (option_map_or (without_ticket w) o w)) p.is in
         omega (arith, many, is, left)
+
+-- what is seen of a ticket
+pub sees_some : {old : Heap} {number : ℕ} (acct : Acct) (found : Found) → StandsIn old number acct found →
+    Sees number old (Some found.ticket.granted)
+sees_some {old} {number} acct found at = record {
+  sees = λ w s served.
+      let keeps = tickets_kept served in
+      let p = located_pending w number acct found.ticket
+      (located_is acct found at w.accounts.inbound.tickets w.accounts.outbound.tickets (queue_kept accts.Inbound s keeps)
+      (queue_kept accts.Outbound s keeps)) in
+      sym (ap shown_among p.is);
+}
+
+pub sees_none : {old : Heap} {number : ℕ} → StandsNowhere old number → Sees number old None
+sees_none {old} {number} nowhere = record {
+  sees = λ w s served.
+      let keeps = tickets_kept served in
+      let p = pending_nowhere w number (nowhere.inbound.searched w.accounts.inbound.tickets (queue_kept accts.Inbound s keeps))
+      (nowhere.outbound.searched w.accounts.outbound.tickets (queue_kept accts.Outbound s keeps)) in
+      sym (ap shown_among p.none);
+}
