@@ -8,7 +8,7 @@ use Rattle.sdr_answers.specs.Answering.{Aim, IsRefused}
 use Rattle.sdr_audit.specs.Standing.{HeapStandsFor}
 use Rattle.sdr_base.specs.Blocks.{Blocks, with_at}
 use Rattle.sdr_base.specs.Entries.{Changes, Entries, Stands}
-use Rattle.sdr_base.specs.Objects.{Heap, OnlyUnmoved}
+use Rattle.sdr_base.specs.Objects.{Heap}
 use Rattle.sdr_base.specs.declared.account.Acct.{Acct}
 use Rattle.sdr_base.specs.declared.account.Acct.TheVariants as accts
 use Rattle.sdr_base.specs.declared.account.Amounts.{Amounts}
@@ -42,7 +42,7 @@ use Rattle.zco_acct.specs.Kept.{SomeQueue, queue_entries}
 use Rattle.zco_acct.specs.Words.{first_word, last_word, maxima_in, maximum_word, occupied_in}
 use Rattle.zco_granted.proofs.AccountLemmas.{account_becomes, account_words, roots_before, unmarked, world_with}
 use Rattle.zco_granted.proofs.ComingLemmas.{log_full, tickets_kept, untied_answered}
-use Rattle.zco_granted.proofs.QueueLemmas.{maxima_are, occupied_is, queue_kept}
+use Rattle.zco_granted.proofs.QueueLemmas.{maxima_are, occupied_is}
 use Rattle.zco_granted.proofs.WordLemmas.{maximum_set}
 use Rattle.zco_granted.specs.Answering.{Answered, KeepsTickets, Serves, grants_of}
 use Rattle.zco_served.specs.Answering.{IsServed}

@@ -7,7 +7,7 @@ use Rattle.sdr_audit.specs.Standing as audit
 use Rattle.sdr_base.specs.Blocks.{Blocks}
 use Rattle.sdr_base.specs.Entries.{Changes, Entries, Stands, Swaps}
 use Rattle.sdr_base.specs.Linked.{first_of, last_of}
-use Rattle.sdr_base.specs.Making.{besides, marked_by}
+use Rattle.sdr_base.specs.Making.{marked_by}
 use Rattle.sdr_base.specs.Objects.{Heap}
 use Rattle.sdr_base.specs.Tickets.{ticket_entries}
 use Rattle.sdr_base.specs.declared.account.Acct.{Acct}

@@ -1,5 +1,5 @@
 -- A ticket that is looked at, and one that goes, as steps.
-use Rattle.std.proofs.Common.{◌≡◌, ◌∙◌, ◌≤◌, ◌++◌, ℕ, List, [], ◌∷◌, Bool, true, false, true≢false, inl, find, remove, refl, sym, ap, subst, arith, if◌then◌else◌}
+use Rattle.std.proofs.Common.{◌≡◌, ◌∙◌, ◌≤◌, ◌++◌, ℕ, List, [], ◌∷◌, Bool, true, false, true≢false, inl, remove, refl, sym, ap, subst, arith, if◌then◌else◌}
 use Rattle.std.specs.List.{AllByRecursion}
 use Rattle.std.specs.Option.{option_map_or}
 use Rattle.std.specs.Prelude.{All, Option, None, Some}
@@ -41,17 +41,16 @@ use Rattle.sdr_model.specs.declared.answer.Reply.TheVariants as replies
 use Rattle.sdr_model.specs.declared.call.Call.TheVariants as calls
 use Rattle.zco_acct.specs.Kept.{block_of, queue_entries}
 use Rattle.zco_acct.specs.Refusals.{unusable}
-use Rattle.zco_acct.specs.Walks.{has_number}
-use Rattle.zco_acct.specs.Words.{first_word, last_word, maxima_in, occupied_in}
+use Rattle.zco_acct.specs.Words.{first_word, last_word}
 use Rattle.zco_acct.specs.declared.queue.Found.{Found}
 use Rattle.zco_granted.proofs.AccountLemmas.{account_becomes, account_with, account_words, roots_before, served_words, unmarked, world_with}
 use Rattle.zco_granted.proofs.ComingLemmas.{tickets_kept, untied_answered}
-use Rattle.zco_granted.proofs.FoundLemmas.{HasNone, IsPending, located_pending, pending_at, pending_nowhere, pending_or, unlocated}
+use Rattle.zco_granted.proofs.FoundLemmas.{IsPending, located_pending, pending_at, pending_nowhere, pending_or, unlocated}
 use Rattle.zco_granted.proofs.GrantLemmas.{grants_many, left_await}
 use Rattle.zco_granted.proofs.OccupiedLemmas.{occupied_less, occupied_with, served_occupied}
 use Rattle.zco_granted.proofs.QueueLemmas.{maxima_are, occupied_is, queue_kept}
 use Rattle.zco_granted.proofs.WordLemmas.{AccountWords, ends_set, occupied_set, roots_with, set_occupied}
-use Rattle.zco_granted.specs.Answering.{Answered, Sees, grants_of, left_by}
+use Rattle.zco_granted.specs.Answering.{Answered, Sees, grants_of}
 use Rattle.zco_served.specs.Answering.{IsServed}
 use Rattle.zco_space.proofs.FindLemmas.{located_is}
 use Rattle.zco_space.specs.Located.{AwardStops, IsAwarded, StandsIn, StandsNowhere}
