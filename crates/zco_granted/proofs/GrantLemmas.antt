@@ -26,7 +26,7 @@ pub record Awaits (w : World) (t : Ticket) : Type 0 where
   pub waits : t.granted ≡ false → is_granted_in w t.number ≡ false
 
 -- whether a ticket is granted that wasn't
-abbrev newly : World → Ticket → Bool
+abbrev pub newly : World → Ticket → Bool
 newly w t = t.granted && not (is_granted_in w t.number)
 
 pub served_many : (w : World) (m o : Amounts) (ts : List Ticket) → AllByRecursion (Awaits w) ts →

@@ -8,4 +8,5 @@ pub mod ComingLemmas
 pub mod GoodLemmas
 mod AccountCalls
 mod RequestCalls
+pub mod DemandLemmas
 mod TicketCalls

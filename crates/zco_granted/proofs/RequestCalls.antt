@@ -21,17 +21,14 @@ use Rattle.sdr_base.specs.declared.refusal.Refusal.{Refusal}
 use Rattle.sdr_base.specs.declared.refusal.Refusal.TheVariants as refusals
 use Rattle.sdr_base.specs.declared.stop.Stop.TheVariants as stops
 use Rattle.sdr_laws.proofs.AccountQueues.{account_kept, queues_from}
-use Rattle.sdr_laws.proofs.OccupancyLaws.{left_placed}
 use Rattle.sdr_laws.proofs.QueueLaws.{within_all}
 use Rattle.sdr_laws.proofs.QueueOrder.{all_placed, enqueued_is}
 use Rattle.sdr_laws.specs.Fresh.{AreFresh}
 use Rattle.sdr_lock.proofs.WorkLemmas.{on_false, on_none, on_some, on_true}
-use Rattle.sdr_model.proofs.AmountLemmas.{nothing_in}
 use Rattle.sdr_model.specs.AccountSteps.{is_granted, new_ticket, with_request}
 use Rattle.sdr_model.specs.Accounts.{account_of, most_amount, pending_in, tickets_of}
 use Rattle.sdr_model.specs.Amounts.{amount, amounts_by, first_above}
 use Rattle.sdr_model.specs.Blocks.{addresses_of, blocks_of}
-use Rattle.sdr_model.specs.Charges.{left_in}
 use Rattle.sdr_model.specs.Fields.{IsWord}
 use Rattle.sdr_model.specs.Queue.{enqueued, served}
 use Rattle.sdr_model.specs.Rows.{ByRow}
@@ -49,7 +46,7 @@ use Rattle.zco_granted.proofs.AccountLemmas.{account_becomes, account_with, acco
 use Rattle.zco_granted.proofs.ComingLemmas.{tickets_kept}
 use Rattle.zco_granted.proofs.FoundLemmas.{granted_is}
 use Rattle.zco_granted.proofs.GrantLemmas.{grants_many, new_awaits}
-use Rattle.zco_granted.proofs.OccupiedLemmas.{occupied_same, occupied_with, served_occupied}
+use Rattle.zco_granted.proofs.OccupiedLemmas.{left_entered, occupied_same, occupied_with, served_occupied}
 use Rattle.zco_granted.proofs.QueueLemmas.{maxima_are, next_is, occupied_is, queue_kept}
 use Rattle.zco_granted.proofs.WordLemmas.{AccountWords, ends_set, next_set, occupied_set, roots_with, set_occupied}
 use Rattle.zco_granted.specs.Answering.{Answered, grants_of}
@@ -80,15 +77,9 @@ module _ (old new : Heap) (w : World) (acct : Acct) (asked : Amounts) (coarse fi
   abbrev served_at : ℕ → List Ticket
   served_at addr = served maxima (occupied_with w acct (queue_at addr)) (queue_at addr)
 
-  -- nothing is left of it
-  left_same : (addr : ℕ) (space : Space) → left_in space (queue_at addr) ≡ left_in space tickets
-  left_same addr space =
-      let placed = left_placed space tickets (new_at addr) in
-      let none = nothing_in space in
-      ap (left_in space) (enqueued_is tickets (new_at addr)) ∙ omega (arith, placed, none)
-
+  -- nothing is left of it, so as much is occupied
   occupied_at : (addr : ℕ) → occupied_in old acct ≡ occupied_with w acct (queue_at addr)
-  occupied_at addr = occupied_is acct s ∙ occupied_same w acct tickets (queue_at addr) (left_same addr)
+  occupied_at addr = occupied_is acct s ∙ occupied_same w acct tickets (queue_at addr) (λ space. left_entered space tickets (new_at addr) refl)
 
   requested_is : (addr : ℕ) → requested old asked coarse fine tickets addr ≡ queue_at addr
   requested_is addr = ap (λ (n : ℕ). enqueued tickets (new_ticket n addr asked coarse fine)) (next_is s)
