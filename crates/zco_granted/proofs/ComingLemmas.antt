@@ -17,7 +17,8 @@ use Rattle.zco_served.specs.Answering.{IsServed}
 
 -- a call that was answered, and shows no bytes
 pub comes_answered : (call : Call) (old new : Heap) (was page : List ℕ) (reply : Reply) → page ≡ [] →
-    ((w : World) → HeapStandsFor old w → IsServed w → Answered w call new [] reply) → Comes call old new was page (Ok reply)
+    ((w : World) → HeapStandsFor old w → IsServed w → Answered w call new [] reply) →
+    Comes call old new was page (Ok reply)
 comes_answered call old new was page reply is each = record {
   each = λ w stands served. subst (λ (bytes : List ℕ). Answered w call new bytes reply) (sym is) (each w stands served);
 }
@@ -48,7 +49,8 @@ untied_answered a = record {
 }
 
 -- log room is wanting for a change, once some of it was made
-pub log_full : (w : World) (call : Call) (old mid new : Heap) (was : List ℕ) (refusal : Refusal) → is_reading call ≡ false →
+pub log_full : (w : World) (call : Call) (old mid new : Heap) (was : List ℕ) (refusal : Refusal) →
+    is_reading call ≡ false →
     Aim w call → OnlyUnmoved mid new (stops.Refused refusal) → IsRefused w call old new was was refusal
 log_full w call old mid new was (refusals.LogFull lines room) changing aim s = record {
   step = (aim, changing);

@@ -38,7 +38,8 @@ module _ (w : World) (asked : Amounts) (coarse fine : ℕ) where
   abbrev new_at : ℕ → Ticket
   new_at addr = new_ticket w.accounts.next addr asked coarse fine
 
-  placed_alike : (a b : ℕ) (ts : List Ticket) → count_by (newly w) (placed ts (new_at a)) ≡ count_by (newly w) (placed ts (new_at b))
+  placed_alike : (a b : ℕ) (ts : List Ticket) → count_by (newly w) (placed ts (new_at a))
+      ≡ count_by (newly w) (placed ts (new_at b))
   placed_alike a b [] = refl
   placed_alike a b (t ∷ ts) = by (stands_before t (new_at a)) (placed_alike a b ts)
     where
@@ -60,13 +61,15 @@ module _ (w : World) (asked : Amounts) (coarse fine : ℕ) where
       by true = refl
       by false = refl
   served_alike m a b (t ∷ ts) o =
-      by (served_alike m a b ts o) (served_alike m a b ts (plus o t.asked)) (placed_alike a b ts) (stands_before t (new_at a))
+      by (served_alike m a b ts o) (served_alike m a b ts (plus o t.asked)) (placed_alike a b ts) (stands_before t
+      (new_at a))
     where
       count : List Ticket → ℕ
       count us = count_by (newly w) us
 
       behind : count (served m o (placed ts (new_at a))) ≡ count (served m o (placed ts (new_at b))) →
-          count (served m (plus o t.asked) (placed ts (new_at a))) ≡ count (served m (plus o t.asked) (placed ts (new_at b))) →
+          count (served m (plus o t.asked) (placed ts (new_at a)))
+          ≡ count (served m (plus o t.asked) (placed ts (new_at b))) →
           count (placed ts (new_at a)) ≡ count (placed ts (new_at b)) → (x y : Bool) →
           count_by (newly w) (cond x (t ∷ served m o (placed ts (new_at a)))
           (cond y (granted t ∷ served m (plus o t.asked) (placed ts (new_at a))) (t ∷ placed ts (new_at a))))
@@ -90,7 +93,8 @@ module _ (w : World) (asked : Amounts) (coarse fine : ℕ) where
       before false = refl
 
       by : count (served m o (placed ts (new_at a))) ≡ count (served m o (placed ts (new_at b))) →
-          count (served m (plus o t.asked) (placed ts (new_at a))) ≡ count (served m (plus o t.asked) (placed ts (new_at b))) →
+          count (served m (plus o t.asked) (placed ts (new_at a)))
+          ≡ count (served m (plus o t.asked) (placed ts (new_at b))) →
           count (placed ts (new_at a)) ≡ count (placed ts (new_at b)) → (x : Bool) →
           count_by (newly w) (served m o (cond x (t ∷ placed ts (new_at a)) (new_at a ∷ t ∷ ts)))
           ≡ count_by (newly w) (served m o (cond x (t ∷ placed ts (new_at b)) (new_at b ∷ t ∷ ts)))
@@ -100,9 +104,11 @@ module _ (w : World) (asked : Amounts) (coarse fine : ℕ) where
   -- so a request does
   requests_alike : (acct : Acct) (a b : ℕ) →
       count_by (newly w) (served (account_of w.accounts acct).maxima
-      (occupied_with w acct (enqueued (tickets_of w.accounts acct) (new_at a))) (enqueued (tickets_of w.accounts acct) (new_at a)))
+      (occupied_with w acct (enqueued (tickets_of w.accounts acct) (new_at a))) (enqueued (tickets_of w.accounts acct)
+      (new_at a)))
       ≡ count_by (newly w) (served (account_of w.accounts acct).maxima
-      (occupied_with w acct (enqueued (tickets_of w.accounts acct) (new_at b))) (enqueued (tickets_of w.accounts acct) (new_at b)))
+      (occupied_with w acct (enqueued (tickets_of w.accounts acct) (new_at b))) (enqueued (tickets_of w.accounts acct)
+      (new_at b)))
   requests_alike acct a b =
       let ts = tickets_of w.accounts acct in
       let m = (account_of w.accounts acct).maxima in
@@ -118,12 +124,14 @@ module _ (w : World) (asked : Amounts) (coarse fine : ℕ) where
   pub request_alike : (acct : Acct) (a b : ℕ) →
       grants_between w (with_request w acct (new_at a)) ≡ grants_between w (with_request w acct (new_at b))
   request_alike accts.Inbound a b =
-      let in_queue : ℕ → List Ticket = λ addr. tickets_of (with_request w accts.Inbound (new_at addr)).accounts accts.Inbound in
+      let in_queue : ℕ → List Ticket = λ addr. tickets_of (with_request w accts.Inbound
+      (new_at addr)).accounts accts.Inbound in
       let one = sum_by-append (λ (t : Ticket). weight (newly w t)) (in_queue a) w.accounts.outbound.tickets in
       let two = sum_by-append (λ (t : Ticket). weight (newly w t)) (in_queue b) w.accounts.outbound.tickets in
       let same = requests_alike accts.Inbound a b in omega (arith, one, two, same)
   request_alike accts.Outbound a b =
-      let in_queue : ℕ → List Ticket = λ addr. tickets_of (with_request w accts.Outbound (new_at addr)).accounts accts.Outbound in
+      let in_queue : ℕ → List Ticket = λ addr. tickets_of (with_request w accts.Outbound
+      (new_at addr)).accounts accts.Outbound in
       let one = sum_by-append (λ (t : Ticket). weight (newly w t)) w.accounts.inbound.tickets (in_queue a) in
       let two = sum_by-append (λ (t : Ticket). weight (newly w t)) w.accounts.inbound.tickets (in_queue b) in
       let same = requests_alike accts.Outbound a b in omega (arith, one, two, same)
@@ -144,7 +152,8 @@ maximum_grants w acct space value o row answered = by (nat_lt most_amount value)
     by true r = absurd (unrefused r answered)
     by false r = ap (grants_between w) r.1
 
-request_grants : (w : World) (acct : Acct) (asked : Amounts) (coarse fine : ℕ) (o : Outcome) → Request w o acct asked coarse fine →
+request_grants : (w : World) (acct : Acct) (asked : Amounts) (coarse fine : ℕ) (o : Outcome) →
+    Request w o acct asked coarse fine →
     is_answer o.reply ≡ true →
     (grants_between w o.after ≡ grants_between w (with_request w acct (new_ticket w.accounts.next 0 asked coarse fine)))
     × (length o.moves ≡ 1)
@@ -155,19 +164,25 @@ request_grants w acct asked coarse fine o row answered =
         (o.after ≡ record (with_request w acct (new_ticket w.accounts.next addr asked coarse fine)) { marks = w.marks ++ addr ∷ []; shown = [] })
         × (o.reply ≡ replies.Ticket w.accounts.next
         (is_granted (pending_in (with_request w acct (new_ticket w.accounts.next addr asked coarse fine)).accounts acct w.accounts.next)))) →
-        (grants_between w o.after ≡ grants_between w (with_request w acct (new_ticket w.accounts.next 0 asked coarse fine)))
+        (grants_between w o.after ≡ grants_between w (with_request w acct
+        (new_ticket w.accounts.next 0 asked coarse fine)))
         × (length o.moves ≡ 1)
-    taken (Took need addr ∷ []) is t =
-        (ap (grants_between w) t.1.0 ∙ request_alike w asked coarse fine acct addr 0, ap (λ (ms : List Move). length ms) is)
+    taken (Took need addr ∷ []) is t = (
+      ap (grants_between w) t.1.0 ∙ request_alike w asked coarse fine acct addr 0,
+      ap (λ
+          (ms : List Move). length ms) is,
+    )
     taken ms is t = absurd t
 
     by : (f : Option Space) (b : Bool) →
-        RefusedFor w o f (λ space. refusals.TooLarge space (amount asked space) (amount (account_of w.accounts acct).maxima space))
+        RefusedFor w o f (λ space. refusals.TooLarge space (amount asked space) (amount
+        (account_of w.accounts acct).maxima space))
         (RefusedIf w o b (refusals.BadTicket most_amount)
         (Takes w o ticket_need (λ addr. with_request w acct (new_ticket w.accounts.next addr asked coarse fine))
         (λ addr. replies.Ticket w.accounts.next
         (is_granted (pending_in (with_request w acct (new_ticket w.accounts.next addr asked coarse fine)).accounts acct w.accounts.next))))) →
-        (grants_between w o.after ≡ grants_between w (with_request w acct (new_ticket w.accounts.next 0 asked coarse fine)))
+        (grants_between w o.after ≡ grants_between w (with_request w acct
+        (new_ticket w.accounts.next 0 asked coarse fine)))
         × (length o.moves ≡ 1)
     by (Some space) b r = absurd (unrefused r answered)
     by None true r = absurd (unrefused r answered)
@@ -182,7 +197,8 @@ shred_grants w number o row answered = by (pending_of w number) refl row
         (grants_between w o.after ≡ grants_of w (calls.Shred number)) × (length o.moves ≡ 1)
     by None is r = absurd (unrefused r answered)
     by (Some p) is r = (
-      ap (grants_between w) r.1 ∙ sym (ap (λ (q : Option Pending). grants_between w (option_map_or (without_ticket w) q w)) is),
+      ap (grants_between w) r.1 ∙ sym (ap (λ (q : Option Pending). grants_between w (option_map_or
+          (without_ticket w) q w)) is),
       ap (λ (ms : List Move). length ms) r.0,
     )
 

@@ -77,14 +77,16 @@ grants_many w v acct m o ts all is =
     omega (arith, many, part)
 
 -- each of these tickets has a number that is there
-there_once : (ts us : List Ticket) → ((k : ℕ) → times k us ≤ times k ts) → AllByRecursion (λ (t : Ticket). 1 ≤ times t.number ts) us
+there_once : (ts us : List Ticket) → ((k : ℕ) → times k us ≤ times k ts) →
+    AllByRecursion (λ (t : Ticket). 1 ≤ times t.number ts) us
 there_once ts [] less = tt
 there_once ts (u ∷ us) less = (
   (let here = sum_by-cons (λ (t : Ticket). weight (nat_eq u.number t.number)) u us in
       let self = ap weight (nat_eq_equiv.refl u.number) in
       let l = less u.number in omega (arith, here, self, l)),
   there_once ts us (λ k.
-      let here = sum_by-cons (λ (t : Ticket). weight (nat_eq k t.number)) u us in let l = less k in omega (arith, here, l)),
+      let here = sum_by-cons (λ (t : Ticket). weight (nat_eq k t.number)) u us in let l = less k in
+      omega (arith, here, l)),
 )
 
 -- what is granted in a world is so in one of both queues

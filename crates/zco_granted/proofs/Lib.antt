@@ -9,4 +9,5 @@ pub mod GoodLemmas
 mod AccountCalls
 mod RequestCalls
 pub mod DemandLemmas
-mod TicketCalls
+mod AwardCalls
+mod ShredCalls

@@ -86,7 +86,8 @@ served_occupied w acct m ts valid =
     amounts_same (occupied_after o ts us) (occupied_with w acct us) (λ space.
     let r = served_alike space m o ts valid in
     let was = amount_by (λ space. things_charge w acct space + left_in space ts) space in
-    let sum : amount o space + (granted_in space us - granted_in space ts) ≡ things_charge w acct space + left_in space us =
+    let sum : amount o space + (granted_in space us - granted_in space ts)
+    ≡ things_charge w acct space + left_in space us =
     omega (arith, r.alike, r.more, was) in
     amount_by (λ space. amount o space + (granted_in space us - granted_in space ts)) space ∙ sum
     ∙ sym (amount_by (λ space. things_charge w acct space + left_in space us) space))
@@ -100,7 +101,8 @@ left_entered space ts n none =
     ap (left_in space) (enqueued_is ts n) ∙ omega (arith, placed, nothing)
 
 -- as much is occupied where as much is left
-pub occupied_same : (w : World) (acct : Acct) (ts us : List Ticket) → ((space : Space) → left_in space us ≡ left_in space ts) →
+pub occupied_same : (w : World) (acct : Acct) (ts us : List Ticket) → ((space : Space) →
+    left_in space us ≡ left_in space ts) →
     occupied_with w acct ts ≡ occupied_with w acct us
 occupied_same w acct ts us same =
     amounts_same (occupied_with w acct ts) (occupied_with w acct us) (λ space.

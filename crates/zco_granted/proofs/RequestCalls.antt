@@ -79,7 +79,8 @@ module _ (old new : Heap) (w : World) (acct : Acct) (asked : Amounts) (coarse fi
 
   -- nothing is left of it, so as much is occupied
   occupied_at : (addr : ℕ) → occupied_in old acct ≡ occupied_with w acct (queue_at addr)
-  occupied_at addr = occupied_is acct s ∙ occupied_same w acct tickets (queue_at addr) (λ space. left_entered space tickets (new_at addr) refl)
+  occupied_at addr = occupied_is acct s ∙ occupied_same w acct tickets (queue_at addr)
+      (λ space. left_entered space tickets (new_at addr) refl)
 
   requested_is : (addr : ℕ) → requested old asked coarse fine tickets addr ≡ queue_at addr
   requested_is addr = ap (λ (n : ℕ). enqueued tickets (new_ticket n addr asked coarse fine)) (next_is s)
@@ -89,7 +90,8 @@ module _ (old new : Heap) (w : World) (acct : Acct) (asked : Amounts) (coarse fi
 
   -- why the row refuses it
   world_refusal : request_refusal old acct asked
-      ≡ option_or (option_map (λ space. refusals.TooLarge space (amount asked space) (amount maxima space)) (first_above asked maxima))
+      ≡ option_or (option_map (λ space. refusals.TooLarge space (amount asked space) (amount maxima space))
+      (first_above asked maxima))
       (if nat_le most_amount w.accounts.next then Some (refusals.BadTicket most_amount) else None)
   world_refusal = λ i.
       option_or
@@ -100,7 +102,8 @@ module _ (old new : Heap) (w : World) (acct : Acct) (asked : Amounts) (coarse fi
   low : nat_le most_amount w.accounts.next ≡ false → (w.accounts.next == most_amount) ≡ false
   low is = grind (arith, nat_tests)
 
-  high : w.accounts.next ≤ most_amount → nat_le most_amount w.accounts.next ≡ true → (w.accounts.next == most_amount) ≡ true
+  high : w.accounts.next ≤ most_amount → nat_le most_amount w.accounts.next ≡ true →
+      (w.accounts.next == most_amount) ≡ true
   high most is = grind (arith, nat_tests)
 
   -- where it doesn't
@@ -208,7 +211,8 @@ module _ (old new : Heap) (w : World) (acct : Acct) (asked : Amounts) (coarse fi
 request_world : (w : World) (acct : Acct) (t : Ticket) →
     with_request w acct t
     ≡ world_with w acct (account_with w acct (served (account_of w.accounts acct).maxima
-    (occupied_with w acct (enqueued (tickets_of w.accounts acct) t)) (enqueued (tickets_of w.accounts acct) t))) (t.number + 1)
+    (occupied_with w acct (enqueued (tickets_of w.accounts acct) t)) (enqueued (tickets_of w.accounts acct) t)))
+    (t.number + 1)
 request_world w accts.Inbound t = refl
 request_world w accts.Outbound t = refl
 
@@ -220,7 +224,8 @@ request_tickets w accts.Inbound t = refl
 request_tickets w accts.Outbound t = refl
 
 -- it was answered
-pub requested_answered : (old new : Heap) (w : World) (acct : Acct) (asked : Amounts) (coarse fine : ℕ) (value : ℕ × Bool) →
+pub requested_answered : (old new : Heap) (w : World) (acct : Acct) (asked : Amounts) (coarse fine : ℕ)
+    (value : ℕ × Bool) →
     old.moves ≡ [] → HeapStandsFor old w → IsServed w → RequestsTicket acct asked coarse fine old new value →
     Answered w (asks acct asked coarse fine) new [] (replies.Ticket value.0 value.1)
 requested_answered old new w acct asked coarse fine value unmoved s served r =
@@ -258,7 +263,8 @@ requested_answered old new w acct asked coarse fine value unmoved s served r =
       fresh = subst (λ (ms : List Move). AreFresh (addresses_of (blocks_of w)) ms) (sym m.is) m.fresh;
       stands = subst (λ (v : World). HeapStandsFor new (with_taken_marked v moves)) (sym (request_world w acct t))
           (account_becomes old new w acct (account_with w acct us) (w.accounts.next + 1) moves s
-          (subst (λ (xs : List Ticket). Changes old.blocks new.blocks (queue_entries acct ts) (queue_entries acct xs)) is adds.changes)
+          (subst (λ (xs : List Ticket). Changes old.blocks new.blocks (queue_entries acct ts)
+          (queue_entries acct xs)) is adds.changes)
           (ap (λ (h : Heap). h.marks) others)
           (roots_then old new w acct asked coarse fine s served addr a (ap (λ (h : Heap). h.roots) others)));
       gave = refl;
@@ -283,10 +289,12 @@ requested_refused old new w acct asked coarse fine was (refusals.BadTicket ticke
 }
 requested_refused old new w acct asked coarse fine was refusal unmoved s served m =
     short_refused w (asks acct asked coarse fine) 96 old new was refusal refl
-    (request_aim old new w acct asked coarse fine s served (allowed old new w acct asked coarse fine s served m.0)) unmoved m.1
+    (request_aim old new w acct asked coarse fine s served
+    (allowed old new w acct asked coarse fine s served m.0)) unmoved m.1
 
 -- so many tickets were granted
-pub request_grants : (old new : Heap) (w : World) (acct : Acct) (asked : Amounts) (coarse fine : ℕ) → HeapStandsFor old w →
+pub request_grants : (old new : Heap) (w : World) (acct : Acct) (asked : Amounts) (coarse fine : ℕ) →
+    HeapStandsFor old w →
     IsServed w →
     requests_granted old acct asked coarse fine (tickets_of w.accounts acct) ≤ grants_of w (asks acct asked coarse fine)
 request_grants old new w acct asked coarse fine s served =
@@ -296,5 +304,6 @@ request_grants old new w acct asked coarse fine s served =
     let is = served_is old new w acct asked coarse fine s served 0 in
     let asked_is = requested_is old new w acct asked coarse fine s served 0 in
     subst (λ (n : ℕ). n ≤ grants_of w (asks acct asked coarse fine)) (sym (λ i. newly_granted (asked_is i) (is i)))
-    (grants_many w (with_request w acct t) acct (account_of w.accounts acct).maxima (occupied_with w acct (enqueued ts t))
+    (grants_many w (with_request w acct t) acct (account_of w.accounts acct).maxima (occupied_with w acct
+    (enqueued ts t))
     (enqueued ts t) (new_awaits w q acct t refl) (request_tickets w acct t))

@@ -71,8 +71,8 @@ pub record KeepsTickets (w : World) : Type 0 where
   pub queues : KeepQueues w.accounts
   pub fits : FitsFields w
 
--- Whatever world the heap stood for in which queues keep their laws, it stands for that with the account's queue served; and
--- no move was made.
+-- Whatever world the heap stood for in which queues keep their laws, it stands for that with the account's queue served;
+-- and no move was made.
 pub record Serves (acct : Acct) (old new : Heap) : Type 0 where
   pub stands : (w : World) → HeapStandsFor old w → KeepsTickets w → HeapStandsFor new (with_served w acct)
   pub moves : new.moves ≡ old.moves
@@ -81,8 +81,8 @@ pub record Serves (acct : Acct) (old new : Heap) : Type 0 where
 pub record Sees (ticket : ℕ) (heap : Heap) (granted : Option Bool) : Type 0 where
   pub sees : (w : World) → HeapStandsFor heap w → IsServed w → granted ≡ shown_in w ticket
 
--- A call that had no move before is answered by its row, with the heap's moves, of which each takes a block where none was. The
--- heap stands for the world after it, which shows these bytes.
+-- A call that had no move before is answered by its row, with the heap's moves, of which each takes a block where none was.
+-- The heap stands for the world after it, which shows these bytes.
 pub record Answered (w : World) (call : Call) (new : Heap) (shown : List ℕ) (reply : Reply) : Type 0 where
   pub after : World
   pub row : ByRow w (record { moves = new.moves; after = after; reply = reply }) call

@@ -7,7 +7,7 @@ use Rattle.sdr_model.specs.declared.answer.Reply.TheVariants as replies
 use Rattle.sdr_model.specs.declared.call.Call.TheVariants as calls
 use Rattle.zco_granted.proofs.ComingLemmas.{comes_answered, comes_stopped, tickets_kept}
 use Rattle.zco_granted.proofs.QueueLemmas.{queue_kept}
-use Rattle.zco_granted.proofs.TicketCalls.{shred_grants, shredded_answered, shredded_refused}
+use Rattle.zco_granted.proofs.ShredCalls.{shred_grants, shredded_answered, shredded_refused}
 use Rattle.zco_granted.specs.Answering.{Comes}
 use Rattle.zco_space.proofs.StopLemmas.{works_stopped}
 use Rattle.zco_space.specs.Shreds.{ShredStops}
