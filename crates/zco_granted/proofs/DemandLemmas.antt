@@ -1,37 +1,29 @@
 -- How many lines a call may touch by what it asks.
-use Rattle.std.proofs.Common.{◌≡◌, ◌∙◌, ◌≤◌, ◌+◌, ◌==◌, ℕ, List, [], ◌∷◌, ◌++◌, Bool, true, false, true≢false, cond, length, nat_lt, refl, sym, ap, arith}
+use Rattle.std.proofs.Common.{◌≡◌, ◌∙◌, ◌≤◌, ◌+◌, ℕ, List, [], ◌∷◌, Bool, true, false, true≢false, cond, refl, sym, ap, arith}
 use Rattle.std.specs.List.{count_by}
-use Rattle.std.specs.Option.{option_map_or}
-use Rattle.std.specs.Prelude.{Option, None, Some}
 use Rattle.std.proofs.lemmas.List.Sums.{sum_by-append}
 use Rattle.sdr_base.specs.declared.account.Acct.{Acct}
 use Rattle.sdr_base.specs.declared.account.Acct.TheVariants as accts
 use Rattle.sdr_base.specs.declared.account.Amounts.{Amounts}
-use Rattle.sdr_base.specs.declared.kind.Space.{Space}
-use Rattle.sdr_base.specs.declared.moves.Move.{Move}
-use Rattle.sdr_base.specs.declared.moves.Move.TheVariants.{Took}
-use Rattle.sdr_base.specs.declared.refusal.Refusal.{Refusal}
-use Rattle.sdr_base.specs.declared.refusal.Refusal.TheVariants as refusals
 use Rattle.sdr_laws.proofs.DistinctLemmas.{count_by-cons, weight}
 use Rattle.sdr_laws.proofs.QueueOrder.{enqueued_is, placed}
 use Rattle.sdr_lock.specs.Demand.{Demand, demand_after, grants_between, most_lines}
-use Rattle.sdr_model.specs.AccountSteps.{Request, Shred, is_granted, new_ticket, pending_of, with_request, without_ticket}
-use Rattle.sdr_model.specs.Accounts.{account_of, most_amount, pending_in, ticket_need, tickets_of}
-use Rattle.sdr_model.specs.Amounts.{amount, are_within, first_above, minus, plus}
+use Rattle.sdr_model.specs.AccountSteps.{new_ticket, with_request}
+use Rattle.sdr_model.specs.Accounts.{account_of, tickets_of}
+use Rattle.sdr_model.specs.Amounts.{are_within, minus, plus}
 use Rattle.sdr_model.specs.Queue.{enqueued, granted, served, stands_before}
 use Rattle.sdr_model.specs.Reading.{is_reading}
 use Rattle.sdr_model.specs.Rows.{ByRow}
 use Rattle.sdr_model.specs.Step.{is_answer}
-use Rattle.sdr_model.specs.Steps.{Does, Outcome, RefusedFor, RefusedIf, RefusedWithout, Refuses, Takes, TakesOne, gave}
+use Rattle.sdr_model.specs.Steps.{Outcome}
 use Rattle.sdr_model.specs.World.{World}
-use Rattle.sdr_model.specs.declared.accounts.Pending.{Pending}
 use Rattle.sdr_model.specs.declared.accounts.Ticket.{Ticket}
-use Rattle.sdr_model.specs.declared.answer.Reply.TheVariants as replies
 use Rattle.sdr_model.specs.declared.call.Call.{Call}
 use Rattle.sdr_model.specs.declared.call.Call.TheVariants as calls
+use Rattle.zco_granted.proofs.AnswerLemmas.{has_requested, has_set, has_shredded}
 use Rattle.zco_granted.proofs.GrantLemmas.{newly}
 use Rattle.zco_granted.proofs.OccupiedLemmas.{left_entered, occupied_same, occupied_with}
-use Rattle.zco_granted.specs.Answering.{call_lines, grants_of, is_account_call, left_by}
+use Rattle.zco_granted.specs.Answering.{call_lines, grants_of, is_account_call}
 
 -- a new ticket, wherever its block is
 module _ (w : World) (asked : Amounts) (coarse fine : ℕ) where
@@ -136,86 +128,21 @@ module _ (w : World) (asked : Amounts) (coarse fine : ℕ) where
       let two = sum_by-append (λ (t : Ticket). weight (newly w t)) w.accounts.inbound.tickets (in_queue b) in
       let same = requests_alike accts.Outbound a b in omega (arith, one, two, same)
 
--- what is refused is no answer
-unrefused : {w : World} {o : Outcome} {refusal : Refusal} → Refuses w o refusal → is_answer o.reply ≡ true → ⊥
-unrefused r answered = let no = sym (ap is_answer r.2) ∙ answered in true≢false (sym no)
-
--- the rows say how many tickets are granted, and have so many moves
-maximum_grants : (w : World) (acct : Acct) (space : Space) (value : ℕ) (o : Outcome) →
-    ByRow w o (calls.SetMaximum acct space value) → is_answer o.reply ≡ true →
-    grants_between w o.after ≡ grants_of w (calls.SetMaximum acct space value)
-maximum_grants w acct space value o row answered = by (nat_lt most_amount value) row
-  where
-    by : (b : Bool) → RefusedIf w o b (refusals.TooLarge space value most_amount)
-        (Does o [] (left_by w (calls.SetMaximum acct space value)) replies.Done) →
-        grants_between w o.after ≡ grants_of w (calls.SetMaximum acct space value)
-    by true r = absurd (unrefused r answered)
-    by false r = ap (grants_between w) r.1
-
-request_grants : (w : World) (acct : Acct) (asked : Amounts) (coarse fine : ℕ) (o : Outcome) →
-    Request w o acct asked coarse fine →
-    is_answer o.reply ≡ true →
-    (grants_between w o.after ≡ grants_between w (with_request w acct (new_ticket w.accounts.next 0 asked coarse fine)))
-    × (length o.moves ≡ 1)
-request_grants w acct asked coarse fine o row answered =
-    by (first_above asked (account_of w.accounts acct).maxima) (w.accounts.next == most_amount) row
-  where
-    taken : (ms : List Move) → o.moves ≡ ms → TakesOne ms ticket_need (λ addr.
-        (o.after ≡ record (with_request w acct (new_ticket w.accounts.next addr asked coarse fine)) { marks = w.marks ++ addr ∷ []; shown = [] })
-        × (o.reply ≡ replies.Ticket w.accounts.next
-        (is_granted (pending_in (with_request w acct (new_ticket w.accounts.next addr asked coarse fine)).accounts acct w.accounts.next)))) →
-        (grants_between w o.after ≡ grants_between w (with_request w acct
-        (new_ticket w.accounts.next 0 asked coarse fine)))
-        × (length o.moves ≡ 1)
-    taken (Took need addr ∷ []) is t = (
-      ap (grants_between w) t.1.0 ∙ request_alike w asked coarse fine acct addr 0,
-      ap (λ
-          (ms : List Move). length ms) is,
-    )
-    taken ms is t = absurd t
-
-    by : (f : Option Space) (b : Bool) →
-        RefusedFor w o f (λ space. refusals.TooLarge space (amount asked space) (amount
-        (account_of w.accounts acct).maxima space))
-        (RefusedIf w o b (refusals.BadTicket most_amount)
-        (Takes w o ticket_need (λ addr. with_request w acct (new_ticket w.accounts.next addr asked coarse fine))
-        (λ addr. replies.Ticket w.accounts.next
-        (is_granted (pending_in (with_request w acct (new_ticket w.accounts.next addr asked coarse fine)).accounts acct w.accounts.next))))) →
-        (grants_between w o.after ≡ grants_between w (with_request w acct
-        (new_ticket w.accounts.next 0 asked coarse fine)))
-        × (length o.moves ≡ 1)
-    by (Some space) b r = absurd (unrefused r answered)
-    by None true r = absurd (unrefused r answered)
-    by None false r = taken o.moves refl r
-
-shred_grants : (w : World) (number : ℕ) (o : Outcome) → Shred w o number → is_answer o.reply ≡ true →
-    (grants_between w o.after ≡ grants_of w (calls.Shred number)) × (length o.moves ≡ 1)
-shred_grants w number o row answered = by (pending_of w number) refl row
-  where
-    by : (p : Option Pending) → pending_of w number ≡ p → RefusedWithout w o p (refusals.BadTicket number)
-        (λ p. Does o (gave (p.ticket.block ∷ [])) (without_ticket w p) replies.Done) →
-        (grants_between w o.after ≡ grants_of w (calls.Shred number)) × (length o.moves ≡ 1)
-    by None is r = absurd (unrefused r answered)
-    by (Some p) is r = (
-      ap (grants_between w) r.1 ∙ sym (ap (λ (q : Option Pending). grants_between w (option_map_or
-          (without_ticket w) q w)) is),
-      ap (λ (ms : List Move). length ms) r.0,
-    )
-
 -- a call that is answered by its row asks for as many lines as it touches
 pub enough : (d : Demand) (w : World) (call : Call) (o : Outcome) → is_account_call call ≡ true → ByRow w o call →
     is_answer o.reply ≡ true → most_lines d + call_lines w call ≤ most_lines (demand_after d w call o)
 enough d w (calls.SetMaximum acct space value) o is row answered =
-    let grants = maximum_grants w acct space value o row answered in omega (arith, grants)
+    let grants = ap (grants_between w) (has_set w acct space value o row answered) in omega (arith, grants)
 enough d w (calls.Request acct file bulk heap coarse fine) o is row answered =
     let asked : Amounts = record { file = file; bulk = bulk; heap = heap } in
-    let g = request_grants w acct asked coarse fine o row answered in
-    let grants : grants_between w o.after ≡ grants_of w (calls.Request acct file bulk heap coarse fine) = g.0 in
-    let one = g.1 in omega (arith, grants, one)
+    let r = has_requested w acct asked coarse fine o row answered in
+    let grants : grants_between w o.after ≡ grants_of w (calls.Request acct file bulk heap coarse fine) =
+    ap (grants_between w) r.after ∙ request_alike w asked coarse fine acct r.addr 0 in
+    let one = r.one in omega (arith, grants, one)
 enough d w (calls.Shred number) o is row answered =
-    let g = shred_grants w number o row answered in
-    let grants = g.0 in
-    let one = g.1 in omega (arith, grants, one)
+    let r = has_shredded w number o row answered in
+    let grants = ap (grants_between w) r.after in
+    let one = r.one in omega (arith, grants, one)
 enough d w (calls.Occupancy acct space) o is row answered = omega arith
 enough d w (calls.Maximum acct space) o is row answered = omega arith
 enough d w (calls.Awarded ticket) o is row answered = omega arith

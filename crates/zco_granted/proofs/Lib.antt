@@ -8,6 +8,7 @@ pub mod ComingLemmas
 pub mod GoodLemmas
 mod AccountCalls
 mod RequestCalls
+pub mod AnswerLemmas
 pub mod DemandLemmas
 mod AwardCalls
 mod ShredCalls
