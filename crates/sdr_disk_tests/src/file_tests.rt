@@ -2,12 +2,9 @@
 // are counted.
 ghost use Rattle.std.specs.Prelude.{◌≤◌};
 
-use crate::file_disk::FileDisk;
-use crate::opening::{make_disk, open_disk};
-use crate::place::{Place, place_of};
-use crate::real::{StdSink, StdSource};
 use sdr_base::{Sink, SinkFault, Source, SourceFault};
 use sdr_disk::{Disk, DiskFault};
+use sdr_files::{FileDisk, Place, StdSink, StdSource, make_disk, open_disk, place_of};
 use std::fs::{File, Metadata, OpenFile};
 use std::io::{Cursor, Read, Write};
 use std::os::unix::fs::FileExt;

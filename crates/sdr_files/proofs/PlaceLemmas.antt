@@ -9,7 +9,7 @@ use Rattle.std.specs.Str.Pattern.{RFindsText, SplitsAroundMatch}
 use Rattle.std.proofs.lemmas.Bool.{cases_lt}
 use Rattle.std.proofs.lemmas.Fmt.{parse-decimal, decimal_by_steps}
 use Rattle.std.proofs.lemmas.List.{drop_at, take-append-drop, get_or-drop, get_or_append_left, get_or-append_right}
-use Rattle.sdrtool.specs.Place.{NamesNoSize, NamesSize}
+use Rattle.sdr_files.specs.Place.{NamesNoSize, NamesSize}
 
 -- digits that are printed are parsed
 pub parsed-printed : {E : Type 0} (digits : List ℕ) (r : Result ℕ E) (n : ℕ) → ParsesUnsigned 64 10 digits r →

@@ -1,6 +1,6 @@
 // Which disk a word names.
 ghost use Rattle.std.specs.Prelude.{◌≡◌, ◌≢◌, ◌<◌, ◌^◌, ℕ, IfSome, IsNone, MatchOption, decimal};
-ghost use Rattle.sdrtool.specs.Place.{IsPlace, NamesNoSize, NamesSize};
+ghost use Rattle.sdr_files.specs.Place.{IsPlace, NamesNoSize, NamesSize};
 
 use itoa::Buffer;
 

@@ -1,7 +1,7 @@
 -- Which disk a word names.
 use Rattle.std.specs.Prelude.{◌≡◌, ◌≢◌, ◌<◌, ◌^◌, ℕ, List, ◌++◌, codes, decimal}
-use Rattle.sdrtool.specs.declared.place.Place.{Place}
-use Rattle.sdrtool.specs.declared.place.Place.TheVariants.{Memory, File, Sized}
+use Rattle.sdr_files.specs.declared.place.Place.{Place}
+use Rattle.sdr_files.specs.declared.place.Place.TheVariants.{Memory, File, Sized}
 
 -- the word is a path, `=` and a number of 64 bits
 pub record NamesSize (word path : List ℕ) (bytes : ℕ) : Type 0 where

@@ -1,6 +1,6 @@
 use Rattle.std.proofs.Common.{refl}
-use Rattle.sdrtool.proofs.PlaceLemmas.{no_size, behind_last}
-use Rattle.sdrtool.proofs.place.sized.Goals as goal
+use Rattle.sdr_files.proofs.PlaceLemmas.{no_size, behind_last}
+use Rattle.sdr_files.proofs.place.sized.Goals as goal
 
 pub returns-in_err-path : goal.returns-in_err-path
 returns-in_err-path c = rw c.from_residual.ensures (no_size c.args.word.now c.in_err-path.ensures.cases)

@@ -114,7 +114,7 @@ impl<F: FileExt + OpenFile> FileDisk<F> {
 }
 
 impl<F: FileExt + OpenFile> Disk for FileDisk<F> {
-    ghost use Rattle.sdrtool.specs.Untold.{untold};
+    ghost use Rattle.sdr_files.specs.Untold.{untold};
 
     ghost size = { λ d. d.len };
 

@@ -1,7 +1,7 @@
 use Rattle.std.proofs.Common.{◌≡◌, ◌∙◌, sym, Some, None}
 use Rattle.std.proofs.lemmas.Slice.Eq.{bytes_eq-Decides}
-use Rattle.sdrtool.proofs.PlaceLemmas.{parsed-printed}
-use Rattle.sdrtool.proofs.place.number_of.Goals as goal
+use Rattle.sdr_files.proofs.PlaceLemmas.{parsed-printed}
+use Rattle.sdr_files.proofs.place.number_of.Goals as goal
 
 pub returns-in_err-number-clause-none : goal.returns-in_err-number-clause-none
 returns-in_err-number-clause-none c none n fits is =
