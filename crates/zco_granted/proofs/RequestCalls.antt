@@ -259,10 +259,10 @@ requested_answered old new w acct asked coarse fine value unmoved s served r =
         reply = replies.Ticket value.0 value.1;
       }) (asks acct asked coarse fine)) (sym m.is)
           (subst (λ (p : Reply). ByRow w (record {
-        moves = moves;
-        after = with_taken_marked (with_request w acct t) moves;
-        reply = p;
-      }) (asks acct asked coarse fine)) (sym reply) (request_row old new w acct asked coarse fine s served addr a));
+            moves = moves;
+            after = with_taken_marked (with_request w acct t) moves;
+            reply = p;
+          }) (asks acct asked coarse fine)) (sym reply) (request_row old new w acct asked coarse fine s served addr a));
       answered = refl;
       fresh = subst (λ (ms : List Move). AreFresh (addresses_of (blocks_of w)) ms) (sym m.is) m.fresh;
       stands = subst (λ (v : World). HeapStandsFor new (with_taken_marked v moves)) (sym (request_world w acct t))
