@@ -4,10 +4,10 @@ ghost use Rattle.sdr_model.specs.Amounts.{amounts_by, in_space};
 ghost use Rattle.sdr_model.specs.BondSteps.{bond_rise};
 ghost use Rattle.sdr_model.specs.Charges.{bytes_charge, capsule_charge};
 
-use sdr_model::amounts::NOTHING;
 use crate::capsules::capsule_bytes;
 use sdr_base::{Amounts, Space};
 use sdr_model::Capsule;
+use sdr_model::amounts::NOTHING;
 
 /// So many bytes of heap space.
 pub fn heap_charge(bytes: u64) -> Amounts

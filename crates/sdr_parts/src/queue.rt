@@ -7,9 +7,9 @@ ghost use Rattle.sdr_model.specs.Amounts.{amounts_by, are_within, minus, plus};
 ghost use Rattle.sdr_model.specs.Charges.{left_in};
 ghost use Rattle.sdr_model.specs.Queue.{barrier, enqueued, front_waiting, granted, served, stands_before};
 
-use sdr_model::amounts::{NOTHING, are_within, is_nothing, minus, plus};
 use sdr_base::{Amounts, Items, NoMemory};
 use sdr_model::Ticket;
+use sdr_model::amounts::{NOTHING, are_within, is_nothing, minus, plus};
 
 // Whether a ticket stands before another that comes to wait.
 fn stands_before(ticket: &Ticket, new: &Ticket) -> bool

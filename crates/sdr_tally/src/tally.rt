@@ -11,8 +11,8 @@ ghost use Rattle.sdr_tally.specs.Notes.{NameSource, SameNotes, UsesMore, is_this
 use crate::notes::Notes;
 use sdr_base::{Acct, Addr, Amounts, NoMemory};
 use sdr_model::Extent;
-use sdr_parts::Change;
 use sdr_model::amounts::{minus, plus};
+use sdr_parts::Change;
 use std::alloc::Global;
 
 /// What names an address.
