@@ -19,7 +19,7 @@ use Rattle.sdr_owner.specs.View.{word_of}
 use Rattle.sdr_owner.specs.declared.owner.Owner.TheVariants as owners
 
 -- a word of a block of a layout is the one that was laid out
-word_laid : (kind : Kind) (words rest : List ℕ) (field : ℕ) → field < length words → get_or words field 0 < 2 ^ 64 →
+pub word_laid : (kind : Kind) (words rest : List ℕ) (field : ℕ) → field < length words → get_or words field 0 < 2 ^ 64 →
     word_of (Some (record { kind = kind; bytes = layout words rest })) field ≡ get_or words field 0
 word_laid kind words rest field less small =
     let long = length-layout words rest in

@@ -9,6 +9,9 @@ pub mod ExactLemmas
 pub mod FollowLemmas
 pub mod FreeLemmas
 pub mod GoesLemmas
+pub mod HeapBitsLemmas
+pub mod HeapLemmas
+pub mod HeapListsLemmas
 pub mod KeptLargeLemmas
 pub mod KeptLemmas
 pub mod KeptSmallLemmas

@@ -1,10 +1,12 @@
 // The whole audit of a heap region, and what it says of the heap.
-ghost use Rattle.std.specs.Prelude.{◌≡◌, ◌*◌, List, [], ℕ, length, IfErr, IfOk, OnErr, OnOk};
+ghost use Rattle.std.specs.Prelude.{◌≡◌, ◌<◌, ◌*◌, ◌^◌, All, List, [], ℕ, length, IfErr, IfOk, OnErr, OnOk};
 ghost use Rattle.sdr_base.specs.Cells.{IsRegionSize};
-ghost use Rattle.sdr_base.specs.KeptHeap.{KeepsSomeHeap};
-ghost use Rattle.sdr_base.specs.Pools.{PoolBlock};
+ghost use Rattle.sdr_base.specs.KeptHeap.{KeepsHeap, KeepsSomeHeap};
+ghost use Rattle.sdr_base.specs.Pools.{PoolBlock, Pools};
 ghost use Rattle.sdr_base.specs.declared.line.TheConstants.{WORD};
 ghost use Rattle.sdr_region.specs.Auditing.{Audits};
+ghost use Rattle.sdr_region.specs.Content.{ContentIsRight};
+ghost use Rattle.sdr_region.specs.Control.{ControlIsRight};
 ghost use Rattle.sdr_region.specs.Region.{IsSound, IsSoundRegion, IsWrongFirst, KeepsBlocks, TellsFirst};
 ghost use Rattle.sdr_region.specs.declared.error.Why.{Why};
 ghost use Rattle.sdr_region.specs.Spots.{AreSpots};
@@ -63,4 +65,12 @@ pub fn sound_regions_keep_heaps()
 pub fn sound_regions_are_not_wrong()
     ensures { (bytes : List ℕ) (why : Why) (place : ℕ) →
         IsSoundRegion bytes → IsWrongFirst bytes why place → ⊥ }
+{}
+
+/// A law: where bytes keep a heap, its blocks, start bits and lists of free blocks are right, so a region whose control words and
+/// contents are right besides passes each check. It does nothing.
+pub fn kept_heaps_are_sound()
+    ensures { (bytes : List ℕ) (P : Pools) → KeepsHeap bytes P → All (λ byte. byte < 2 ^ 8) bytes →
+        ControlIsRight bytes → ContentIsRight bytes P.small P.large →
+        IsSound bytes P.small P.large }
 {}

@@ -1,0 +1,11 @@
+pub mod ChainLemmas
+pub mod ControlLemmas
+pub mod FilledLemmas
+pub mod KeptLemmas
+pub mod LaidLemmas
+pub mod NamedLemmas
+pub mod OnceLemmas
+pub mod OwnerLemmas
+pub mod SoundLemmas
+pub mod StandLemmas
+pub mod WorldLemmas
