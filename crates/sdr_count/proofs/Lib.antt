@@ -1,0 +1,3 @@
+pub mod ChargesLemmas
+pub mod CountsLemmas
+pub mod MembersLemmas
