@@ -1,5 +1,5 @@
 -- The law of the queues of tickets.
-use Rattle.std.specs.Prelude.{◌≡◌, ◌<◌, ◌==◌, ◌+◌, ◌*◌, ◌/◌, ◌&&◌, ◌||◌, ◌⊎◌, ℕ, Bool, true, false, List, ◌++◌, length, map, nat_eq, All, AllPairs, IfSome}
+use Rattle.std.specs.Prelude.{◌≡◌, ◌<◌, ◌==◌, ◌+◌, ◌*◌, ◌/◌, ◌&&◌, ◌||◌, ◌⊎◌, ℕ, Bool, true, false, List, [], ◌++◌, length, map, nat_eq, nat_lt, All, AllPairs, IfSome}
 use Rattle.std.specs.List.{IsDistinct}
 use Rattle.sdr_base.specs.declared.account.Acct.{Acct}
 use Rattle.sdr_base.specs.declared.account.Acct.TheVariants as accts
@@ -44,11 +44,14 @@ tickets heap words account = map (ticket_at heap) (members heap words (owners.Qu
 abbrev pub numbers_of : List Ticket → List ℕ
 numbers_of = map (λ t. t.number)
 
--- the numbers of the tickets of an account, behind those of the inbound one where it is the other
+-- the numbers that those of an account must differ from: the inbound ones where it is the outbound one
+abbrev pub numbers_before : View → ℕ → Acct → List ℕ
+numbers_before heap words accts.Inbound = []
+numbers_before heap words accts.Outbound = numbers_of (tickets heap words accts.Inbound)
+
+-- the numbers of the tickets of an account, behind those
 abbrev pub numbers_up_to : View → ℕ → Acct → List ℕ
-numbers_up_to heap words accts.Inbound = numbers_of (tickets heap words accts.Inbound)
-numbers_up_to heap words accts.Outbound =
-    numbers_of (tickets heap words accts.Inbound) ++ numbers_of (tickets heap words accts.Outbound)
+numbers_up_to heap words account = numbers_before heap words account ++ numbers_of (tickets heap words account)
 
 -- the amounts of each space in three control words of an account
 abbrev pub amounts_in : View → Acct → ℕ → Amounts
@@ -65,6 +68,12 @@ room heap account = minus (amounts_in heap account FILE_MAXIMUM) (amounts_in hea
 -- whether what is left of a ticket is at most what it asks, and nothing while it waits
 abbrev pub is_left_rightly : Ticket → Bool
 is_left_rightly t = are_within t.left t.asked && (t.granted || is_nothing t.left)
+
+-- whether a waiting ticket goes before another: by coarse priority, by fine priority, and by number
+abbrev pub goes_before : Ticket → Ticket → Bool
+goes_before a b =
+    nat_lt b.coarse a.coarse
+    || (a.coarse == b.coarse && (nat_lt b.fine a.fine || (a.fine == b.fine && nat_lt a.number b.number)))
 
 -- The queue of an account keeps its law: no two numbers are the same, and each is below the next one; granted tickets are first,
 -- and those that wait go by coarse priority, by fine priority and by number; what is left is right; and the first ticket that waits

@@ -5,5 +5,8 @@ mod charges;
 mod counts;
 mod members;
 mod occupied;
+mod queues;
+mod tickets;
 
 pub use charges::Charges;
+pub use queues::check_queues;

@@ -1,7 +1,8 @@
 // What is occupied in an account.
-ghost use Rattle.std.specs.Prelude.{◌≡◌, ◌<◌, ◌+◌, ◌*◌, ◌/◌, ◌==◌, ℕ, length, sum_by, IfOk};
+ghost use Rattle.std.specs.Prelude.{◌≡◌, ◌≤◌, ◌<◌, ◌+◌, ◌*◌, ◌/◌, ◌==◌, ℕ, length, sum_by, IfOk};
 ghost use Rattle.sdr_base.specs.Cells.{IsRegionSize};
 ghost use Rattle.sdr_base.specs.KeptHeap.{block_in};
+ghost use Rattle.sdr_base.specs.declared.control.TheConstants.{OUTBOUND};
 ghost use Rattle.sdr_base.specs.declared.kind.Space.{Space};
 ghost use Rattle.sdr_base.specs.declared.line.TheConstants.{WORD};
 ghost use Rattle.sdr_count.specs.Counted.{wrong_occupancy, wrong_occupancy_in};
@@ -131,9 +132,10 @@ fn occupied(alloc: Global, heap: &[u8], account: Acct) -> Result<Charges, NoMemo
     Ok(with_left(heap, charges, &tickets))
 }
 
-// The control word with which those of an account begin.
-fn account_word(account: Acct) -> u64
-    ensures { result ≡ account_word account }
+/// The control word with which those of an account begin.
+pub fn account_word(account: Acct) -> u64
+    ensures is { result ≡ account_word account }
+    ensures most { result ≤ OUTBOUND }
 {
     match account {
         Acct::Inbound => INBOUND,

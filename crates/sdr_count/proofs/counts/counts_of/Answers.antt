@@ -19,5 +19,6 @@ loop-number-preserved c =
       told =
           uses_push heap words c.args.account number _
           (subst (AreTold (λ from. sum_by (uses_at heap words c.args.account from) (places number) + uses_at heap words c.args.account from (8 * number))) (sym whole)
-          (c.in_ok-count_object.ensures (λ from. sum_by (uses_at heap words c.args.account from) (places number)) c.loop-number.invariant.told));
+          (c.in_ok-count_object.ensures (λ from. sum_by (uses_at heap words c.args.account from) (places number))
+          (subst (AreTold (λ from. sum_by (uses_at heap words c.args.account from) (places number))) (sym c.deref_mut.ensures.value) c.loop-number.invariant.told)));
     }
