@@ -75,15 +75,19 @@ goes_before a b =
     nat_lt b.coarse a.coarse
     || (a.coarse == b.coarse && (nat_lt b.fine a.fine || (a.fine == b.fine && nat_lt a.number b.number)))
 
--- The queue of an account keeps its law: no two numbers are the same, and each is below the next one; granted tickets are first,
--- and those that wait go by coarse priority, by fine priority and by number; what is left is right; and the first ticket that waits
--- asks of some space more than the room.
+-- These tickets make a queue of an account: the number of each is below the next one; granted tickets are first, and those that wait
+-- go by coarse priority, by fine priority and by number; what is left of each is right; and the first one that waits asks of some
+-- space more than the room.
+pub record IsQueue (heap : View) (account : Acct) (row : List Ticket) : Type 0 where
+  pub below : All (λ n. n < heap.roots NEXT_TICKET) (numbers_of row)
+  pub order : AllPairs (λ a b. may_precede a b ≡ true) row
+  pub left : All (λ t. is_left_rightly t ≡ true) row
+  pub barred : IfSome (front_waiting row) (λ t. are_within t.asked (room heap account) ≡ false)
+
+-- the tickets of an account keep the law of queues: they make one, and no two numbers up to theirs are the same
 pub record IsLawful (heap : View) (words : ℕ) (account : Acct) : Type 0 where
   pub distinct : IsDistinct nat_eq (numbers_up_to heap words account)
-  pub below : All (λ n. n < heap.roots NEXT_TICKET) (numbers_of (tickets heap words account))
-  pub order : AllPairs (λ a b. may_precede a b ≡ true) (tickets heap words account)
-  pub left : All (λ t. is_left_rightly t ≡ true) (tickets heap words account)
-  pub barred : IfSome (front_waiting (tickets heap words account)) (λ t. are_within t.asked (room heap account) ≡ false)
+  pub queue : IsQueue heap account (tickets heap words account)
 
 -- both queues keep their law
 pub record AreLawful (heap : View) (words : ℕ) : Type 0 where

@@ -1,11 +1,10 @@
 // The queues of tickets.
 ghost use Rattle.std.specs.Prelude.{◌≡◌, ◌≢◌, ◌<◌, ◌/◌, ◌++◌, ◌↔◌, ℕ, true, false, All, AllPairs, IsTrue, length, map, nat_eq, IfErr, IfOk, IfSome, OnOk};
-ghost use Rattle.std.specs.List.{IsDistinct};
 ghost use Rattle.std.specs.Option.{option_map};
 ghost use Rattle.sdr_base.specs.Cells.{IsRegionSize};
 ghost use Rattle.sdr_base.specs.declared.control.TheConstants.{NEXT_TICKET};
 ghost use Rattle.sdr_base.specs.declared.line.TheConstants.{WORD};
-ghost use Rattle.sdr_count.specs.Queues.{AreLawfulIn, IsLawful, IsWrongQueueIn, amounts_in, is_left_rightly, numbers_before, numbers_of, numbers_up_to, queue_place, room, ticket_at};
+ghost use Rattle.sdr_count.specs.Queues.{AreLawfulIn, IsLawful, IsQueue, IsWrongQueueIn, amounts_in, is_left_rightly, numbers_before, numbers_of, numbers_up_to, queue_place, room, ticket_at};
 ghost use Rattle.sdr_model.specs.Amounts.{are_within};
 ghost use Rattle.sdr_model.specs.Queue.{front_waiting};
 ghost use Rattle.sdr_model.specs.Valid.{may_precede};
@@ -129,6 +128,24 @@ fn is_barred(heap: &[u8], account: Acct, tickets: &[Addr]) -> bool
     !are_within(&asked, &minus(&maxima, &occupied))
 }
 
+// Whether these tickets make a queue of an account.
+fn is_queue(heap: &[u8], account: Acct, tickets: &[Addr]) -> bool
+    requires region { IsRegionSize (length heap.now) }
+    ensures { IsTrue result ↔ IsQueue (view_in heap.now) account
+        (map (ticket_at (view_in heap.now)) tickets.now) }
+{
+    if !are_below(heap, tickets) {
+        return false;
+    }
+    if !are_in_order(heap, tickets) {
+        return false;
+    }
+    if !are_left_rightly(heap, tickets) {
+        return false;
+    }
+    is_barred(heap, account, tickets)
+}
+
 // Whether the queue of an account keeps its law, where these are the numbers that its own must differ from. Its own come behind them.
 fn is_lawful(
     alloc: Global,
@@ -146,14 +163,10 @@ fn is_lawful(
 {
     let tickets = members(alloc, heap, Owner::Queue(account))?;
     push_numbers(numbers, heap, &tickets)?;
-    let distinct = are_distinct(alloc, numbers)?;
-    Ok(
-        distinct
-            && are_below(heap, &tickets)
-            && are_in_order(heap, &tickets)
-            && are_left_rightly(heap, &tickets)
-            && is_barred(heap, account, &tickets),
-    )
+    if !are_distinct(alloc, numbers)? {
+        return Ok(false);
+    }
+    Ok(is_queue(heap, account, &tickets))
 }
 
 // Where the queue of an account is told wrong.
