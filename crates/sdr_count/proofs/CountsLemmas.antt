@@ -22,11 +22,11 @@ use Rattle.sdr_owner.specs.View.{View}
 use Rattle.sdr_owner.specs.declared.owner.Owner.TheVariants as owners
 
 -- one more place
-places_more : (number : ℕ) → places (number + 1) ≡ places number ++ (8 * number ∷ [])
+pub places_more : (number : ℕ) → places (number + 1) ≡ places number ++ (8 * number ∷ [])
 places_more number = map-range_with_len_more (λ word. 8 * word) 0 number number (omega arith)
 
 -- the places up to one, and the others
-places_cut : (number words : ℕ) → number < words → places words ≡ places (number + 1) ++ drop (number + 1) (places words)
+pub places_cut : (number words : ℕ) → number < words → places words ≡ places (number + 1) ++ drop (number + 1) (places words)
 places_cut number words less =
     sym (take-append-drop (number + 1) (places words))
     ∙ ap (λ (l : List ℕ). l ++ drop (number + 1) (places words))

@@ -1,4 +1,5 @@
 pub mod ChargesLemmas
+pub mod CountedLemmas
 pub mod CountsLemmas
 pub mod MembersLemmas
 pub mod OrderLemmas

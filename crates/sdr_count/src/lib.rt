@@ -2,6 +2,7 @@
 #![tactic(auto)]
 
 mod charges;
+mod check;
 mod counts;
 mod members;
 mod occupied;
@@ -9,4 +10,5 @@ mod queues;
 mod tickets;
 
 pub use charges::Charges;
+pub use check::check_counts;
 pub use queues::check_queues;
