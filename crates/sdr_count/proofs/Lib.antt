@@ -1,3 +1,4 @@
+pub mod ChainLemmas
 pub mod ChargesLemmas
 pub mod CountedLemmas
 pub mod CountsLemmas

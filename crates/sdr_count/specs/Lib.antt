@@ -1,3 +1,4 @@
+pub mod Checked
 pub mod Counted
 pub mod Counts
 pub mod Members

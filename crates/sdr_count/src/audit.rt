@@ -1,0 +1,56 @@
+// The audit of owners, counts and queues.
+ghost use Rattle.std.specs.Prelude.{◌≡◌, ◌*◌, ℕ, Err, Ok, false, get_or, length, IfErr, IfOk, OnErr, OnOk};
+ghost use Rattle.sdr_base.specs.Cells.{IsRegionSize};
+ghost use Rattle.sdr_base.specs.declared.line.TheConstants.{WORD};
+ghost use Rattle.sdr_count.specs.Checked.{IsRightRegion, IsWrongFirst, OnlyReads, TellsFirst};
+
+use crate::check::check_counts;
+use crate::error::{AuditError, Why};
+use crate::queues::check_queues;
+use sdr_base::{Cells, NoMemory, WORD};
+use std::alloc::Global;
+
+/// What is wrong first: its place in the heap region, and the check that found it.
+#[derive(Clone, Copy)]
+pub struct Damage {
+    pub place: u64,
+    pub why: Why,
+}
+
+/// Checks owners, counts and queues of a heap region in memory, in this order, with nothing marked before. The marks are those of the
+/// region's words.
+pub fn check_copy(
+    alloc: Global,
+    heap: &[u8],
+    marks: &mut [bool],
+) -> Result<Result<(), Damage>, NoMemory>
+    requires region { IsRegionSize (length heap.now) }
+    requires long { length marks.old * WORD ≡ length heap.now }
+    requires clear { (word : ℕ) → get_or marks.old word false ≡ false }
+    ensures right { IfOk result (λ answer. OnOk answer (IsRightRegion heap.now)) }
+    ensures wrong { IfOk result (λ answer. IfErr answer (λ damage.
+        IsWrongFirst heap.now damage.why damage.place)) }
+{
+    if let Err(wrong) = sdr_owner::check_region(heap, marks) {
+        let place = wrong.place;
+        return Ok(Err(Damage {
+            place,
+            why: Why::Owner,
+        }));
+    }
+    if let Err(wrong) = check_counts(alloc, heap)? {
+        let place = wrong.place;
+        return Ok(Err(Damage {
+            place,
+            why: Why::Count,
+        }));
+    }
+    if let Err(wrong) = check_queues(alloc, heap)? {
+        let place = wrong.place;
+        return Ok(Err(Damage {
+            place,
+            why: Why::Queue,
+        }));
+    }
+    Ok(Ok(()))
+}
