@@ -12,7 +12,7 @@ mod occupied;
 mod queues;
 mod tickets;
 
-pub use audit::{Damage, check_copy};
+pub use audit::{Damage, check_copy, check_things};
 pub use charges::Charges;
 pub use check::check_counts;
 pub use error::{AuditError, Why};
