@@ -6,3 +6,4 @@ pub mod LawLemmas
 pub mod MembersLemmas
 pub mod OrderLemmas
 pub mod QueuesLemmas
+pub mod ResultLemmas

@@ -59,3 +59,11 @@ pub record OnlyReads {S : Type 0} (bytes_of : S → List ℕ) (transaction : S �
   pub room : (transaction new).room ≡ (transaction old).room
   pub cause : HasAuditReason (transaction old) (transaction new) result
   pub quiet : keeps old new
+
+-- Where memory is wanting, the bytes stay, no line is touched, and nothing has failed that had not before.
+pub record IsLeft {S : Type 0} (bytes_of : S → List ℕ) (transaction : S → Transaction) (keeps : S → S → Type 0) (old new : S) : Type 0 where
+  pub bytes : bytes_of new ≡ bytes_of old
+  pub touched : (transaction new).touched ≡ (transaction old).touched
+  pub room : (transaction new).room ≡ (transaction old).room
+  pub failed : (transaction new).failed ≡ (transaction old).failed
+  pub quiet : keeps old new

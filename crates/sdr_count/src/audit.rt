@@ -1,8 +1,8 @@
 // The audit of owners, counts and queues.
-ghost use Rattle.std.specs.Prelude.{◌≡◌, ◌*◌, ℕ, Err, Ok, false, get_or, length, IfErr, IfOk, OnErr, OnOk};
+ghost use Rattle.std.specs.Prelude.{◌≡◌, ◌*◌, ℕ, false, get_or, length, IfErr, IfOk, OnErr, OnOk};
 ghost use Rattle.sdr_base.specs.Cells.{IsRegionSize};
 ghost use Rattle.sdr_base.specs.declared.line.TheConstants.{WORD};
-ghost use Rattle.sdr_count.specs.Checked.{IsRightRegion, IsWrongFirst, OnlyReads, TellsFirst};
+ghost use Rattle.sdr_count.specs.Checked.{IsLeft, IsRightRegion, IsWrongFirst, OnlyReads, TellsFirst};
 
 use crate::check::check_counts;
 use crate::error::{AuditError, Why};
@@ -69,8 +69,7 @@ fn check_read<C: Cells>(
     ensures right { IfOk result (λ answer. OnOk answer (IsRightRegion (C.bytes c.old))) }
     ensures damaged { IfOk result (λ answer. IfErr answer (TellsFirst (C.bytes c.old))) }
     ensures reads { IfOk result (OnlyReads C.bytes C.transaction C.quiet c.old c.new) }
-    ensures memory { OnErr result
-        (OnlyReads C.bytes C.transaction C.quiet c.old c.new (Ok tt)) }
+    ensures memory { OnErr result (IsLeft C.bytes C.transaction C.quiet c.old c.new) }
 {
     if let Err(stop) = c.read(0, heap) {
         return Ok(Err(AuditError::from(stop)));
@@ -91,8 +90,7 @@ pub fn check_things<C: Cells>(alloc: Global, c: &mut C) -> Result<Result<(), Aud
     ensures right { IfOk result (λ answer. OnOk answer (IsRightRegion (C.bytes c.old))) }
     ensures damaged { IfOk result (λ answer. IfErr answer (TellsFirst (C.bytes c.old))) }
     ensures reads { IfOk result (OnlyReads C.bytes C.transaction C.quiet c.old c.new) }
-    ensures memory { OnErr result
-        (OnlyReads C.bytes C.transaction C.quiet c.old c.new (Ok tt)) }
+    ensures memory { OnErr result (IsLeft C.bytes C.transaction C.quiet c.old c.new) }
 {
     let size = c.size();
     let mut heap = vec![in alloc; 0u8; size as usize]?;
