@@ -14,9 +14,9 @@ use Rattle.std.proofs.Math.Seq.{take-append_seam}
 use Rattle.sdr_base.specs.Cells.{IsRegionSize}
 use Rattle.sdr_base.specs.declared.account.Acct.{Acct}
 use Rattle.sdr_count.specs.Counts.{count_of, is_object_of, names, places, uses_at}
-use Rattle.sdr_count.specs.Members.{followed, members}
+use Rattle.sdr_keys.specs.Members.{followed, members}
 use Rattle.sdr_count.specs.Numbers.{AreTold}
-use Rattle.sdr_count.proofs.MembersLemmas.{length-followed}
+use Rattle.sdr_keys.proofs.MembersLemmas.{length-followed}
 use Rattle.sdr_owner.specs.Chains.{first_of}
 use Rattle.sdr_owner.specs.View.{View}
 use Rattle.sdr_owner.specs.declared.owner.Owner.TheVariants as owners

@@ -9,7 +9,7 @@ use Rattle.sdr_base.specs.declared.layout.extent.TheConstants as extent
 use Rattle.sdr_base.specs.declared.layout.object.TheConstants as object
 use Rattle.sdr_base.specs.declared.layout.source.TheConstants as source
 use Rattle.sdr_base.specs.declared.line.TheConstants.{WORD}
-use Rattle.sdr_count.specs.Members.{members}
+use Rattle.sdr_keys.specs.Members.{members}
 use Rattle.sdr_owner.specs.View.{View, is_kind, word_of}
 use Rattle.sdr_owner.specs.declared.owner.Owner.TheVariants as owners
 

@@ -2,7 +2,6 @@ pub mod Checked
 pub mod Counted
 pub mod Counts
 pub mod Examples
-pub mod Members
 pub mod Numbers
 pub mod Occupied
 pub mod Queues

@@ -4,7 +4,7 @@ ghost use Rattle.sdr_base.specs.declared.account.Acct.TheVariants as accts;
 ghost use Rattle.sdr_base.specs.declared.kind.Space.TheVariants as spaces;
 ghost use Rattle.sdr_count.specs.Counts.{count_of};
 ghost use Rattle.sdr_count.specs.Examples.{bundle_heap};
-ghost use Rattle.sdr_count.specs.Members.{members};
+ghost use Rattle.sdr_keys.specs.Members.{members};
 ghost use Rattle.sdr_count.specs.Occupied.{occupancy};
 ghost use Rattle.sdr_owner.specs.declared.owner.Owner.TheVariants as owners;
 

@@ -3,19 +3,11 @@ ghost use Rattle.std.specs.Prelude.{◌≡◌, ◌/◌, List, ℕ, length};
 ghost use Rattle.sdr_base.specs.Cells.{IsRegionSize};
 ghost use Rattle.sdr_base.specs.declared.line.TheConstants.{WORD};
 ghost use Rattle.sdr_count.specs.Checked.{IsRightRegion, IsWrongFirst};
-ghost use Rattle.sdr_count.specs.Members.{AreMembers};
+ghost use Rattle.sdr_keys.specs.Members.{AreMembers};
 ghost use Rattle.sdr_count.specs.declared.error.Why.{Why};
 ghost use Rattle.sdr_owner.specs.Chains.{ChainsReach};
 ghost use Rattle.sdr_owner.specs.View.{view_in};
 ghost use Rattle.sdr_owner.specs.declared.owner.Owner.{Owner};
-
-/// A law: where chains of a heap region are right, each goes over just the blocks to which the links of its owner lead. So counts,
-/// occupancies and queues are said of the chains' blocks. It does nothing.
-pub fn chains_are_members()
-    ensures { (bytes : List ℕ) (owners : List Owner) (reached : List ℕ) →
-        IsRegionSize (length bytes) → (right : ChainsReach (view_in bytes) owners reached) →
-        AreMembers (view_in bytes) (length bytes / WORD) right.chains }
-{}
 
 /// A law: a region whose owners, counts and queues are right isn't wrong anywhere. It does nothing.
 pub fn right_regions_are_not_wrong()

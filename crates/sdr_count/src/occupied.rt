@@ -13,7 +13,7 @@ ghost use Rattle.sdr_owner.specs.View.{view_in};
 
 use crate::charges::Charges;
 use crate::counts::is_object_of;
-use crate::members::members;
+use sdr_keys::members;
 use sdr_base::control::{BULK_OCCUPANCY, FILE_OCCUPANCY, HEAP_OCCUPANCY, INBOUND, OUTBOUND};
 use sdr_base::layout::{capsule, extent, source, ticket};
 use sdr_base::{Acct, Addr, NoMemory, Space, WORD};

@@ -10,7 +10,7 @@ ghost use Rattle.sdr_model.specs.Queue.{front_waiting};
 ghost use Rattle.sdr_model.specs.Valid.{may_precede};
 ghost use Rattle.sdr_owner.specs.View.{view_in};
 
-use crate::members::members;
+use sdr_keys::members;
 use crate::occupied::account_word;
 use crate::tickets::{amounts_at, is_granted, is_left_rightly, may_precede};
 use sdr_base::control::{FILE_MAXIMUM, FILE_OCCUPANCY, FIRST_TICKET, NEXT_TICKET};

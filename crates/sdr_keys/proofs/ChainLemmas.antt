@@ -8,8 +8,8 @@ use Rattle.std.proofs.lemmas.List.Elements.{All-cons, All-head, All-nil, All-tai
 use Rattle.std.proofs.lemmas.Map.Steps.{length-le_from_distinct_below}
 use Rattle.sdr_base.proofs.PoolsLemmas.{count_by-append, count_by-yes}
 use Rattle.sdr_base.specs.KeptHeap.{block_in}
-use Rattle.sdr_count.proofs.MembersLemmas.{followed-end, followed-next}
-use Rattle.sdr_count.specs.Members.{AreMembers, followed, members}
+use Rattle.sdr_keys.proofs.MembersLemmas.{followed-end, followed-next}
+use Rattle.sdr_keys.specs.Members.{AreMembers, followed, members}
 use Rattle.sdr_owner.proofs.MarksLemmas.{counted, is_addr}
 use Rattle.sdr_owner.proofs.RegionLemmas.{is_whole}
 use Rattle.sdr_owner.specs.Chains.{AreOnce, Chain, ChainsReach, Goes, IsChain, addrs_of, first_of, is_among, is_member, next_of}

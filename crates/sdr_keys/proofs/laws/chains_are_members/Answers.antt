@@ -1,6 +1,6 @@
 use Rattle.std.proofs.Common.{◌≡◌, ◌%◌, ℕ, length, arith}
-use Rattle.sdr_count.proofs.ChainLemmas.{chains_members}
-use Rattle.sdr_count.proofs.laws.chains_are_members.Goals as goal
+use Rattle.sdr_keys.proofs.ChainLemmas.{chains_members}
+use Rattle.sdr_keys.proofs.laws.chains_are_members.Goals as goal
 
 pub returns : goal.returns
 returns c bytes owners reached region right =

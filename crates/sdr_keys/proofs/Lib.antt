@@ -1,0 +1,6 @@
+pub mod BlockLemmas
+pub mod ChainLemmas
+pub mod EntryLemmas
+pub mod MembersLemmas
+pub mod PlacesLemmas
+pub mod TextLemmas
