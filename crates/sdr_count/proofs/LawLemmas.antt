@@ -6,8 +6,10 @@ use Rattle.sdr_base.specs.declared.account.Acct.{Acct}
 use Rattle.sdr_base.specs.declared.account.Acct.TheVariants as accts
 use Rattle.sdr_base.specs.declared.kind.Space.{Space}
 use Rattle.sdr_count.specs.Checked.{IsRightRegion, IsWrongFirst}
-use Rattle.sdr_count.specs.Counted.{IsCounted, wrong_count, wrong_occupancy_in, wrong_source}
-use Rattle.sdr_count.specs.Counts.{keeps_counts, places}
+use Rattle.sdr_count.proofs.CountedLemmas.{counted_not_wrong}
+use Rattle.sdr_count.specs.Counted.{IsCounted, wrong_count}
+use Rattle.sdr_count.specs.Counts.{keeps_counts}
+use Rattle.sdr_keys.specs.Places.{places}
 use Rattle.sdr_count.specs.Occupied.{all_spaces, occupancy_word, tells_occupancy}
 use Rattle.sdr_count.specs.Queues.{AreLawful, IsWrongQueue}
 use Rattle.sdr_count.specs.declared.error.Why.{Why}
@@ -16,27 +18,7 @@ use Rattle.sdr_owner.proofs.LawLemmas.{not_wrong}
 use Rattle.sdr_owner.proofs.OneLemmas.{one_place}
 use Rattle.sdr_owner.specs.View.{View, view_in}
 
--- none is found where none fails a test
-found_none : {X : Type 0} (test : X → Bool) → ((x : X) → test x ≡ true) → (xs : List X) → find (λ x. not (test x)) xs ≡ None
-found_none test passes [] = refl
-found_none test passes (x ∷ xs) =
-    ap (λ (t : Bool). cond (not t) (Some x) (find (λ y. not (test y)) xs)) (passes x) ∙ found_none test passes xs
-
-both_none : {X : Type 0} (a b : Option X) → a ≡ None → b ≡ None → option_or a b ≡ None
-both_none a b first then_so = ap (λ o. option_or o b) first ∙ then_so
-
--- counts that are right aren't wrong
-counted_not_wrong : (heap : View) (words : ℕ) → IsCounted heap words → wrong_count heap words ≡ None
-counted_not_wrong heap words counted =
-    both_none _ _ (found_none (keeps_counts heap words) counted.counts (places words))
-    (both_none _ _ (none_in accts.Inbound) (none_in accts.Outbound))
-  where
-    none_in : (account : Acct) → wrong_occupancy_in heap words account ≡ None
-    none_in account =
-        ap (option_map (λ space. 8 * occupancy_word account space))
-        (found_none (tells_occupancy heap words account) (counted.occupancies account) all_spaces)
-
--- nor are queues
+-- queues that keep their law aren't wrong
 lawful_not_wrong : (heap : View) (words place : ℕ) → AreLawful heap words → IsWrongQueue heap words place → ⊥
 lawful_not_wrong heap words place lawful (inl w) = w.wrong lawful.inbound
 lawful_not_wrong heap words place lawful (inr w) = w.wrong lawful.outbound

@@ -5,3 +5,4 @@ pub mod Examples
 pub mod Numbers
 pub mod Occupied
 pub mod Queues
+pub mod Rules

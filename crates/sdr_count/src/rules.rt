@@ -1,8 +1,8 @@
 // What sources, extents and objects have to keep of one another.
-ghost use Rattle.std.specs.Prelude.{◌≡◌, ◌/◌, length, IfOk};
+ghost use Rattle.std.specs.Prelude.{◌≡◌, ◌+◌, ◌/◌, length, nat_le, sum_by, IfOk};
 ghost use Rattle.sdr_base.specs.Cells.{IsRegionSize};
 ghost use Rattle.sdr_base.specs.declared.line.TheConstants.{WORD};
-ghost use Rattle.sdr_count.specs.Rules.{covers_part, has_bytes, has_raw_length, is_unflagged, is_used, keeps, lies_inside};
+ghost use Rattle.sdr_count.specs.Rules.{all_rules, covers_part, extent_length, first_broken, has_bytes, has_raw_length, has_taken, is_flagged, is_unflagged, is_used, keeps, lies_inside};
 ghost use Rattle.sdr_keys.specs.Places.{first_failing};
 ghost use Rattle.sdr_owner.specs.View.{view_in};
 
@@ -81,7 +81,12 @@ fn covers_part(alloc: Global, heap: &[u8], addr: Addr) -> Result<bool, NoMemory>
     }
     let extents = members(alloc, heap, Owner::Extents(addr))?;
     let offset = word(heap, addr, object::PART_OFFSET);
-    Ok(cover(heap, &extents, offset, word(heap, addr, object::PART_LENGTH)))
+    Ok(cover(
+        heap,
+        &extents,
+        offset,
+        word(heap, addr, object::PART_LENGTH),
+    ))
 }
 
 // Whether the block at an address, if it is an extent, has a byte.

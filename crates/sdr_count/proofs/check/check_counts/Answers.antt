@@ -7,4 +7,4 @@ returns-in-None-clause-counted c =
     let region = c.requires.region in
     let whole = region.whole in
     let words : ℕ = length c.args.heap.now / 8 in
-    counted c.args.heap.now words (omega (arith, whole)) (sym c.in_ok-place.ensures ∙ c.in_default.is) (sym c.in_ok-place-2.ensures ∙ c.in-None.is)
+    counted c.args.heap.now words (omega (arith, whole)) (sym c.in_ok-place.ensures ∙ c.in-None.is)
