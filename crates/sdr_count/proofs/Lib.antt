@@ -5,3 +5,4 @@ pub mod LawLemmas
 pub mod OrderLemmas
 pub mod QueuesLemmas
 pub mod ResultLemmas
+pub mod RulesLemmas

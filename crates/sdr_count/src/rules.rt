@@ -55,13 +55,14 @@ fn lies_inside(heap: &[u8], addr: Addr) -> bool
     offset <= most && length <= most - offset
 }
 
-// Whether these extents together have so many bytes, and behind them so many.
-fn cover(heap: &[u8], extents: &[Addr], offset: u64, length: u64) -> bool
+// Whether these extents together have so many bytes, and so many more behind them.
+fn cover(heap: &[u8], extents: &[Addr], offset: u64, count: u64) -> bool
     requires region { IsRegionSize (length heap.now) }
-    ensures { result ≡ nat_le (offset + length) (sum_by (extent_length (view_in heap.now)) extents.now) }
+    ensures { result ≡ nat_le (offset + count)
+        (sum_by (extent_length (view_in heap.now)) extents.now) }
 {
     let mut before = offset;
-    let mut left = length;
+    let mut left = count;
     for addr in extents {
         let bytes = word(heap, *addr, extent::LENGTH);
         left = left.saturating_sub(bytes.saturating_sub(before));

@@ -6,4 +6,4 @@ use Rattle.sdr_count.proofs.rules.cover.Given as goal
 
 abbrev pub invariant-loop-addr : goal.invariant-loop-addr
 invariant-loop-addr l =
-    l.before + l.left ≡ l.offset + l.length - sum_by (extent_length (view_in l.heap)) (take l.addr-index l.extents)
+    l.before + l.left ≡ l.offset + l.count - sum_by (extent_length (view_in l.heap)) (take l.addr-index l.extents)
