@@ -6,6 +6,7 @@ pub mod LinkingLemmas
 pub mod MarksLemmas
 pub mod OneLemmas
 pub mod OwnersLemmas
+pub mod ReadingLemmas
 pub mod RegionLemmas
 pub mod ResultLemmas
 pub mod RulesLemmas

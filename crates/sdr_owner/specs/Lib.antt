@@ -4,6 +4,7 @@ pub mod Linking
 pub mod Marks
 pub mod Owned
 pub mod Owners
+pub mod Reading
 pub mod Rules
 pub mod View
 pub mod Walking

@@ -10,7 +10,8 @@
 //!
 //! `check_owners` takes both steps over a copy of the region, and tells the first place that is wrong. A heap that passes isn't
 //! wrong anywhere (`owned_heaps_are_not_wrong`), and another is wrong first at one place alone (`one_place_is_wrong_first`). The
-//! blocks that keep a row of things make a chain (`linked_rows_make_chains`), and a right chain's are such (`chains_are_linked_rows`).
+//! blocks that keep a row of things make a chain (`linked_rows_make_chains`), and a right chain's are such (`chains_are_linked_rows`),
+//! where each is that of what is read of it, as it is in the form of its kind (`chained_blocks_read_back`).
 //! Small heaps with one thing wrong in each: `small_heaps_are_wrong_so`.
 #![tactic(auto)]
 
@@ -29,6 +30,6 @@ pub use check::check_owners;
 pub use error::OwnerError;
 pub use examples::small_heaps_are_wrong_so;
 pub use laws::{one_place_is_wrong_first, owned_heaps_are_not_wrong};
-pub use linking::{chains_are_linked_rows, linked_rows_make_chains};
+pub use linking::{chained_blocks_read_back, chains_are_linked_rows, linked_rows_make_chains};
 pub use owner::{Owner, Site};
 pub use rules::Rule;

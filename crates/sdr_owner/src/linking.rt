@@ -6,7 +6,8 @@ ghost use Rattle.sdr_base.specs.Lists.{ListElement, addr_of, element_block, elem
 ghost use Rattle.sdr_base.specs.Tickets.{TicketRow, ticket_addr, ticket_block, ticket_entries};
 ghost use Rattle.sdr_base.specs.ZcoObjects.{CapsuleRow, ExtentRow, capsule_addr, capsule_block, capsule_entries, extent_addr, extent_block, extent_entries};
 ghost use Rattle.sdr_base.specs.declared.account.Acct.{Acct};
-ghost use Rattle.sdr_owner.specs.Linking.{AreSmall, ChainsAreRows, GoesOver, StandIn};
+ghost use Rattle.sdr_owner.specs.Linking.{AreSmall, ChainsAreRows, GoesOver, ReadsBack, StandIn};
+ghost use Rattle.sdr_owner.specs.Reading.{IsReadable, capsule_read, element_read, extent_read, item_read, name_read, ticket_read};
 ghost use Rattle.sdr_owner.specs.View.{View};
 
 use crate::owner::Owner;
@@ -51,4 +52,22 @@ pub fn chains_are_linked_rows()
         ChainsAreRows (Owner.Extents object) extent_addr extent_block }
     ensures trailers { (object : ℕ) →
         ChainsAreRows (Owner.Trailers object) capsule_addr capsule_block }
+{}
+
+/// A law: where each block has the form that its kind's layout asks, a block of a chain is that of what is read of it. It does nothing.
+pub fn chained_blocks_read_back()
+    ensures names { (heap : View) → IsReadable heap →
+        ReadsBack heap Owner.Catalogue name_addr name_block (name_read heap) }
+    ensures tickets { (heap : View) (account : Acct) → IsReadable heap →
+        ReadsBack heap (Owner.Queue account) ticket_addr (ticket_block account) (ticket_read heap) }
+    ensures elements { (heap : View) (list : ℕ) → IsReadable heap →
+        ReadsBack heap (Owner.List list) addr_of (element_block list) (element_read heap) }
+    ensures items { (heap : View) (hash front : ℕ) → IsReadable heap →
+        ReadsBack heap (Owner.Bucket hash front) item_addr item_block (item_read heap) }
+    ensures headers { (heap : View) (object : ℕ) → IsReadable heap →
+        ReadsBack heap (Owner.Headers object) capsule_addr capsule_block (capsule_read heap) }
+    ensures extents { (heap : View) (object : ℕ) → IsReadable heap →
+        ReadsBack heap (Owner.Extents object) extent_addr extent_block (extent_read heap) }
+    ensures trailers { (heap : View) (object : ℕ) → IsReadable heap →
+        ReadsBack heap (Owner.Trailers object) capsule_addr capsule_block (capsule_read heap) }
 {}
