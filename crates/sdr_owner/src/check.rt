@@ -10,8 +10,9 @@ use crate::rules::check_rules;
 use sdr_base::{Cells, NoMemory, WORD};
 use std::alloc::Global;
 
-// Checks a region in memory, with nothing marked before.
-fn check_region(heap: &[u8], marks: &mut [bool]) -> Result<(), Wrong>
+/// Checks who owns each block in use of a heap region in memory, as `check_owners` does, with nothing marked before. The marks are those
+/// of the region's words.
+pub fn check_region(heap: &[u8], marks: &mut [bool]) -> Result<(), Wrong>
     requires region { IsRegionSize (length heap.now) }
     requires long { length marks.old * WORD ≡ length heap.now }
     requires clear { (word : ℕ) → get_or marks.old word false ≡ false }

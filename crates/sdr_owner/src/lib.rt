@@ -26,10 +26,11 @@ mod owners;
 mod region;
 mod rules;
 
-pub use check::check_owners;
-pub use error::OwnerError;
+pub use check::{check_owners, check_region};
+pub use error::{OwnerError, Wrong};
 pub use examples::small_heaps_are_wrong_so;
 pub use laws::{one_place_is_wrong_first, owned_heaps_are_not_wrong};
 pub use linking::{chained_blocks_read_back, chains_are_linked_rows, linked_rows_make_chains};
 pub use owner::{Owner, Site};
+pub use region::{is_kind, length_of, root, word};
 pub use rules::Rule;

@@ -105,8 +105,8 @@ pub fn is_kind(heap: &[u8], addr: Addr, kind: Kind) -> bool
     }
 }
 
-// How many bytes the block in use at an address has, 0 where none begins there.
-fn length_of(heap: &[u8], addr: Addr) -> u64
+/// How many bytes the block in use at an address has, 0 where none begins there.
+pub fn length_of(heap: &[u8], addr: Addr) -> u64
     requires region { IsRegionSize (length heap.now) }
     ensures { result ≡ length_of (block_in heap.now addr) }
 {

@@ -1,0 +1,83 @@
+-- Sums of charges.
+use Rattle.std.proofs.Common.{◌≡◌, ◌≤◌, ◌<◌, ◌+◌, ◌*◌, ◌/◌, ◌-◌, ◌^◌, ℕ, List, drop, cond, Bool, get_or, length, min, sum_by, take, arith, ap, ◌∙◌, refl, length-drop, length-take}
+use Rattle.std.specs.Prelude.{Option, None, Some}
+use Rattle.std.proofs.lemmas.List.FromFn.{sum_by-map-range_with_len_more}
+use Rattle.std.proofs.lemmas.List.Sums.{sum_by_more}
+use Rattle.sdr_base.specs.Blocks.{Block}
+use Rattle.sdr_base.specs.Cells.{IsRegionSize}
+use Rattle.sdr_base.specs.KeptHeap.{block_in}
+use Rattle.sdr_base.specs.declared.account.Acct.{Acct}
+use Rattle.sdr_base.specs.declared.kind.Space.{Space}
+use Rattle.sdr_base.specs.declared.kind.Space.TheVariants as spaces
+use Rattle.sdr_count.specs.Counts.{is_object_of, places}
+use Rattle.sdr_count.specs.Occupied.{capsule_charge, charge_at, charges_by, extent_charge, left_at, space_of}
+use Rattle.sdr_model.specs.Amounts.{in_space}
+use Rattle.sdr_owner.proofs.RegionLemmas.{is_part}
+use Rattle.sdr_owner.specs.View.{View, length_of, word_of}
+
+-- the same amounts have the same sums
+pub charges_same : (f g : Space → ℕ) → ((space : Space) → f space ≡ g space) → charges_by f ≡ charges_by g
+charges_same f g same = ap charges_by (λ i space. same space i)
+
+module _ (heap : View) (of : Space → ℕ) (xs : List ℕ) (i d : ℕ) (less : i < length xs) where
+  -- the charge of one more extent
+  pub extent_more : (from bytes : ℕ) (space : Space) → from ≡ word_of (heap.blocks (get_or xs i d)) 0 → space ≡ space_of (heap.blocks from) →
+      bytes ≡ word_of (heap.blocks (get_or xs i d)) 2 → (other : Space) →
+      (of other + sum_by (extent_charge heap other) (take i xs)) + in_space space bytes other + in_space spaces.Heap 32 other
+      ≡ of other + sum_by (extent_charge heap other) (take (i + 1) xs)
+  extent_more from bytes space from_is space_is bytes_is other =
+      let more = sum_by_more (extent_charge heap other) xs i d less in
+      let b = heap.blocks (get_or xs i d) in
+      let charge : in_space space bytes other ≡ in_space (space_of (heap.blocks (word_of b 0))) (word_of b 2) other =
+      ap (λ (s : Space). in_space s bytes other) (space_is ∙ ap (λ (n : ℕ). space_of (heap.blocks n)) from_is)
+      ∙ ap (λ (n : ℕ). in_space (space_of (heap.blocks (word_of b 0))) n other) bytes_is in
+      omega (arith, more, charge)
+
+  -- and of one more header or trailer
+  pub capsule_more : (bytes : ℕ) → ((other : Space) → in_space spaces.Heap bytes other ≡ capsule_charge heap other (get_or xs i d)) → (other : Space) →
+      (of other + sum_by (capsule_charge heap other) (take i xs)) + in_space spaces.Heap bytes other
+      ≡ of other + sum_by (capsule_charge heap other) (take (i + 1) xs)
+  capsule_more bytes is other =
+      let more = sum_by_more (capsule_charge heap other) xs i d less in
+      let charge = is other in
+      omega (arith, more, charge)
+
+  -- what is left of one more ticket
+  pub left_more : (file bulk here : ℕ) → file ≡ word_of (heap.blocks (get_or xs i d)) 7 → bulk ≡ word_of (heap.blocks (get_or xs i d)) 8 →
+      here ≡ word_of (heap.blocks (get_or xs i d)) 9 → (other : Space) →
+      ((of other + sum_by (left_at heap other) (take i xs)) + in_space spaces.File file other) + in_space spaces.Bulk bulk other + in_space spaces.Heap here other
+      ≡ of other + sum_by (left_at heap other) (take (i + 1) xs)
+  left_more file bulk here file_is bulk_is here_is spaces.File =
+      let more = sum_by_more (left_at heap spaces.File) xs i d less in omega (arith, more, file_is)
+  left_more file bulk here file_is bulk_is here_is spaces.Bulk =
+      let more = sum_by_more (left_at heap spaces.Bulk) xs i d less in omega (arith, more, bulk_is)
+  left_more file bulk here file_is bulk_is here_is spaces.Heap =
+      let more = sum_by_more (left_at heap spaces.Heap) xs i d less in omega (arith, more, here_is)
+
+-- what the block at one more place charges
+pub charge_more : (heap : View) (words : ℕ) (account : Acct) (number : ℕ) (space : Space) →
+    sum_by (charge_at heap words account space) (places (number + 1))
+    ≡ sum_by (charge_at heap words account space) (places number) + charge_at heap words account space (8 * number)
+charge_more heap words account number space =
+    sum_by-map-range_with_len_more (charge_at heap words account space) (λ word. 8 * word) 0 number number (omega arith)
+
+-- a block in use has no more bytes than the region
+length_within : (x : List ℕ) (addr : ℕ) (b : Option Block) → block_in x addr ≡ b → length_of b ≤ length x
+length_within x addr None is = omega arith
+length_within x addr (Some block) is =
+    let p = is_part x addr block is in
+    let e = ap (λ (l : List ℕ). length l) p.bytes ∙ length-take p.count (drop addr x) ∙ ap (min p.count) (length-drop addr x) in
+    omega (arith, e)
+
+pub few_bytes : (x : List ℕ) (addr : ℕ) → IsRegionSize (length x) → length_of (block_in x addr) < 2 ^ 60
+few_bytes x addr region =
+    let within = length_within x addr (block_in x addr) refl in
+    let whole = region.whole in
+    let most = region.most in
+    omega (arith, within, whole, most)
+
+-- the words for its text fit a number
+pub few_text : (x : List ℕ) (addr bytes text : ℕ) → IsRegionSize (length x) → bytes ≡ length_of (block_in x addr) → text ≡ bytes - 8 → 15 + text < 2 ^ 61
+few_text x addr bytes text region is text_is =
+    let few = few_bytes x addr region in
+    omega (arith, few, is, text_is)

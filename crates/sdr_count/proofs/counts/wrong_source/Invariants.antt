@@ -1,0 +1,11 @@
+-- No source so far tells a wrong count.
+use Rattle.std.proofs.Common.{◌≡◌, ◌/◌, length}
+use Rattle.std.specs.Prelude.{find, not, None}
+use Rattle.sdr_base.specs.declared.line.TheConstants.{WORD}
+use Rattle.sdr_count.specs.Counts.{keeps_counts, places}
+use Rattle.sdr_owner.specs.View.{view_in}
+use Rattle.sdr_count.proofs.counts.wrong_source.Given as goal
+
+abbrev pub invariant-loop-number : goal.invariant-loop-number
+invariant-loop-number l =
+    find (λ addr. not (keeps_counts (view_in l.heap) (length l.heap / WORD) addr)) (places l.number) ≡ None

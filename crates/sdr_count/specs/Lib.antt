@@ -1,0 +1,6 @@
+pub mod Counted
+pub mod Counts
+pub mod Members
+pub mod Numbers
+pub mod Occupied
+pub mod Queues

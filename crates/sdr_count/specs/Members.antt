@@ -1,0 +1,15 @@
+-- The blocks in the chain of an owner, one after another.
+use Rattle.std.specs.Prelude.{◌==◌, ℕ, zero, suc, cond, List, [], ◌∷◌}
+use Rattle.sdr_owner.specs.Chains.{first_of, next_of}
+use Rattle.sdr_owner.specs.View.{View}
+use Rattle.sdr_owner.specs.declared.owner.Owner.{Owner}
+
+-- the blocks to which a link leads, and the links behind it, so many at most
+abbrev pub followed : View → Owner → ℕ → ℕ → List ℕ
+followed heap owner zero link = []
+followed heap owner (suc most) link =
+    cond (link == 0) [] (link ∷ followed heap owner most (next_of heap owner link))
+
+-- the blocks in the chain of an owner, in a heap of so many words
+abbrev pub members : View → ℕ → Owner → List ℕ
+members heap words owner = followed heap owner words (first_of heap owner)
