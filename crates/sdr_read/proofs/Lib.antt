@@ -1,2 +1,4 @@
 pub mod ChainLemmas
 pub mod RowLemmas
+pub mod LayoutLemmas
+pub mod OwnLemmas
