@@ -2,3 +2,5 @@ pub mod ChainLemmas
 pub mod RowLemmas
 pub mod LayoutLemmas
 pub mod OwnLemmas
+pub mod SourceLemmas
+pub mod LinkLemmas

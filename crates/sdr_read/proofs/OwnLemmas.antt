@@ -1,8 +1,9 @@
 -- The own block of each thing is that of what is read of it.
-use Rattle.std.proofs.Common.{◌≡◌, ◌≤◌, ◌<◌, ◌+◌, ◌*◌, ◌==◌, ◌&&◌, ℕ, Bool, List, [], ◌∷◌, cond, true, false, length, get_or, take, drop, arith, ap, ◌∙◌, refl, sym, subst}
+use Rattle.std.proofs.Common.{◌≡◌, ◌≢◌, ◌≤◌, ◌<◌, ◌+◌, ◌*◌, ◌==◌, ◌&&◌, ℕ, Bool, List, [], ◌∷◌, cond, true, false, length, get_or, take, drop, arith, ap, ◌∙◌, refl, sym, subst}
 use Rattle.std.specs.Prelude.{Option, None, Some, nat_le}
 use Rattle.std.proofs.lemmas.Bool.{and_parts, eqb-true, leb-true}
 use Rattle.std.proofs.lemmas.List.{get_or-take, length-drop}
+use Rattle.std.proofs.lemmas.Option.{none-some}
 use Rattle.sdr_base.specs.Blocks.{Block}
 use Rattle.sdr_base.specs.Raws.{raw_block}
 use Rattle.sdr_base.specs.Strings.{string_block}
@@ -76,3 +77,7 @@ module _ (heap : View) (words : ℕ) (a : IsAudited heap words) where
           let r = and_parts _ _ q.0 in
           let s = and_parts _ _ r.0 in
           leb-true 24 (length bytes) s.0
+
+  -- a block that is there isn't at 0
+  pub nonzero : (addr : ℕ) (block : Block) → heap.blocks addr ≡ Some block → addr ≢ 0
+  nonzero addr block is null = none-some block (sym a.null ∙ ap heap.blocks (sym null) ∙ is)

@@ -1,0 +1,79 @@
+-- The chains of lists and objects are those of what is read of them.
+use Rattle.std.proofs.Common.{◌≡◌, ◌≢◌, ◌≤◌, ◌<◌, ◌+◌, ◌*◌, ◌==◌, ℕ, Bool, List, [], ◌∷◌, ◌++◌, true, false, length, map, arith, ap, ◌∙◌, refl, sym, subst, eqb-true}
+use Rattle.std.specs.Prelude.{Option, None, Some}
+use Rattle.std.specs.List.{All}
+use Rattle.std.specs.Option.{option_map_or}
+use Rattle.std.proofs.lemmas.Bool.{and_parts, leb-true}
+use Rattle.std.proofs.lemmas.List.{length-map}
+use Rattle.std.proofs.lemmas.List.Elements.{All-append, All-cons, All-head, All-nil, All-tail}
+use Rattle.std.proofs.lemmas.Simd.{map-map}
+use Rattle.sdr_audit.specs.Rows.{capsule_row, element_row, extent_row, list_row, object_row}
+use Rattle.sdr_base.specs.Blocks.{Block, kind_length}
+use Rattle.sdr_base.specs.Entries.{Entries}
+use Rattle.sdr_base.specs.Linked.{first_of, last_of, linked}
+use Rattle.sdr_base.specs.Lists.{ListElement, addr_of, element_block, list_block, list_entries}
+use Rattle.sdr_base.specs.Words.{layout}
+use Rattle.sdr_base.specs.ZcoObjects.{CapsuleRow, ExtentRow, account_number, capsule_addr, capsule_block, extent_addr, extent_block, object_block, object_entries}
+use Rattle.sdr_base.specs.declared.kind.Kind.{Kind}
+use Rattle.sdr_base.specs.declared.kind.Kind.TheVariants as kinds
+use Rattle.sdr_count.specs.Members.{members}
+use Rattle.sdr_owner.proofs.LinkingLemmas.{goes_linked}
+use Rattle.sdr_owner.proofs.ReadingLemmas.{IsOf, elements_back, extents_back, headers_back, laid, none_behind, trailers_back}
+use Rattle.sdr_owner.specs.Chains as chains
+use Rattle.sdr_owner.specs.Linking.{AreRows, StandIn, StandsAt}
+use Rattle.sdr_owner.specs.Owners.{owned_at, owned_by, owners_of}
+use Rattle.sdr_owner.specs.Reading.{capsule_read, element_read, extent_read}
+use Rattle.sdr_owner.specs.View.{View, is_kind, word_of}
+use Rattle.sdr_owner.specs.declared.owner.Owner.{Owner}
+use Rattle.sdr_owner.specs.declared.owner.Owner.TheVariants as owners
+use Rattle.sdr_read.proofs.ChainLemmas.{IsTold, each_told, owned_told}
+use Rattle.sdr_read.proofs.LayoutLemmas.{HasLayout, word_told}
+use Rattle.sdr_read.proofs.OwnLemmas.{IsAudited, layout_of, nonzero, own_of, readable}
+use Rattle.sdr_read.specs.Told.{account_told, capsule_told, element_told, extent_told, list_told, object_told}
+use Rattle.sdr_region.specs.Content.{field}
+
+module _ (heap : View) (words : ℕ) (a : IsAudited heap words) where
+  -- all chains are as they are followed
+  pub all_told : All (IsTold heap words) (owners_of heap words)
+  all_told = each_told heap words a.placed (owners_of heap words) a.owned.reached a.owned.chains
+
+  -- so are those of a block of a kind
+  pub block_told : (kind : Kind) (addr : ℕ) (b : IsOf (heap.blocks addr) kind) → All (IsTold heap words) (owned_by addr kind (length b.own.bytes))
+  block_told kind addr b =
+      subst (All (IsTold heap words))
+      (ap (λ (o : Option Block). option_map_or (λ (told : Kind × ℕ). owned_by addr told.0 told.1) (kind_length o) []) b.is
+      ∙ ap (λ (k : Kind). owned_by addr k (length b.own.bytes)) b.kind_is)
+      (owned_told heap words addr (a.placed addr b.own b.is) all_told)
+
+  -- the list at an address
+  module _ (addr : ℕ) (is : is_kind kinds.List (heap.blocks addr) ≡ true) where
+    list_chain : IsTold heap words (owners.List addr)
+    list_chain = All-head (IsTold heap words) (owners.List addr) [] (block_told kinds.List addr (own_of heap words a kinds.List addr is))
+
+    element_rows : AreRows heap addr_of (element_block addr) 0 (word_of (heap.blocks addr) 2) (map (element_read heap) (members heap words (owners.List addr))) list_chain.last
+    element_rows =
+        goes_linked heap (owners.List addr) addr_of (element_block addr) (element_read heap) (elements_back heap (readable heap words a) addr) 0
+        (word_of (heap.blocks addr) 2) (members heap words (owners.List addr)) list_chain.last list_chain.goes
+
+    -- its blocks are those of what is read of it, where it tells its length
+    pub list_stands : word_of (heap.blocks addr) 1 ≡ length (members heap words (owners.List addr)) →
+        StandIn heap (list_entries addr (list_row (list_told heap words addr)))
+    list_stands counted =
+        let b = own_of heap words a kinds.List addr is in
+        let long = eqb-true (length b.own.bytes) 32 (layout_of heap words a kinds.List addr b) in
+        let w = word_of (heap.blocks addr) in
+        let rows : List ListElement = map (element_read heap) (members heap words (owners.List addr)) in
+        let same : map element_row (map (element_told heap) (members heap words (owners.List addr))) ≡ rows = map-map element_row (element_told heap) (members heap words (owners.List addr)) in
+        let count : w 1 ≡ length rows = counted ∙ sym (length-map (members heap words (owners.List addr)) (element_read heap)) in
+        let last : w 3 ≡ last_of addr_of 0 rows = eqb-true (w 3) list_chain.last list_chain.ends ∙ element_rows.end in
+        let own : heap.blocks addr ≡ Some (list_block (w 0) (length rows) (first_of addr_of 0 rows) (last_of addr_of 0 rows)) =
+        laid heap (readable heap words a) kinds.List addr b 4 (omega (arith, long))
+        ∙ (λ i. Some (record {
+          kind = kinds.List;
+          bytes =
+              layout (w 0 ∷ count i ∷ element_rows.first i ∷ last i ∷ []) (none_behind heap (readable heap words a) kinds.List addr b 4 long i);
+        })) in
+        subst (λ (rows : List ListElement). StandIn heap (list_entries addr (record { user = w 0; elements = rows }))) (sym same)
+        (All-cons (StandsAt heap) (addr, list_block (w 0) (length rows) (first_of addr_of 0 rows) (last_of addr_of 0 rows))
+        (linked addr_of (element_block addr) 0 0 rows)
+        (record { some = nonzero heap words a addr b.own b.is; is = own }) element_rows.stand)
