@@ -4,3 +4,4 @@ pub mod LayoutLemmas
 pub mod OwnLemmas
 pub mod SourceLemmas
 pub mod LinkLemmas
+pub mod BucketLemmas

@@ -1,5 +1,5 @@
 -- The chains of lists and objects are those of what is read of them.
-use Rattle.std.proofs.Common.{◌≡◌, ◌≢◌, ◌≤◌, ◌<◌, ◌+◌, ◌*◌, ◌==◌, ℕ, Bool, List, [], ◌∷◌, ◌++◌, true, false, length, map, arith, ap, ◌∙◌, refl, sym, subst, eqb-true}
+use Rattle.std.proofs.Common.{◌≡◌, ◌≢◌, ◌≤◌, ◌<◌, ◌+◌, ◌*◌, ◌==◌, ℕ, zero, suc, Bool, List, [], ◌∷◌, ◌++◌, true, false, length, map, take, arith, ap, ◌∙◌, refl, sym, subst, eqb-true}
 use Rattle.std.specs.Prelude.{Option, None, Some}
 use Rattle.std.specs.List.{All}
 use Rattle.std.specs.Option.{option_map_or}
@@ -13,7 +13,7 @@ use Rattle.sdr_base.specs.Entries.{Entries}
 use Rattle.sdr_base.specs.Linked.{first_of, last_of, linked}
 use Rattle.sdr_base.specs.Lists.{ListElement, addr_of, element_block, list_block, list_entries}
 use Rattle.sdr_base.specs.Words.{layout}
-use Rattle.sdr_base.specs.ZcoObjects.{CapsuleRow, ExtentRow, account_number, capsule_addr, capsule_block, extent_addr, extent_block, object_block, object_entries}
+use Rattle.sdr_base.specs.ZcoObjects.{CapsuleRow, ExtentRow, account_number, ObjectRow, capsule_addr, capsule_block, capsule_entries, extent_addr, extent_block, extent_entries, object_block, object_entries}
 use Rattle.sdr_base.specs.declared.kind.Kind.{Kind}
 use Rattle.sdr_base.specs.declared.kind.Kind.TheVariants as kinds
 use Rattle.sdr_count.specs.Members.{members}
@@ -77,3 +77,95 @@ module _ (heap : View) (words : ℕ) (a : IsAudited heap words) where
         (All-cons (StandsAt heap) (addr, list_block (w 0) (length rows) (first_of addr_of 0 rows) (last_of addr_of 0 rows))
         (linked addr_of (element_block addr) 0 0 rows)
         (record { some = nonzero heap words a addr b.own b.is; is = own }) element_rows.stand)
+
+  -- the object at an address
+  module _ (addr : ℕ) (is : is_kind kinds.Object (heap.blocks addr) ≡ true) where
+    own_object : IsOf (heap.blocks addr) kinds.Object
+    own_object = own_of heap words a kinds.Object addr is
+
+    chains_told : All (IsTold heap words) (owners.Headers addr ∷ owners.Extents addr ∷ owners.Trailers addr ∷ [])
+    chains_told = block_told kinds.Object addr own_object
+
+    header_chain : IsTold heap words (owners.Headers addr)
+    header_chain = All-head (IsTold heap words) (owners.Headers addr) (owners.Extents addr ∷ owners.Trailers addr ∷ []) chains_told
+
+    others_told : All (IsTold heap words) (owners.Extents addr ∷ owners.Trailers addr ∷ [])
+    others_told = All-tail (IsTold heap words) (owners.Headers addr) (owners.Extents addr ∷ owners.Trailers addr ∷ []) chains_told
+
+    extent_chain : IsTold heap words (owners.Extents addr)
+    extent_chain = All-head (IsTold heap words) (owners.Extents addr) (owners.Trailers addr ∷ []) others_told
+
+    trailer_chain : IsTold heap words (owners.Trailers addr)
+    trailer_chain =
+        All-head (IsTold heap words) (owners.Trailers addr) []
+        (All-tail (IsTold heap words) (owners.Extents addr) (owners.Trailers addr ∷ []) others_told)
+
+    header_rows : AreRows heap capsule_addr capsule_block 0 (word_of (heap.blocks addr) 3) (map (capsule_read heap) (members heap words (owners.Headers addr))) header_chain.last
+    header_rows =
+        goes_linked heap (owners.Headers addr) capsule_addr capsule_block (capsule_read heap) (headers_back heap (readable heap words a) addr) 0
+        (word_of (heap.blocks addr) 3) (members heap words (owners.Headers addr)) header_chain.last header_chain.goes
+
+    extent_rows : AreRows heap extent_addr extent_block 0 (word_of (heap.blocks addr) 1) (map (extent_read heap) (members heap words (owners.Extents addr))) extent_chain.last
+    extent_rows =
+        goes_linked heap (owners.Extents addr) extent_addr extent_block (extent_read heap) (extents_back heap (readable heap words a) addr) 0
+        (word_of (heap.blocks addr) 1) (members heap words (owners.Extents addr)) extent_chain.last extent_chain.goes
+
+    trailer_rows : AreRows heap capsule_addr capsule_block 0 (word_of (heap.blocks addr) 5) (map (capsule_read heap) (members heap words (owners.Trailers addr))) trailer_chain.last
+    trailer_rows =
+        goes_linked heap (owners.Trailers addr) capsule_addr capsule_block (capsule_read heap) (trailers_back heap (readable heap words a) addr) 0
+        (word_of (heap.blocks addr) 5) (members heap words (owners.Trailers addr)) trailer_chain.last trailer_chain.goes
+
+    account_back : (n : ℕ) → n ≤ 1 → n ≡ account_number (account_told n)
+    account_back zero few = refl
+    account_back (suc zero) few = refl
+    account_back (suc (suc n)) few = absurd (omega (arith, few))
+
+    -- its blocks are those of what is read of it
+    pub object_stands : StandIn heap (object_entries addr (object_row (object_told heap words addr)))
+    object_stands =
+        let b = own_object in
+        let l = and_parts (length b.own.bytes == 72) _ (layout_of heap words a kinds.Object addr b) in
+        let long = eqb-true (length b.own.bytes) 72 l.0 in
+        let flag = leb-true (field (take 96 b.own.bytes) 0) 1 l.1 in
+        let told = word_told (heap.blocks addr) b.own 0 b.is (omega (arith, long)) (omega arith) in
+        let w = word_of (heap.blocks addr) in
+        let last_extent : w 2 ≡ last_of extent_addr 0 (map (extent_read heap) (members heap words (owners.Extents addr))) =
+        eqb-true (w 2) extent_chain.last extent_chain.ends ∙ extent_rows.end in
+        let last_header : w 4 ≡ last_of capsule_addr 0 (map (capsule_read heap) (members heap words (owners.Headers addr))) =
+        eqb-true (w 4) header_chain.last header_chain.ends ∙ header_rows.end in
+        let last_trailer : w 6 ≡ last_of capsule_addr 0 (map (capsule_read heap) (members heap words (owners.Trailers addr))) =
+        eqb-true (w 6) trailer_chain.last trailer_chain.ends ∙ trailer_rows.end in
+        let account = account_back (w 0) (omega (arith, told, flag)) in
+        let row : ObjectRow = record {
+          account = account_told (w 0);
+          headers = map (capsule_read heap) (members heap words (owners.Headers addr));
+          extents = map (extent_read heap) (members heap words (owners.Extents addr));
+          trailers = map (capsule_read heap) (members heap words (owners.Trailers addr));
+          part_offset = w 7;
+          part_length = w 8;
+        } in
+        let own : heap.blocks addr ≡ Some (object_block row) =
+        laid heap (readable heap words a) kinds.Object addr b 9 (omega (arith, long))
+        ∙ (λ i. Some (record {
+          kind = kinds.Object;
+          bytes =
+              layout
+              (account i ∷ extent_rows.first i ∷ last_extent i ∷ header_rows.first i ∷ last_header i ∷ trailer_rows.first i ∷ last_trailer i ∷ w 7
+              ∷ w 8 ∷ [])
+              (none_behind heap (readable heap words a) kinds.Object addr b 9 long i);
+        })) in
+        subst (StandIn heap)
+        (λ i. object_entries addr (record {
+          account = account_told (w 0);
+          headers = sym (map-map capsule_row (capsule_told heap) (members heap words (owners.Headers addr))) i;
+          extents = sym (map-map extent_row (extent_told heap) (members heap words (owners.Extents addr))) i;
+          trailers = sym (map-map capsule_row (capsule_told heap) (members heap words (owners.Trailers addr))) i;
+          part_offset = w 7;
+          part_length = w 8;
+        }))
+        (All-cons (StandsAt heap) (addr, object_block row)
+        (capsule_entries row.headers ++ extent_entries row.extents ++ capsule_entries row.trailers)
+        (record { some = nonzero heap words a addr b.own b.is; is = own })
+        (All-append (StandsAt heap) (capsule_entries row.headers ++ extent_entries row.extents) (capsule_entries row.trailers)
+        (All-append (StandsAt heap) (capsule_entries row.headers) (extent_entries row.extents) header_rows.stand extent_rows.stand)
+        trailer_rows.stand))
