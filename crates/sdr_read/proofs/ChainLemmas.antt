@@ -161,6 +161,17 @@ module _ {X : Type 0} (P : X → Type 0) where
       above : (word a : ℕ) → a ≤ word → (word ≡ a → ⊥) → a + 1 ≤ word
       above word a low off = omega (arith, low, off)
 
+  -- and of what it gives
+  pub all_in_map : (f : ℕ → X) (n a word : ℕ) → a ≤ word → word < a + n → All P (map f (range_with_len a n)) → P (f word)
+  all_in_map f zero a word low high all = absurd (omega (arith, low, high))
+  all_in_map f (suc n) a word low high all = elim (cases_eq word a) [
+    | inl same ↦ subst (λ (w : ℕ). P (f w)) (sym same) (All-head P (f a) (map f (range_with_len (a + 1) n)) all)
+    | inr off ↦ all_in_map f n (a + 1) word (above word a low off) (omega (arith, high)) (All-tail P (f a) (map f (range_with_len (a + 1) n)) all)
+  ]
+    where
+      above : (word a : ℕ) → a ≤ word → (word ≡ a → ⊥) → a + 1 ≤ word
+      above word a low off = omega (arith, low, off)
+
 -- the chains of the block at a place are among all
 pub owned_told : (heap : View) (words addr : ℕ) → IsPlace words addr → All (IsTold heap words) (owners_of heap words) → All (IsTold heap words) (owned_at heap addr)
 owned_told heap words addr place all =

@@ -5,3 +5,4 @@ pub mod OwnLemmas
 pub mod SourceLemmas
 pub mod LinkLemmas
 pub mod BucketLemmas
+pub mod HashLemmas

@@ -1,17 +1,18 @@
 -- What stands at the places of words, as a row of entries by rising place.
-use Rattle.std.proofs.Common.{◌≡◌, ◌≢◌, ◌≤◌, ◌<◌, ◌+◌, ◌*◌, ◌==◌, ◌&&◌, ℕ, zero, suc, Bool, T, List, [], ◌∷◌, ◌++◌, true, false, cond, map, arith, ap, ◌∙◌, refl, sym, subst, inl, inr}
+use Rattle.std.proofs.Common.{◌≡◌, ◌≢◌, ◌≤◌, ◌<◌, ◌+◌, ◌*◌, ◌==◌, ◌&&◌, ℕ, zero, suc, Bool, T, List, [], ◌∷◌, ◌++◌, true, false, cond, map, sum_by, arith, ap, ◌∙◌, refl, sym, subst, inl, inr}
 use Rattle.std.specs.Prelude.{count_by, filter_map, Option, None, Some}
 use Rattle.std.specs.Cmp.{nat_cmp_is}
 use Rattle.std.specs.FinMap as finite
 use Rattle.std.specs.FinMap.Entries.{below_all}
-use Rattle.std.specs.List.{All, cons_option, flat_map, range_with_len}
+use Rattle.std.specs.List.{All, cons_option, flat_map, list_any, range_with_len}
 use Rattle.std.specs.Option.{option_map}
 use Rattle.std.specs.Ordering.{eq_by_cmp, is_eq, is_lt, nat_cmp}
 use Rattle.std.specs.declared.cmp.Ordering.{Ordering}
 use Rattle.std.specs.declared.cmp.Ordering.TheVariants.{Less, Equal, Greater}
-use Rattle.std.proofs.lemmas.Bool.{cases_eq, eq-eqb, ne_eqb}
+use Rattle.std.proofs.lemmas.Bool.{cases_eq, eq-eqb, ne_eqb, or_left, or_right}
 use Rattle.std.proofs.lemmas.List.Elements.{All-cons, All-nil}
-use Rattle.std.proofs.lemmas.Option.{none-some, same_Some}
+use Rattle.std.proofs.lemmas.List.Sums.{sum_by-cons}
+use Rattle.std.proofs.lemmas.Option.{none-some}
 use Rattle.sdr_base.proofs.PoolsLemmas.{count_by-append, count_by-no, count_by-yes}
 use Rattle.sdr_base.proofs.StandingLemmas.{times-append}
 use Rattle.sdr_base.specs.Entries.{Entries, times}
@@ -190,3 +191,39 @@ module _ {X : Type 0} (f : ℕ → Option X) where
               let one = count_by-cons (λ (e : ℕ × X). e.0 == q) (8 * a, x) (row (a + 1) n) in
               omega (arith, rest, split, here, both, one)
         ] refl
+
+  -- what is summed up over the row is summed up over the places
+  pub sum_row : (weight : ℕ × X → ℕ) (at : ℕ → ℕ) → ((p : ℕ) (x : X) → f p ≡ Some x → weight (p, x) ≡ at p) → ((p : ℕ) → f p ≡ None → at p ≡ 0) →
+      (a n : ℕ) → sum_by weight (row a n) ≡ sum_by at (map (λ word. 8 * word) (range_with_len a n))
+  sum_row weight at some none a zero = refl
+  sum_row weight at some none a (suc n) =
+      let places : List ℕ = map (λ word. 8 * word) (range_with_len (a + 1) n) in
+      let rest : sum_by weight (row (a + 1) n) ≡ sum_by at places = sum_row weight at some none (a + 1) n in
+      let more : sum_by at (8 * a ∷ places) ≡ at (8 * a) + sum_by at places = sum_by-cons at (8 * a) places in
+      elim (f (8 * a)) as (λ o. f (8 * a) ≡ o → sum_by weight (after (8 * a) o (row (a + 1) n)) ≡ sum_by at (8 * a ∷ places)) [
+        | None ↦ λ is. let z = none (8 * a) is in omega (arith, rest, more, z)
+        | Some x ↦ λ is.
+            let z = some (8 * a) x is in
+            let one = sum_by-cons weight (8 * a, x) (row (a + 1) n) in
+            omega (arith, rest, more, z, one)
+      ] refl
+
+  -- what stands at one of the places and passes a test is one that does
+  pub any_row : (p : ℕ × X → Bool) (word a n : ℕ) (x : X) → a ≤ word → word < a + n → f (8 * word) ≡ Some x → p (8 * word, x) ≡ true →
+      list_any p (row a n) ≡ true
+  any_row p word a zero x low high is passes = absurd (omega (arith, low, high))
+  any_row p word a (suc n) x low high is passes = elim (cases_eq word a) [
+    | inl same ↦
+        let here : f (8 * a) ≡ Some x = ap (λ (w : ℕ). f (8 * w)) (sym same) ∙ is in
+        ap (λ (o : Option X). list_any p (after (8 * a) o (row (a + 1) n))) here
+        ∙ or_left (p (8 * a, x)) _ (ap (λ (w : ℕ). p (8 * w, x)) (sym same) ∙ passes)
+    | inr off ↦
+        let rest = any_row p word (a + 1) n x (above word a low off) (omega (arith, high)) is passes in
+        elim (f (8 * a)) as (λ o. list_any p (after (8 * a) o (row (a + 1) n)) ≡ true) [
+          | None ↦ rest
+          | Some y ↦ or_right (p (8 * a, y)) _ rest
+        ]
+  ]
+    where
+      above : (word a : ℕ) → a ≤ word → (word ≡ a → ⊥) → a + 1 ≤ word
+      above word a low off = omega (arith, low, off)
