@@ -6,3 +6,4 @@ pub mod SourceLemmas
 pub mod LinkLemmas
 pub mod BucketLemmas
 pub mod HashLemmas
+pub mod TiesLemmas

@@ -120,14 +120,23 @@ module _ (heap : View) (words : ℕ) (a : IsAudited heap words) where
     account_back (suc zero) few = refl
     account_back (suc (suc n)) few = absurd (omega (arith, few))
 
+    object_long : length own_object.own.bytes ≡ 72
+    object_long = eqb-true (length own_object.own.bytes) 72 (and_parts (length own_object.own.bytes == 72) _ (layout_of heap words a kinds.Object addr own_object)).0
+
+    -- the number of its account is 0 or 1
+    pub object_account : word_of (heap.blocks addr) 0 ≤ 1
+    object_account =
+        let b = own_object in
+        let long = object_long in
+        let flag = leb-true (field (take 96 b.own.bytes) 0) 1 (and_parts (length b.own.bytes == 72) _ (layout_of heap words a kinds.Object addr b)).1 in
+        let told = word_told (heap.blocks addr) b.own 0 b.is (omega (arith, long)) (omega arith) in
+        omega (arith, told, flag)
+
     -- its blocks are those of what is read of it
     pub object_stands : StandIn heap (object_entries addr (object_row (object_told heap words addr)))
     object_stands =
         let b = own_object in
-        let l = and_parts (length b.own.bytes == 72) _ (layout_of heap words a kinds.Object addr b) in
-        let long = eqb-true (length b.own.bytes) 72 l.0 in
-        let flag = leb-true (field (take 96 b.own.bytes) 0) 1 l.1 in
-        let told = word_told (heap.blocks addr) b.own 0 b.is (omega (arith, long)) (omega arith) in
+        let long = object_long in
         let w = word_of (heap.blocks addr) in
         let last_extent : w 2 ≡ last_of extent_addr 0 (map (extent_read heap) (members heap words (owners.Extents addr))) =
         eqb-true (w 2) extent_chain.last extent_chain.ends ∙ extent_rows.end in
@@ -135,7 +144,7 @@ module _ (heap : View) (words : ℕ) (a : IsAudited heap words) where
         eqb-true (w 4) header_chain.last header_chain.ends ∙ header_rows.end in
         let last_trailer : w 6 ≡ last_of capsule_addr 0 (map (capsule_read heap) (members heap words (owners.Trailers addr))) =
         eqb-true (w 6) trailer_chain.last trailer_chain.ends ∙ trailer_rows.end in
-        let account = account_back (w 0) (omega (arith, told, flag)) in
+        let account = account_back (w 0) object_account in
         let row : ObjectRow = record {
           account = account_told (w 0);
           headers = map (capsule_read heap) (members heap words (owners.Headers addr));

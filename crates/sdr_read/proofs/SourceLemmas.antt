@@ -55,7 +55,7 @@ is_source_so bytes l =
     }
 
 -- the subject that a number of a medium, a number of a subject, and a path tell
-abbrev subject_by : ℕ → ℕ → List ℕ → Subject
+abbrev pub subject_by : ℕ → ℕ → List ℕ → Subject
 subject_by medium subject path =
     cond (medium == 1) (subjects.File path) (cond (medium == 2) (subjects.Bulk subject) (cond (medium == 3) (subjects.Heap subject) (subjects.Obj subject)))
 
