@@ -70,7 +70,7 @@ module _ (heap : View) (words : ℕ) (a : IsAudited heap words) (addr : ℕ) (is
       word_told (heap.blocks addr) own_hash.own 1 own_hash.is (omega (arith, long)) (omega arith)
 
   -- the bytes of the hash, by its buckets
-  whole_hash : length own_hash.own.bytes ≡ 24 + 8 * word_of (heap.blocks addr) 1
+  pub whole_hash : length own_hash.own.bytes ≡ 24 + 8 * word_of (heap.blocks addr) 1
   whole_hash = let w = hash_layout.whole in let e = buckets_told in omega (arith, w, e)
 
   -- the chain of a bucket
@@ -80,7 +80,7 @@ module _ (heap : View) (words : ℕ) (a : IsAudited heap words) (addr : ℕ) (is
       all_in_map (IsTold heap words) (λ (number : ℕ). owners.Bucket addr (3 + number)) (length own_hash.own.bytes / 8 - 3) 0 k (omega arith)
       (omega (arith, whole, less)) (block_told heap words a kinds.Hash addr own_hash)
 
-  abbrev rows : ℕ → List HashItem
+  abbrev pub rows : ℕ → List HashItem
   rows k = map (item_read heap) (members heap words (owners.Bucket addr (3 + k)))
 
   item_rows : (k : ℕ) (less : k < word_of (heap.blocks addr) 1) →
@@ -118,6 +118,18 @@ module _ (heap : View) (words : ℕ) (a : IsAudited heap words) (addr : ℕ) (is
         ) i) range)
         ∙ sym (sum_by-map (λ (l : List HashItem). length l) rows range)
 
+    -- the entries in each of its buckets are those in the chain of that
+    pub buckets_same :
+        map (bucket_row (hash_told heap words addr)) (range_with_len 0 (word_of (heap.blocks addr) 1)) ≡ map rows (range_with_len 0 (word_of (heap.blocks addr) 1))
+    buckets_same =
+        let n : ℕ = word_of (heap.blocks addr) 1 in
+        map_alike (bucket_row (hash_told heap words addr)) rows 0 n
+        (λ k low less.
+            ap (map item_row)
+            (group_of (λ (e : HashEntry). bucket_of n e.key) (bucket_told heap words addr) k 0 n
+            (λ j l below. h.buckets j (omega (arith, below))) (omega arith) less)
+            ∙ map-map item_row (entry_told heap) (members heap words (owners.Bucket addr (3 + k))))
+
     -- its blocks are those of what is read of it
     pub hash_stands : StandIn heap (hash_entries addr (hash_row (hash_told heap words addr)))
     hash_stands =
@@ -138,14 +150,7 @@ module _ (heap : View) (words : ℕ) (a : IsAudited heap words) (addr : ℕ) (is
               layout (w 0 ∷ sym (length-map-range_with_len rows 0 n) i ∷ count_all i ∷ firsts i)
               (none_behind heap (readable heap words a) kinds.Hash addr b (suc (suc (suc n))) long i);
         })) in
-        let same : map (bucket_row (hash_told heap words addr)) range ≡ map rows range =
-        map_alike (bucket_row (hash_told heap words addr)) rows 0 n
-        (λ k low less.
-            ap (map item_row)
-            (group_of (λ (e : HashEntry). bucket_of n e.key) (bucket_told heap words addr) k 0 n
-            (λ j l below. h.buckets j (omega (arith, below))) (omega arith) less)
-            ∙ map-map item_row (entry_told heap) (members heap words (owners.Bucket addr (3 + k)))) in
         subst (StandIn heap)
-        (λ i. hash_entries addr (record { key_length = w 0; buckets = sym same i }))
+        (λ i. hash_entries addr (record { key_length = w 0; buckets = sym buckets_same i }))
         (All-cons (StandsAt heap) (addr, hash_block row) (flat_map bucket_entries row.buckets)
         (record { some = nonzero heap words a addr b.own b.is; is = own }) (fronts_stand 0 n (omega arith)))

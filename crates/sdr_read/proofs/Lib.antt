@@ -7,3 +7,4 @@ pub mod LinkLemmas
 pub mod BucketLemmas
 pub mod HashLemmas
 pub mod TiesLemmas
+pub mod PartLemmas
