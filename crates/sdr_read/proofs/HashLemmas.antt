@@ -58,7 +58,7 @@ is_hash_so bytes l =
     }
 
 module _ (heap : View) (words : ℕ) (a : IsAudited heap words) (addr : ℕ) (is : is_kind kinds.Hash (heap.blocks addr) ≡ true) where
-  pub own_hash : IsOf (heap.blocks addr) kinds.Hash
+  abbrev pub own_hash : IsOf (heap.blocks addr) kinds.Hash
   own_hash = own_of heap words a kinds.Hash addr is
 
   pub hash_layout : IsHash (length own_hash.own.bytes) (take 96 own_hash.own.bytes)

@@ -3,6 +3,7 @@ use Rattle.std.proofs.Common.{◌≡◌, ◌≢◌, ◌≤◌, ◌<◌, ◌+◌,
 use Rattle.std.specs.Prelude.{count_by, IfSome, Option, None, Some}
 use Rattle.std.specs.List.{All, flat_map, range_with_len}
 use Rattle.std.specs.Option.{option_map_or}
+use Rattle.std.proofs.lemmas.List.{append-nil}
 use Rattle.std.proofs.lemmas.List.Elements.{All-cons, All-head, All-nil, All-tail}
 use Rattle.std.proofs.lemmas.Option.{none-some}
 use Rattle.std.proofs.lemmas.Simd.{map-map}
@@ -14,15 +15,15 @@ use Rattle.sdr_base.proofs.StandingLemmas.{times-append}
 use Rattle.sdr_base.specs.Blocks.{Block, kind_length}
 use Rattle.sdr_base.specs.Catalogue.{catalogue_entries, name_addr, name_block}
 use Rattle.sdr_base.specs.Entries.{Entries, times}
-use Rattle.sdr_base.specs.Hashes.{HashItem, bucket_entries, item_addr, item_block}
-use Rattle.sdr_base.specs.Linked.{linked}
-use Rattle.sdr_base.specs.Lists.{addr_of, element_block}
+use Rattle.sdr_base.specs.Hashes.{HashItem, bucket_entries, hash_block, item_addr, item_block}
+use Rattle.sdr_base.specs.Linked.{first_of, last_of, linked}
+use Rattle.sdr_base.specs.Lists.{ListElement, addr_of, element_block, list_block}
 use Rattle.sdr_base.specs.Raws.{raw_block}
 use Rattle.sdr_base.specs.Sources.{source_block}
 use Rattle.sdr_base.specs.Strings.{string_block}
 use Rattle.sdr_base.specs.Tables.{table_block}
 use Rattle.sdr_base.specs.Tickets.{ticket_addr, ticket_block, ticket_entries}
-use Rattle.sdr_base.specs.ZcoObjects.{capsule_addr, capsule_block, capsule_entries, extent_addr, extent_block, extent_entries}
+use Rattle.sdr_base.specs.ZcoObjects.{CapsuleRow, ExtentRow, capsule_addr, capsule_block, capsule_entries, extent_addr, extent_block, extent_entries, object_block}
 use Rattle.sdr_base.specs.declared.account.Acct.{Acct}
 use Rattle.sdr_base.specs.declared.account.Acct.TheVariants as accts
 use Rattle.sdr_base.specs.declared.kind.Kind.{Kind}
@@ -200,3 +201,90 @@ module _ (heap : View) (words : ℕ) (a : IsAudited heap words) where
         map_same : (ns : List ℕ) → map (λ (n : ℕ). n) ns ≡ ns
         map_same [] = refl
         map_same (n ∷ ns) = ap (λ (l : List ℕ). n ∷ l) (map_same ns)
+
+    -- the blocks of a thing are its own and those in its chains
+    pub times-thing : (q addr : ℕ) →
+        IfSome (thing_told heap words addr)
+        (λ thing. times q (thing_entries (ties_of (world_told heap words)) addr thing) ≡ cond (addr == q) 1 0 + count_by (λ other. other == q) (inner heap words addr))
+    times-thing q addr =
+        thing_cases heap words
+        (λ (o : Option Thing).
+            IfSome o
+            (λ thing. times q (thing_entries (ties_of (world_told heap words)) addr thing) ≡ cond (addr == q) 1 0 + count_by (λ other. other == q) (inner heap words addr)))
+        addr (λ at. tt) by_kind
+      where
+        by_kind : (kind : Kind) → is_kind kind (heap.blocks addr) ≡ true →
+            IfSome (thing_of_kind kind heap words addr)
+            (λ thing. times q (thing_entries (ties_of (world_told heap words)) addr thing) ≡ cond (addr == q) 1 0 + count_by (λ other. other == q) (inner heap words addr))
+        by_kind kinds.Raw is = leaf q addr kinds.Raw _ is (λ n. refl)
+        by_kind kinds.Text is = leaf q addr kinds.Text _ is (λ n. refl)
+        by_kind kinds.List is =
+            let ms : List ℕ = members heap words (owners.List addr) in
+            let rows : List ListElement = map element_row (map (element_told heap) ms) in
+            times-cons q addr (list_block (word_of (heap.blocks addr) 0) (length rows) (first_of addr_of 0 rows) (last_of addr_of 0 rows)) (linked addr_of (element_block addr) 0 0 rows)
+            ∙ ap (λ (n : ℕ). cond (addr == q) 1 0 + n)
+            (times-linked addr_of (element_block addr) q 0 0 rows
+            ∙ ap (λ (l : List ℕ). count_by (λ other. other == q) l) (addrs_back (element_told heap) element_row addr_of (λ n. refl) ms ∙ sym (append-nil ms) ∙ sym (owned_is kinds.List addr is)))
+        by_kind kinds.Element is = tt
+        by_kind kinds.Table is = leaf q addr kinds.Table _ is (λ n. refl)
+        by_kind kinds.Hash is =
+            let n : ℕ = word_of (heap.blocks addr) 1 in
+            let whole = whole_hash heap words a addr is in
+            let many : n ≡ length (own_hash heap words a addr is).own.bytes / 8 - 3 = omega (arith, whole) in
+            times-cons q addr (hash_block (hash_row (hash_told heap words addr))) (flat_map bucket_entries (hash_row (hash_told heap words addr)).buckets)
+            ∙ ap (λ (n : ℕ). cond (addr == q) 1 0 + n)
+            (ap (λ (l : List (List HashItem)). times q (flat_map bucket_entries l)) (buckets_same heap words a addr is (f.hashes addr is))
+            ∙ buckets_stand_at q addr 0 n
+            ∙ ap (λ (k : ℕ). count_by (λ other. other == q) (flat_map (members heap words) (map (λ (k : ℕ). owners.Bucket addr (3 + k)) (range_with_len 0 k)))) many
+            ∙ ap (λ (l : List ℕ). count_by (λ other. other == q) l) (sym (owned_is kinds.Hash addr is)))
+        by_kind kinds.HashEntry is = tt
+        by_kind kinds.Name is = tt
+        by_kind kinds.Source is = leaf q addr kinds.Source _ is (λ n. refl)
+        by_kind kinds.Object is =
+            let hs : List ℕ = members heap words (owners.Headers addr) in
+            let es : List ℕ = members heap words (owners.Extents addr) in
+            let ts : List ℕ = members heap words (owners.Trailers addr) in
+            let headers : List CapsuleRow = map capsule_row (map (capsule_told heap) hs) in
+            let extents : List ExtentRow = map extent_row (map (extent_told heap) es) in
+            let trailers : List CapsuleRow = map capsule_row (map (capsule_told heap) ts) in
+            let all = times-append q (capsule_entries headers ++ extent_entries extents) (capsule_entries trailers) in
+            let two = times-append q (capsule_entries headers) (extent_entries extents) in
+            let h : times q (capsule_entries headers) ≡ count_by (λ other. other == q) hs =
+            times-linked capsule_addr capsule_block q 0 0 headers ∙ ap (λ (l : List ℕ). count_by (λ other. other == q) l) (addrs_back (capsule_told heap) capsule_row capsule_addr (λ n. refl) hs) in
+            let e : times q (extent_entries extents) ≡ count_by (λ other. other == q) es =
+            times-linked extent_addr extent_block q 0 0 extents ∙ ap (λ (l : List ℕ). count_by (λ other. other == q) l) (addrs_back (extent_told heap) extent_row extent_addr (λ n. refl) es) in
+            let t : times q (capsule_entries trailers) ≡ count_by (λ other. other == q) ts =
+            times-linked capsule_addr capsule_block q 0 0 trailers ∙ ap (λ (l : List ℕ). count_by (λ other. other == q) l) (addrs_back (capsule_told heap) capsule_row capsule_addr (λ n. refl) ts) in
+            let x = count_by-append (λ other. other == q) hs (es ++ (ts ++ [])) in
+            let y = count_by-append (λ other. other == q) es (ts ++ []) in
+            let z = ap (λ (l : List ℕ). count_by (λ other. other == q) l) (append-nil ts) in
+            let i = ap (λ (l : List ℕ). count_by (λ other. other == q) l) (owned_is kinds.Object addr is) in
+            let chains : times q (capsule_entries headers ++ extent_entries extents ++ capsule_entries trailers) ≡ count_by (λ other. other == q) (hs ++ (es ++ (ts ++ []))) =
+            omega (arith, all, two, h, e, t, x, y, z) in
+            times-cons q addr (object_block (object_row (object_told heap words addr))) (capsule_entries headers ++ extent_entries extents ++ capsule_entries trailers)
+            ∙ ap (λ (n : ℕ). cond (addr == q) 1 0 + n) (chains ∙ sym i)
+        by_kind kinds.Extent is = tt
+        by_kind kinds.Capsule is = tt
+        by_kind kinds.Ticket is = tt
+
+  -- where no thing stands, no chain begins
+  pub none_inside : (addr : ℕ) → thing_told heap words addr ≡ None → inner heap words addr ≡ []
+  none_inside addr =
+      thing_cases heap words (λ (o : Option Thing). o ≡ None → inner heap words addr ≡ []) addr
+      (λ at none. ap (λ (o : Option Block). flat_map (members heap words) (option_map_or (λ (told : Kind × ℕ). owned_by addr told.0 told.1) (kind_length o) [])) at)
+      by_kind
+    where
+      by_kind : (kind : Kind) → is_kind kind (heap.blocks addr) ≡ true → thing_of_kind kind heap words addr ≡ None → inner heap words addr ≡ []
+      by_kind kinds.Raw is none = owned_is kinds.Raw addr is
+      by_kind kinds.Text is none = owned_is kinds.Text addr is
+      by_kind kinds.List is none = absurd (none-some _ (sym none))
+      by_kind kinds.Element is none = owned_is kinds.Element addr is
+      by_kind kinds.Table is none = owned_is kinds.Table addr is
+      by_kind kinds.Hash is none = absurd (none-some _ (sym none))
+      by_kind kinds.HashEntry is none = owned_is kinds.HashEntry addr is
+      by_kind kinds.Name is none = owned_is kinds.Name addr is
+      by_kind kinds.Source is none = owned_is kinds.Source addr is
+      by_kind kinds.Object is none = absurd (none-some _ (sym none))
+      by_kind kinds.Extent is none = owned_is kinds.Extent addr is
+      by_kind kinds.Capsule is none = owned_is kinds.Capsule addr is
+      by_kind kinds.Ticket is none = owned_is kinds.Ticket addr is
