@@ -8,3 +8,5 @@ pub mod BucketLemmas
 pub mod HashLemmas
 pub mod TiesLemmas
 pub mod PartLemmas
+pub mod StandLemmas
+pub mod OccupiedLemmas

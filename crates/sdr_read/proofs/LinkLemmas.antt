@@ -92,7 +92,7 @@ module _ (heap : View) (words : ℕ) (a : IsAudited heap words) where
     others_told : All (IsTold heap words) (owners.Extents addr ∷ owners.Trailers addr ∷ [])
     others_told = All-tail (IsTold heap words) (owners.Headers addr) (owners.Extents addr ∷ owners.Trailers addr ∷ []) chains_told
 
-    extent_chain : IsTold heap words (owners.Extents addr)
+    pub extent_chain : IsTold heap words (owners.Extents addr)
     extent_chain = All-head (IsTold heap words) (owners.Extents addr) (owners.Trailers addr ∷ []) others_told
 
     trailer_chain : IsTold heap words (owners.Trailers addr)
