@@ -10,3 +10,6 @@ pub mod TiesLemmas
 pub mod PartLemmas
 pub mod StandLemmas
 pub mod OccupiedLemmas
+pub mod RegionLemmas
+pub mod RootLemmas
+pub mod WorldLemmas

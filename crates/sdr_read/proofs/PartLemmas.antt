@@ -32,12 +32,13 @@ use Rattle.sdr_count.specs.Counted.{IsCounted}
 use Rattle.sdr_count.specs.Members.{members}
 use Rattle.sdr_count.specs.Queues.{ticket_at}
 use Rattle.sdr_laws.proofs.DistinctLemmas.{count_by-cons}
+use Rattle.sdr_model.specs.Accounts.{tickets_of}
 use Rattle.sdr_model.specs.TicketRows.{ticket_row}
 use Rattle.sdr_model.specs.declared.things.Thing.{Thing}
 use Rattle.sdr_owner.proofs.LinkingLemmas.{goes_linked}
 use Rattle.sdr_owner.proofs.ReadingLemmas.{IsOf, names_back, tickets_back}
 use Rattle.sdr_owner.specs.Chains as chains
-use Rattle.sdr_owner.specs.Linking.{StandIn, StandsAt}
+use Rattle.sdr_owner.specs.Linking.{AreRows, StandIn, StandsAt}
 use Rattle.sdr_owner.specs.Owners.{owned_at, owned_by, owners_of, root_owners}
 use Rattle.sdr_owner.specs.Reading.{bytes_of, item_read, name_read, ticket_read}
 use Rattle.sdr_owner.specs.View.{View, is_kind, word_of}
@@ -110,25 +111,35 @@ module _ (heap : View) (words : ℕ) (a : IsAudited heap words) where
       All-head (IsTold heap words) (owners.Queue accts.Outbound) []
       (All-tail (IsTold heap words) (owners.Queue accts.Inbound) (owners.Queue accts.Outbound ∷ []) queues_told)
 
-  -- the catalogue stands
-  pub names_stand : StandIn heap (catalogue_entries (map name_row (world_told heap words).names))
-  names_stand =
-      subst (λ rows. StandIn heap (catalogue_entries rows))
+  -- the catalogue's chain is that of the world's names
+  pub names_rows : AreRows heap name_addr name_block 0 (heap.roots 89) (map name_row (world_told heap words).names) names_chain.last
+  names_rows =
+      subst (λ rows. AreRows heap name_addr name_block 0 (heap.roots 89) rows names_chain.last)
       (sym (map-map name_row (name_told heap) (members heap words owners.Catalogue)))
       (goes_linked heap owners.Catalogue name_addr name_block (name_read heap) (names_back heap (readable heap words a)) 0 (heap.roots 89)
-      (members heap words owners.Catalogue) names_chain.last names_chain.goes).stand
+      (members heap words owners.Catalogue) names_chain.last names_chain.goes)
 
-  -- so does each queue
-  queue_stand : (account : Acct) → StandIn heap (ticket_entries account (map ticket_row (map (ticket_at heap) (members heap words (owners.Queue account)))))
-  queue_stand account =
-      subst (λ rows. StandIn heap (ticket_entries account rows))
+  -- so is that of a queue that of the account's tickets
+  queue_rows : (account : Acct) →
+      AreRows heap ticket_addr (ticket_block account) 0 (chains.first_of heap (owners.Queue account))
+      (map ticket_row (map (ticket_at heap) (members heap words (owners.Queue account)))) (queue_chain account).last
+  queue_rows account =
+      subst (λ rows. AreRows heap ticket_addr (ticket_block account) 0 (chains.first_of heap (owners.Queue account)) rows (queue_chain account).last)
       (sym (map-map ticket_row (ticket_at heap) (members heap words (owners.Queue account))))
       (goes_linked heap (owners.Queue account) ticket_addr (ticket_block account) (ticket_read heap) (tickets_back heap (readable heap words a) account) 0
-      (chains.first_of heap (owners.Queue account)) (members heap words (owners.Queue account)) (queue_chain account).last (queue_chain account).goes).stand
+      (chains.first_of heap (owners.Queue account)) (members heap words (owners.Queue account)) (queue_chain account).last (queue_chain account).goes)
+
+  pub tickets_rows : (account : Acct) →
+      AreRows heap ticket_addr (ticket_block account) 0 (chains.first_of heap (owners.Queue account))
+      (map ticket_row (tickets_of (world_told heap words).accounts account)) (queue_chain account).last
+  tickets_rows accts.Inbound = queue_rows accts.Inbound
+  tickets_rows accts.Outbound = queue_rows accts.Outbound
+
+  pub names_stand : StandIn heap (catalogue_entries (map name_row (world_told heap words).names))
+  names_stand = names_rows.stand
 
   pub queues_stand : (account : Acct) → StandIn heap (queue_entries (world_told heap words).accounts account)
-  queues_stand accts.Inbound = queue_stand accts.Inbound
-  queues_stand accts.Outbound = queue_stand accts.Outbound
+  queues_stand account = (tickets_rows account).stand
 
   pub times-names : (q : ℕ) → times q (catalogue_entries (map name_row (world_told heap words).names)) ≡ count_by (λ other. other == q) (members heap words owners.Catalogue)
   times-names q =

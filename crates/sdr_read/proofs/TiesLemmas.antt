@@ -44,7 +44,7 @@ kind_apart kind other None is off = refl
 kind_apart kind other (Some block) is off =
     ap (λ (n : ℕ). n == kind_number other) (eqb-true (kind_number block.kind) (kind_number kind) is) ∙ off
 
-account_same : (account : Acct) (n : ℕ) → n ≤ 1 → is_same_account account (account_told n) ≡ (n == account_number account)
+pub account_same : (account : Acct) (n : ℕ) → n ≤ 1 → is_same_account account (account_told n) ≡ (n == account_number account)
 account_same accts.Inbound zero few = refl
 account_same accts.Inbound (suc zero) few = refl
 account_same accts.Outbound zero few = refl
