@@ -13,3 +13,5 @@ pub mod OccupiedLemmas
 pub mod RegionLemmas
 pub mod RootLemmas
 pub mod WorldLemmas
+pub mod RiseLemmas
+pub mod ValidLemmas

@@ -86,7 +86,7 @@ module _ (heap : View) (words : ℕ) (a : IsAudited heap words) where
     chains_told : All (IsTold heap words) (owners.Headers addr ∷ owners.Extents addr ∷ owners.Trailers addr ∷ [])
     chains_told = block_told kinds.Object addr own_object
 
-    header_chain : IsTold heap words (owners.Headers addr)
+    pub header_chain : IsTold heap words (owners.Headers addr)
     header_chain = All-head (IsTold heap words) (owners.Headers addr) (owners.Extents addr ∷ owners.Trailers addr ∷ []) chains_told
 
     others_told : All (IsTold heap words) (owners.Extents addr ∷ owners.Trailers addr ∷ [])
@@ -95,7 +95,7 @@ module _ (heap : View) (words : ℕ) (a : IsAudited heap words) where
     pub extent_chain : IsTold heap words (owners.Extents addr)
     extent_chain = All-head (IsTold heap words) (owners.Extents addr) (owners.Trailers addr ∷ []) others_told
 
-    trailer_chain : IsTold heap words (owners.Trailers addr)
+    pub trailer_chain : IsTold heap words (owners.Trailers addr)
     trailer_chain =
         All-head (IsTold heap words) (owners.Trailers addr) []
         (All-tail (IsTold heap words) (owners.Extents addr) (owners.Trailers addr ∷ []) others_told)

@@ -76,7 +76,7 @@ module _ (heap : View) (words : ℕ) where
   goes_members owner before link (a ∷ addrs) last next (is, some, member, named, more) =
       All-cons (λ addr. is_member heap owner addr ≡ true) a addrs member (goes_members owner a (next_of heap owner a) addrs last next more)
 
-all_so : {X : Type 0} (P Q : X → Type 0) → ((x : X) → P x → Q x) → (xs : List X) → All P xs → All Q xs
+pub all_so : {X : Type 0} (P Q : X → Type 0) → ((x : X) → P x → Q x) → (xs : List X) → All P xs → All Q xs
 all_so P Q so [] all = All-nil Q
 all_so P Q so (x ∷ xs) all = All-cons Q x xs (so x (All-head P x xs all)) (all_so P Q so xs (All-tail P x xs all))
 
