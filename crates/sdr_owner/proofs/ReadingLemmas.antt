@@ -105,7 +105,7 @@ pub record IsOf (block : Option Block) (kind : Kind) : Type 0 where
   pub form : HasForm kind own.bytes
 
 -- a word of 0 or 1 tells a yes or no
-flag_back : (n : ℕ) → n ≤ 1 → n ≡ flag_word (n == 1)
+pub flag_back : (n : ℕ) → n ≤ 1 → n ≡ flag_word (n == 1)
 flag_back zero few = refl
 flag_back (suc zero) few = refl
 flag_back (suc (suc n)) few = absurd (omega (arith, few))
@@ -128,7 +128,7 @@ name_back (k ∷ xs) field =
     (λ i. sym long i ∷ (sym (take-append-drop k xs) ∙ ap (λ (rest : List ℕ). take k xs ++ rest) (zeros ∙ ap (λ (n : ℕ). replicate n 0) many)) i)
 
 module _ (heap : View) (readable : IsReadable heap) where
-  block_is : (kind : Kind) (addr : ℕ) → is_kind kind (heap.blocks addr) ≡ true → IsOf (heap.blocks addr) kind
+  pub block_is : (kind : Kind) (addr : ℕ) → is_kind kind (heap.blocks addr) ≡ true → IsOf (heap.blocks addr) kind
   block_is kind addr is = by_block (heap.blocks addr) refl is
     where
       by_block : (o : Option Block) → heap.blocks addr ≡ o → is_kind kind o ≡ true → IsOf o kind
@@ -145,7 +145,7 @@ module _ (heap : View) (readable : IsReadable heap) where
 
   module _ (kind : Kind) (addr : ℕ) (b : IsOf (heap.blocks addr) kind) where
     -- a block of a kind, its first words, and the bytes behind them
-    laid : (count : ℕ) → 8 * count ≤ length b.own.bytes →
+    pub laid : (count : ℕ) → 8 * count ≤ length b.own.bytes →
         heap.blocks addr ≡ Some (record { kind = kind; bytes = layout (words_of (heap.blocks addr) 0 count) (behind_words (heap.blocks addr) count) })
     laid count inside =
         b.is
@@ -158,7 +158,7 @@ module _ (heap : View) (readable : IsReadable heap) where
             ∙ layout-words_of b.own 0 count b.bytes (omega (arith, inside))
 
     -- nothing stands behind its words where they are all of it
-    none_behind : (count : ℕ) → length b.own.bytes ≡ 8 * count → behind_words (heap.blocks addr) count ≡ []
+    pub none_behind : (count : ℕ) → length b.own.bytes ≡ 8 * count → behind_words (heap.blocks addr) count ≡ []
     none_behind count long =
         ap (λ (o : Option Block). behind_words o count) b.is
         ∙ ap (λ (n : ℕ). drop n b.own.bytes) (sym long) ∙ drop-length b.own.bytes

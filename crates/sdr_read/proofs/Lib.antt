@@ -1,0 +1,17 @@
+pub mod ChainLemmas
+pub mod RowLemmas
+pub mod LayoutLemmas
+pub mod OwnLemmas
+pub mod SourceLemmas
+pub mod LinkLemmas
+pub mod BucketLemmas
+pub mod HashLemmas
+pub mod TiesLemmas
+pub mod PartLemmas
+pub mod StandLemmas
+pub mod OccupiedLemmas
+pub mod RegionLemmas
+pub mod RootLemmas
+pub mod WorldLemmas
+pub mod RiseLemmas
+pub mod ValidLemmas
