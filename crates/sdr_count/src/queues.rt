@@ -16,8 +16,8 @@ use sdr_base::control::{FILE_MAXIMUM, FILE_OCCUPANCY, FIRST_TICKET, NEXT_TICKET}
 use sdr_base::layout::ticket;
 use sdr_base::{Acct, Addr, Amounts, NoMemory, WORD};
 use sdr_keys::members;
+use sdr_model::amounts::{are_within, minus};
 use sdr_owner::{Owner, Wrong, root, word};
-use sdr_parts::amounts::{are_within, minus};
 use std::alloc::Global;
 use std::collections::HashSet;
 

@@ -74,12 +74,11 @@ module _ (heap : View) (text : Text) where
   still_new : (others addrs : List ℕ) (addr : ℕ) → AreNew others addrs →
       AllByRecursion (λ other. pointwise nat_eq (text_at heap text addr) other ≡ false) (map (text_at heap text) addrs) → AreNew (others ++ (addr ∷ [])) addrs
   still_new others [] addr new apart_all = tt
-  still_new others (b ∷ bs) addr (here, rest) (off, offs) =
-      (
-        list_any-append (λ other. pointwise nat_eq (text_at heap text b) (text_at heap text other)) others (addr ∷ [])
+  still_new others (b ∷ bs) addr (here, rest) (off, offs) = (
+    list_any-append (λ other. pointwise nat_eq (text_at heap text b) (text_at heap text other)) others (addr ∷ [])
         ∙ or_from _ _ here (or_from _ false (apart (text_at heap text addr) (text_at heap text b) off) refl),
-        still_new others bs addr rest offs,
-      )
+    still_new others bs addr rest offs,
+  )
 
   none_repeated : (others addrs : List ℕ) → AreNew others addrs → AreDistinct (map (text_at heap text) addrs) → repeated_among heap text others addrs ≡ None
   unfolding IsDistinct

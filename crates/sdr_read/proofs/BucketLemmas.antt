@@ -36,8 +36,8 @@ module _ {X : Type 0} (g : X → ℕ) where
     none_of b a (suc n) grouped below =
         filter-append (λ x. g x == b) (group a) (flat_map group (range_with_len (a + 1) n))
         ∙ (λ i.
-            other_group b a (group a) (λ e. omega (arith, below, e)) (grouped a (omega arith) (omega arith)) i
-            ++ none_of b (a + 1) n (λ k low high. grouped k (omega (arith, low)) (omega (arith, high))) (omega (arith, below)) i)
+        other_group b a (group a) (λ e. omega (arith, below, e)) (grouped a (omega arith) (omega arith)) i
+        ++ none_of b (a + 1) n (λ k low high. grouped k (omega (arith, low)) (omega (arith, high))) (omega (arith, below)) i)
 
     append_none : (xs : List X) → xs ++ [] ≡ xs
     append_none [] = refl
@@ -52,13 +52,13 @@ module _ {X : Type 0} (g : X → ℕ) where
         ∙ elim (cases_eq b a) [
           | inl same ↦
               (λ i.
-                  filter (λ x. g x == same i) (group a)
-                  ++ none_of b (a + 1) n rest (omega (arith, same)) i)
+              filter (λ x. g x == same i) (group a)
+              ++ none_of b (a + 1) n rest (omega (arith, same)) i)
               ∙ append_none (filter (λ x. g x == a) (group a)) ∙ same_group a (group a) (grouped a (omega arith) (omega arith)) ∙ ap group (sym same)
           | inr off ↦
               (λ i.
-                  other_group b a (group a) (λ e. off (sym e)) (grouped a (omega arith) (omega arith)) i
-                  ++ group_of b (a + 1) n rest (above b a low off) (omega (arith, high)) i)
+              other_group b a (group a) (λ e. off (sym e)) (grouped a (omega arith) (omega arith)) i
+              ++ group_of b (a + 1) n rest (above b a low off) (omega (arith, high)) i)
         ]
       where
         above : (b a : ℕ) → a ≤ b → (b ≡ a → ⊥) → a + 1 ≤ b

@@ -96,8 +96,8 @@ module _ (heap : View) (words : ℕ) (a : IsAudited heap words) (addr : ℕ) (is
   fronts from (suc n) few =
       let e : 3 + from + 1 ≡ 3 + (from + 1) = omega arith in
       (λ i.
-          (item_rows from (omega (arith, few))).first i
-          ∷ (ap (λ (k : ℕ). words_of (heap.blocks addr) k n) e ∙ fronts (from + 1) n (omega (arith, few))) i)
+      (item_rows from (omega (arith, few))).first i
+      ∷ (ap (λ (k : ℕ). words_of (heap.blocks addr) k n) e ∙ fronts (from + 1) n (omega (arith, few))) i)
 
   -- their chains stand
   fronts_stand : (from n : ℕ) → from + n ≤ word_of (heap.blocks addr) 1 →
@@ -113,8 +113,8 @@ module _ (heap : View) (words : ℕ) (a : IsAudited heap words) (addr : ℕ) (is
         let range : List ℕ = range_with_len 0 (word_of (heap.blocks addr) 1) in
         h.count ∙ length-flat_map (bucket_told heap words addr) range
         ∙ (λ i. sum_by (λ (k : ℕ). (
-          length-map (members heap words (owners.Bucket addr (3 + k))) (entry_told heap)
-          ∙ sym (length-map (members heap words (owners.Bucket addr (3 + k))) (item_read heap))
+        length-map (members heap words (owners.Bucket addr (3 + k))) (entry_told heap)
+        ∙ sym (length-map (members heap words (owners.Bucket addr (3 + k))) (item_read heap))
         ) i) range)
         ∙ sym (sum_by-map (λ (l : List HashItem). length l) rows range)
 
@@ -125,10 +125,10 @@ module _ (heap : View) (words : ℕ) (a : IsAudited heap words) (addr : ℕ) (is
         let n : ℕ = word_of (heap.blocks addr) 1 in
         map_alike (bucket_row (hash_told heap words addr)) rows 0 n
         (λ k low less.
-            ap (map item_row)
-            (group_of (λ (e : HashEntry). bucket_of n e.key) (bucket_told heap words addr) k 0 n
-            (λ j l below. h.buckets j (omega (arith, below))) (omega arith) less)
-            ∙ map-map item_row (entry_told heap) (members heap words (owners.Bucket addr (3 + k))))
+        ap (map item_row)
+        (group_of (λ (e : HashEntry). bucket_of n e.key) (bucket_told heap words addr) k 0 n
+        (λ j l below. h.buckets j (omega (arith, below))) (omega arith) less)
+        ∙ map-map item_row (entry_told heap) (members heap words (owners.Bucket addr (3 + k))))
 
     -- its blocks are those of what is read of it
     pub hash_stands : StandIn heap (hash_entries addr (hash_row (hash_told heap words addr)))

@@ -220,8 +220,8 @@ module _ (heap : View) (words : ℕ) (a : IsAudited heap words) where
     times-thing q addr =
         thing_cases heap words
         (λ (o : Option Thing).
-            IfSome o
-            (λ thing. times q (thing_entries (ties_of (world_told heap words)) addr thing) ≡ cond (addr == q) 1 0 + count_by (λ other. other == q) (inner heap words addr)))
+        IfSome o
+        (λ thing. times q (thing_entries (ties_of (world_told heap words)) addr thing) ≡ cond (addr == q) 1 0 + count_by (λ other. other == q) (inner heap words addr)))
         addr (λ at. tt) by_kind
       where
         by_kind : (kind : Kind) → is_kind kind (heap.blocks addr) ≡ true →

@@ -222,8 +222,8 @@ module _ (heap : View) (words : ℕ) (a : IsAudited heap words) where
         ap (λ (es : List (ℕ × Thing)). times q (flat_map g es)) (things_are heap words a)
         ∙ times_row (thing_told heap words) (λ p thing. thing_entries (ties_of (world_told heap words)) p thing) (inner heap words)
         (λ q p x is.
-            subst (λ (o : Option Thing). IfSome o (λ thing. times q (thing_entries (ties_of (world_told heap words)) p thing) ≡ cond (p == q) 1 0 + count_by (λ other. other == q) (inner heap words p)))
-            is (times-thing heap words a f c q p))
+        subst (λ (o : Option Thing). IfSome o (λ thing. times q (thing_entries (ties_of (world_told heap words)) p thing) ≡ cond (p == q) 1 0 + count_by (λ other. other == q) (inner heap words p)))
+        is (times-thing heap words a f c q p))
         (λ p is. none_inside heap words a p is) q 0 words in
         let e : a.owned.reached ≡ cs ++ (is ++ (os ++ inside)) =
         reach_is

@@ -220,7 +220,7 @@ module _ (heap : View) (words : ℕ) (a : IsAudited heap words) where
       ∙ first_found (λ (e : ℕ × Thing). names_raw raw e.1) at (row (thing_told heap words) 0 words)
       (all_row (thing_told heap words) (λ (e : ℕ × Thing). names_raw raw e.1 ≡ true → e.0 ≡ at)
       (λ q x told passes.
-          source_named raw q (sym (ap (λ (o : Option Thing). option_map_or (names_raw raw) o false) (sym told) ∙ raw_same raw q) ∙ passes))
+      source_named raw q (sym (ap (λ (o : Option Thing). option_map_or (names_raw raw) o false) (sym told) ∙ raw_same raw q) ∙ passes))
       0 words)
       (λ none. elim (cases_eq at 0) [ inl null ↦ null | inr some ↦ absurd (there some none) ])
     where
