@@ -89,7 +89,7 @@ fn wrong_counts_are_told(rt: HostRuntime) {
     );
 }
 
-const QUEUES_WRONG: [Row; 13] = [
+const ORDER_WRONG: [Row; 6] = [
     // Two equal numbers, and one that isn't below the next.
     (&[(2360, 1)], 848),
     (&[(2360, 3)], 848),
@@ -115,6 +115,17 @@ const QUEUES_WRONG: [Row; 13] = [
         ],
         848,
     ),
+];
+
+#[test]
+fn queues_out_of_order_are_told(rt: HostRuntime) {
+    // Two that wait in order.
+    let waiting = [(2336, 0), (2328, 0), (816, 112), (2304, 900)];
+    assert_eq!(rt; checked(rt.alloc(), &BUNDLE, &waiting), Some(Ok(())));
+    assert_eq!(rt; wrong_row(rt.alloc(), &BUNDLE, Why::Queue, &ORDER_WRONG), None);
+}
+
+const QUEUES_WRONG: [Row; 7] = [
     // More is left than was asked, and something of a waiting one.
     (&[(2328, 101), (816, 213)], 848),
     (&[(2432, 5), (816, 157)], 848),
@@ -178,10 +189,8 @@ const QUEUES_WRONG: [Row; 13] = [
 
 #[test]
 fn wrong_queues_are_told(rt: HostRuntime) {
-    // One byte more than the room, and two that wait in order.
+    // One byte more than the room.
     assert_eq!(rt; checked(rt.alloc(), &BUNDLE, &[(2408, 849)]), Some(Ok(())));
-    let waiting = [(2336, 0), (2328, 0), (816, 112), (2304, 900)];
-    assert_eq!(rt; checked(rt.alloc(), &BUNDLE, &waiting), Some(Ok(())));
     assert_eq!(rt;
         wrong_row(rt.alloc(), &BUNDLE, Why::Queue, &QUEUES_WRONG),
         None
