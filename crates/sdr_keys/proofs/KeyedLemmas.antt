@@ -1,8 +1,8 @@
 -- Where no list, hash or name is found wrong, all are right.
-use Rattle.std.proofs.Common.{◌≡◌, ◌≤◌, ◌<◌, ◌+◌, ◌*◌, ◌/◌, ◌==◌, ◌&&◌, ◌||◌, ℕ, Bool, true, false, not, cond, nat_eq, List, [], ◌∷◌, ◌++◌, map, length, arith, ap, ◌∙◌, refl, sym, subst, inl, inr}
+use Rattle.std.proofs.Common.{◌≡◌, ◌≤◌, ◌*◌, ◌==◌, ◌&&◌, ◌||◌, ℕ, Bool, true, false, not, cond, nat_eq, List, [], ◌∷◌, ◌++◌, map, length, ap, ◌∙◌, refl, sym, inl, inr}
 use Rattle.std.specs.Prelude.{Option, None, Some}
 use Rattle.std.specs.Cmp.Lexicographic.{bytes_decides, pointwise}
-use Rattle.std.specs.List.{AllByRecursion, IsDistinct, list_all, list_any}
+use Rattle.std.specs.List.{AllByRecursion, IsDistinct, list_all}
 use Rattle.std.proofs.lemmas.Bool.{cases_Bool, or_from, or_parts}
 use Rattle.std.proofs.lemmas.List.Folds.{list_any-append}
 use Rattle.sdr_base.specs.Blocks.{Block}
@@ -74,12 +74,11 @@ module _ (heap : View) (text : Text) where
   still_new : (others addrs : List ℕ) (addr : ℕ) → AreNew others addrs →
       AllByRecursion (λ other. pointwise nat_eq (text_at heap text addr) other ≡ false) (map (text_at heap text) addrs) → AreNew (others ++ (addr ∷ [])) addrs
   still_new others [] addr new apart_all = tt
-  still_new others (b ∷ bs) addr (here, rest) (off, offs) =
-      (
-        list_any-append (λ other. pointwise nat_eq (text_at heap text b) (text_at heap text other)) others (addr ∷ [])
+  still_new others (b ∷ bs) addr (here, rest) (off, offs) = (
+    list_any-append (λ other. pointwise nat_eq (text_at heap text b) (text_at heap text other)) others (addr ∷ [])
         ∙ or_from _ _ here (or_from _ false (apart (text_at heap text addr) (text_at heap text b) off) refl),
-        still_new others bs addr rest offs,
-      )
+    still_new others bs addr rest offs,
+  )
 
   none_repeated : (others addrs : List ℕ) → AreNew others addrs → AreDistinct (map (text_at heap text) addrs) → repeated_among heap text others addrs ≡ None
   unfolding IsDistinct
