@@ -1,5 +1,5 @@
 -- The bytes of blocks in use.
-use Rattle.std.proofs.Common.{◌≡◌, ◌≤◌, ◌<◌, ◌+◌, ◌-◌, ◌*◌, ◌/◌, ◌^◌, ℕ, List, [], drop, take, get_or, length, min, arith, ap, ◌∙◌, refl, sym, inl, inr, length-drop, length-take}
+use Rattle.std.proofs.Common.{◌≡◌, ◌≤◌, ◌<◌, ◌+◌, ◌/◌, ◌^◌, ℕ, List, [], drop, take, length, min, arith, ap, ◌∙◌, refl, sym, inl, inr, length-drop, length-take}
 use Rattle.std.specs.Prelude.{Option, None, Some}
 use Rattle.std.proofs.lemmas.Bool.{cases_lt}
 use Rattle.std.proofs.lemmas.List.{take_all}

@@ -1,18 +1,17 @@
 -- The blocks of right chains are those to which links lead.
-use Rattle.std.proofs.Common.{◌≡◌, ◌≢◌, ◌≤◌, ◌<◌, ◌+◌, ◌*◌, ◌/◌, ◌%◌, ◌==◌, ◌||◌, ℕ, zero, suc, cond, Bool, true, false, List, [], ◌∷◌, ◌++◌, map, length, eqb, count_by, arith, ap, ◌∙◌, refl, sym, subst, inl, inr}
+use Rattle.std.proofs.Common.{◌≡◌, ◌≤◌, ◌<◌, ◌/◌, ◌%◌, ◌==◌, ◌||◌, ℕ, zero, suc, Bool, true, false, List, [], ◌∷◌, map, length, eqb, count_by, arith, ap, ◌∙◌, refl, sym, subst, inl, inr}
 use Rattle.std.specs.List.{All, AllByRecursion, IsDistinct, list_any}
-use Rattle.std.proofs.lemmas.Bool.{cases_Bool, cases_eq, eq-eqb, eqb-true, ne_eqb, or_parts}
+use Rattle.std.proofs.lemmas.Bool.{cases_Bool, eq-eqb, eqb-true, ne_eqb, or_parts}
 use Rattle.std.proofs.lemmas.List.{length-map}
 use Rattle.std.proofs.lemmas.List.Concat.{flat_map-cons}
 use Rattle.std.proofs.lemmas.List.Elements.{All-cons, All-head, All-nil, All-tail}
 use Rattle.std.proofs.lemmas.Map.Steps.{length-le_from_distinct_below}
 use Rattle.sdr_base.proofs.PoolsLemmas.{count_by-append, count_by-yes}
-use Rattle.sdr_base.specs.KeptHeap.{block_in}
 use Rattle.sdr_keys.proofs.MembersLemmas.{followed-end, followed-next}
 use Rattle.sdr_keys.specs.Members.{AreMembers, followed, members}
 use Rattle.sdr_owner.proofs.MarksLemmas.{counted, is_addr}
 use Rattle.sdr_owner.proofs.RegionLemmas.{is_whole}
-use Rattle.sdr_owner.specs.Chains.{AreOnce, Chain, ChainsReach, Goes, IsChain, addrs_of, first_of, is_among, is_member, next_of}
+use Rattle.sdr_owner.specs.Chains.{AreOnce, Chain, ChainsReach, Goes, IsChain, addrs_of, first_of, is_among, next_of}
 use Rattle.sdr_owner.specs.Owners.{kind_in}
 use Rattle.sdr_owner.specs.View.{View, view_in}
 use Rattle.sdr_owner.specs.declared.owner.Owner.{Owner}

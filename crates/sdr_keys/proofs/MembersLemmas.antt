@@ -1,5 +1,5 @@
 -- The blocks in the chain of an owner.
-use Rattle.std.proofs.Common.{◌≡◌, ◌≢◌, ◌≤◌, ◌<◌, ◌+◌, ◌-◌, ◌==◌, ℕ, zero, suc, cond, Bool, false, List, [], ◌∷◌, ◌++◌, length, arith, ap, ◌∙◌, refl, sym, inl, inr}
+use Rattle.std.proofs.Common.{◌≡◌, ◌≢◌, ◌≤◌, ◌<◌, ◌-◌, ℕ, zero, suc, cond, Bool, List, [], ◌∷◌, ◌++◌, length, arith, ap, ◌∙◌, refl, sym, inl, inr}
 use Rattle.std.proofs.lemmas.Bool.{cases_eq, eq-eqb, ne_eqb}
 use Rattle.std.proofs.lemmas.List.{append-nil, append_assoc}
 use Rattle.sdr_keys.specs.Members.{followed}

@@ -1,5 +1,5 @@
 -- The first place at which a test fails.
-use Rattle.std.proofs.Common.{◌≡◌, ◌≤◌, ◌<◌, ◌+◌, ◌*◌, ◌/◌, ◌&&◌, ℕ, Bool, true, false, not, cond, List, [], ◌∷◌, ◌++◌, drop, take, map, length, sum_by, arith, ap, ◌∙◌, refl, sym, subst, inl, inr}
+use Rattle.std.proofs.Common.{◌≡◌, ◌≤◌, ◌<◌, ◌+◌, ◌*◌, ◌/◌, ◌&&◌, ℕ, Bool, true, false, not, cond, List, [], ◌∷◌, ◌++◌, drop, take, length, sum_by, arith, ap, ◌∙◌, refl, sym, subst, inl, inr}
 use Rattle.std.specs.Prelude.{find, Option, None, Some}
 use Rattle.std.specs.List.{list_all, range_with_len}
 use Rattle.std.specs.Option.{option_or}
@@ -8,7 +8,7 @@ use Rattle.std.proofs.lemmas.List.{map-id, take-append-drop}
 use Rattle.std.proofs.lemmas.List.Folds.{find-append, list_all-append}
 use Rattle.std.proofs.lemmas.List.FromFn.{map-range_with_len_more, take-map-range_with_len}
 use Rattle.std.proofs.lemmas.List.Sums.{sum_by-append}
-use Rattle.sdr_keys.specs.Places.{first_failing, first_some, places}
+use Rattle.sdr_keys.specs.Places.{first_failing, places}
 use Rattle.sdr_owner.proofs.RegionLemmas.{none_between, none_past}
 use Rattle.sdr_base.specs.KeptHeap.{block_in}
 

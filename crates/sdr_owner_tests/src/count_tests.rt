@@ -7,10 +7,10 @@ use std::alloc::Global;
 type Row = (&'static [Word], u64);
 
 // The first row that is told otherwise.
-fn wrong_row(alloc: Global, why: Why, rows: &[Row]) -> Option<usize> {
+fn wrong_row(alloc: Global, words: &[Word], why: Why, rows: &[Row]) -> Option<usize> {
     for (number, (changes, place)) in rows.iter().enumerate() {
         let wanted = AuditError::Damaged { place: *place, why };
-        if checked(alloc, &BUNDLE, changes) != Some(Err(wanted)) {
+        if checked(alloc, words, changes) != Some(Err(wanted)) {
             return Some(number);
         }
     }
@@ -83,10 +83,13 @@ const COUNTS_WRONG: [Row; 13] = [
 #[test]
 fn wrong_counts_are_told(rt: HostRuntime) {
     assert_eq!(rt; checked(rt.alloc(), &BUNDLE, &[]), Some(Ok(())));
-    assert_eq!(rt; wrong_row(rt.alloc(), Why::Count, &COUNTS_WRONG), None);
+    assert_eq!(rt;
+        wrong_row(rt.alloc(), &BUNDLE, Why::Count, &COUNTS_WRONG),
+        None
+    );
 }
 
-const QUEUES_WRONG: [Row; 13] = [
+const ORDER_WRONG: [Row; 6] = [
     // Two equal numbers, and one that isn't below the next.
     (&[(2360, 1)], 848),
     (&[(2360, 3)], 848),
@@ -112,6 +115,17 @@ const QUEUES_WRONG: [Row; 13] = [
         ],
         848,
     ),
+];
+
+#[test]
+fn queues_out_of_order_are_told(rt: HostRuntime) {
+    // Two that wait in order.
+    let waiting = [(2336, 0), (2328, 0), (816, 112), (2304, 900)];
+    assert_eq!(rt; checked(rt.alloc(), &BUNDLE, &waiting), Some(Ok(())));
+    assert_eq!(rt; wrong_row(rt.alloc(), &BUNDLE, Why::Queue, &ORDER_WRONG), None);
+}
+
+const QUEUES_WRONG: [Row; 7] = [
     // More is left than was asked, and something of a waiting one.
     (&[(2328, 101), (816, 213)], 848),
     (&[(2432, 5), (816, 157)], 848),
@@ -175,12 +189,171 @@ const QUEUES_WRONG: [Row; 13] = [
 
 #[test]
 fn wrong_queues_are_told(rt: HostRuntime) {
-    // One byte more than the room, and two that wait in order.
+    // One byte more than the room.
     assert_eq!(rt; checked(rt.alloc(), &BUNDLE, &[(2408, 849)]), Some(Ok(())));
-    let waiting = [(2336, 0), (2328, 0), (816, 112), (2304, 900)];
-    assert_eq!(rt; checked(rt.alloc(), &BUNDLE, &waiting), Some(Ok(())));
-    assert_eq!(rt; wrong_row(rt.alloc(), Why::Queue, &QUEUES_WRONG), None);
+    assert_eq!(rt;
+        wrong_row(rt.alloc(), &BUNDLE, Why::Queue, &QUEUES_WRONG),
+        None
+    );
     // A chain is told before a count.
     let owner: [Row; 1] = [(&[(2152, 0), (2080, 2)], 2136)];
-    assert_eq!(rt; wrong_row(rt.alloc(), Why::Owner, &owner), None);
+    assert_eq!(rt; wrong_row(rt.alloc(), &BUNDLE, Why::Owner, &owner), None);
+}
+
+const RULES_WRONG: [Row; 8] = [
+    // The source has another length than its raw object.
+    (&[(2096, 7)], 2056),
+    // The extent ends behind its source, by its offset and by its length.
+    (&[(2224, 1)], 2216),
+    (&[(2232, 9)], 2216),
+    // The part ends behind the extents.
+    (&[(2192, 1)], 2136),
+    (&[(2200, 9)], 2136),
+    // The extent has no byte, and so has the part.
+    (&[(2232, 0), (2200, 0)], 2216),
+    // A source that has taken over its raw object is flagged; one of a raw object alone may be, but for its charge.
+    (&[(2064, 1)], 2056),
+    (&[(2056, 4), (2064, 1), (816, 153)], 816),
+];
+
+// A source of an item at 2,056, which no extent names.
+const SOURCE: [Word; 5] = [
+    (16, 2104),
+    // The start bit of the word 256.
+    (1056, 0x8000_0000_0000_0000),
+    (2048, 0x0900_0006_0000_0030),
+    (2056, 2),
+    (2096, 8),
+];
+
+const UNUSED: [Row; 2] = [
+    // It is flagged.
+    (&[(2064, 1)], 2056),
+    // It has taken over a raw object at 2,112.
+    (
+        &[
+            (16, 2128),
+            (1056, 0x8100_0000_0000_0000),
+            (2056, 3),
+            (2088, 2112),
+            (2104, 0x0100_0002_0000_0010),
+            (2112, 2056),
+        ],
+        2056,
+    ),
+];
+
+#[test]
+fn broken_rules_are_told(rt: HostRuntime) {
+    assert_eq!(rt;
+        wrong_row(rt.alloc(), &BUNDLE, Why::Count, &RULES_WRONG),
+        None
+    );
+    assert_eq!(rt; checked(rt.alloc(), &SOURCE, &[]), Some(Ok(())));
+    assert_eq!(rt; wrong_row(rt.alloc(), &SOURCE, Why::Count, &UNUSED), None);
+}
+
+// A hash at 2,056 of two buckets and keys of one byte: b at 2,136 in the first bucket, and a at 2,104 in the second.
+const HASH: [Word; 12] = [
+    (16, 2160),
+    // The start bits of the words 256, 262 and 266.
+    (1056, 0x8220_0000_0000_0000),
+    (2048, 0x0600_0005_0000_0028),
+    (2056, 1),
+    (2064, 2),
+    (2072, 2),
+    (2080, 2136),
+    (2088, 2104),
+    (2096, 0x0700_0003_0000_0011),
+    (2120, 0x6100_0000_0000_0000),
+    (2128, 0x0700_0003_0000_0011),
+    (2152, 0x6200_0000_0000_0000),
+];
+
+const HASH_WRONG: [Row; 5] = [
+    // It tells one entry too many, and one too few.
+    (&[(2072, 3)], 2056),
+    (&[(2072, 1)], 2056),
+    // Its keys have another length.
+    (&[(2056, 2)], 2056),
+    // A key is in another bucket than its own.
+    (&[(2120, 0x6200_0000_0000_0000)], 2056),
+    // Two equal keys in a bucket.
+    (
+        &[(2136, 2104), (2088, 0), (2120, 0x6200_0000_0000_0000)],
+        2056,
+    ),
+];
+
+// The names ab at 2,056 and ac at 2,120, in this order.
+const NAMES: [Word; 9] = [
+    (16, 2176),
+    (712, 2056),
+    (720, 2120),
+    // The start bits of the words 256 and 264.
+    (1056, 0x8080_0000_0000_0000),
+    (2048, 0x0800_0007_0000_0038),
+    (2056, 2120),
+    (2080, 0x0261_6200_0000_0000),
+    (2112, 0x0800_0007_0000_0038),
+    (2144, 0x0261_6300_0000_0000),
+];
+
+const NAMES_WRONG: [Row; 2] = [
+    // Two equal names, in this order and in the other.
+    (&[(2144, 0x0261_6200_0000_0000)], 2120),
+    (
+        &[
+            (2144, 0x0261_6200_0000_0000),
+            (712, 2120),
+            (720, 2056),
+            (2056, 0),
+            (2120, 2056),
+        ],
+        2056,
+    ),
+];
+
+// Lists at 2,056 and 2,096, of which the first has the element at 2,136.
+const LISTS: [Word; 10] = [
+    (16, 2168),
+    // The start bits of the words 256, 261 and 266.
+    (1056, 0x8420_0000_0000_0000),
+    (2048, 0x0300_0004_0000_0020),
+    (2064, 1),
+    (2072, 2136),
+    (2080, 2136),
+    (2088, 0x0300_0004_0000_0020),
+    (2128, 0x0400_0004_0000_0020),
+    (2136, 2056),
+    (2160, 5),
+];
+
+const LISTS_WRONG: [Row; 3] = [
+    // One too many and one too few, and in the other list.
+    (&[(2064, 2)], 2056),
+    (&[(2064, 0)], 2056),
+    (&[(2104, 1)], 2096),
+];
+
+#[test]
+fn wrong_keys_are_told(rt: HostRuntime) {
+    assert_eq!(rt; checked(rt.alloc(), &LISTS, &[]), Some(Ok(())));
+    assert_eq!(rt;
+        wrong_row(rt.alloc(), &LISTS, Why::Count, &LISTS_WRONG),
+        None
+    );
+    // Also with the keys d and b in one bucket.
+    assert_eq!(rt; checked(rt.alloc(), &HASH, &[]), Some(Ok(())));
+    let both = [(2136, 2104), (2088, 0), (2120, 0x6400_0000_0000_0000)];
+    assert_eq!(rt; checked(rt.alloc(), &HASH, &both), Some(Ok(())));
+    assert_eq!(rt; wrong_row(rt.alloc(), &HASH, Why::Count, &HASH_WRONG), None);
+    // Also with the names ab and a.
+    assert_eq!(rt; checked(rt.alloc(), &NAMES, &[]), Some(Ok(())));
+    let shorter = [(2144, 0x0161_0000_0000_0000)];
+    assert_eq!(rt; checked(rt.alloc(), &NAMES, &shorter), Some(Ok(())));
+    assert_eq!(rt;
+        wrong_row(rt.alloc(), &NAMES, Why::Count, &NAMES_WRONG),
+        None
+    );
 }

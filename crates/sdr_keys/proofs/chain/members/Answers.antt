@@ -1,4 +1,4 @@
-use Rattle.std.proofs.Common.{◌≡◌, ◌∙◌, ◌++◌, ◌/◌, ◌-◌, ℕ, [], ◌∷◌, List, length, arith, ap, sym}
+use Rattle.std.proofs.Common.{◌∙◌, ◌++◌, ◌/◌, ◌-◌, ℕ, [], ◌∷◌, List, length, arith, ap}
 use Rattle.sdr_keys.proofs.MembersLemmas.{followed-all, followed-most, followed-step}
 use Rattle.sdr_keys.specs.Members.{followed, members}
 use Rattle.sdr_base.specs.KeptHeap.{block_in}

@@ -1,4 +1,4 @@
-use Rattle.std.proofs.Common.{◌≡◌, ◌+◌, ◌-◌, ◌/◌, ◌^◌, ◌==◌, ◌&&◌, ◌||◌, ◌∙◌, ℕ, Bool, true, false, not, length, min, sum_by, arith, ap, sym}
+use Rattle.std.proofs.Common.{◌≡◌, ◌/◌, ◌==◌, ◌&&◌, ◌∙◌, ℕ, Bool, length, sum_by, arith, ap, sym}
 use Rattle.std.specs.List.{list_all, range_with_len}
 use Rattle.sdr_keys.proofs.BlockLemmas.{few_words}
 use Rattle.sdr_keys.proofs.EntryLemmas.{both_first, few_entries, hash_told, told_count, told_none, told_right}

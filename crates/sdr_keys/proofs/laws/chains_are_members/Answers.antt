@@ -1,4 +1,4 @@
-use Rattle.std.proofs.Common.{◌≡◌, ◌%◌, ℕ, length, arith}
+use Rattle.std.proofs.Common.{◌≡◌, ◌%◌, length, arith}
 use Rattle.sdr_keys.proofs.ChainLemmas.{chains_members}
 use Rattle.sdr_keys.proofs.laws.chains_are_members.Goals as goal
 

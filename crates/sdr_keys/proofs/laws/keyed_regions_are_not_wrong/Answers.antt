@@ -1,4 +1,4 @@
-use Rattle.std.proofs.Common.{◌≤◌, ◌*◌, ◌/◌, ℕ, length, arith}
+use Rattle.std.proofs.Common.{◌/◌, ℕ, length, arith}
 use Rattle.sdr_keys.proofs.KeyedLemmas.{keyed, keyed_not_wrong}
 use Rattle.sdr_owner.specs.View.{view_in}
 use Rattle.sdr_keys.proofs.laws.keyed_regions_are_not_wrong.Goals as goal

@@ -1,4 +1,4 @@
-use Rattle.std.proofs.Common.{◌<◌, ◌/◌, ◌∙◌, ℕ, length, arith, sym}
+use Rattle.std.proofs.Common.{◌/◌, ◌∙◌, ℕ, length, sym}
 use Rattle.sdr_keys.proofs.PlacesLemmas.{found_first, found_more}
 use Rattle.sdr_keys.specs.Keyed.{keeps}
 use Rattle.sdr_owner.specs.View.{view_in}

@@ -1,5 +1,5 @@
-use Rattle.std.proofs.Common.{◌≡◌, ◌+◌, ◌-◌, ◌∙◌, ℕ, arith, ap, sym, take, drop}
-use Rattle.sdr_keys.proofs.BlockLemmas.{few_bytes, lies_at, no_bytes}
+use Rattle.std.proofs.Common.{◌≡◌, ◌+◌, ◌-◌, ◌∙◌, ℕ, arith, ap, take, drop}
+use Rattle.sdr_keys.proofs.BlockLemmas.{lies_at}
 use Rattle.sdr_keys.proofs.texts.bytes_of.Goals as goal
 
 pub overflow_add-result : goal.overflow_add-result

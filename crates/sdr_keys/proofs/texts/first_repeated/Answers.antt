@@ -1,8 +1,8 @@
-use Rattle.std.proofs.Common.{◌≡◌, ◌∙◌, ◌++◌, Bool, Global, Vec, [], ◌∷◌, List, ℕ, rules, get_or, map, nat_eq, take, ap, sym}
+use Rattle.std.proofs.Common.{◌≡◌, ◌∙◌, ◌++◌, Global, Vec, [], ◌∷◌, List, ℕ, rules, get_or, map, nat_eq, take, ap, sym}
 use Rattle.std.specs.Cmp.Lexicographic.{pointwise}
 use Rattle.std.specs.List.{list_any}
 use Rattle.sdr_keys.proofs.TextLemmas.{among_keys, keys_more, repeated_here, repeated_later, texts_more, was_in, was_new}
-use Rattle.sdr_keys.specs.Texts.{is_repeated, text_at}
+use Rattle.sdr_keys.specs.Texts.{text_at}
 use Rattle.sdr_owner.specs.View.{view_in}
 use Rattle.sdr_keys.proofs.texts.first_repeated.Goals as goal
 
