@@ -37,7 +37,7 @@ among_places (suc n) a word low high = elim (cases_eq word a) [
     more word a low off = omega (arith, low, off)
 
 -- two tests for the same number count alike
-count_turned : (addr : ℕ) (xs : List ℕ) → count_by (nat_eq addr) xs ≡ count_by (λ other. other == addr) xs
+pub count_turned : (addr : ℕ) (xs : List ℕ) → count_by (nat_eq addr) xs ≡ count_by (λ other. other == addr) xs
 count_turned addr [] = refl
 count_turned addr (x ∷ xs) = elim (cases_eq x addr) [
   | inl same ↦

@@ -64,7 +64,7 @@ space_is (suc (suc (suc zero))) number path least most = refl
 space_is (suc (suc (suc (suc zero)))) number path least most = refl
 space_is (suc (suc (suc (suc (suc n))))) number path least most = absurd (omega (arith, most))
 
-length-behind : (o : Option Block) → length (behind_words o 1) ≡ length_of o - 8
+pub length-behind : (o : Option Block) → length (behind_words o 1) ≡ length_of o - 8
 length-behind None = refl
 length-behind (Some block) = length-drop 8 block.bytes
 
