@@ -9,10 +9,11 @@ use Rattle.sdr_base.specs.KeptHeap.{block_in}
 use Rattle.sdr_base.specs.declared.account.Acct.{Acct}
 use Rattle.sdr_base.specs.declared.kind.Space.{Space}
 use Rattle.sdr_base.specs.declared.kind.Space.TheVariants as spaces
-use Rattle.sdr_count.specs.Counts.{is_object_of, places}
+use Rattle.sdr_count.specs.Counts.{is_object_of}
+use Rattle.sdr_keys.specs.Places.{places}
 use Rattle.sdr_count.specs.Occupied.{capsule_charge, charge_at, charges_by, extent_charge, left_at, space_of}
 use Rattle.sdr_model.specs.Amounts.{in_space}
-use Rattle.sdr_owner.proofs.RegionLemmas.{is_part}
+use Rattle.sdr_keys.proofs.BlockLemmas.{few_bytes}
 use Rattle.sdr_owner.specs.View.{View, length_of, word_of}
 
 -- the same amounts have the same sums
@@ -60,21 +61,6 @@ pub charge_more : (heap : View) (words : ℕ) (account : Acct) (number : ℕ) (s
     ≡ sum_by (charge_at heap words account space) (places number) + charge_at heap words account space (8 * number)
 charge_more heap words account number space =
     sum_by-map-range_with_len_more (charge_at heap words account space) (λ word. 8 * word) 0 number number (omega arith)
-
--- a block in use has no more bytes than the region
-length_within : (x : List ℕ) (addr : ℕ) (b : Option Block) → block_in x addr ≡ b → length_of b ≤ length x
-length_within x addr None is = omega arith
-length_within x addr (Some block) is =
-    let p = is_part x addr block is in
-    let e = ap (λ (l : List ℕ). length l) p.bytes ∙ length-take p.count (drop addr x) ∙ ap (min p.count) (length-drop addr x) in
-    omega (arith, e)
-
-pub few_bytes : (x : List ℕ) (addr : ℕ) → IsRegionSize (length x) → length_of (block_in x addr) < 2 ^ 60
-few_bytes x addr region =
-    let within = length_within x addr (block_in x addr) refl in
-    let whole = region.whole in
-    let most = region.most in
-    omega (arith, within, whole, most)
 
 -- the words for its text fit a number
 pub few_text : (x : List ℕ) (addr bytes text : ℕ) → IsRegionSize (length x) → bytes ≡ length_of (block_in x addr) → text ≡ bytes - 8 → 15 + text < 2 ^ 61

@@ -13,24 +13,14 @@ use Rattle.std.proofs.lemmas.Nat.{mul-le}
 use Rattle.std.proofs.Math.Seq.{take-append_seam}
 use Rattle.sdr_base.specs.Cells.{IsRegionSize}
 use Rattle.sdr_base.specs.declared.account.Acct.{Acct}
-use Rattle.sdr_count.specs.Counts.{count_of, is_object_of, names, places, uses_at}
-use Rattle.sdr_count.specs.Members.{followed, members}
+use Rattle.sdr_count.specs.Counts.{count_of, is_object_of, names, uses_at}
+use Rattle.sdr_keys.specs.Places.{places}
+use Rattle.sdr_keys.specs.Members.{followed, members}
 use Rattle.sdr_count.specs.Numbers.{AreTold}
-use Rattle.sdr_count.proofs.MembersLemmas.{length-followed}
+use Rattle.sdr_keys.proofs.MembersLemmas.{length-followed}
 use Rattle.sdr_owner.specs.Chains.{first_of}
 use Rattle.sdr_owner.specs.View.{View}
 use Rattle.sdr_owner.specs.declared.owner.Owner.TheVariants as owners
-
--- one more place
-places_more : (number : ℕ) → places (number + 1) ≡ places number ++ (8 * number ∷ [])
-places_more number = map-range_with_len_more (λ word. 8 * word) 0 number number (omega arith)
-
--- the places up to one, and the others
-places_cut : (number words : ℕ) → number < words → places words ≡ places (number + 1) ++ drop (number + 1) (places words)
-places_cut number words less =
-    sym (take-append-drop (number + 1) (places words))
-    ∙ ap (λ (l : List ℕ). l ++ drop (number + 1) (places words))
-    (take-map-range_with_len (λ word. 8 * word) 0 words (number + 1) (omega (arith, less)))
 
 -- what holds of each number holds of those in a list
 All-each : (P : ℕ → Type 0) → ((n : ℕ) → P n) → (xs : List ℕ) → All P xs
@@ -80,31 +70,6 @@ told_exact heap words account counts word few told less =
     let e = told.each word less in
     let small = count_small heap words account (8 * word) few in
     omega (arith, e, small)
-
-pub few_words : (x : List ℕ) → IsRegionSize (length x) → length x / 8 < 2 ^ 30
-few_words x region =
-    let whole = region.whole in
-    let most = region.most in
-    omega (arith, whole, most)
-
--- the first place that fails a test is found behind others that don't
-pub found_more : (test : ℕ → Bool) (number : ℕ) → find (λ addr. not (test addr)) (places number) ≡ None → test (8 * number) ≡ true →
-    find (λ addr. not (test addr)) (places (number + 1)) ≡ None
-found_more test number before here =
-    ap (find (λ addr. not (test addr))) (places_more number)
-    ∙ find-append (λ addr. not (test addr)) (places number) (8 * number ∷ [])
-    ∙ ap (λ o. option_or o (find (λ addr. not (test addr)) (8 * number ∷ []))) before
-    ∙ ap (λ (t : Bool). cond (not t) (Some (8 * number)) None) here
-
-pub found_first : (test : ℕ → Bool) (number words : ℕ) → number < words → find (λ addr. not (test addr)) (places number) ≡ None →
-    test (8 * number) ≡ false → find (λ addr. not (test addr)) (places words) ≡ Some (8 * number)
-found_first test number words less before wrong =
-    let p : ℕ → Bool = λ addr. not (test addr) in
-    ap (find p) (places_cut number words less)
-    ∙ find-append p (places (number + 1)) (drop (number + 1) (places words))
-    ∙ ap (λ o. option_or o (find p (drop (number + 1) (places words))))
-    (ap (find p) (places_more number) ∙ find-append p (places number) (8 * number ∷ []) ∙ ap (λ o. option_or o (find p (8 * number ∷ []))) before
-    ∙ ap (λ (t : Bool). cond (not t) (Some (8 * number)) None) wrong)
 
 -- a list that was written whole
 pub whole_slice : (new old : List ℕ) (len : ℕ) → length new ≡ length old → length old ≡ len → take len (new ++ drop (length new) old) ≡ new

@@ -1,5 +1,8 @@
 pub mod ChargesLemmas
+pub mod CountedLemmas
 pub mod CountsLemmas
-pub mod MembersLemmas
+pub mod LawLemmas
 pub mod OrderLemmas
 pub mod QueuesLemmas
+pub mod ResultLemmas
+pub mod RulesLemmas

@@ -1,14 +1,19 @@
 -- What holds of the tickets in a queue.
 use Rattle.std.proofs.Common.{◌≡◌, ◌≢◌, ◌≤◌, ◌<◌, ◌+◌, ◌-◌, ◌==◌, ◌⊎◌, ℕ, Bool, true, false, not, cond, List, [], ◌∷◌, ◌++◌, get_or, length, map, drop, take, arith, ap, ◌∙◌, refl, sym, subst, inl, inr}
-use Rattle.std.specs.Prelude.{AllPairs, Option, None, Some, find}
-use Rattle.std.specs.List.{All}
+use Rattle.std.specs.Prelude.{AllPairs, Option, None, Some, find, nat_eq}
+use Rattle.std.specs.Cmp.{unsigned_Decides}
+use Rattle.std.specs.List.{All, IsDistinct}
+use Rattle.std.proofs.lemmas.Map.Made.{AllPairs-from_IsDistinct, IsDistinct-from_AllPairs}
+use Rattle.sdr_base.specs.declared.account.Acct.{Acct}
+use Rattle.sdr_keys.specs.Members.{members}
+use Rattle.sdr_owner.specs.declared.owner.Owner.TheVariants as owners
 use Rattle.std.specs.Option.{option_or}
 use Rattle.std.proofs.lemmas.Bool.{cases_lt}
 use Rattle.std.proofs.lemmas.List.{get_or-map, length-map, map-append, take-append-drop, take_more}
 use Rattle.std.proofs.lemmas.List.Folds.{find-append}
 use Rattle.std.proofs.lemmas.List.Elements.{All-from_get_or, All-get_or, All-map}
 use Rattle.sdr_count.proofs.OrderLemmas.{apart}
-use Rattle.sdr_count.specs.Queues.{numbers_of, ticket_at}
+use Rattle.sdr_count.specs.Queues.{IsLawful, IsQueue, numbers_before, numbers_of, numbers_up_to, ticket_at}
 use Rattle.sdr_model.specs.Queue.{front_waiting}
 use Rattle.sdr_model.specs.Valid.{may_precede}
 use Rattle.sdr_model.specs.declared.accounts.Ticket.{Ticket}
@@ -99,3 +104,28 @@ module _ (heap : View) (xs : List ℕ) where
       ∙ ap (λ o. option_or o (find p (map (ticket_at heap) (drop (i + 1) xs))))
       (ap front_waiting (row_more i d less) ∙ find-append p ts (t ∷ []) ∙ ap (λ o. option_or o (find p (t ∷ []))) none
       ∙ ap (λ (b : Bool). cond (not b) (Some t) None) waits)
+
+module _ (heap : View) (words : ℕ) (account : Acct) (numbers tickets : List ℕ) where
+  -- the numbers up to those of an account, as they were put together
+  pub numbers_are : (before : List ℕ) → before ≡ numbers_before heap words account → tickets ≡ members heap words (owners.Queue account) →
+      numbers ≡ before ++ numbers_of (map (ticket_at heap) tickets) → numbers ≡ numbers_up_to heap words account
+  numbers_are before before_are tickets_are is =
+      is
+      ∙ ap (λ (l : List ℕ). l ++ numbers_of (map (ticket_at heap) tickets)) before_are
+      ∙ ap (λ (l : List ℕ). numbers_before heap words account ++ numbers_of (map (ticket_at heap) l)) tickets_are
+
+  -- a queue whose numbers are distinct keeps the law
+  pub lawful : numbers ≡ numbers_up_to heap words account → tickets ≡ members heap words (owners.Queue account) →
+      AllPairs (λ a b. a ≢ b) numbers → IsQueue heap account (map (ticket_at heap) tickets) → IsLawful heap words account
+  lawful numbers_is tickets_are apart queue = record {
+    distinct = subst (IsDistinct nat_eq) numbers_is (IsDistinct-from_AllPairs unsigned_Decides numbers apart);
+    queue = subst (λ (l : List ℕ). IsQueue heap account (map (ticket_at heap) l)) tickets_are queue;
+  }
+
+  -- and one that keeps it is such
+  pub lawful_apart : numbers ≡ numbers_up_to heap words account → IsLawful heap words account → AllPairs (λ a b. a ≢ b) numbers
+  lawful_apart numbers_is law =
+      AllPairs-from_IsDistinct unsigned_Decides numbers (subst (IsDistinct nat_eq) (sym numbers_is) law.distinct)
+
+  pub lawful_queue : tickets ≡ members heap words (owners.Queue account) → IsLawful heap words account → IsQueue heap account (map (ticket_at heap) tickets)
+  lawful_queue tickets_are law = subst (λ (l : List ℕ). IsQueue heap account (map (ticket_at heap) l)) (sym tickets_are) law.queue

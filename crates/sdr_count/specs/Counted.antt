@@ -1,22 +1,29 @@
--- When the counts and occupancies in a heap are right, and where they are wrong first.
-use Rattle.std.specs.Prelude.{◌≡◌, ◌/◌, ◌*◌, ℕ, true, not, List, length, find, Option}
+-- When what lists, hashes, names, sources, objects and accounts tell is right, and where it is wrong first.
+use Rattle.std.specs.Prelude.{◌≡◌, ◌/◌, ◌*◌, ℕ, true, not, List, [], ◌∷◌, length, find, Option}
 use Rattle.std.specs.Option.{option_map, option_or}
 use Rattle.sdr_base.specs.declared.account.Acct.{Acct}
 use Rattle.sdr_base.specs.declared.account.Acct.TheVariants as accts
 use Rattle.sdr_base.specs.declared.kind.Space.{Space}
 use Rattle.sdr_base.specs.declared.line.TheConstants.{WORD}
-use Rattle.sdr_count.specs.Counts.{keeps_counts, places}
+use Rattle.sdr_count.specs.Counts.{keeps_counts}
 use Rattle.sdr_count.specs.Occupied.{all_spaces, occupancy_word, tells_occupancy}
+use Rattle.sdr_count.specs.Rules.{all_rules, first_broken, keeps}
+use Rattle.sdr_count.specs.declared.rules.Rule.{Rule}
+use Rattle.sdr_keys.specs.Keyed.{IsKeyed, wrong_key}
+use Rattle.sdr_keys.specs.Places.{first_failing, first_some}
 use Rattle.sdr_owner.specs.View.{View, view_in}
 
--- each source of a heap of so many words tells its counts, and the control words what is occupied
+-- In a heap of so many words lists, hashes and names are right, each source tells its counts, sources, extents and objects keep the
+-- rules of one another, and the control words tell what is occupied.
 pub record IsCounted (heap : View) (words : ℕ) : Type 0 where
+  pub keyed : IsKeyed heap words
   pub counts : (addr : ℕ) → keeps_counts heap words addr ≡ true
+  pub kept : (rule : Rule) (addr : ℕ) → keeps heap words rule addr ≡ true
   pub occupancies : (account : Acct) (space : Space) → tells_occupancy heap words account space ≡ true
 
 -- the first source, by rising address, that tells a wrong count
 abbrev pub wrong_source : View → ℕ → Option ℕ
-wrong_source heap words = find (λ addr. not (keeps_counts heap words addr)) (places words)
+wrong_source heap words = first_failing (keeps_counts heap words) words
 
 -- the place of the first control word of an account that tells a wrong occupancy
 abbrev pub wrong_occupancy_in : View → ℕ → Acct → Option ℕ
@@ -29,14 +36,17 @@ abbrev pub wrong_occupancy : View → ℕ → Option ℕ
 wrong_occupancy heap words =
     option_or (wrong_occupancy_in heap words accts.Inbound) (wrong_occupancy_in heap words accts.Outbound)
 
--- the first place where a count is wrong: a source's address, or else that of a control word
+-- the first place that is wrong: that of a list, hash or name; else that of a source with a wrong count; else that of a block that
+-- breaks a rule; else that of a control word
 abbrev pub wrong_count : View → ℕ → Option ℕ
-wrong_count heap words = option_or (wrong_source heap words) (wrong_occupancy heap words)
+wrong_count heap words =
+    first_some
+    (wrong_key heap words ∷ wrong_source heap words ∷ first_broken heap words all_rules ∷ wrong_occupancy heap words ∷ [])
 
--- the counts and occupancies in a heap region are right
+-- all this is right in a heap region
 abbrev pub IsCountedRegion : List ℕ → Type 0
 IsCountedRegion bytes = IsCounted (view_in bytes) (length bytes / WORD)
 
--- the first place in a heap region where a count is wrong
+-- the first place in a heap region where it is wrong
 abbrev pub wrong_count_in : List ℕ → Option ℕ
 wrong_count_in bytes = wrong_count (view_in bytes) (length bytes / WORD)

@@ -9,13 +9,10 @@ use Rattle.sdr_base.specs.declared.layout.extent.TheConstants as extent
 use Rattle.sdr_base.specs.declared.layout.object.TheConstants as object
 use Rattle.sdr_base.specs.declared.layout.source.TheConstants as source
 use Rattle.sdr_base.specs.declared.line.TheConstants.{WORD}
-use Rattle.sdr_count.specs.Members.{members}
+use Rattle.sdr_keys.specs.Members.{members}
+use Rattle.sdr_keys.specs.Places.{places}
 use Rattle.sdr_owner.specs.View.{View, is_kind, word_of}
 use Rattle.sdr_owner.specs.declared.owner.Owner.TheVariants as owners
-
--- the places of so many words, from 0 on
-abbrev pub places : ℕ → List ℕ
-places words = map (λ word. WORD * word) (range_with_len 0 words)
 
 -- whether an object of this account stands at an address
 abbrev pub is_object_of : View → Acct → ℕ → Bool

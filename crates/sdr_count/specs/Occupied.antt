@@ -12,8 +12,9 @@ use Rattle.sdr_base.specs.declared.layout.source.TheConstants as source
 use Rattle.sdr_base.specs.declared.layout.ticket.TheConstants as ticket
 use Rattle.sdr_base.specs.declared.line.TheConstants.{WORD}
 use Rattle.sdr_base.specs.declared.medium.Medium.TheVariants as media
-use Rattle.sdr_count.specs.Counts.{is_object_of, places}
-use Rattle.sdr_count.specs.Members.{members}
+use Rattle.sdr_count.specs.Counts.{is_object_of}
+use Rattle.sdr_keys.specs.Members.{members}
+use Rattle.sdr_keys.specs.Places.{places}
 use Rattle.sdr_count.specs.declared.charges.Charges.{Charges}
 use Rattle.sdr_model.specs.Amounts.{in_space}
 use Rattle.sdr_model.specs.Charges.{bytes_charge, capsule_bytes, object_bytes}

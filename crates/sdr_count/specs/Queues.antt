@@ -7,7 +7,7 @@ use Rattle.sdr_base.specs.declared.account.Amounts.{Amounts}
 use Rattle.sdr_base.specs.declared.control.TheConstants.{FILE_MAXIMUM, FILE_OCCUPANCY, FIRST_TICKET, NEXT_TICKET}
 use Rattle.sdr_base.specs.declared.layout.ticket.TheConstants as ticket
 use Rattle.sdr_base.specs.declared.line.TheConstants.{WORD}
-use Rattle.sdr_count.specs.Members.{members}
+use Rattle.sdr_keys.specs.Members.{members}
 use Rattle.sdr_model.specs.Amounts.{are_within, is_nothing, minus}
 use Rattle.sdr_model.specs.Queue.{front_waiting}
 use Rattle.sdr_model.specs.Valid.{may_precede}

@@ -7,9 +7,9 @@ ghost use Rattle.sdr_count.specs.Counts.{count_of, is_object_of, keeps_counts, n
 ghost use Rattle.sdr_count.specs.Numbers.{AreTold};
 ghost use Rattle.sdr_owner.specs.View.{view_in};
 
-use crate::members::members;
 use sdr_base::layout::{extent, object, source};
 use sdr_base::{Acct, Addr, Kind, NoMemory, WORD};
+use sdr_keys::members;
 use sdr_owner::{Owner, is_kind, word};
 use std::alloc::Global;
 

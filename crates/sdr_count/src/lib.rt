@@ -1,12 +1,36 @@
-//! An audit of the counts and queues of a heap region in memory, behind the audit of its owners.
+//! An audit of the counts and the queues in a heap region, behind the audit of its owners.
+//!
+//! What blocks and control words tell of other blocks has to be what those come to. It is checked in this order, over a copy of the
+//! region in memory:
+//!
+//! 1. Lists, hashes and names are right, which `sdr_keys` tells (`wrong_key`).
+//! 2. Each source tells for both accounts how many extents of that account's objects name it (`wrong_source`).
+//! 3. Sources, extents and objects keep the rules of one another (`wrong_rule`).
+//! 4. The control words of both accounts tell what is occupied: what objects charge, for themselves, their extents, headers and
+//!    trailers, and what is left of tickets (`wrong_occupancy`). Steps 1 to 4 are `check_counts`.
+//! 5. The queues of tickets keep their law, the inbound one first (`check_queues`).
+//!
+//! The blocks of a chain are those to which its links lead; where the owners are right, these are the chain's, and each step is linear
+//! (`chains_are_members` in `sdr_keys`). `check_things` reads a region of any cells once, checks its owners, and takes these steps;
+//! it tells the first place that is wrong. A region that passes isn't wrong anywhere (`right_regions_are_not_wrong`), and another is
+//! wrong first at one place alone (`one_place_is_wrong_first`). A small bundle, counted: `a_bundle_is_counted`.
 #![tactic(auto)]
 
+mod audit;
 mod charges;
+mod check;
 mod counts;
-mod members;
+mod error;
+mod examples;
+mod laws;
 mod occupied;
 mod queues;
+mod rules;
 mod tickets;
 
-pub use charges::Charges;
+pub use audit::{Damage, check_copy, check_things};
+pub use check::check_counts;
+pub use error::{AuditError, Why};
+pub use examples::a_bundle_is_counted;
+pub use laws::{one_place_is_wrong_first, right_regions_are_not_wrong};
 pub use queues::check_queues;

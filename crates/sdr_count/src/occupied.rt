@@ -13,10 +13,10 @@ ghost use Rattle.sdr_owner.specs.View.{view_in};
 
 use crate::charges::Charges;
 use crate::counts::is_object_of;
-use crate::members::members;
 use sdr_base::control::{BULK_OCCUPANCY, FILE_OCCUPANCY, HEAP_OCCUPANCY, INBOUND, OUTBOUND};
 use sdr_base::layout::{capsule, extent, source, ticket};
 use sdr_base::{Acct, Addr, NoMemory, Space, WORD};
+use sdr_keys::members;
 use sdr_owner::{Owner, length_of, root, word};
 use std::alloc::Global;
 

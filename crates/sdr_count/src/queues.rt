@@ -10,14 +10,14 @@ ghost use Rattle.sdr_model.specs.Queue.{front_waiting};
 ghost use Rattle.sdr_model.specs.Valid.{may_precede};
 ghost use Rattle.sdr_owner.specs.View.{view_in};
 
-use crate::members::members;
 use crate::occupied::account_word;
 use crate::tickets::{amounts_at, is_granted, is_left_rightly, may_precede};
 use sdr_base::control::{FILE_MAXIMUM, FILE_OCCUPANCY, FIRST_TICKET, NEXT_TICKET};
 use sdr_base::layout::ticket;
 use sdr_base::{Acct, Addr, Amounts, NoMemory, WORD};
+use sdr_keys::members;
 use sdr_owner::{Owner, Wrong, root, word};
-use sdr_parts::amounts::{are_within, minus};
+use sdr_model::amounts::{are_within, minus};
 use std::alloc::Global;
 use std::collections::HashSet;
 

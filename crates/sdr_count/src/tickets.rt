@@ -8,7 +8,7 @@ ghost use Rattle.sdr_owner.specs.View.{view_in};
 use sdr_base::layout::ticket;
 use sdr_base::{Addr, Amounts};
 use sdr_owner::word;
-use sdr_parts::amounts::{are_within, is_nothing};
+use sdr_model::amounts::{are_within, is_nothing};
 
 /// The amounts of file, bulk and heap space in three words of the block at an address, from one on.
 pub fn amounts_at(heap: &[u8], addr: Addr, field: u64) -> Amounts

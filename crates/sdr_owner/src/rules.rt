@@ -40,8 +40,8 @@ fn medium_number(medium: Medium) -> u64
     }
 }
 
-// Whether the block at an address is a source whose bytes are a raw object's.
-fn names_raw(heap: &[u8], addr: Addr) -> bool
+/// Whether the block at an address is a source whose bytes are a raw object's.
+pub fn names_raw(heap: &[u8], addr: Addr) -> bool
     requires region { IsRegionSize (length heap.now) }
     ensures { result ≡ names_raw (block_in heap.now addr) }
 {

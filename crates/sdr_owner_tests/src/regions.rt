@@ -2,6 +2,7 @@
 ghost use Rattle.std.specs.Prelude.{◌≤◌};
 
 use sdr_base::{Cells, MemoryCells, Stop, WORD, write_number};
+use sdr_count::{AuditError, check_things};
 use sdr_owner::{OwnerError, check_owners};
 use std::alloc::Global;
 
@@ -26,4 +27,12 @@ pub fn audited(alloc: Global, words: &[Word], changes: &[Word]) -> Option<Result
     put_words(&mut cells, words).ok()?;
     put_words(&mut cells, changes).ok()?;
     check_owners(alloc, &mut cells).ok()
+}
+
+/// The same of owners, counts and queues.
+pub fn checked(alloc: Global, words: &[Word], changes: &[Word]) -> Option<Result<(), AuditError>> {
+    let mut cells = MemoryCells::fresh(alloc, 1024).ok()?;
+    put_words(&mut cells, words).ok()?;
+    put_words(&mut cells, changes).ok()?;
+    check_things(alloc, &mut cells).ok()
 }

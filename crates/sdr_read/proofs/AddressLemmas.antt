@@ -19,7 +19,7 @@ use Rattle.sdr_base.specs.Entries.{Entries, times}
 use Rattle.sdr_base.specs.declared.account.Acct.TheVariants as accts
 use Rattle.sdr_base.specs.declared.kind.Kind.TheVariants as kinds
 use Rattle.sdr_count.specs.Counted.{IsCounted}
-use Rattle.sdr_count.specs.Members.{members}
+use Rattle.sdr_keys.specs.Members.{members}
 use Rattle.sdr_laws.proofs.DistinctLemmas.{count_by-cons, from_once, not_contained}
 use Rattle.sdr_model.specs.Accounts.{ticket_block, ticket_blocks}
 use Rattle.sdr_model.specs.Blocks.{addresses_of, blocks_of, thing_blocks}

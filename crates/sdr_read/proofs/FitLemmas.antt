@@ -10,7 +10,7 @@ use Rattle.sdr_base.specs.declared.account.Acct.TheVariants as accts
 use Rattle.sdr_base.specs.declared.kind.Kind.{Kind}
 use Rattle.sdr_base.specs.declared.kind.Kind.TheVariants as kinds
 use Rattle.sdr_count.specs.Counted.{IsCounted}
-use Rattle.sdr_count.specs.Members.{members}
+use Rattle.sdr_keys.specs.Members.{members}
 use Rattle.sdr_model.specs.Valid.{AreInside, FitTogether, HasBytes, HasSubject, IsUsed, LiesInside}
 use Rattle.sdr_model.specs.World.{as_raw, thing_at}
 use Rattle.sdr_model.specs.Zco.{as_source, names_raw, source_at, taken_over}

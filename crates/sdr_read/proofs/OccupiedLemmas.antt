@@ -17,8 +17,8 @@ use Rattle.sdr_base.specs.declared.kind.Kind.TheVariants as kinds
 use Rattle.sdr_base.specs.declared.kind.Space.{Space}
 use Rattle.sdr_base.specs.declared.kind.Space.TheVariants as spaces
 use Rattle.sdr_count.specs.Counted.{IsCounted}
-use Rattle.sdr_count.specs.Counts.{places}
-use Rattle.sdr_count.specs.Members.{members}
+use Rattle.sdr_keys.specs.Places.{places}
+use Rattle.sdr_keys.specs.Members.{members}
 use Rattle.sdr_count.specs.Occupied as heaps
 use Rattle.sdr_count.specs.Queues.{ticket_at}
 use Rattle.sdr_model.proofs.SumLemmas.{sum_by-map}

@@ -13,7 +13,7 @@ use Rattle.sdr_base.specs.declared.account.Amounts.{Amounts}
 use Rattle.sdr_base.specs.declared.kind.Kind.TheVariants as kinds
 use Rattle.sdr_base.specs.declared.kind.Space.TheVariants as spaces
 use Rattle.sdr_count.specs.Counted.{IsCounted}
-use Rattle.sdr_count.specs.Members.{members}
+use Rattle.sdr_keys.specs.Members.{members}
 use Rattle.sdr_count.specs.Queues as queues
 use Rattle.sdr_count.specs.Queues.{AreLawful, IsLawful, amounts_in, is_left_rightly, room, ticket_at, tickets}
 use Rattle.sdr_model.specs.Accounts.{most_amount, tickets_of}

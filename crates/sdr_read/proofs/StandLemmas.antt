@@ -20,7 +20,7 @@ use Rattle.sdr_base.specs.declared.account.Acct.TheVariants as accts
 use Rattle.sdr_base.specs.declared.kind.Kind.{Kind}
 use Rattle.sdr_base.specs.declared.kind.Kind.TheVariants as kinds
 use Rattle.sdr_count.specs.Counted.{IsCounted}
-use Rattle.sdr_count.specs.Members.{members}
+use Rattle.sdr_keys.specs.Members.{members}
 use Rattle.sdr_laws.proofs.DistinctLemmas.{count_by-cons}
 use Rattle.sdr_model.specs.declared.things.Thing.{Thing}
 use Rattle.sdr_owner.proofs.MarksLemmas.{counted}

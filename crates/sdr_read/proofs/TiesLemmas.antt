@@ -18,7 +18,7 @@ use Rattle.sdr_base.specs.declared.kind.Kind.{Kind}
 use Rattle.sdr_base.specs.declared.kind.Kind.TheVariants as kinds
 use Rattle.sdr_count.specs.Counted.{IsCounted}
 use Rattle.sdr_count.specs.Counts as counts
-use Rattle.sdr_count.specs.Members.{members}
+use Rattle.sdr_keys.specs.Members.{members}
 use Rattle.sdr_model.proofs.SumLemmas.{sum_by-map}
 use Rattle.sdr_model.specs.Accounts.{is_same_account}
 use Rattle.sdr_model.specs.World.{thing_at}

@@ -8,7 +8,7 @@ use Rattle.std.proofs.lemmas.List.Elements.{All-map}
 use Rattle.sdr_base.specs.Blocks.{Block}
 use Rattle.sdr_base.specs.declared.kind.Kind.{Kind}
 use Rattle.sdr_base.specs.declared.kind.Kind.TheVariants as kinds
-use Rattle.sdr_count.specs.Members.{members}
+use Rattle.sdr_keys.specs.Members.{members}
 use Rattle.sdr_model.specs.HashSteps.{bucket_of}
 use Rattle.sdr_model.specs.Limits.{is_no_capsule, is_no_path, longest_key, longest_raw, longest_string, most_buckets}
 use Rattle.sdr_model.specs.Valid.{IsBetween, IsValidCapsule, IsValidObject, IsValidSource, IsValidSubject, IsValidTable, IsValidThing}

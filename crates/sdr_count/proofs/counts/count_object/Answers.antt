@@ -1,7 +1,7 @@
 use Rattle.std.proofs.Common.{◌≡◌, ◌+◌, ◌∙◌, ◌/◌, ◌==◌, ℕ, Bool, true, false, cond, List, length, count_by, arith, ap, sym}
 use Rattle.sdr_count.proofs.CountsLemmas.{told_same}
 use Rattle.sdr_count.specs.Counts.{names, uses_at}
-use Rattle.sdr_count.specs.Members.{members}
+use Rattle.sdr_keys.specs.Members.{members}
 use Rattle.sdr_owner.specs.View.{view_in}
 use Rattle.sdr_owner.specs.declared.owner.Owner.TheVariants as owners
 use Rattle.sdr_count.proofs.counts.count_object.Goals as goal

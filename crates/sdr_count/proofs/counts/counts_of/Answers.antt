@@ -1,6 +1,7 @@
 use Rattle.std.proofs.Common.{◌≡◌, ◌+◌, ◌*◌, ◌∙◌, ◌/◌, ℕ, List, length, sum_by, arith, ap, refl, subst, sym}
 use Rattle.sdr_count.proofs.CountsLemmas.{uses_push, whole_slice}
-use Rattle.sdr_count.specs.Counts.{places, uses_at}
+use Rattle.sdr_count.specs.Counts.{uses_at}
+use Rattle.sdr_keys.specs.Places.{places}
 use Rattle.sdr_count.specs.Numbers.{AreTold}
 use Rattle.sdr_owner.specs.View.{view_in}
 use Rattle.sdr_count.proofs.counts.counts_of.Goals as goal

@@ -1,7 +1,8 @@
 -- The sources that the extents of the objects so far name are counted.
 use Rattle.std.proofs.Common.{◌≡◌, ◌/◌, length, sum_by}
 use Rattle.sdr_base.specs.declared.line.TheConstants.{WORD}
-use Rattle.sdr_count.specs.Counts.{places, uses_at}
+use Rattle.sdr_count.specs.Counts.{uses_at}
+use Rattle.sdr_keys.specs.Places.{places}
 use Rattle.sdr_count.specs.Numbers.{AreTold}
 use Rattle.sdr_owner.specs.View.{view_in}
 use Rattle.sdr_count.proofs.counts.counts_of.Given as goal

@@ -1,7 +1,9 @@
 use Rattle.std.proofs.Common.{◌≡◌, ◌<◌, ◌∙◌, ◌/◌, ℕ, length, arith, ap, sym}
 use Rattle.std.proofs.lemmas.List.{get_or_read}
 use Rattle.sdr_base.specs.declared.account.Acct.TheVariants as accts
-use Rattle.sdr_count.proofs.CountsLemmas.{few_words, found_first, found_more, told_exact}
+use Rattle.sdr_count.proofs.CountsLemmas.{told_exact}
+use Rattle.sdr_keys.proofs.BlockLemmas.{few_words}
+use Rattle.sdr_keys.proofs.PlacesLemmas.{found_first, found_more}
 use Rattle.sdr_count.specs.Counts.{keeps_counts}
 use Rattle.sdr_owner.specs.View.{view_in}
 use Rattle.sdr_count.proofs.counts.wrong_source.Goals as goal

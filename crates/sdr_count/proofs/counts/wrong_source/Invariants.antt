@@ -2,7 +2,8 @@
 use Rattle.std.proofs.Common.{◌≡◌, ◌/◌, length}
 use Rattle.std.specs.Prelude.{find, not, None}
 use Rattle.sdr_base.specs.declared.line.TheConstants.{WORD}
-use Rattle.sdr_count.specs.Counts.{keeps_counts, places}
+use Rattle.sdr_count.specs.Counts.{keeps_counts}
+use Rattle.sdr_keys.specs.Places.{places}
 use Rattle.sdr_owner.specs.View.{view_in}
 use Rattle.sdr_count.proofs.counts.wrong_source.Given as goal
 

@@ -1,7 +1,7 @@
 use Rattle.std.proofs.Common.{◌≡◌, ◌+◌, ◌*◌, ◌∙◌, ◌/◌, ℕ, List, length, sum_by, arith, ap, sym}
 use Rattle.sdr_base.specs.declared.kind.Space.{Space}
 use Rattle.sdr_count.proofs.ChargesLemmas.{charge_more, charges_same}
-use Rattle.sdr_count.specs.Counts.{places}
+use Rattle.sdr_keys.specs.Places.{places}
 use Rattle.sdr_count.specs.Occupied.{charge_at, left_at, occupancy}
 use Rattle.sdr_owner.specs.View.{view_in}
 use Rattle.sdr_count.proofs.occupied.occupied.Goals as goal

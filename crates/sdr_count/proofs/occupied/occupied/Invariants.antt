@@ -1,7 +1,7 @@
 -- What the objects so far charge is added.
 use Rattle.std.proofs.Common.{◌≡◌, ◌/◌, length, sum_by}
 use Rattle.sdr_base.specs.declared.line.TheConstants.{WORD}
-use Rattle.sdr_count.specs.Counts.{places}
+use Rattle.sdr_keys.specs.Places.{places}
 use Rattle.sdr_count.specs.Occupied.{charge_at, charges_by}
 use Rattle.sdr_owner.specs.View.{view_in}
 use Rattle.sdr_count.proofs.occupied.occupied.Given as goal

@@ -1,9 +1,9 @@
 -- The blocks so far, and those to which the link leads, are those of the chain.
 use Rattle.std.proofs.Common.{◌≡◌, ◌/◌, ◌++◌, length}
 use Rattle.sdr_base.specs.declared.line.TheConstants.{WORD}
-use Rattle.sdr_count.specs.Members.{followed, members}
+use Rattle.sdr_keys.specs.Members.{followed, members}
 use Rattle.sdr_owner.specs.View.{view_in}
-use Rattle.sdr_count.proofs.members.members.Given as goal
+use Rattle.sdr_keys.proofs.chain.members.Given as goal
 
 abbrev pub invariant-loop-link : goal.invariant-loop-link
 invariant-loop-link l =

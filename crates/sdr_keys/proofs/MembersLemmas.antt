@@ -2,7 +2,7 @@
 use Rattle.std.proofs.Common.{◌≡◌, ◌≢◌, ◌≤◌, ◌<◌, ◌+◌, ◌-◌, ◌==◌, ℕ, zero, suc, cond, Bool, false, List, [], ◌∷◌, ◌++◌, length, arith, ap, ◌∙◌, refl, sym, inl, inr}
 use Rattle.std.proofs.lemmas.Bool.{cases_eq, eq-eqb, ne_eqb}
 use Rattle.std.proofs.lemmas.List.{append-nil, append_assoc}
-use Rattle.sdr_count.specs.Members.{followed}
+use Rattle.sdr_keys.specs.Members.{followed}
 use Rattle.sdr_owner.specs.Chains.{next_of}
 use Rattle.sdr_owner.specs.View.{View}
 use Rattle.sdr_owner.specs.declared.owner.Owner.{Owner}

@@ -2,7 +2,7 @@
 ghost use Rattle.std.specs.Prelude.{◌≡◌, ◌/◌, length, IfOk};
 ghost use Rattle.sdr_base.specs.Cells.{IsRegionSize};
 ghost use Rattle.sdr_base.specs.declared.line.TheConstants.{WORD};
-ghost use Rattle.sdr_count.specs.Members.{members};
+ghost use Rattle.sdr_keys.specs.Members.{members};
 ghost use Rattle.sdr_owner.specs.View.{view_in};
 
 use sdr_base::{Addr, NoMemory, WORD};

@@ -1,6 +1,7 @@
 -- The blocks in the chain of an owner, one after another.
-use Rattle.std.specs.Prelude.{◌==◌, ℕ, zero, suc, cond, List, [], ◌∷◌}
-use Rattle.sdr_owner.specs.Chains.{first_of, next_of}
+use Rattle.std.specs.Prelude.{◌≡◌, ◌==◌, ℕ, zero, suc, cond, List, [], ◌∷◌}
+use Rattle.std.specs.List.{All}
+use Rattle.sdr_owner.specs.Chains.{Chain, first_of, next_of}
 use Rattle.sdr_owner.specs.View.{View}
 use Rattle.sdr_owner.specs.declared.owner.Owner.{Owner}
 
@@ -13,3 +14,7 @@ followed heap owner (suc most) link =
 -- the blocks in the chain of an owner, in a heap of so many words
 abbrev pub members : View → ℕ → Owner → List ℕ
 members heap words owner = followed heap owner words (first_of heap owner)
+
+-- each of these chains goes over the blocks in the chain of its owner
+abbrev pub AreMembers : View → ℕ → List Chain → Type 0
+AreMembers heap words chains = All (λ (chain : Chain). chain.addrs ≡ members heap words chain.owner) chains

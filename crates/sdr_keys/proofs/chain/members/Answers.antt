@@ -1,10 +1,10 @@
 use Rattle.std.proofs.Common.{◌≡◌, ◌∙◌, ◌++◌, ◌/◌, ◌-◌, ℕ, [], ◌∷◌, List, length, arith, ap, sym}
-use Rattle.sdr_count.proofs.MembersLemmas.{followed-all, followed-most, followed-step}
-use Rattle.sdr_count.specs.Members.{followed, members}
+use Rattle.sdr_keys.proofs.MembersLemmas.{followed-all, followed-most, followed-step}
+use Rattle.sdr_keys.specs.Members.{followed, members}
 use Rattle.sdr_base.specs.KeptHeap.{block_in}
 use Rattle.sdr_owner.specs.View.{view_in, word_of}
-use Rattle.sdr_count.proofs.members.members.Goals.{then-loop-link-test+else-most-gt0, else-loop-link-test}
-use Rattle.sdr_count.proofs.members.members.Goals as goal
+use Rattle.sdr_keys.proofs.chain.members.Goals.{then-loop-link-test+else-most-gt0, else-loop-link-test}
+use Rattle.sdr_keys.proofs.chain.members.Goals as goal
 
 pub loop-link-preserved : goal.loop-link-preserved
 loop-link-preserved c =
