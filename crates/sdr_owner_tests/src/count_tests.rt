@@ -122,7 +122,10 @@ fn queues_out_of_order_are_told(rt: HostRuntime) {
     // Two that wait in order.
     let waiting = [(2336, 0), (2328, 0), (816, 112), (2304, 900)];
     assert_eq!(rt; checked(rt.alloc(), &BUNDLE, &waiting), Some(Ok(())));
-    assert_eq!(rt; wrong_row(rt.alloc(), &BUNDLE, Why::Queue, &ORDER_WRONG), None);
+    assert_eq!(rt;
+        wrong_row(rt.alloc(), &BUNDLE, Why::Queue, &ORDER_WRONG),
+        None
+    );
 }
 
 const QUEUES_WRONG: [Row; 7] = [

@@ -8,9 +8,9 @@ use Rattle.std.proofs.lemmas.List.Elements.{All-cons, All-head, All-nil, All-tai
 use Rattle.std.proofs.lemmas.List.FromFn.{length-map-range_with_len}
 use Rattle.std.proofs.lemmas.Map.Made.{length-le_from_is_member}
 use Rattle.sdr_base.proofs.PoolsLemmas.{count_by-append, count_by-no, count_by-yes}
-use Rattle.sdr_count.proofs.MembersLemmas.{followed-end, followed-next}
-use Rattle.sdr_count.specs.Counts.{places}
-use Rattle.sdr_count.specs.Members.{followed, members}
+use Rattle.sdr_keys.proofs.MembersLemmas.{followed-end, followed-next}
+use Rattle.sdr_keys.specs.Places.{places}
+use Rattle.sdr_keys.specs.Members.{followed, members}
 use Rattle.sdr_laws.proofs.DistinctLemmas.{from_once}
 use Rattle.sdr_owner.specs.Chains.{AreOnce, Chain, ChainsReach, Goes, IsChain, addrs_of, first_of, is_member, next_of}
 use Rattle.sdr_base.specs.Blocks.{Block}
@@ -37,7 +37,7 @@ among_places (suc n) a word low high = elim (cases_eq word a) [
     more word a low off = omega (arith, low, off)
 
 -- two tests for the same number count alike
-count_turned : (addr : ℕ) (xs : List ℕ) → count_by (nat_eq addr) xs ≡ count_by (λ other. other == addr) xs
+pub count_turned : (addr : ℕ) (xs : List ℕ) → count_by (nat_eq addr) xs ≡ count_by (λ other. other == addr) xs
 count_turned addr [] = refl
 count_turned addr (x ∷ xs) = elim (cases_eq x addr) [
   | inl same ↦

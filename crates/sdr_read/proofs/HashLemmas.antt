@@ -14,7 +14,7 @@ use Rattle.sdr_base.specs.Hashes.{HashItem, HashRow, bucket_entries, hash_block,
 use Rattle.sdr_base.specs.Linked.{first_of}
 use Rattle.sdr_base.specs.Words.{layout}
 use Rattle.sdr_base.specs.declared.kind.Kind.TheVariants as kinds
-use Rattle.sdr_count.specs.Members.{members}
+use Rattle.sdr_keys.specs.Members.{members}
 use Rattle.sdr_model.proofs.SumLemmas.{sum_by-map}
 use Rattle.sdr_model.specs.HashSteps.{bucket_of}
 use Rattle.sdr_model.specs.Limits.{most_buckets}

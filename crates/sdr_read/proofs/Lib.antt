@@ -15,3 +15,6 @@ pub mod RootLemmas
 pub mod WorldLemmas
 pub mod RiseLemmas
 pub mod ValidLemmas
+pub mod AddressLemmas
+pub mod FitLemmas
+pub mod QueueLemmas

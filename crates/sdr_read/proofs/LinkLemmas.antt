@@ -16,7 +16,7 @@ use Rattle.sdr_base.specs.Words.{layout}
 use Rattle.sdr_base.specs.ZcoObjects.{CapsuleRow, ExtentRow, account_number, ObjectRow, capsule_addr, capsule_block, capsule_entries, extent_addr, extent_block, extent_entries, object_block, object_entries}
 use Rattle.sdr_base.specs.declared.kind.Kind.{Kind}
 use Rattle.sdr_base.specs.declared.kind.Kind.TheVariants as kinds
-use Rattle.sdr_count.specs.Members.{members}
+use Rattle.sdr_keys.specs.Members.{members}
 use Rattle.sdr_owner.proofs.LinkingLemmas.{goes_linked}
 use Rattle.sdr_owner.proofs.ReadingLemmas.{IsOf, elements_back, extents_back, headers_back, laid, none_behind, trailers_back}
 use Rattle.sdr_owner.specs.Chains as chains

@@ -17,8 +17,8 @@ use Rattle.sdr_base.specs.declared.kind.Kind.TheVariants as kinds
 use Rattle.sdr_base.specs.declared.kind.Space.{Space}
 use Rattle.sdr_base.specs.declared.kind.Space.TheVariants as spaces
 use Rattle.sdr_count.specs.Counted.{IsCounted}
-use Rattle.sdr_count.specs.Counts.{places}
-use Rattle.sdr_count.specs.Members.{members}
+use Rattle.sdr_keys.specs.Places.{places}
+use Rattle.sdr_keys.specs.Members.{members}
 use Rattle.sdr_count.specs.Occupied as heaps
 use Rattle.sdr_count.specs.Queues.{ticket_at}
 use Rattle.sdr_model.proofs.SumLemmas.{sum_by-map}
@@ -64,7 +64,7 @@ space_is (suc (suc (suc zero))) number path least most = refl
 space_is (suc (suc (suc (suc zero)))) number path least most = refl
 space_is (suc (suc (suc (suc (suc n))))) number path least most = absurd (omega (arith, most))
 
-length-behind : (o : Option Block) → length (behind_words o 1) ≡ length_of o - 8
+pub length-behind : (o : Option Block) → length (behind_words o 1) ≡ length_of o - 8
 length-behind None = refl
 length-behind (Some block) = length-drop 8 block.bytes
 

@@ -29,7 +29,7 @@ use Rattle.sdr_base.specs.declared.account.Acct.TheVariants as accts
 use Rattle.sdr_base.specs.declared.kind.Kind.{Kind}
 use Rattle.sdr_base.specs.declared.kind.Kind.TheVariants as kinds
 use Rattle.sdr_count.specs.Counted.{IsCounted}
-use Rattle.sdr_count.specs.Members.{members}
+use Rattle.sdr_keys.specs.Members.{members}
 use Rattle.sdr_count.specs.Queues.{ticket_at}
 use Rattle.sdr_laws.proofs.DistinctLemmas.{count_by-cons}
 use Rattle.sdr_model.specs.Accounts.{tickets_of}

@@ -29,7 +29,7 @@ use Rattle.sdr_region.specs.Control.{ControlIsRight, may_be}
 
 module _ (bytes : List ℕ) where
   -- a control word that belongs to what blocks keep
-  root_is : (word : ℕ) → (nat_le 89 word && nat_lt word 128) ≡ true → root_in bytes word ≡ number_at (8 * word) bytes
+  pub root_is : (word : ℕ) → (nat_le 89 word && nat_lt word 128) ≡ true → root_in bytes word ≡ number_at (8 * word) bytes
   unfolding root_in
   root_is word is = cond-true (nat_le 89 word && nat_lt word 128) (number_at (8 * word) bytes) 0 is
 

@@ -20,7 +20,7 @@ use Rattle.sdr_base.specs.declared.account.Acct.TheVariants as accts
 use Rattle.sdr_base.specs.declared.kind.Kind.{Kind}
 use Rattle.sdr_base.specs.declared.kind.Kind.TheVariants as kinds
 use Rattle.sdr_count.specs.Counted.{IsCounted}
-use Rattle.sdr_count.specs.Members.{members}
+use Rattle.sdr_keys.specs.Members.{members}
 use Rattle.sdr_laws.proofs.DistinctLemmas.{count_by-cons}
 use Rattle.sdr_model.specs.declared.things.Thing.{Thing}
 use Rattle.sdr_owner.proofs.MarksLemmas.{counted}
@@ -61,7 +61,7 @@ at_listed heap q (e ∷ es) stand some =
     ]
 
 -- none of them stands at 0
-none_at_null : (heap : View) (es : Entries) → StandIn heap es → times 0 es ≡ 0
+pub none_at_null : (heap : View) (es : Entries) → StandIn heap es → times 0 es ≡ 0
 unfolding times
 none_at_null heap [] stand = refl
 none_at_null heap (e ∷ es) stand =
@@ -173,7 +173,7 @@ module _ (heap : View) (words : ℕ) (a : IsAudited heap words) where
 
   module _ (f : AreFitting heap words) (c : IsCounted heap words) where
     -- all blocks of the world stand
-    entries_stand : StandIn heap (entries_of (world_told heap words))
+    pub entries_stand : StandIn heap (entries_of (world_told heap words))
     entries_stand =
         All-append (StandsAt heap) (flat_map (λ (e : ℕ × Thing). thing_entries (ties_of (world_told heap words)) e.0 e.1) (finite.entries (world_told heap words).things))
         (other_entries (world_told heap words))
@@ -234,7 +234,7 @@ module _ (heap : View) (words : ℕ) (a : IsAudited heap words) where
         let k = count_by-append (λ other. other == q) os inside in
         omega (arith, x, y, z, n, i, o, r, u, v, w, k)
 
-    once : (q : ℕ) → times q (entries_of (world_told heap words)) ≤ 1
+    pub once : (q : ℕ) → times q (entries_of (world_told heap words)) ≤ 1
     once q = by_thing (thing_told heap words q) refl
       where
         by_thing : (o : Option Thing) → thing_told heap words q ≡ o → times q (entries_of (world_told heap words)) ≤ 1

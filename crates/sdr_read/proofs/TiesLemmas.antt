@@ -18,7 +18,7 @@ use Rattle.sdr_base.specs.declared.kind.Kind.{Kind}
 use Rattle.sdr_base.specs.declared.kind.Kind.TheVariants as kinds
 use Rattle.sdr_count.specs.Counted.{IsCounted}
 use Rattle.sdr_count.specs.Counts as counts
-use Rattle.sdr_count.specs.Members.{members}
+use Rattle.sdr_keys.specs.Members.{members}
 use Rattle.sdr_model.proofs.SumLemmas.{sum_by-map}
 use Rattle.sdr_model.specs.Accounts.{is_same_account}
 use Rattle.sdr_model.specs.World.{thing_at}
@@ -159,7 +159,7 @@ module _ (heap : View) (words : ℕ) (a : IsAudited heap words) where
       0 words
 
   -- whether the thing at an address is a source of a raw object
-  raw_same : (raw addr : ℕ) → option_map_or (names_raw raw) (thing_told heap words addr) false ≡ is_source_of heap raw addr
+  pub raw_same : (raw addr : ℕ) → option_map_or (names_raw raw) (thing_told heap words addr) false ≡ is_source_of heap raw addr
   raw_same raw addr =
       thing_cases heap words (λ (o : Option Thing). option_map_or (names_raw raw) o false ≡ is_source_of heap raw addr) addr
       (λ at. sym (ap (λ (t : Bool). t && (word_of (heap.blocks addr) 0 == 3 || word_of (heap.blocks addr) 0 == 4) && word_of (heap.blocks addr) 4 == raw)
@@ -200,12 +200,12 @@ module _ (heap : View) (words : ℕ) (a : IsAudited heap words) where
   named_back : IsKept heap a.owned.reached which.RawNamesSource
   named_back = a.owned.kept.1.1.1.0
 
-  unless : (t r : Bool) → (not t || r) ≡ true → t ≡ true → r ≡ true
+  pub unless : (t r : Bool) → (not t || r) ≡ true → t ≡ true → r ≡ true
   unless true r holds is = holds
   unless false r holds is = let d : false ≡ true = is in cc
 
   -- a raw object names the source of it
-  source_named : (raw addr : ℕ) → is_source_of heap raw addr ≡ true → addr ≡ word_of (heap.blocks raw) 0
+  pub source_named : (raw addr : ℕ) → is_source_of heap raw addr ≡ true → addr ≡ word_of (heap.blocks raw) 0
   source_named raw addr is =
       let p = and_parts (rules.names_raw (heap.blocks addr)) (word_of (heap.blocks addr) 4 == raw) is in
       let subject = eqb-true (word_of (heap.blocks addr) 4) raw p.1 in

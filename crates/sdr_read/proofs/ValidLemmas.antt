@@ -8,7 +8,7 @@ use Rattle.std.proofs.lemmas.List.Elements.{All-map}
 use Rattle.sdr_base.specs.Blocks.{Block}
 use Rattle.sdr_base.specs.declared.kind.Kind.{Kind}
 use Rattle.sdr_base.specs.declared.kind.Kind.TheVariants as kinds
-use Rattle.sdr_count.specs.Members.{members}
+use Rattle.sdr_keys.specs.Members.{members}
 use Rattle.sdr_model.specs.HashSteps.{bucket_of}
 use Rattle.sdr_model.specs.Limits.{is_no_capsule, is_no_path, longest_key, longest_raw, longest_string, most_buckets}
 use Rattle.sdr_model.specs.Valid.{IsBetween, IsValidCapsule, IsValidObject, IsValidSource, IsValidSubject, IsValidTable, IsValidThing}
@@ -37,7 +37,7 @@ use Rattle.sdr_read.specs.Told.{bucket_told, capsule_told, extent_told, hash_tol
 use Rattle.sdr_region.specs.Content.{field}
 
 -- a length of which a test doesn't say that it is less or more
-between_so : (least most n : ℕ) → not (nat_lt n least || nat_lt most n) ≡ true → IsBetween least most n
+pub between_so : (least most n : ℕ) → not (nat_lt n least || nat_lt most n) ≡ true → IsBetween least most n
 between_so least most n holds =
     let p = or_parts (nat_lt n least) (nat_lt most n) (not_true (nat_lt n least || nat_lt most n) holds) in
     (not_less n least p.0, not_less most n p.1)
@@ -70,7 +70,7 @@ subject_valid medium number path file = elim (cases_Bool (medium == 1)) [
         ]
 
 -- a subject that is a raw object which its source owns has the number of that medium
-owned_medium : (medium number : ℕ) (path : List ℕ) → is_some (taken_over (subject_by medium number path)) ≡ true → medium ≡ 3
+pub owned_medium : (medium number : ℕ) (path : List ℕ) → is_some (taken_over (subject_by medium number path)) ≡ true → medium ≡ 3
 owned_medium medium number path some = eqb-true medium 3 (tested (medium == 1) (medium == 2) (medium == 3) some)
   where
     tested : (s t u : Bool) →

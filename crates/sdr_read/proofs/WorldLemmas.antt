@@ -6,7 +6,11 @@ use Rattle.sdr_read.proofs.OwnLemmas.{IsAudited}
 use Rattle.sdr_read.proofs.RegionLemmas.{audited, kept}
 use Rattle.sdr_read.proofs.RootLemmas.{roots_same}
 use Rattle.sdr_read.proofs.StandLemmas.{blocks_stand}
-use Rattle.sdr_read.specs.Standing.{IsCounted, StandsSomehow}
+use Rattle.sdr_read.proofs.AddressLemmas.{world_valid}
+use Rattle.sdr_read.proofs.FitLemmas.{world_fits}
+use Rattle.sdr_read.proofs.QueueLemmas.{queues_barred, queues_kept}
+use Rattle.sdr_model.specs.Whole.{IsWhole}
+use Rattle.sdr_read.specs.Standing.{IsCounted, Passes, StandsSomehow}
 use Rattle.sdr_read.specs.Told.{world_of}
 
 module _ (bytes : List ℕ) (c : IsCounted bytes) where
@@ -28,3 +32,14 @@ module _ (bytes : List ℕ) (c : IsCounted bytes) where
           taken = refl;
         };
       }
+
+-- the told world of a region that passes all steps is whole
+pub whole_so : (bytes : List ℕ) → Passes bytes → IsWhole (world_of bytes)
+whole_so bytes p =
+    let heap = heap_audited bytes p.counts in
+    record {
+      valid = world_valid (view_in bytes) (length bytes / 8) heap p.counts.fitting p.counts.counted;
+      fits = world_fits (view_in bytes) (length bytes / 8) heap p.counts.fitting p.counts.counted;
+      queues = queues_kept bytes p.counts.sound.sound.control heap p.queues;
+      barred = queues_barred bytes p.counts.sound.sound.control heap p.queues p.counts.counted;
+    }

@@ -7,7 +7,7 @@ use Rattle.sdr_base.specs.declared.layout.hash.TheConstants as hash
 use Rattle.sdr_base.specs.declared.layout.list.TheConstants as list
 use Rattle.sdr_base.specs.declared.layout.source.TheConstants as source
 use Rattle.sdr_base.specs.declared.medium.Medium.TheVariants as media
-use Rattle.sdr_count.specs.Members.{members}
+use Rattle.sdr_keys.specs.Members.{members}
 use Rattle.sdr_model.specs.HashSteps.{bucket_of}
 use Rattle.sdr_model.specs.PartSteps.{part_end}
 use Rattle.sdr_model.specs.Valid.{AreDistinct, keys_of, names_of}

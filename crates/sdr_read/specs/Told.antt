@@ -23,8 +23,8 @@ use Rattle.sdr_base.specs.declared.layout.source.TheConstants as source
 use Rattle.sdr_base.specs.declared.layout.table.TheConstants as table
 use Rattle.sdr_base.specs.declared.line.TheConstants.{WORD}
 use Rattle.sdr_base.specs.declared.medium.Medium.TheVariants as media
-use Rattle.sdr_count.specs.Counts.{places}
-use Rattle.sdr_count.specs.Members.{members}
+use Rattle.sdr_keys.specs.Places.{places}
+use Rattle.sdr_keys.specs.Members.{members}
 use Rattle.sdr_count.specs.Queues.{amounts_in, tickets}
 use Rattle.sdr_model.specs.Hashes.{Hash}
 use Rattle.sdr_model.specs.Tables.{Table}
