@@ -25,15 +25,17 @@ abbrev pub items_of : ℕ → Option Thing → List HashItem
 items_of bucket (Some (things.Hash table)) = bucket_row table bucket
 items_of bucket thing = []
 
--- the headers, extents and trailers of a thing, if it is an object
+-- the headers of a thing, if it is an object
 abbrev pub headers_of : Option Thing → List CapsuleRow
 headers_of (Some (things.Object object)) = map capsule_row object.headers
 headers_of thing = []
 
+-- its extents
 abbrev pub extents_of : Option Thing → List ExtentRow
 extents_of (Some (things.Object object)) = map extent_row object.extents
 extents_of thing = []
 
+-- its trailers
 abbrev pub trailers_of : Option Thing → List CapsuleRow
 trailers_of (Some (things.Object object)) = map capsule_row object.trailers
 trailers_of thing = []
