@@ -85,6 +85,20 @@ fn count<O: Objects>(o: &mut O, source: Addr, page: &mut Page) -> Result<Reply, 
     Ok(Reply::Value { value })
 }
 
+/// Whether the call is one on sources.
+pub fn is_source_call(call: &Call) -> bool
+    ensures { result ≡ is_source_call call.now }
+{
+    matches!(
+        call,
+        Call::FileRef(_, _)
+            | Call::BulkRef(_, _)
+            | Call::ObjRef(_)
+            | Call::DestroyRef(_)
+            | Call::Count(_)
+    )
+}
+
 /// Answers a call on sources.
 pub fn answer<O: Objects>(o: &mut O, call: &Call, page: &mut Page) -> Result<Reply, Stop>
     requires kept { KeepsSome (O.keeps o.old) }
