@@ -20,7 +20,8 @@ use Rattle.sdr_model.specs.Steps.{Outcome, gave, taken_addresses}
 use Rattle.sdr_model.specs.World.{World, thing_at}
 use Rattle.sdr_model.specs.declared.call.Call.{Call}
 use Rattle.sdr_model.specs.declared.call.Call.TheVariants as calls
-use Rattle.sdr_answers.specs.Answering.{IsServed, built, call_lines}
+use Rattle.sdr_answers.specs.Answering.{IsServed}
+use Rattle.sdr_served.specs.Serving.{built, call_lines}
 
 -- a call that is answered by its row asks for as many lines as it touches
 pub enough : (d : Demand) (heap : Heap) (w : World) (call : Call) (o : Outcome) → built call ≡ true → HeapStandsFor heap w
@@ -129,6 +130,18 @@ enough d heap w call o is s served small row answered =
     by (calls.Find name) is moves = omega (arith)
     by (calls.Uncatlg name) is moves = omega (arith)
     by (calls.Entry place) is moves = omega (arith)
+    by (calls.FileRef path bytes) is moves =
+        let one : length o.moves ≡ 1 = ap (λ (ms : List Move). length ms) moves in
+        let need : bytes_taken o.moves ≡ 48 + length path + 0 = ap bytes_taken moves in
+        omega (arith, one, need)
+    by (calls.BulkRef item bytes) is moves =
+        let one : length o.moves ≡ 1 = ap (λ (ms : List Move). length ms) moves in
+        omega (arith, one)
+    by (calls.ObjRef raw) is moves =
+        let one : length o.moves ≡ 1 = ap (λ (ms : List Move). length ms) moves in
+        omega (arith, one)
+    by (calls.DestroyRef source) is moves = omega (arith)
+    by (calls.Count source) is moves = omega (arith)
     by c is moves = absurd (true≢false (sym is))
 
 -- a call that reads touches none
@@ -178,6 +191,11 @@ reading_lines heap (calls.Catlg name kind object) is reads = absurd (true≢fals
 reading_lines heap (calls.Find name) is reads = refl
 reading_lines heap (calls.Uncatlg name) is reads = absurd (true≢false (sym reads))
 reading_lines heap (calls.Entry place) is reads = refl
+reading_lines heap (calls.FileRef path bytes) is reads = absurd (true≢false (sym reads))
+reading_lines heap (calls.BulkRef item bytes) is reads = absurd (true≢false (sym reads))
+reading_lines heap (calls.ObjRef raw) is reads = absurd (true≢false (sym reads))
+reading_lines heap (calls.DestroyRef source) is reads = absurd (true≢false (sym reads))
+reading_lines heap (calls.Count source) is reads = refl
 reading_lines heap call is reads = absurd (true≢false (sym is))
 
 -- no call takes back what was asked

@@ -21,7 +21,8 @@ use Rattle.sdr_model.specs.declared.call.Call.{Call}
 use Rattle.sdr_station.proofs.GivingLemmas.{gives_shown}
 use Rattle.sdr_station.proofs.GroundLemmas.{ground_brought, heap_ground, keeps_later}
 use Rattle.sdr_station.proofs.ServingLemmas.{answers_no_doom, brings_answered, brings_quiet, brings_refused, good_in, image_heap, leaves_quiet, no_fault, served_in}
-use Rattle.sdr_answers.specs.Answering.{Comes, IsGood, built, call_lines, dooms}
+use Rattle.sdr_answers.specs.Answering.{Comes, dooms}
+use Rattle.sdr_served.specs.Serving.{IsGood, built, call_lines}
 use Rattle.sdr_station.specs.Closing.{moves_left}
 use Rattle.sdr_station.specs.Giving.{Gives}
 use Rattle.sdr_station.specs.Grounded.{Grounded, IsGround, StandsForBoth, StandsInMemory, heap_in}

@@ -42,7 +42,7 @@ at_rest_of h shown s taken w = record {
     fits = fits_rest s.world w.fits;
     next = w.next;
   };
-  plain = record { inbound = w.plain.inbound; outbound = w.plain.outbound; unnamed = w.plain.unnamed };
+  plain = record { inbound = w.plain.inbound; outbound = w.plain.outbound };
   demand = refl;
 }
 

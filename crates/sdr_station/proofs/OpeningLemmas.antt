@@ -1,8 +1,6 @@
 -- A fresh heap that was opened.
 use Rattle.std.proofs.Common.{◌≡◌, ◌∙◌, ◌≤◌, ◌*◌, ℕ, List, [], false, Option, Some, refl, sym, ap, subst, length}
 use Rattle.std.specs.Prelude.{replicate}
-use Rattle.std.specs.FinMap.{get-empty}
-use Rattle.std.specs.Ordering.{nat_cmp}
 use Rattle.sdr_audit.proofs.FreshLemmas.{fresh_stands_whole}
 use Rattle.sdr_audit.specs.Checking.{IsFresh}
 use Rattle.sdr_audit.specs.Standing.{StandsForWhole}
@@ -17,7 +15,6 @@ use Rattle.sdr_image.specs.Opened.{IsQuiet, Opened}
 use Rattle.sdr_image.specs.Opening.{IsOpened, UnlessFault}
 use Rattle.sdr_image.specs.declared.error.ImageError.{ImageError}
 use Rattle.sdr_image.specs.declared.error.ImageError.TheVariants as images
-use Rattle.sdr_laws.proofs.FreshWorlds.{fresh_fits}
 use Rattle.sdr_lock.specs.Ground.{Ground, State, resting}
 use Rattle.sdr_log.specs.Calls.{PutsBack}
 use Rattle.sdr_log.specs.Frame.{room_of}
@@ -25,18 +22,16 @@ use Rattle.sdr_log.specs.declared.frame.Frame.{Frame}
 use Rattle.sdr_model.specs.World.{fresh_world}
 use Rattle.sdr_station.proofs.ClosingLemmas.{within_of}
 use Rattle.sdr_station.proofs.StoodLemmas.{stood_of}
-use Rattle.sdr_answers.proofs.EntryLemmas.{none_named}
 use Rattle.sdr_answers.specs.Answering.{IsPlain}
 use Rattle.sdr_station.specs.Grounded.{Grounded, IsGround, StandsAtRest, StandsInMemory}
 use Rattle.sdr_station.specs.Opening.{ArePutBack, IsOfAudit, IsOfImage, IsOpen, LeavesBytes}
 use Rattle.sdr_station.specs.declared.error.OpenError.{OpenError}
 
--- a world without things has no ticket and no source
+-- a fresh world has no ticket
 fresh_plain : (heap : ℕ) → IsPlain (fresh_world heap)
 fresh_plain heap = record {
   inbound = refl;
   outbound = refl;
-  unnamed = λ raw. none_named (fresh_world heap) raw (fresh_fits heap) (get-empty nat_cmp raw);
 }
 
 -- the bytes of a fresh heap stand for it at rest

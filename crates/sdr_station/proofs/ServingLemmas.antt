@@ -16,7 +16,6 @@ use Rattle.sdr_image.specs.Opened.{IsQuiet, Opened, transaction_of}
 use Rattle.sdr_model.specs.declared.answer.Reply.{Reply}
 use Rattle.sdr_model.specs.declared.call.Call.{Call}
 use Rattle.sdr_laws.proofs.FieldLaws.{fields_fit}
-use Rattle.sdr_laws.proofs.FreshLemmas.{none_there}
 use Rattle.sdr_laws.proofs.WholeLaws.{whole_kept}
 use Rattle.sdr_lock.specs.Crash.{LeavesBefore}
 use Rattle.sdr_lock.specs.Demand.{Demand, MayFillLog, demand_after}
@@ -26,7 +25,6 @@ use Rattle.sdr_lock.specs.Serving.{Brings, Calls}
 use Rattle.sdr_lock.specs.Standing.{Standing}
 use Rattle.sdr_log.specs.Frame.{room_of}
 use Rattle.sdr_log.specs.declared.frame.Frame.{Frame}
-use Rattle.sdr_audit.specs.Ties.{Ties, or_null, ties_of}
 use Rattle.sdr_base.specs.declared.refusal.Refusal.{Refusal}
 use Rattle.sdr_base.specs.declared.refusal.Refusal.TheVariants as refusals
 use Rattle.sdr_base.specs.declared.stop.Stop.TheVariants as stops
@@ -35,19 +33,17 @@ use Rattle.sdr_model.specs.Fields.{FitsCall}
 use Rattle.sdr_model.specs.Reading.{is_reading}
 use Rattle.sdr_model.specs.Step.{StepTo, is_answer}
 use Rattle.sdr_model.specs.Steps.{Outcome}
-use Rattle.sdr_model.specs.Valid.{IsValid}
-use Rattle.sdr_model.specs.World.{World, thing_at}
-use Rattle.sdr_model.specs.Zco.{source_on}
+use Rattle.sdr_model.specs.World.{World}
 use Rattle.sdr_model.specs.declared.answer.Answer.TheVariants as answers
 use Rattle.sdr_model.specs.declared.answer.Reply.TheVariants as replies
 use Rattle.sdr_served.proofs.DemandLemmas.{asks_more, enough, reading_lines}
-use Rattle.sdr_answers.proofs.EntryLemmas.{source_there}
 use Rattle.sdr_served.proofs.GoodLemmas.{good_of}
 use Rattle.sdr_station.proofs.StoodLemmas.{small_in, stood_of}
 use Rattle.sdr_station.proofs.GroundLemmas.{heap_ground}
 use Rattle.sdr_station.proofs.MediaLemmas.{gap_none, misses_none}
 use Rattle.sdr_station.specs.CrashNow.{crash_now}
-use Rattle.sdr_answers.specs.Answering.{Aim, Answered, Comes, IsGood, IsServed, built, dooms, call_lines}
+use Rattle.sdr_answers.specs.Answering.{Aim, Answered, Comes, IsServed, dooms}
+use Rattle.sdr_served.specs.Serving.{IsGood, built, call_lines}
 use Rattle.sdr_station.specs.Closing.{moves_left}
 use Rattle.sdr_station.specs.Grounded.{Grounded, HasStood, Leaves, StandsAtRest, StandsForBoth, StandsInMemory, StandsSome, StandsWithin, heap_in}
 
@@ -78,21 +74,6 @@ good_in h spare {shown} {s} w =
 not_full : (room : ℕ) (d : Demand) (w : World) (call : Call) (reply : Reply) → is_answer reply ≡ true → MayFillLog room d w call reply
 not_full room d w call (replies.Refused refusal) is = absurd (true≢false (sym is))
 not_full room d w call reply is = tt
-
--- where things are tied as before, no source names a raw object
-still_unnamed : (w w' : World) (raw : ℕ) → ties_of w' ≡ ties_of w → IsValid w' → source_on w raw ≡ None → source_on w' raw ≡ None
-still_unnamed w w' raw ties valid none = by (source_on w' raw) refl
-  where
-    null : or_null (source_on w' raw) ≡ 0
-    null = ap (λ (t : Ties). t.named_by raw) ties ∙ ap or_null none
-
-    by : (o : Option ℕ) → source_on w' raw ≡ o → source_on w' raw ≡ None
-    by None is = is
-    by (Some addr) is =
-        let n = source_there w' raw addr is in
-        let zero : addr ≡ 0 = sym (ap or_null is) ∙ null in
-        let gone : thing_at w' addr ≡ None = ap (thing_at w') zero ∙ none_there w' 0 valid.nonzero in
-        absurd (let no : None ≡ Some _ = sym gone ∙ n.there in cc)
 
 -- A call on a heap that stood for a standing, and has not stopped.
 module _ {D : Type 0} (faults : D → ℕ) (old : Grounded D) (going : old.stopped ≡ false) (call : Call) (is : built call ≡ true) (fit : FitsCall call) (spare : ℕ)
@@ -181,7 +162,6 @@ module _ {D : Type 0} (faults : D → ℕ) (old : Grounded D) (going : old.stopp
           plain = record {
             inbound = ap (λ (a : Accounts). a.inbound.tickets) ans.accounts ∙ w.plain.inbound;
             outbound = ap (λ (a : Accounts). a.outbound.tickets) ans.accounts ∙ w.plain.outbound;
-            unnamed = λ raw. still_unnamed v.now.world ans.after raw ans.ties whole.valid (w.plain.unnamed raw);
           };
           gave = ans.gave;
           lines = omega (arith, lines, w.lines, more);

@@ -10,14 +10,15 @@ ghost use Rattle.sdr_lock.specs.Serving.{Brings, Calls, Keeps, KeepsGround, Meet
 ghost use Rattle.sdr_lock.specs.Standing.{Standing};
 ghost use Rattle.sdr_log.specs.Calls.{KeepsDisk};
 ghost use Rattle.sdr_log.specs.Logged.{GivesSame};
-ghost use Rattle.sdr_answers.specs.Answering.{built, dooms};
+ghost use Rattle.sdr_answers.specs.Answering.{dooms};
+ghost use Rattle.sdr_served.specs.Serving.{built};
 ghost use Rattle.sdr_station.specs.Grounded.{StandsForBoth, StandsInMemory};
 ghost use Rattle.sdr_station.specs.Giving.{Gives};
 ghost use Rattle.sdr_station.specs.Opening.{ExplainsOpen, IsOfAudit, IsOfImage, IsOpen, LeavesBytes, disk_of};
 
 use crate::closing::{cancel, commit, forget_moves, moment_since};
 use crate::error::{OpenError, Shut};
-use sdr_answers::{Page, built};
+use sdr_answers::Page;
 use sdr_audit::{AuditError, check};
 use sdr_base::{Move, Stop};
 use sdr_disk::Disk;
@@ -25,7 +26,7 @@ use sdr_heap::Heap;
 use sdr_image::{Image, ImageError};
 use sdr_lock::{Fault, Halt, HasGround, Serves};
 use sdr_model::{Answer, Call, Reply};
-use sdr_served::answer;
+use sdr_served::{answer, built};
 use std::alloc::Global;
 use std::marker::Model;
 

@@ -1,15 +1,16 @@
 // What a heap on an image tells of its calls.
 ghost use Rattle.std.specs.Prelude.{◌≡◌, true};
-ghost use Rattle.sdr_answers.specs.Answering.{built};
+ghost use Rattle.sdr_served.specs.Serving.{built};
 ghost use Rattle.sdr_station.specs.Telling.{BytesAtMost};
 
 use crate::HeapGround;
 use crate::station::most_moves;
-use sdr_answers::{PAGE, built};
+use sdr_answers::PAGE;
 use sdr_base::{Move, NoMemory};
 use sdr_disk::Disk;
 use sdr_lock::{Room, Tells};
 use sdr_model::Call;
+use sdr_served::built;
 use std::alloc::AllocError;
 
 // How many bytes a call that is served gives at most.

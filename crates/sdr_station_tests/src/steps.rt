@@ -1,7 +1,7 @@
 // What is asked of a station on a disk in memory, and what it says.
 ghost use Rattle.std.specs.Prelude.{◌≡◌, ◌<◌, true, IfSome};
 ghost use Rattle.sdr_log.specs.Frame.{IsInLimits};
-ghost use Rattle.sdr_answers.specs.Answering.{built};
+ghost use Rattle.sdr_served.specs.Serving.{built};
 
 use sdr_base::{Bytes, Stop};
 use sdr_disk::MemoryDisk;

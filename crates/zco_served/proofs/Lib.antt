@@ -6,7 +6,7 @@ pub mod GoodLemmas
 mod StepLemmas
 mod ComingLemmas
 mod MakingCalls
-mod NamingCalls
+pub mod NamingCalls
 mod GoingCalls
 mod DroppingCalls
 mod CountingCalls

@@ -200,7 +200,7 @@ module _ (old new : Heap) (w : World) (unmoved : old.moves ≡ []) (s : HeapStan
         (record { charge = λ acct space. omega arith; release = λ acct space. refl })) refl)
 
   -- the source that names a raw object, and how many extents name that
-  used_as : (raw count : ℕ) → IsSmall old → IsNamed old.blocks raw count → (addr : ℕ) × (source_on w raw ≡ Some addr) × (count ≡ uses_of w addr)
+  pub used_as : (raw count : ℕ) → IsSmall old → IsNamed old.blocks raw count → (addr : ℕ) × (source_on w raw ≡ Some addr) × (count ≡ uses_of w addr)
   used_as raw count small n =
       let r = named_is_at old w raw s served n.kind in
       by (source_on w raw) refl (n.used (or_null (source_on w raw)) r.bytes r.keeps)

@@ -1,7 +1,7 @@
 use Rattle.std.proofs.Common.{◌∙◌, ap, inl, inr, not, subst}
 use Rattle.sdr_model.specs.declared.answer.Reply.TheVariants as replies
 use Rattle.sdr_station.proofs.CameLemmas.{CameTo, came_answered, came_refused, faults_never, good_before, keeps_before}
-use Rattle.sdr_answers.specs.Answering.{call_lines}
+use Rattle.sdr_served.specs.Serving.{call_lines}
 use Rattle.sdr_station.specs.Grounded.{Grounded, heap_in}
 use Rattle.sdr_station.proofs.ground.HeapGround.serve.Goals as goal
 
