@@ -124,9 +124,9 @@ one_keyed (Some hash) key = by (position (has_key key) hash.entries)
     by (Some place) = omega arith
 
 -- and so has a source that goes at once
-one_source : {source : ℕ} (unused : Bool) → length (gave (cond unused (source ∷ []) [])) ≤ 1
-one_source true = omega arith
-one_source false = omega arith
+one_source : (source : ℕ) (unused : Bool) → length (gave (cond unused (source ∷ []) [])) ≤ 1
+one_source source true = omega arith
+one_source source false = omega arith
 
 -- any other that is served has one at most
 pub moves_one : (size : ℕ) (call : Call) → built call ≡ true → ((list : ℕ) → call ≡ calls.ListDestroy list → ⊥)
@@ -185,6 +185,6 @@ moves_one size call is list hash = moves_at_most size call 1 (λ w stood changes
     by w at (calls.FileRef path bytes) is other = omega arith
     by w at (calls.BulkRef item bytes) is other = omega arith
     by w at (calls.ObjRef raw) is other = omega arith
-    by w at (calls.DestroyRef source) is other = one_source (uses_of w source == 0)
+    by w at (calls.DestroyRef source) is other = one_source source (uses_of w source == 0)
     by w at (calls.Count source) is other = omega arith
     by w at call is other = absurd (true≢false (sym is))
