@@ -4,7 +4,7 @@ use Rattle.std.specs.Prelude.{All, filter}
 use Rattle.std.proofs.lemmas.List.Elements.{All-cons, All-nil}
 use Rattle.sdr_answers.proofs.KindLemmas.{missed, none_of}
 use Rattle.sdr_answers.specs.Answering.{Aim, Answered, IsRefused}
-use Rattle.sdr_audit.proofs.ChangeLemmas.{changes, comes, goes, nothing_at}
+use Rattle.sdr_audit.proofs.ChangeLemmas.{changes, comes, goes}
 use Rattle.sdr_audit.specs.Standing.{HeapStandsFor, thing_entries, with_taken_marked}
 use Rattle.sdr_audit.specs.Ties.{IsUntied, ties_of}
 use Rattle.sdr_base.specs.Blocks.{IsKind}

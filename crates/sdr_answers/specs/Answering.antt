@@ -1,5 +1,5 @@
 -- What a call comes to on a heap that stands for a world.
-use Rattle.std.specs.Prelude.{◌≡◌, ◌+◌, ◌*◌, ◌/◌, ℕ, Bool, true, false, ◌||◌, not, List, [], length, ⊤, All, None, Result, Ok, Err}
+use Rattle.std.specs.Prelude.{◌≡◌, ◌+◌, ◌*◌, ◌/◌, ℕ, Bool, true, false, not, List, [], length, ⊤, All, Result, Ok, Err}
 use Rattle.sdr_audit.specs.Standing.{HeapStandsFor}
 use Rattle.sdr_base.specs.Objects.{Heap}
 use Rattle.sdr_base.specs.declared.moves.Move.{Move}

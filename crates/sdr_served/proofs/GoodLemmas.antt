@@ -1,9 +1,9 @@
 -- What is of a kind is kept where a heap stands for a world in which calls are served.
-use Rattle.std.proofs.Common.{◌≡◌, ◌∙◌, ◌≤◌, ℕ, List, [], ◌∷◌, Option, None, Some, ap, arith, length, map, subst}
+use Rattle.std.proofs.Common.{◌≡◌, ◌≤◌, ℕ, List, Option, None, Some, arith, length, map, subst}
 use Rattle.sdr_served.proofs.HashLemmas.{hash_is_at}
 use Rattle.sdr_answers.proofs.ListLemmas.{IsSmall, list_is_at}
 use Rattle.sdr_served.proofs.NameLemmas.{names_kept}
-use Rattle.sdr_answers.proofs.RawLemmas.{IsRawAt, length_of_raw, raw_is_at}
+use Rattle.sdr_answers.proofs.RawLemmas.{length_of_raw, raw_is_at}
 use Rattle.sdr_answers.proofs.SpotLemmas.{spot_is_at}
 use Rattle.sdr_served.proofs.TableLemmas.{table_is_at}
 use Rattle.sdr_answers.proofs.TextLemmas.{text_is_at}
