@@ -107,7 +107,7 @@ part_becomes old new w w' part part' moves s swaps changes marks roots same = re
 }
 
 -- so where the control words stay
-part_changed : {old new : Heap} {w : World} (w' : World) {part part' : Entries} (moves : List Move) →
+pub part_changed : {old new : Heap} {w : World} (w' : World) {part part' : Entries} (moves : List Move) →
     HeapStandsFor old w → Swaps (entries_of w) (entries_of w') part part' → Changes old.blocks new.blocks part part' →
     Made moves old new → roots_of w' ≡ roots_of w → w'.marks ≡ w.marks →
     HeapStandsFor new (with_taken_marked w' moves)

@@ -11,11 +11,12 @@ use Rattle.sdr_base.proofs.SectionLemmas.{section-change, section-gone, section-
 use Rattle.sdr_base.proofs.StandingLemmas.{swaps_after, swaps_before}
 use Rattle.sdr_model.specs.Accounts.{with_tickets}
 use Rattle.sdr_model.specs.Steps.{with_thing, without_thing}
+use Rattle.sdr_model.specs.TicketRows.{ticket_row}
 use Rattle.sdr_model.specs.World.{World, thing_at}
 use Rattle.sdr_model.specs.declared.accounts.Ticket.{Ticket}
 use Rattle.sdr_model.specs.declared.name.Name.{Name}
 use Rattle.sdr_model.specs.declared.things.Thing.{Thing}
-use Rattle.sdr_audit.specs.Rows.{name_row, ticket_row}
+use Rattle.sdr_audit.specs.Rows.{name_row}
 use Rattle.sdr_audit.specs.Standing.{entries_of, other_entries, queue_entries, thing_entries}
 use Rattle.sdr_audit.specs.Ties.{TieAlike, ties_of}
 use Rattle.sdr_audit.proofs.TiesLemmas.{same_ties}

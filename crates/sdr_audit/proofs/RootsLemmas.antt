@@ -17,13 +17,14 @@ use Rattle.sdr_model.proofs.ThingsLemmas.{get-with_at, same_address}
 use Rattle.sdr_model.specs.Accounts.{account_of, is_same_account, tickets_of}
 use Rattle.sdr_model.specs.Amounts.{amounts_by, in_space}
 use Rattle.sdr_model.specs.Charges.{bytes_charge, capsule_charge, left_in, object_bytes, occupancy, space_in, thing_charge}
+use Rattle.sdr_model.specs.TicketRows.{ticket_row}
 use Rattle.sdr_model.specs.World.{World, thing_at}
 use Rattle.sdr_model.specs.Zco.{as_source, source_at}
 use Rattle.sdr_model.specs.declared.things.Thing.{Thing}
 use Rattle.sdr_model.specs.declared.things.Thing.TheVariants as things
 use Rattle.sdr_model.specs.declared.zco.ZcoObject.{ZcoObject}
 use Rattle.sdr_model.specs.declared.zco.ZcoSource.{ZcoSource}
-use Rattle.sdr_audit.specs.Rows.{name_row, ticket_row}
+use Rattle.sdr_audit.specs.Rows.{name_row}
 use Rattle.sdr_audit.specs.Standing.{roots_of}
 use Rattle.sdr_audit.specs.Ties.{IsUntied, NoneIsTied}
 use Rattle.sdr_audit.proofs.TiesLemmas.{same_sum, with_thing_at}

@@ -56,7 +56,7 @@ others_sorted true b h = h
 others_sorted false b h = absurd h
 
 -- what holds of the value at each key holds of each entry
-each_entry : {X : Type 0} (P : X → Type 0) (es : List (ℕ × X)) → T (finite.is_sorted nat_cmp es) →
+pub each_entry : {X : Type 0} (P : X → Type 0) (es : List (ℕ × X)) → T (finite.is_sorted nat_cmp es) →
     ((q : ℕ) → IfSome (finite.find nat_cmp q es) P) → AllByRecursion (λ (e : ℕ × X). P e.1) es
 each_entry P [] sorted holds = tt
 each_entry {X} P (e ∷ es) sorted holds = (

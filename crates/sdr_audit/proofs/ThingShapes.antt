@@ -27,6 +27,7 @@ use Rattle.sdr_model.specs.Blocks.{thing_blocks}
 use Rattle.sdr_model.specs.HashSteps.{bucket_of}
 use Rattle.sdr_model.specs.Hashes.{Hash}
 use Rattle.sdr_model.specs.Things.{capsule_block, element_block, entry_block, extent_block, name_block, own_block, object_blocks, path_length}
+use Rattle.sdr_model.specs.TicketRows.{ticket_row}
 use Rattle.sdr_model.specs.Valid.{IsValidHash, IsValidThing}
 use Rattle.sdr_model.specs.declared.accounts.Ticket.{Ticket}
 use Rattle.sdr_model.specs.declared.name.Name.{Name}
@@ -40,7 +41,7 @@ use Rattle.sdr_model.specs.declared.zco.Extent.{Extent}
 use Rattle.sdr_model.specs.declared.zco.Subject.{Subject}
 use Rattle.sdr_model.specs.declared.zco.Subject.TheVariants as subjects
 use Rattle.sdr_model.specs.declared.zco.ZcoObject.{ZcoObject}
-use Rattle.sdr_audit.specs.Rows.{bucket_row, capsule_row, element_row, extent_row, item_row, name_row, path_of, ticket_row}
+use Rattle.sdr_audit.specs.Rows.{bucket_row, capsule_row, element_row, extent_row, item_row, name_row, path_of}
 use Rattle.sdr_audit.specs.Shape.{shape}
 use Rattle.sdr_audit.specs.Standing.{thing_entries}
 use Rattle.sdr_audit.specs.Ties.{Ties}

@@ -87,7 +87,7 @@ module _ {X : Type 0} (p : X → Bool) where
       ∙ sym (ap first (finite.entries-insert nat_cmp_total m k v'))
 
 -- the key of the first source of a raw object is the same
-same_first : (raw : ℕ) (m : Things) (addr : ℕ) (o : Option Thing) →
+pub same_first : (raw : ℕ) (m : Things) (addr : ℕ) (o : Option Thing) →
     names_raw_at raw (finite.get m addr) ≡ names_raw_at raw o →
     first (names_raw raw) (finite.entries (with_at m addr o)) ≡ first (names_raw raw) (finite.entries m)
 same_first raw m addr o same = by (finite.get m addr) o refl same

@@ -6,14 +6,12 @@ use Rattle.sdr_base.specs.Hashes.{HashItem, HashRow}
 use Rattle.sdr_base.specs.Lists.{ListElement, ListRow}
 use Rattle.sdr_base.specs.Sources.{SourceRow}
 use Rattle.sdr_base.specs.Tables.{TableRow}
-use Rattle.sdr_base.specs.Tickets.{TicketRow}
 use Rattle.sdr_base.specs.ZcoObjects.{CapsuleRow, ExtentRow, ObjectRow}
 use Rattle.sdr_base.specs.declared.medium.Medium.{Medium}
 use Rattle.sdr_base.specs.declared.medium.Medium.TheVariants as media
 use Rattle.sdr_model.specs.HashSteps.{bucket_of}
 use Rattle.sdr_model.specs.Hashes.{Hash}
 use Rattle.sdr_model.specs.Tables.{Table}
-use Rattle.sdr_model.specs.declared.accounts.Ticket.{Ticket}
 use Rattle.sdr_model.specs.declared.name.Name.{Name}
 use Rattle.sdr_model.specs.declared.things.Element.{Element}
 use Rattle.sdr_model.specs.declared.things.HashEntry.{HashEntry}
@@ -103,15 +101,3 @@ object_row z = record {
 -- an entry of the catalogue
 abbrev pub name_row : Name → NameRow
 name_row n = record { addr = n.block; type_number = n.kind; object = n.object; name = n.name }
-
--- a ticket
-abbrev pub ticket_row : Ticket → TicketRow
-ticket_row t = record {
-  addr = t.block;
-  number = t.number;
-  coarse = t.coarse;
-  fine = t.fine;
-  asked = t.asked;
-  left = t.left;
-  granted = t.granted;
-}

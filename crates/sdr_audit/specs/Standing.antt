@@ -23,12 +23,13 @@ use Rattle.sdr_model.specs.Accounts.{account_of, tickets_of}
 use Rattle.sdr_model.specs.Charges.{occupancies}
 use Rattle.sdr_model.specs.Fields.{FitsFields}
 use Rattle.sdr_model.specs.Steps.{taken_addresses}
+use Rattle.sdr_model.specs.TicketRows.{ticket_row}
 use Rattle.sdr_model.specs.Whole.{IsWhole}
 use Rattle.sdr_model.specs.World.{World, is_marked}
 use Rattle.sdr_model.specs.declared.accounts.Accounts.{Accounts}
 use Rattle.sdr_model.specs.declared.things.Thing.{Thing}
 use Rattle.sdr_model.specs.declared.things.Thing.TheVariants as things
-use Rattle.sdr_audit.specs.Rows.{list_row, table_row, hash_row, source_row, object_row, name_row, ticket_row}
+use Rattle.sdr_audit.specs.Rows.{list_row, table_row, hash_row, source_row, object_row, name_row}
 use Rattle.sdr_audit.specs.Ties.{Ties, ties_of}
 
 -- the blocks of a thing, its own first

@@ -1,7 +1,7 @@
 // Parts of the blocks in use.
 ghost use Rattle.std.specs.FinMap as finite;
 ghost use Rattle.std.specs.Prelude.{◌≡◌, ℕ, List, [], ◌++◌, None, Option, Some, map};
-ghost use Rattle.sdr_audit.specs.Rows.{name_row, ticket_row};
+ghost use Rattle.sdr_audit.specs.Rows.{name_row};
 ghost use Rattle.sdr_audit.specs.Standing.{entries_of, queue_entries, roots_of, thing_entries};
 ghost use Rattle.sdr_audit.specs.Ties.{NoneIsTied, TieAlike, Ties, ties_of};
 ghost use Rattle.sdr_base.specs.Blocks.{Blocks};
@@ -13,6 +13,7 @@ ghost use Rattle.sdr_base.specs.declared.account.Acct.{Acct};
 ghost use Rattle.sdr_model.specs.Accounts.{with_tickets};
 ghost use Rattle.sdr_model.specs.Steps.{with_thing, without_thing};
 ghost use Rattle.sdr_model.specs.Things.{Things, with_at};
+ghost use Rattle.sdr_model.specs.TicketRows.{ticket_row};
 ghost use Rattle.sdr_model.specs.World.{World, thing_at};
 ghost use Rattle.sdr_model.specs.declared.accounts.Ticket.{Ticket};
 ghost use Rattle.sdr_model.specs.declared.name.Name.{Name};

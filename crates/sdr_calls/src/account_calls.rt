@@ -8,7 +8,7 @@ use sdr_base::{Acct, Amounts, NoMemory, Refusal, Space};
 use sdr_changes::charging;
 use sdr_draft::Undoable;
 use sdr_model::{Call, MOST_AMOUNT, Reply};
-use sdr_parts::amounts::{amount, first_above};
+use sdr_model::amounts::{amount, first_above};
 
 /// What a ticket asks for.
 #[derive(Clone, Copy)]

@@ -13,7 +13,7 @@ ghost use Rattle.sdr_tally.specs.Allowed.{HasRoomFor, MayCharge, MayTakeBack, Re
 use sdr_base::{Acct, Amounts, NoMemory, Refusal, Space};
 use sdr_draft::Undoable;
 use sdr_model::{Pending, Ticket};
-use sdr_parts::amounts::{NOTHING, amount, minus, with_amount};
+use sdr_model::amounts::{NOTHING, amount, minus, with_amount};
 use sdr_parts::queue::left;
 
 // What is left of the grant of a ticket, nothing where there is none.

@@ -11,7 +11,7 @@ ghost use Rattle.sdr_tally.specs.Strips.{left_charge};
 use sdr_base::Amounts;
 use sdr_draft::Undoable;
 use sdr_model::Extent;
-use sdr_parts::amounts::{NOTHING, plus};
+use sdr_model::amounts::{NOTHING, plus};
 use sdr_parts::charges::{bytes_charge, space_charge};
 use sdr_parts::cuts::cut;
 

@@ -1,5 +1,6 @@
 // Copies of events.
-ghost use Rattle.std.specs.Prelude.{◌≡◌, IfOk};
+ghost use Rattle.std.specs.Prelude.{◌≡◌, IfOk, IfSome, IsNone, false};
+ghost use Rattle.sdr_core.specs.Copying.{is_on_objects, is_on_things};
 
 use sdr_base::{Bytes, NoMemory};
 use sdr_model::{Call, Event};
@@ -12,103 +13,126 @@ fn same(alloc: Global, bytes: &Bytes) -> Result<Bytes, NoMemory>
     Bytes::copied(alloc, bytes.as_slice())
 }
 
+// A copy of a call on raw objects or on what is made of blocks that holds no bytes.
+fn copy_of_things(call: &Call) -> Option<Call>
+    ensures same { IfSome result (λ copy. copy ≡ call.now) }
+    ensures none { IsNone result → is_on_things call.now ≡ false }
+{
+    Some(match call {
+        Call::Malloc(bytes) => Call::Malloc(*bytes),
+        Call::Free(addr) => Call::Free(*addr),
+        Call::Length(addr) => Call::Length(*addr),
+        Call::Read(addr, place, count) => Call::Read(*addr, *place, *count),
+        Call::Stage(addr, count) => Call::Stage(*addr, *count),
+        Call::StringLength(addr) => Call::StringLength(*addr),
+        Call::StringRead(addr) => Call::StringRead(*addr),
+        Call::StringDup(addr) => Call::StringDup(*addr),
+        Call::List(user) => Call::List(*user),
+        Call::ListDestroy(addr) => Call::ListDestroy(*addr),
+        Call::ListLength(addr) => Call::ListLength(*addr),
+        Call::ListUser(addr) => Call::ListUser(*addr),
+        Call::SetListUser(addr, user) => Call::SetListUser(*addr, *user),
+        Call::InsertFirst(addr, datum) => Call::InsertFirst(*addr, *datum),
+        Call::InsertLast(addr, datum) => Call::InsertLast(*addr, *datum),
+        Call::InsertBefore(element, datum) => Call::InsertBefore(*element, *datum),
+        Call::InsertAfter(element, datum) => Call::InsertAfter(*element, *datum),
+        Call::InsertOrdered(addr, datum, by) => Call::InsertOrdered(*addr, *datum, *by),
+        Call::Search(addr, datum, by) => Call::Search(*addr, *datum, *by),
+        Call::Delete(element) => Call::Delete(*element),
+        Call::First(addr) => Call::First(*addr),
+        Call::Last(addr) => Call::Last(*addr),
+        Call::Next(element) => Call::Next(*element),
+        Call::Prev(element) => Call::Prev(*element),
+        Call::Datum(element) => Call::Datum(*element),
+        Call::SetDatum(element, value) => Call::SetDatum(*element, *value),
+        Call::Table(rows, size, user) => Call::Table(*rows, *size, *user),
+        Call::Row(addr, at) => Call::Row(*addr, *at),
+        Call::Dimensions(addr) => Call::Dimensions(*addr),
+        Call::TableUser(addr) => Call::TableUser(*addr),
+        Call::TableDestroy(addr) => Call::TableDestroy(*addr),
+        Call::Hash(key_length, buckets) => Call::Hash(*key_length, *buckets),
+        Call::HashCount(addr) => Call::HashCount(*addr),
+        Call::HashDestroy(addr) => Call::HashDestroy(*addr),
+        Call::Entry(place) => Call::Entry(*place),
+        _ => return None,
+    })
+}
+
+// A copy of a call on sources, accounts, tickets or zero-copy objects that holds no bytes.
+fn copy_of_objects(call: &Call) -> Option<Call>
+    ensures same { IfSome result (λ copy. copy ≡ call.now) }
+    ensures none { IsNone result → is_on_objects call.now ≡ false }
+{
+    Some(match call {
+        Call::BulkRef(item, length) => Call::BulkRef(*item, *length),
+        Call::ObjRef(addr) => Call::ObjRef(*addr),
+        Call::DestroyRef(addr) => Call::DestroyRef(*addr),
+        Call::Count(addr) => Call::Count(*addr),
+        Call::Occupancy(acct, space) => Call::Occupancy(*acct, *space),
+        Call::Maximum(acct, space) => Call::Maximum(*acct, *space),
+        Call::SetMaximum(acct, space, value) => Call::SetMaximum(*acct, *space, *value),
+        Call::Create(acct, ticket) => Call::Create(*acct, *ticket),
+        Call::AppendExtent(object, ticket, named, offset, bytes) => Call::AppendExtent(
+            *object, *ticket, *named, *offset, *bytes,
+        ),
+        Call::DiscardFirstHeader(addr) => Call::DiscardFirstHeader(*addr),
+        Call::DiscardLastTrailer(addr) => Call::DiscardLastTrailer(*addr),
+        Call::Bond(addr, ticket) => Call::Bond(*addr, *ticket),
+        Call::ClonePart(addr, ticket, offset, bytes) => Call::ClonePart(
+            *addr, *ticket, *offset, *bytes,
+        ),
+        Call::Delimit(addr, offset, length) => Call::Delimit(*addr, *offset, *length),
+        Call::Strip(addr) => Call::Strip(*addr),
+        Call::ZcoLength(addr) => Call::ZcoLength(*addr),
+        Call::SourceLength(addr) => Call::SourceLength(*addr),
+        Call::Destroy(addr) => Call::Destroy(*addr),
+        Call::Transmit(addr, place, count) => Call::Transmit(*addr, *place, *count),
+        Call::ReceiveHeaders(addr, place, count) => Call::ReceiveHeaders(*addr, *place, *count),
+        Call::ReceiveSource(addr, place, count) => Call::ReceiveSource(*addr, *place, *count),
+        Call::ReceiveTrailers(addr, place, count) => Call::ReceiveTrailers(*addr, *place, *count),
+        Call::Request(acct, file, bulk, heap, coarse, fine) => Call::Request(
+            *acct, *file, *bulk, *heap, *coarse, *fine,
+        ),
+        Call::Awarded(ticket) => Call::Awarded(*ticket),
+        Call::Shred(ticket) => Call::Shred(*ticket),
+        _ => return None,
+    })
+}
+
 // A copy of the call.
 fn copy_of_call(alloc: Global, call: &Call) -> Result<Call, NoMemory>
     ensures { IfOk result (λ copy. copy ≡ call.now) }
 {
-    match call {
-        Call::Malloc(bytes) => Ok(Call::Malloc(*bytes)),
-        Call::Free(addr) => Ok(Call::Free(*addr)),
-        Call::Length(addr) => Ok(Call::Length(*addr)),
-        Call::Read(addr, place, count) => Ok(Call::Read(*addr, *place, *count)),
-        Call::Write(addr, place, bytes) => Ok(Call::Write(*addr, *place, same(alloc, bytes)?)),
-        Call::Stage(addr, count) => Ok(Call::Stage(*addr, *count)),
-        Call::String(text) => Ok(Call::String(same(alloc, text)?)),
-        Call::StringLength(addr) => Ok(Call::StringLength(*addr)),
-        Call::StringRead(addr) => Ok(Call::StringRead(*addr)),
-        Call::StringDup(addr) => Ok(Call::StringDup(*addr)),
-        Call::List(user) => Ok(Call::List(*user)),
-        Call::ListDestroy(addr) => Ok(Call::ListDestroy(*addr)),
-        Call::ListLength(addr) => Ok(Call::ListLength(*addr)),
-        Call::ListUser(addr) => Ok(Call::ListUser(*addr)),
-        Call::SetListUser(addr, user) => Ok(Call::SetListUser(*addr, *user)),
-        Call::InsertFirst(addr, datum) => Ok(Call::InsertFirst(*addr, *datum)),
-        Call::InsertLast(addr, datum) => Ok(Call::InsertLast(*addr, *datum)),
-        Call::InsertBefore(element, datum) => Ok(Call::InsertBefore(*element, *datum)),
-        Call::InsertAfter(element, datum) => Ok(Call::InsertAfter(*element, *datum)),
-        Call::InsertOrdered(addr, datum, by) => Ok(Call::InsertOrdered(*addr, *datum, *by)),
-        Call::Search(addr, datum, by) => Ok(Call::Search(*addr, *datum, *by)),
-        Call::Delete(element) => Ok(Call::Delete(*element)),
-        Call::First(addr) => Ok(Call::First(*addr)),
-        Call::Last(addr) => Ok(Call::Last(*addr)),
-        Call::Next(element) => Ok(Call::Next(*element)),
-        Call::Prev(element) => Ok(Call::Prev(*element)),
-        Call::Datum(element) => Ok(Call::Datum(*element)),
-        Call::SetDatum(element, value) => Ok(Call::SetDatum(*element, *value)),
-        Call::Table(rows, size, user) => Ok(Call::Table(*rows, *size, *user)),
-        Call::Row(addr, at) => Ok(Call::Row(*addr, *at)),
-        Call::SetRow(addr, at, bytes) => Ok(Call::SetRow(*addr, *at, same(alloc, bytes)?)),
-        Call::Dimensions(addr) => Ok(Call::Dimensions(*addr)),
-        Call::TableUser(addr) => Ok(Call::TableUser(*addr)),
-        Call::TableDestroy(addr) => Ok(Call::TableDestroy(*addr)),
-        Call::Hash(key_length, buckets) => Ok(Call::Hash(*key_length, *buckets)),
-        Call::HashInsert(addr, key, value) => {
-            Ok(Call::HashInsert(*addr, same(alloc, key)?, *value))
-        }
-        Call::HashRetrieve(addr, key) => Ok(Call::HashRetrieve(*addr, same(alloc, key)?)),
-        Call::HashRevise(addr, key, value) => {
-            Ok(Call::HashRevise(*addr, same(alloc, key)?, *value))
-        }
-        Call::HashRemove(addr, key) => Ok(Call::HashRemove(*addr, same(alloc, key)?)),
-        Call::HashCount(addr) => Ok(Call::HashCount(*addr)),
-        Call::HashDestroy(addr) => Ok(Call::HashDestroy(*addr)),
-        Call::Catlg(name, kind, object) => Ok(Call::Catlg(same(alloc, name)?, *kind, *object)),
-        Call::Find(name) => Ok(Call::Find(same(alloc, name)?)),
-        Call::Uncatlg(name) => Ok(Call::Uncatlg(same(alloc, name)?)),
-        Call::Entry(place) => Ok(Call::Entry(*place)),
-        Call::FileRef(path, length) => Ok(Call::FileRef(same(alloc, path)?, *length)),
-        Call::BulkRef(item, length) => Ok(Call::BulkRef(*item, *length)),
-        Call::ObjRef(addr) => Ok(Call::ObjRef(*addr)),
-        Call::DestroyRef(addr) => Ok(Call::DestroyRef(*addr)),
-        Call::Count(addr) => Ok(Call::Count(*addr)),
-        Call::Occupancy(acct, space) => Ok(Call::Occupancy(*acct, *space)),
-        Call::Maximum(acct, space) => Ok(Call::Maximum(*acct, *space)),
-        Call::SetMaximum(acct, space, value) => Ok(Call::SetMaximum(*acct, *space, *value)),
-        Call::Create(acct, ticket) => Ok(Call::Create(*acct, *ticket)),
-        Call::AppendExtent(object, ticket, named, offset, bytes) => {
-            Ok(Call::AppendExtent(*object, *ticket, *named, *offset, *bytes))
-        }
-        Call::PrependHeader(addr, ticket, text) => {
-            Ok(Call::PrependHeader(*addr, *ticket, same(alloc, text)?))
-        }
-        Call::AppendTrailer(addr, ticket, text) => {
-            Ok(Call::AppendTrailer(*addr, *ticket, same(alloc, text)?))
-        }
-        Call::DiscardFirstHeader(addr) => Ok(Call::DiscardFirstHeader(*addr)),
-        Call::DiscardLastTrailer(addr) => Ok(Call::DiscardLastTrailer(*addr)),
-        Call::Bond(addr, ticket) => Ok(Call::Bond(*addr, *ticket)),
-        Call::ClonePart(addr, ticket, offset, bytes) => {
-            Ok(Call::ClonePart(*addr, *ticket, *offset, *bytes))
-        }
-        Call::Delimit(addr, offset, length) => Ok(Call::Delimit(*addr, *offset, *length)),
-        Call::Strip(addr) => Ok(Call::Strip(*addr)),
-        Call::ZcoLength(addr) => Ok(Call::ZcoLength(*addr)),
-        Call::SourceLength(addr) => Ok(Call::SourceLength(*addr)),
-        Call::Destroy(addr) => Ok(Call::Destroy(*addr)),
-        Call::Transmit(addr, place, count) => Ok(Call::Transmit(*addr, *place, *count)),
-        Call::ReceiveHeaders(addr, place, count) => {
-            Ok(Call::ReceiveHeaders(*addr, *place, *count))
-        }
-        Call::ReceiveSource(addr, place, count) => Ok(Call::ReceiveSource(*addr, *place, *count)),
-        Call::ReceiveTrailers(addr, place, count) => {
-            Ok(Call::ReceiveTrailers(*addr, *place, *count))
-        }
-        Call::Request(acct, file, bulk, heap, coarse, fine) => {
-            Ok(Call::Request(*acct, *file, *bulk, *heap, *coarse, *fine))
-        }
-        Call::Awarded(ticket) => Ok(Call::Awarded(*ticket)),
-        Call::Shred(ticket) => Ok(Call::Shred(*ticket)),
+    if let Some(copy) = copy_of_things(call) {
+        return Ok(copy);
     }
+    if let Some(copy) = copy_of_objects(call) {
+        return Ok(copy);
+    }
+    Ok(match call {
+        Call::Write(addr, place, bytes) => Call::Write(*addr, *place, same(alloc, bytes)?),
+        Call::String(text) => Call::String(same(alloc, text)?),
+        Call::SetRow(addr, at, bytes) => Call::SetRow(*addr, *at, same(alloc, bytes)?),
+        Call::HashInsert(addr, key, value) => Call::HashInsert(*addr, same(alloc, key)?, *value),
+        Call::HashRetrieve(addr, key) => Call::HashRetrieve(*addr, same(alloc, key)?),
+        Call::HashRevise(addr, key, value) => Call::HashRevise(*addr, same(alloc, key)?, *value),
+        Call::HashRemove(addr, key) => Call::HashRemove(*addr, same(alloc, key)?),
+        Call::Catlg(name, kind, object) => Call::Catlg(same(alloc, name)?, *kind, *object),
+        Call::Find(name) => Call::Find(same(alloc, name)?),
+        Call::Uncatlg(name) => Call::Uncatlg(same(alloc, name)?),
+        Call::FileRef(path, length) => Call::FileRef(same(alloc, path)?, *length),
+        Call::PrependHeader(addr, ticket, text) => Call::PrependHeader(
+            *addr,
+            *ticket,
+            same(alloc, text)?,
+        ),
+        Call::AppendTrailer(addr, ticket, text) => Call::AppendTrailer(
+            *addr,
+            *ticket,
+            same(alloc, text)?,
+        ),
+        _ => unreachable!(),
+    })
 }
 
 /// A copy of the event.

@@ -1,4 +1,4 @@
-//! Tests of `sdr_base`, `sdr_disk`, `sdr_log` and `sdr_media`, as rows of literals.
+//! Tests of `sdr_base`, `sdr_disk`, `sdr_log`, `sdr_media` and `sdr_files`, as rows of literals.
 //!
 //! 1. A row is what is called, and what is answered then. Its literals come from worked rows, and not
 //!    from the code.
@@ -10,6 +10,8 @@
 
 #[cfg(test)]
 mod disk_tests;
+#[cfg(test)]
+mod file_tests;
 #[cfg(test)]
 mod frame_tests;
 #[cfg(test)]

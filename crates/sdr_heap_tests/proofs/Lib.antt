@@ -1,2 +1,1 @@
 pub mod FormattedLemmas
-pub mod UsedLemmas

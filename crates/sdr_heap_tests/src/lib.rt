@@ -1,4 +1,4 @@
-//! Tests of the pools and the heap on a formatted disk, as rows of literals, and a law of formatted disks,
+//! Tests of the heap on a formatted disk, as rows of literals, and a law of formatted disks,
 //! which stands above both the image and the pools.
 //!
 //! 1. A row is what is called, and what is answered then. Its literals come from worked rows, and not
@@ -14,9 +14,5 @@ mod disks;
 #[cfg(test)]
 mod heap_tests;
 mod laws;
-#[cfg(test)]
-mod plain;
-#[cfg(test)]
-mod pool_tests;
 
 pub use laws::formatted_keeps;

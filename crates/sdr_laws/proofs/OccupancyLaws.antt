@@ -48,7 +48,7 @@ account_now a accts.Inbound account = refl
 account_now a accts.Outbound account = refl
 
 -- a new ticket in a queue
-left_placed : (space : Space) (ts : List Ticket) (n : Ticket)
+pub left_placed : (space : Space) (ts : List Ticket) (n : Ticket)
     → left_in space (placed ts n) ≡ left_in space ts + amount n.left space
 left_placed space [] n = omega (arith, left_in-cons space n [])
 left_placed space (t ∷ ts) n =

@@ -1,3 +1,4 @@
+pub mod AmountLemmas
 pub mod BlocksTaken
 pub mod Cases
 pub mod DryLemmas

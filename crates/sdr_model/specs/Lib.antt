@@ -31,6 +31,7 @@ pub mod Steps
 pub mod TableSteps
 pub mod Tables
 pub mod Things
+pub mod TicketRows
 pub mod Valid
 pub mod Whole
 pub mod Wire

@@ -1,5 +1,5 @@
 //! The object machine as plain data and definitions: the world that a user sees, and one step of the machine.
-//! No code here changes a world.
+//! No code here changes a world; amounts of space are reckoned here.
 //!
 //! 1. A world has maps and lists, and no count, sum or address chain that could disagree with them.
 //! 2. One call is one step: a relation by cases on the call, with its refusals in a fixed order.
@@ -8,6 +8,7 @@
 #![tactic(auto)]
 
 mod accounts;
+pub mod amounts;
 mod answer;
 mod call;
 mod event;

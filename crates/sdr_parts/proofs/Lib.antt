@@ -1,3 +1,2 @@
-pub mod AmountLemmas
 pub mod BoundsLemmas
 pub mod QueueLemmas

@@ -15,7 +15,7 @@ use Rattle.sdr_model.specs.Queue.{granted, served}
 use Rattle.sdr_model.specs.declared.accounts.Account.{Account}
 use Rattle.sdr_model.specs.declared.accounts.Accounts.{Accounts}
 use Rattle.sdr_model.specs.declared.accounts.Ticket.{Ticket}
-use Rattle.sdr_parts.proofs.AmountLemmas.{amount-minus, amount-plus, nothing_in, within_in}
+use Rattle.sdr_model.proofs.AmountLemmas.{amount-minus, amount-plus, nothing_in, within_in}
 
 -- what holds of each of three choices
 picks : (P : List Ticket → Type 0) (a b : Bool) {x y z : List Ticket} → (a ≡ true → P x) → (a ≡ false → b ≡ true

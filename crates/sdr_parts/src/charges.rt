@@ -4,7 +4,7 @@ ghost use Rattle.sdr_model.specs.Amounts.{amounts_by, in_space};
 ghost use Rattle.sdr_model.specs.BondSteps.{bond_rise};
 ghost use Rattle.sdr_model.specs.Charges.{bytes_charge, capsule_charge};
 
-use crate::amounts::NOTHING;
+use sdr_model::amounts::NOTHING;
 use crate::capsules::capsule_bytes;
 use sdr_base::{Amounts, Space};
 use sdr_model::Capsule;

@@ -5,7 +5,7 @@ ghost use Rattle.sdr_model.specs.Amounts.{no_amounts};
 ghost use Rattle.sdr_parts.specs.Trims.{edited, capsule_bytes_of, trim_charge, trimmed};
 ghost use Rattle.sdr_parts.specs.Bounds.{IsBounded};
 
-use crate::amounts::NOTHING;
+use sdr_model::amounts::NOTHING;
 use crate::capsules::capsule_bytes;
 use sdr_base::{Acct, Amounts, Items};
 use sdr_model::{Capsule, Extent, Part, ZcoObject};

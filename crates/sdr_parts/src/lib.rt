@@ -1,12 +1,11 @@
-//! Parts of a world as functions over plain data: amounts of space, queues of tickets, and what is in objects, with
-//! what it charges. Nothing here keeps a world.
+//! Parts of a world as functions over plain data: queues of tickets, and what is in objects, with what it charges.
+//! Nothing here keeps a world.
 //!
 //! 1. What is in an object is bounded, so that each sum over it fits a word.
 //! 2. An edit, a trim and a component say how an object is changed, and a change says by what its uses of sources and
 //!    its charges then differ.
 #![tactic(auto)]
 
-pub mod amounts;
 pub mod capsules;
 pub mod charges;
 pub mod component;

@@ -7,7 +7,7 @@ ghost use Rattle.sdr_model.specs.Amounts.{amounts_by, are_within, minus, plus};
 ghost use Rattle.sdr_model.specs.Charges.{left_in};
 ghost use Rattle.sdr_model.specs.Queue.{barrier, enqueued, front_waiting, granted, served, stands_before};
 
-use crate::amounts::{NOTHING, are_within, is_nothing, minus, plus};
+use sdr_model::amounts::{NOTHING, are_within, is_nothing, minus, plus};
 use sdr_base::{Amounts, Items, NoMemory};
 use sdr_model::Ticket;
 

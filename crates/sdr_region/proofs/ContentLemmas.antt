@@ -95,12 +95,6 @@ module _ (bytes : List ℕ) {edges : Edges} (built : IsBuilt bytes edges) where
       subst (λ (e : Edges). SmallFilled bytes e.start) (sym built.between)
       (record { done = []; follow = refl; within = (in_order bytes built.right).low; filled = All-nil (λ block. is_filled bytes 8 block ≡ true) })
 
-  -- behind the last small block
-  pub small_filled : (place : ℕ) → SmallFilled bytes place → edges.low ≤ place → SmallFilled bytes (control_word bytes LOW)
-  small_filled place f end =
-      let e : place ≡ control_word bytes LOW = (let w = f.within in omega (arith, w, end, low_is)) in
-      subst (SmallFilled bytes) e f
-
   -- before any large block is looked at
   pub large_begin : SmallFilled bytes (control_word bytes LOW) → LargeFilled bytes edges.high
   large_begin f =

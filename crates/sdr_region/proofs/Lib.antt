@@ -20,6 +20,7 @@ pub mod RegionLemmas
 pub mod SmallLemmas
 pub mod SoundLemmas
 pub mod SpacedLemmas
+pub mod StruckLemmas
 pub mod ToldLemmas
 pub mod TouchingLemmas
 pub mod WalkLemmas

@@ -1,11 +1,10 @@
 -- Which free blocks a list may have, and what is marked.
-use Rattle.std.proofs.Common.{◌≡◌, ◌≢◌, ◌≤◌, ◌<◌, ◌+◌, ◌-◌, ◌/◌, ◌%◌, ◌==◌, ◌&&◌, ℕ, Bool, List, [], ◌∷◌, ◌++◌, cond, not, true, false, length, get_or, set, arith, ap, ◌∙◌, refl, sym, inl, inr}
+use Rattle.std.proofs.Common.{◌≡◌, ◌≢◌, ◌≤◌, ◌<◌, ◌+◌, ◌-◌, ◌/◌, ◌%◌, ◌==◌, ◌&&◌, ℕ, Bool, List, [], ◌∷◌, ◌++◌, cond, true, false, length, get_or, set, arith, ap, ◌∙◌, refl, sym, inl, inr}
 use Rattle.std.specs.Prelude.{count_by, nat_le}
 use Rattle.std.proofs.lemmas.Bool.{and_from, and_parts, cases_Bool, cases_eq, cases_lt, eq-eqb, eqb-true, le-leb, leb-true, ne_eqb}
 use Rattle.std.proofs.lemmas.List.{get_or-set_other, get_or-set_same, get_or_past}
-use Rattle.std.proofs.lemmas.List.Sums.{sum_by-set}
 use Rattle.sdr_base.proofs.PoolsLemmas.{count_by-append, count_by-no, count_by-yes}
-use Rattle.sdr_region.specs.Listed.{AreMarked, frame_in, is_listed, is_marked, is_told_free, list_of, unmarked}
+use Rattle.sdr_region.specs.Listed.{AreMarked, frame_in, is_listed, is_marked, is_told_free, list_of}
 use Rattle.sdr_region.specs.Spots.{is_free_spot}
 use Rattle.sdr_region.specs.declared.spot.Spot.{Spot}
 use Rattle.sdr_region.specs.declared.spot.Spot.TheVariants as spots
@@ -121,10 +120,3 @@ module _ (bytes : List ℕ) (told : List Spot) (lists : ℕ → List ℕ) (reach
 
       add_none : (n : ℕ) → n + count_by (is_addr a) [] ≡ n
       add_none n = omega arith
-
--- fewer words aren't marked
-pub fewer_unmarked : (reached : List Bool) (word : ℕ) → word < length reached → get_or reached word false ≡ false → unmarked (set reached word true) < unmarked reached
-fewer_unmarked reached word inside fails =
-    let s = sum_by-set (λ (b : Bool). cond (not b) 1 0) reached word true false inside in
-    let e : cond {A = ℕ} (not (get_or reached word false)) 1 0 ≡ 1 = ap (λ (b : Bool). cond (not b) 1 0) fails in
-    omega (arith, s, e)

@@ -15,10 +15,11 @@ use Rattle.sdr_region.proofs.GoesLemmas.{frame_large, frame_small, goes_same}
 use Rattle.sdr_region.proofs.ListedLemmas.{is_addr, listed_at, marked_counts}
 use Rattle.sdr_region.proofs.ListsLemmas.{addrs_contained, addrs_of, contained_counted, counted_contained, large_list, large_over, large_word, list_right, sized_contained, small_list, small_over, small_word}
 use Rattle.sdr_region.proofs.SpacedLemmas.{AllBefore, IfBefore, Spaced, all_before, around, begun_first, begun_later, none_some, spaced_before}
+use Rattle.sdr_region.proofs.StruckLemmas.{lost_is}
 use Rattle.sdr_region.proofs.ToldLemmas.{begins_free, large_listed_at, small_listed_at}
 use Rattle.sdr_region.specs.Control.{ControlIsRight, control_word}
 use Rattle.sdr_region.specs.Free.{AreListed, IsListIn, IsListWord, IsLost, LargeReached, SmallReached}
-use Rattle.sdr_region.specs.Listed.{GoesOver, IsFirstLost, ListsWalked, frame_at, frame_in, is_listed, is_lost, is_marked}
+use Rattle.sdr_region.specs.Listed.{GoesOver, IsFirstLost, IsLeft, ListsWalked, frame_at, frame_in, is_listed, is_lost, is_marked}
 use Rattle.sdr_region.specs.Spots.{begun_in, is_free_spot}
 use Rattle.sdr_region.specs.Walk.{AreBlocks}
 use Rattle.sdr_region.specs.Walked.{AllFound}
@@ -37,7 +38,7 @@ all_begun frame P (x ∷ blocks) from to place (at, whole, (next, later, more)) 
     ])))
 
 module _ (bytes : List ℕ) (told : List Spot) (reached : List Bool) (right : ControlIsRight bytes) (long : length told * 8 ≡ length bytes) (found : AllFound bytes told)
-    (w : ListsWalked bytes told reached 89) (small large : List PoolBlock) (are : AreBlocks bytes small large) where
+    (w : ListsWalked bytes told reached 89) (left : List Spot) (left_is : IsLeft told reached left) (small large : List PoolBlock) (are : AreBlocks bytes small large) where
   over : (word : ℕ) → IsListWord word → GoesOver bytes told word (8 * word) 0 (w.lists word)
   over word is = let last = is.last in w.done word is (omega (arith, last))
 
@@ -46,10 +47,10 @@ module _ (bytes : List ℕ) (told : List Spot) (reached : List Bool) (right : Co
       list_right bytes told right long found small large are word is (w.lists word) (over word is) (once_marked bytes told w.lists reached w.marks word)
 
   -- one that may be in a list is in it where it isn't lost
-  in_list : (word addr : ℕ) → is_listed bytes told word addr ≡ true → is_lost told reached ((addr - frame_in word) / 8) ≡ false → Contains (w.lists word) addr
+  in_list : (word addr : ℕ) → is_listed bytes told word addr ≡ true → is_lost left ((addr - frame_in word) / 8) ≡ false → Contains (w.lists word) addr
   in_list word addr listed kept =
       let free = (listed_at bytes told word addr listed).free in
-      let marked : is_marked reached word addr ≡ true = by_mark (get_or reached ((addr - frame_in word) / 8) false) (sym (ap (λ (t : Bool). t && not (is_marked reached word addr)) free) ∙ kept) in
+      let marked : is_marked reached word addr ≡ true = by_mark (get_or reached ((addr - frame_in word) / 8) false) (sym (ap (λ (t : Bool). t && not (is_marked reached word addr)) free) ∙ sym (lost_is left_is ((addr - frame_in word) / 8)) ∙ kept) in
       let one = marked_counts bytes told w.lists reached word addr w.marks listed marked in
       counted_contained addr (w.lists word) (omega (arith, one))
     where
@@ -58,10 +59,10 @@ module _ (bytes : List ℕ) (told : List Spot) (reached : List Bool) (right : Co
       by_mark false e = let d : true ≡ false = e in cc
 
   -- and isn't where it is lost
-  not_in_list : (word addr : ℕ) → is_listed bytes told word addr ≡ true → is_lost told reached ((addr - frame_in word) / 8) ≡ true → Contains (w.lists word) addr → ⊥
+  not_in_list : (word addr : ℕ) → is_listed bytes told word addr ≡ true → is_lost left ((addr - frame_in word) / 8) ≡ true → Contains (w.lists word) addr → ⊥
   not_in_list word addr listed lost contains =
       let some = contained_counted addr (w.lists word) contains in
-      let unmarked = not-true (get_or reached ((addr - frame_in word) / 8) false) (and_parts _ _ lost).1 in
+      let unmarked = not-true (get_or reached ((addr - frame_in word) / 8) false) (and_parts _ _ (sym (lost_is left_is ((addr - frame_in word) / 8)) ∙ lost)).1 in
       let none : count_by (is_addr addr) (w.lists word) ≡ 0 = w.marks word addr ∙ (λ i. cond {A = ℕ} (listed i && unmarked i) 1 0) in
       omega (arith, some, none)
 
@@ -80,17 +81,17 @@ module _ (bytes : List ℕ) (told : List Spot) (reached : List Bool) (right : Co
           ap (λ (f : ℕ). (block.addr - f) / 8) (frame_small (3 + block.words) (small_word bytes told right long found small large are block.words at_small.2))
           ∙ ap (λ (n : ℕ). n / 8) e
 
-      reached_small : is_lost told reached (place / 8) ≡ false → SmallReached bytes small block
+      reached_small : is_lost left (place / 8) ≡ false → SmallReached bytes small block
       reached_small kept = record {
         list =
             small_list bytes told right long found small large are block.words at_small.2 (w.lists (3 + block.words)) (over (3 + block.words) is_word)
             (once_marked bytes told w.lists reached w.marks (3 + block.words));
-        reached = in_list (3 + block.words) block.addr at_small.0 (ap (is_lost told reached) index ∙ kept);
+        reached = in_list (3 + block.words) block.addr at_small.0 (ap (is_lost left) index ∙ kept);
       }
 
-      lost_small : is_lost told reached (place / 8) ≡ true → SmallReached bytes small block → ⊥
+      lost_small : is_lost left (place / 8) ≡ true → SmallReached bytes small block → ⊥
       lost_small lost r =
-          not_in_list (3 + block.words) block.addr at_small.0 (ap (is_lost told reached) index ∙ lost)
+          not_in_list (3 + block.words) block.addr at_small.0 (ap (is_lost left) index ∙ lost)
           (subst (λ (l : List ℕ). Contains l block.addr)
           (goes_same bytes told (3 + block.words) (8 * (3 + block.words)) 0 r.list.addrs (w.lists (3 + block.words))
           (small_over bytes told right long found small large are block.words at_small.2 r.list) (over (3 + block.words) is_word)) r.reached)
@@ -110,19 +111,19 @@ module _ (bytes : List ℕ) (told : List Spot) (reached : List Bool) (right : Co
           (frame_large (68 + order_of block.words) (large_word bytes told right long found small large are (order_of block.words)))
           ∙ ap (λ (n : ℕ). n / 8) e
 
-      reached_large : is_lost told reached (place / 8) ≡ false → LargeReached bytes large block
+      reached_large : is_lost left (place / 8) ≡ false → LargeReached bytes large block
       reached_large kept = record {
         list =
             large_list bytes told right long found small large are (order_of block.words) (w.lists (68 + order_of block.words))
             (over (68 + order_of block.words) is_order) (once_marked bytes told w.lists reached w.marks (68 + order_of block.words));
         reached =
             sized_contained bytes told (68 + order_of block.words) block.addr block.words (w.lists (68 + order_of block.words)) at_large.1
-            (in_list (68 + order_of block.words) block.addr at_large.0 (ap (is_lost told reached) index_large ∙ kept));
+            (in_list (68 + order_of block.words) block.addr at_large.0 (ap (is_lost left) index_large ∙ kept));
       }
 
-      lost_large : is_lost told reached (place / 8) ≡ true → LargeReached bytes large block → ⊥
+      lost_large : is_lost left (place / 8) ≡ true → LargeReached bytes large block → ⊥
       lost_large lost r =
-          not_in_list (68 + order_of block.words) block.addr at_large.0 (ap (is_lost told reached) index_large ∙ lost)
+          not_in_list (68 + order_of block.words) block.addr at_large.0 (ap (is_lost left) index_large ∙ lost)
           (subst (λ (l : List ℕ). Contains l block.addr)
           (goes_same bytes told (68 + order_of block.words) (8 * (68 + order_of block.words)) 0 (addrs_of r.list.blocks) (w.lists (68 + order_of block.words))
           (large_over bytes told right long found small large are (order_of block.words) r.list) (over (68 + order_of block.words) is_order))
@@ -133,14 +134,14 @@ module _ (bytes : List ℕ) (told : List Spot) (reached : List Bool) (right : Co
   IfFree Reached block = (block.used ≡ false) → Reached block
 
   -- those before a place are reached where none of them is lost
-  small_before : (place : ℕ) → ((other : ℕ) → 8 * other < place → is_lost told reached other ≡ false) → AllBefore 8 (IfFree (SmallReached bytes small)) small place
+  small_before : (place : ℕ) → ((other : ℕ) → 8 * other < place → is_lost left other ≡ false) → AllBefore 8 (IfFree (SmallReached bytes small)) small place
   small_before place kept =
       all_begun 8 (IfFree (SmallReached bytes small)) small (control_word bytes START) (control_word bytes LOW) place
       (spaced_small bytes small large right are)
       (λ other block whole less begun free.
       reached_small other block whole free begun (kept (other / 8) (let e : 8 * (other / 8) ≡ other = omega (arith, whole) in omega (arith, e, less))))
 
-  large_before : (place : ℕ) → ((other : ℕ) → 8 * other < place → is_lost told reached other ≡ false) → AllBefore 16 (IfFree (LargeReached bytes large)) large place
+  large_before : (place : ℕ) → ((other : ℕ) → 8 * other < place → is_lost left other ≡ false) → AllBefore 16 (IfFree (LargeReached bytes large)) large place
   large_before place kept =
       all_begun 16 (IfFree (LargeReached bytes large)) large (control_word bytes HIGH) (length bytes) place
       (spaced_large bytes small large right are)
@@ -148,12 +149,12 @@ module _ (bytes : List ℕ) (told : List Spot) (reached : List Bool) (right : Co
       reached_large other block whole free begun (kept (other / 8) (let e : 8 * (other / 8) ≡ other = omega (arith, whole) in omega (arith, e, less))))
 
   -- where none is lost all are reached
-  pub all_listed : ((word : ℕ) → word < length told → is_lost told reached word ≡ false) → AreListed bytes small large
+  pub all_listed : ((word : ℕ) → word < length left → is_lost left word ≡ false) → AreListed bytes small large
   all_listed kept =
       let o = in_order bytes right in
       let high = o.high in
       let end = o.end in
-      let before : (other : ℕ) → 8 * other < length bytes → is_lost told reached other ≡ false = λ other less. kept other (omega (arith, less, long)) in
+      let before : (other : ℕ) → 8 * other < length bytes → is_lost left other ≡ false = λ other less. kept other (let same = left_is.long in omega (arith, less, long, same)) in
       record {
         lists = lists_right;
         below =
@@ -165,15 +166,15 @@ module _ (bytes : List ℕ) (told : List Spot) (reached : List Bool) (right : Co
       }
 
   -- the first that is lost, at its address
-  pub first_is_lost : (word : ℕ) → IsFirstLost told reached word → IsLost bytes small large (8 * word + frame_at (8 * word) (control_word bytes LOW))
+  pub first_is_lost : (word : ℕ) → IsFirstLost left word → IsLost bytes small large (8 * word + frame_at (8 * word) (control_word bytes LOW))
   first_is_lost word first =
       let place : ℕ = 8 * word in
       let index : 8 * word / 8 ≡ word = omega arith in
       let whole : 8 * word % 8 ≡ 0 = omega arith in
       let free_told : is_free_spot (get_or told (8 * word / 8) spots.Nothing) ≡ true =
-      ap (λ (n : ℕ). is_free_spot (get_or told n spots.Nothing)) index ∙ (and_parts _ _ first.wrong).0 in
-      let lost : is_lost told reached (8 * word / 8) ≡ true = ap (is_lost told reached) index ∙ first.wrong in
-      let before : (other : ℕ) → 8 * other < 8 * word → is_lost told reached other ≡ false = λ other less. first.before other (omega (arith, less)) in
+      ap (λ (n : ℕ). is_free_spot (get_or told n spots.Nothing)) index ∙ (and_parts _ _ (sym (lost_is left_is word) ∙ first.wrong)).0 in
+      let lost : is_lost left (8 * word / 8) ≡ true = ap (is_lost left) index ∙ first.wrong in
+      let before : (other : ℕ) → 8 * other < 8 * word → is_lost left other ≡ false = λ other less. first.before other (omega (arith, less)) in
       let b = begins_free bytes told right long found small large are (8 * word) whole free_told in
       record {
         lists = lists_right;

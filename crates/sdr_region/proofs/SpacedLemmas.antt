@@ -53,22 +53,6 @@ begun_first frame block blocks place at = ap (λ (t : Bool). cond t (Some block)
 pub begun_later : (frame : ℕ) (block : PoolBlock) (blocks : List PoolBlock) (place : ℕ) → block.addr ≢ place + frame → begun_in frame (block ∷ blocks) place ≡ begun_in frame blocks place
 begun_later frame block blocks place off = ap (λ (t : Bool). cond t (Some block) (begun_in frame blocks place)) (ne_eqb block.addr (place + frame) off)
 
--- what holds of those before a place, and of the one that begins there, holds of those before the next word
-pub before_next : (frame : ℕ) (P : PoolBlock → Type 0) (blocks : List PoolBlock) (from to place : ℕ) → Spaced frame blocks from to → place % 8 ≡ 0 →
-    AllBefore frame P blocks place → ((block : PoolBlock) → begun_in frame blocks place ≡ Some block → P block) → AllBefore frame P blocks (place + 8)
-before_next frame P [] from to place s whole all here = All-nil (IfBefore frame P (place + 8))
-before_next frame P (block ∷ blocks) from to place (at, aligned, (next, later, more)) whole all here =
-    elim (cases_eq block.addr (place + frame)) [
-      | inl same ↦
-          All-cons (IfBefore frame P (place + 8)) block blocks (λ below. here block (begun_first frame block blocks place same))
-          (before_next frame P blocks next to place more whole (All-tail (IfBefore frame P place) block blocks all)
-          (λ b is. absurd (none_some (spaced_before frame blocks next to place more (omega (arith, same, at, later))) is)))
-      | inr off ↦
-          All-cons (IfBefore frame P (place + 8)) block blocks (λ below. All-head (IfBefore frame P place) block blocks all (omega (arith, below, off, at, aligned, whole)))
-          (before_next frame P blocks next to place more whole (All-tail (IfBefore frame P place) block blocks all)
-          (λ b is. here b (begun_later frame block blocks place off ∙ is)))
-    ]
-
 -- what holds of those before a place behind them all holds of all
 pub all_before : (frame : ℕ) (P : PoolBlock → Type 0) (blocks : List PoolBlock) (from to place : ℕ) → Spaced frame blocks from to → to ≤ place →
     AllBefore frame P blocks place → All P blocks
@@ -113,9 +97,3 @@ around frame P (first ∷ blocks) from to place block (at, aligned, (next, later
                 ])) a.all;
           }
     ]
-
--- none begins before the region
-pub nothing : (frame : ℕ) (P : PoolBlock → Type 0) (blocks : List PoolBlock) (from to : ℕ) → Spaced frame blocks from to → AllBefore frame P blocks 0
-nothing frame P [] from to s = All-nil (IfBefore frame P 0)
-nothing frame P (block ∷ blocks) from to (at, aligned, (next, later, more)) =
-    All-cons (IfBefore frame P 0) block blocks (λ below. absurd (omega (arith, below, at))) (nothing frame P blocks next to more)

@@ -1,5 +1,5 @@
--- Lists of free blocks as they are walked over, and which of their blocks are marked.
-use Rattle.std.specs.Prelude.{◌≡◌, ◌≤◌, ◌<◌, ◌==◌, ◌+◌, ◌-◌, ◌*◌, ◌/◌, ◌%◌, ◌&&◌, ◌||◌, ℕ, Bool, true, false, cond, not, nat_le, nat_lt, List, [], ◌∷◌, length, get_or, count_by}
+-- Lists of free blocks as they are walked over, and which of their blocks were reached.
+use Rattle.std.specs.Prelude.{◌≡◌, ◌≤◌, ◌<◌, ◌==◌, ◌+◌, ◌-◌, ◌*◌, ◌/◌, ◌%◌, ◌&&◌, ◌||◌, ℕ, Bool, true, false, cond, nat_le, nat_lt, List, [], ◌∷◌, length, get_or, count_by}
 use Rattle.sdr_base.specs.LargePool.{order_of}
 use Rattle.sdr_base.specs.Stored.{leader_words, number_at}
 use Rattle.sdr_base.specs.declared.control.TheConstants.{LARGE_LISTS, LOW, MOST_SMALL, SMALL_LISTS}
@@ -7,6 +7,7 @@ use Rattle.sdr_base.specs.declared.line.TheConstants.{WORD}
 use Rattle.sdr_region.specs.Control.{control_word}
 use Rattle.sdr_region.specs.Free.{IsListWord}
 use Rattle.sdr_region.specs.Spots.{is_free_spot}
+use Rattle.sdr_region.specs.Walked.{AllFound}
 use Rattle.sdr_region.specs.declared.free.Link.{Link}
 use Rattle.sdr_region.specs.declared.spot.Spot.{Spot}
 use Rattle.sdr_region.specs.declared.spot.Spot.TheVariants as spots
@@ -94,16 +95,30 @@ pub record ListWalked (bytes : List ℕ) (told : List Spot) (reached : List Bool
   pub marks : AreMarked bytes told lists reached
   pub long : length reached ≡ length told
 
--- whether a free block begins with a word that isn't marked
-abbrev pub is_lost : List Spot → List Bool → ℕ → Bool
-is_lost told reached word = is_free_spot (get_or told word spots.Nothing) && not (get_or reached word false)
+-- this is left of what was told of the words, once those that are marked are struck out
+pub record IsLeft (told : List Spot) (reached : List Bool) (left : List Spot) : Type 0 where
+  pub long : length left ≡ length told
+  pub each : (word : ℕ) → get_or left word spots.Nothing ≡ cond (get_or reached word false) spots.Nothing (get_or told word spots.Nothing)
+
+-- This is left of what was told of the words: the blocks that some lists reached are struck out, of which so much is known.
+pub record Leaves (bytes : List ℕ) (left : List Spot) (Walked : List Spot → List Bool → Type 0) : Type 0 where
+  pub told : List Spot
+  pub reached : List Bool
+  pub long : length told * WORD ≡ length bytes
+  pub found : AllFound bytes told
+  pub left_is : IsLeft told reached left
+  pub walked : Walked told reached
+
+-- whether a word is left with which a free block begins
+abbrev pub is_lost : List Spot → ℕ → Bool
+is_lost left word = is_free_spot (get_or left word spots.Nothing)
 
 -- this is the first such word
-pub record IsFirstLost (told : List Spot) (reached : List Bool) (word : ℕ) : Type 0 where
-  pub inside : word < length told
-  pub before : (other : ℕ) → other < word → is_lost told reached other ≡ false
-  pub wrong : is_lost told reached word ≡ true
+pub record IsFirstLost (left : List Spot) (word : ℕ) : Type 0 where
+  pub inside : word < length left
+  pub before : (other : ℕ) → other < word → is_lost left other ≡ false
+  pub wrong : is_lost left word ≡ true
 
--- how many words aren't marked
-abbrev pub unmarked : List Bool → ℕ
-unmarked reached = count_by not reached
+-- how many free blocks are left
+abbrev pub free_left : List Spot → ℕ
+free_left left = count_by is_free_spot left

@@ -1,5 +1,6 @@
 // The lists of free blocks.
 ghost use Rattle.std.specs.Prelude.{◌≡◌, ◌≢◌, ◌≤◌, ◌<◌, ◌==◌, ◌+◌, ◌-◌, ◌*◌, ◌/◌, ◌%◌, ◌^◌, ℕ, List, false, true, length, get_or, IfErr, IfOk, IfSome, OnOk, None};
+ghost use Rattle.std.specs.List.{list_any};
 ghost use Rattle.sdr_base.specs.Cells.{IsRegionSize};
 ghost use Rattle.sdr_base.specs.LargePool.{order_of};
 ghost use Rattle.sdr_base.specs.Pools.{PoolBlock};
@@ -11,9 +12,10 @@ ghost use Rattle.sdr_region.specs.Auditing.{Audits, DamagedBy, edges_of};
 ghost use Rattle.sdr_region.specs.Control.{ControlIsRight, control_word};
 ghost use Rattle.sdr_region.specs.Free.{AreListed, IsListWord, IsWrongFree, IsWrongList};
 ghost use Rattle.sdr_region.specs.Labels.{IsLabel};
-ghost use Rattle.sdr_region.specs.Listed.{IsFirstLost, ListWalked, ListsWalked, frame_at, frame_in, has_previous, is_listed, is_lost, is_small_list, is_told_free, list_of, may_follow, unmarked};
+ghost use Rattle.sdr_region.specs.Listed.{IsFirstLost, Leaves, ListWalked, ListsWalked, frame_at, frame_in, free_left, has_previous, is_listed, is_lost, is_small_list, is_told_free, list_of, may_follow};
+ghost use Rattle.sdr_region.specs.Spots.{is_free_spot};
 ghost use Rattle.sdr_region.specs.Walk.{AreBlocks};
-ghost use Rattle.sdr_region.specs.Walked.{IsSurveyed};
+ghost use Rattle.sdr_region.specs.Walked.{IsBuilt, IsSurveyed};
 
 use crate::control::Edges;
 use crate::error::{AuditError, Why};
@@ -127,10 +129,12 @@ fn has_previous<C: Cells>(c: &mut C, link: &Link) -> Result<bool, Stop>
     Ok(previous == link.before)
 }
 
-// Whether the block to which a link leads is a free one of its list, with a right link to the one before it.
+// Whether the block to which a link leads is a free one of its list that was not reached yet, with a right link to the one before it.
 fn may_follow<C: Cells>(c: &mut C, edges: &Edges, spots: &[Spot], link: &Link) -> Result<bool, Stop>
-    requires surveyed { IsSurveyed (C.bytes c.old) edges.now spots.now }
+    requires built { IsBuilt (C.bytes c.old) edges.now }
     requires sound { (C.transaction c.old).failed ≡ false }
+    requires left { Leaves (C.bytes c.old) spots.now
+        (λ told reached. ListWalked (C.bytes c.old) told reached link.now) }
     ensures given { IfOk result
         (λ yes. yes ≡ may_follow (C.bytes c.old) spots.now link.now.word link.now.before link.now.addr) }
     ensures same { C.bytes c.new ≡ C.bytes c.old }
@@ -147,38 +151,34 @@ fn may_follow<C: Cells>(c: &mut C, edges: &Edges, spots: &[Spot], link: &Link) -
     has_previous(c, link)
 }
 
-// Marks the block to which a link leads, and answers the link that stands in it.
+// Strikes out the block to which a link leads, and answers the link that stands in it.
 fn follow<C: Cells>(
     c: &mut C,
     edges: &Edges,
-    spots: &[Spot],
-    reached: &mut [bool],
+    spots: &mut [Spot],
     link: Link,
 ) -> Result<Link, AuditError>
-    requires surveyed { IsSurveyed (C.bytes c.old) edges.now spots.now }
+    requires built { IsBuilt (C.bytes c.old) edges.now }
     requires sound { (C.transaction c.old).failed ≡ false }
     requires more { link.addr ≢ 0 }
-    requires walked { ListWalked (C.bytes c.old) spots.now reached.old link }
-    ensures walked { IfOk result (λ next. ListWalked (C.bytes c.old) spots.now reached.new next) }
+    requires left { Leaves (C.bytes c.old) spots.old
+        (λ told reached. ListWalked (C.bytes c.old) told reached link) }
+    ensures left { IfOk result (λ next. Leaves (C.bytes c.old) spots.new
+        (λ told reached. ListWalked (C.bytes c.old) told reached next)) }
     ensures word { IfOk result (λ next. next.word ≡ link.word) }
-    ensures fewer { OnOk result (unmarked reached.new < unmarked reached.old) }
+    ensures fewer { OnOk result (free_left spots.new < free_left spots.old) }
     ensures damaged { IfErr result (DamagedBy Why.Free (λ at. (small large : List PoolBlock) →
         AreBlocks (C.bytes c.old) small large → IsWrongList (C.bytes c.old) small large at)) }
     ensures audits { Audits C.bytes C.transaction C.quiet c.old c.new result }
 {
-    let wrong = AuditError::Damaged {
-        place: WORD * link.word,
-        why: Why::Free,
-    };
     if !may_follow(c, edges, spots, &link)? {
-        return Err(wrong);
+        return Err(AuditError::Damaged {
+            place: WORD * link.word,
+            why: Why::Free,
+        });
     }
     let place = link.addr - frame_in(link.word);
-    let word = (place / WORD) as usize;
-    if reached[word] {
-        return Err(wrong);
-    }
-    reached[word] = true;
+    spots[(place / WORD) as usize] = Spot::Nothing;
     let addr = read_number(c, place + WORD)?;
     Ok(Link {
         word: link.word,
@@ -187,20 +187,21 @@ fn follow<C: Cells>(
     })
 }
 
-// Walks over the list of a control word, and marks its blocks. A block that is reached again ends the walk, so that it takes no
-// more steps than there are blocks.
+// Walks over the list of a control word, and strikes out its blocks. A block that is reached again ends the walk, so that it takes
+// no more steps than there are blocks.
 fn walk_list<C: Cells>(
     c: &mut C,
     edges: &Edges,
-    spots: &[Spot],
-    reached: &mut [bool],
+    spots: &mut [Spot],
     word: u64,
 ) -> Result<(), AuditError>
-    requires surveyed { IsSurveyed (C.bytes c.old) edges.now spots.now }
+    requires built { IsBuilt (C.bytes c.old) edges.now }
     requires sound { (C.transaction c.old).failed ≡ false }
     requires list { IsListWord word }
-    requires walked { ListsWalked (C.bytes c.old) spots.now reached.old word }
-    ensures walked { OnOk result (ListsWalked (C.bytes c.old) spots.now reached.new (word + 1)) }
+    requires left { Leaves (C.bytes c.old) spots.old
+        (λ told reached. ListsWalked (C.bytes c.old) told reached word) }
+    ensures left { OnOk result (Leaves (C.bytes c.old) spots.new
+        (λ told reached. ListsWalked (C.bytes c.old) told reached (word + 1))) }
     ensures damaged { IfErr result (DamagedBy Why.Free (λ at. (small large : List PoolBlock) →
         AreBlocks (C.bytes c.old) small large → IsWrongList (C.bytes c.old) small large at)) }
     ensures audits { Audits C.bytes C.transaction C.quiet c.old c.new result }
@@ -212,72 +213,71 @@ fn walk_list<C: Cells>(
         addr,
     };
     while link.addr != 0 {
-        link = follow(c, edges, spots, reached, link)?;
+        link = follow(c, edges, spots, link)?;
     }
     Ok(())
 }
 
 // Walks over all lists.
-fn walk_lists<C: Cells>(
-    c: &mut C,
-    edges: &Edges,
-    spots: &[Spot],
-    reached: &mut [bool],
-) -> Result<(), AuditError>
-    requires surveyed { IsSurveyed (C.bytes c.old) edges.now spots.now }
+fn walk_lists<C: Cells>(c: &mut C, edges: &Edges, spots: &mut [Spot]) -> Result<(), AuditError>
+    requires surveyed { IsSurveyed (C.bytes c.old) edges.now spots.old }
     requires sound { (C.transaction c.old).failed ≡ false }
-    requires long { length reached.old ≡ length spots.now }
-    requires clear { (word : ℕ) → get_or reached.old word false ≡ false }
-    ensures walked { OnOk result (ListsWalked (C.bytes c.old) spots.now reached.new
-        (LARGE_LISTS + MOST_ORDER + 1)) }
+    ensures left { OnOk result (Leaves (C.bytes c.old) spots.new
+        (λ told reached. ListsWalked (C.bytes c.old) told reached (LARGE_LISTS + MOST_ORDER + 1))) }
     ensures damaged { IfErr result (DamagedBy Why.Free (λ at. (small large : List PoolBlock) →
         AreBlocks (C.bytes c.old) small large → IsWrongList (C.bytes c.old) small large at)) }
     ensures audits { Audits C.bytes C.transaction C.quiet c.old c.new result }
 {
     for word in SMALL_LISTS + 1..LARGE_LISTS + MOST_ORDER + 1 {
-        walk_list(c, edges, spots, reached, word)?;
+        walk_list(c, edges, spots, word)?;
     }
     Ok(())
 }
 
-// The first word with which a free block begins that isn't marked.
-fn first_lost(spots: &[Spot], reached: &[bool]) -> Option<usize>
-    requires { length reached.now ≡ length spots.now }
-    ensures none { result ≡ None → (word : ℕ) → word < length spots.now →
-        is_lost spots.now reached.now word ≡ false }
-    ensures some { IfSome result (IsFirstLost spots.now reached.now) }
+// Whether a free block begins with any of these words.
+fn has_free(spots: &[Spot]) -> bool
+    ensures { result ≡ list_any is_free_spot spots.now }
 {
+    let mut found = false;
+    for spot in spots {
+        found |= matches!(spot, Spot::Free);
+    }
+    found
+}
+
+// The first word that is left with which a free block begins. Mostly there is none, which is found out without a branch for each word.
+fn first_lost(spots: &[Spot]) -> Option<usize>
+    ensures none { result ≡ None → (word : ℕ) → word < length spots.now →
+        is_lost spots.now word ≡ false }
+    ensures some { IfSome result (IsFirstLost spots.now) }
+{
+    if !has_free(spots) {
+        return None;
+    }
     for word in 0..spots.len() {
-        if is_free(spots, word as u64) && !reached[word] {
+        if is_free(spots, word as u64) {
             return Some(word);
         }
     }
     None
 }
 
-/// Checks the lists of the free blocks that were found, of both pools. It marks the words with which blocks begin that a list
-/// reached; before, none may be marked, and the marks are of no use afterwards. By rising control word, each list reaches only free
-/// blocks of its own words, or of its own order, each once, and a large one's previous link is right; what is wrong is told by the
-/// control word in which the list's front stands. Then each free block was reached; the first that wasn't is told by its address. It
-/// is linear in the region, for each block is followed once; it reads alone, and takes no memory.
-pub fn check_free<C: Cells>(
-    c: &mut C,
-    edges: &Edges,
-    spots: &[Spot],
-    reached: &mut [bool],
-) -> Result<(), AuditError>
-    requires surveyed { IsSurveyed (C.bytes c.old) edges.now spots.now }
+/// Checks the lists of the free blocks that were found, of both pools. It strikes out the blocks that a list reached, so that what is
+/// told of words is of no use afterwards. By rising control word, each list reaches only free blocks of its own words, or of its own
+/// order, each once, and a large one's previous link is right; what is wrong is told by the control word in which the list's front
+/// stands. Then each free block was reached; the first that wasn't is told by its address. It is linear in the region, for each block
+/// is followed once; it reads alone, and takes no memory.
+pub fn check_free<C: Cells>(c: &mut C, edges: &Edges, spots: &mut [Spot]) -> Result<(), AuditError>
+    requires surveyed { IsSurveyed (C.bytes c.old) edges.now spots.old }
     requires sound { (C.transaction c.old).failed ≡ false }
-    requires long { length reached.old ≡ length spots.now }
-    requires clear { (word : ℕ) → get_or reached.old word false ≡ false }
     ensures right { OnOk result ((small large : List PoolBlock) →
         AreBlocks (C.bytes c.old) small large → AreListed (C.bytes c.old) small large) }
     ensures damaged { IfErr result (DamagedBy Why.Free (λ at. (small large : List PoolBlock) →
         AreBlocks (C.bytes c.old) small large → IsWrongFree (C.bytes c.old) small large at)) }
     ensures audits { Audits C.bytes C.transaction C.quiet c.old c.new result }
 {
-    walk_lists(c, edges, spots, reached)?;
-    match first_lost(spots, reached) {
+    walk_lists(c, edges, spots)?;
+    match first_lost(spots) {
         None => Ok(()),
         Some(word) => {
             let place = WORD * word as u64;

@@ -1,5 +1,5 @@
 // The whole audit of a heap region, and what it says of the heap.
-ghost use Rattle.std.specs.Prelude.{◌≡◌, ◌*◌, List, [], ℕ, false, get_or, length, IfErr, IfOk, OnErr, OnOk};
+ghost use Rattle.std.specs.Prelude.{◌≡◌, ◌*◌, List, [], ℕ, length, IfErr, IfOk, OnErr, OnOk};
 ghost use Rattle.sdr_base.specs.Cells.{IsRegionSize};
 ghost use Rattle.sdr_base.specs.KeptHeap.{KeepsSomeHeap};
 ghost use Rattle.sdr_base.specs.Pools.{PoolBlock};
@@ -19,17 +19,11 @@ use crate::spot::Spot;
 use sdr_base::{Cells, NoMemory, WORD};
 use std::alloc::Global;
 
-// Takes all steps, with nothing told and nothing marked before.
-fn check_steps<C: Cells>(
-    c: &mut C,
-    spots: &mut [Spot],
-    reached: &mut [bool],
-) -> Result<(), AuditError>
+// Takes all steps, with nothing told before.
+fn check_steps<C: Cells>(c: &mut C, spots: &mut [Spot]) -> Result<(), AuditError>
     requires region { IsRegionSize (length (C.bytes c.old)) }
     requires spots { length spots.old * WORD ≡ length (C.bytes c.old) }
     requires untold { AreSpots [] [] spots.old }
-    requires long { length reached.old ≡ length spots.old }
-    requires clear { (word : ℕ) → get_or reached.old word false ≡ false }
     ensures sound { OnOk result (IsSoundRegion (C.bytes c.old)) }
     ensures damaged { IfErr result (TellsFirst (C.bytes c.old)) }
     ensures audits { Audits C.bytes C.transaction C.quiet c.old c.new result }
@@ -37,14 +31,14 @@ fn check_steps<C: Cells>(
     let edges = check_control(c)?;
     check_blocks(c, &edges, spots)?;
     check_bits(c, &edges, spots)?;
-    check_free(c, &edges, spots, reached)?;
+    check_free(c, &edges, spots)?;
     check_content(c, &edges)
 }
 
 /// Checks a heap region: its control words, its blocks, their start bits, the lists of free blocks, and the contents of blocks in
 /// use, in this order. What is wrong first is told by its place and by the check that found it. A region that passes keeps a heap.
 ///
-/// Memory is taken before anything is read, two bytes for each word of the region; where there is none, nothing is done. Each check
+/// Memory is taken before anything is read, a byte for each word of the region; where there is none, nothing is done. Each check
 /// goes over the region once at most, so that all are linear in its bytes.
 pub fn check_region<C: Cells>(alloc: Global, c: &mut C) -> Result<Result<(), AuditError>, NoMemory>
     ensures sound { IfOk result (λ answer. OnOk answer (IsSoundRegion (C.bytes c.old))) }
@@ -55,8 +49,7 @@ pub fn check_region<C: Cells>(alloc: Global, c: &mut C) -> Result<Result<(), Aud
 {
     let words = (c.size() / WORD) as usize;
     let mut spots = vec![in alloc; Spot::Nothing; words]?;
-    let mut reached = vec![in alloc; false; words]?;
-    Ok(check_steps(c, &mut spots, &mut reached))
+    Ok(check_steps(c, &mut spots))
 }
 
 /// A law: a region with these blocks that passes each check keeps a heap that has just them, and each block in use has what its

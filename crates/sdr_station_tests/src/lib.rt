@@ -4,14 +4,12 @@
 //!    not from the code.
 //! 2. A function plays rows in a loop, with one call of what is tested in it, and answers the first row that got something
 //!    else. A test wants that there is none.
-//! 3. Here stands what no clause says: that calls succeed with ample memory, which addresses the pools come to in numbers, and
-//!    which calls the disk gets in which order.
+//! 3. Here stands what no clause says: that calls succeed with ample memory, and which calls the disk gets in which order. The
+//!    addresses of the pools are those of the program's cases.
 #![tactic(auto)]
 
 #[cfg(test)]
 mod fault_tests;
-#[cfg(test)]
-mod pool_tests;
 #[cfg(test)]
 mod refusal_tests;
 #[cfg(test)]

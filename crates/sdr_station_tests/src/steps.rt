@@ -11,12 +11,6 @@ use sdr_model::{Call, Reply};
 use sdr_station::{Closed, Station};
 use std::alloc::Global;
 
-/// A disk of 64 heap lines.
-pub const SMALL: Frame = Frame {
-    log_lines: 128,
-    heap_lines: 64,
-};
-
 /// A disk of 1,024 heap lines.
 pub const LARGE: Frame = Frame {
     log_lines: 256,

@@ -18,7 +18,7 @@ use Rattle.sdr_model.specs.Things.{Things}
 use Rattle.sdr_model.specs.declared.accounts.Account.{Account}
 use Rattle.sdr_model.specs.declared.accounts.Accounts.{Accounts}
 use Rattle.sdr_model.specs.declared.accounts.Ticket.{Ticket}
-use Rattle.sdr_parts.proofs.AmountLemmas.{nothing_in}
+use Rattle.sdr_model.proofs.AmountLemmas.{nothing_in}
 use Rattle.sdr_parts.proofs.QueueLemmas.{keeps_of, occupied_served}
 
 -- no more than the greatest amount is occupied in either account

@@ -25,7 +25,7 @@ use Rattle.sdr_model.specs.declared.accounts.Accounts.{Accounts}
 use Rattle.sdr_model.specs.declared.accounts.Ticket.{Ticket}
 use Rattle.sdr_model.specs.declared.answer.Reply.TheVariants as replies
 use Rattle.sdr_tally.proofs.AccountLemmas.{AreBound, bound_less}
-use Rattle.sdr_parts.proofs.AmountLemmas.{amount-by, amount-minus, first_above-none, nothing_in}
+use Rattle.sdr_model.proofs.AmountLemmas.{amount-by, amount-minus, first_above-none, nothing_in}
 use Rattle.sdr_model.proofs.Cases.{on_false}
 use Rattle.sdr_parts.proofs.QueueLemmas.{keeps_of}
 

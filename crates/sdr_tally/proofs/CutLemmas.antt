@@ -25,7 +25,7 @@ use Rattle.sdr_parts.specs.declared.edits.Stripping.{Stripping}
 use Rattle.sdr_model.specs.declared.things.Thing.TheVariants as things
 use Rattle.sdr_model.specs.declared.zco.Extent.{Extent}
 use Rattle.sdr_model.specs.declared.zco.ZcoObject.{ZcoObject}
-use Rattle.sdr_parts.proofs.AmountLemmas.{nothing_in}
+use Rattle.sdr_model.proofs.AmountLemmas.{nothing_in}
 use Rattle.sdr_tally.proofs.StripLemmas.{IsModest-stripped, OwnsInside-stripped, charge-cut, naming-cut}
 
 -- what is left of an extent charges, and what is left of the others

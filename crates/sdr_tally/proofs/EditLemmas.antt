@@ -28,7 +28,7 @@ use Rattle.sdr_tally.specs.declared.tally.Tally.{Tally}
 use Rattle.sdr_model.specs.declared.things.Thing.{Thing}
 use Rattle.sdr_model.specs.declared.things.Thing.TheVariants as things
 use Rattle.sdr_model.specs.declared.zco.ZcoObject.{ZcoObject}
-use Rattle.sdr_parts.proofs.AmountLemmas.{amount-minus, amount-plus}
+use Rattle.sdr_model.proofs.AmountLemmas.{amount-minus, amount-plus}
 use Rattle.sdr_tally.proofs.ObjectLemmas.{Changes, IsKept-changed, charge_at, uses_at, uses_there}
 use Rattle.sdr_tally.proofs.RawLemmas.{raws-with_at}
 use Rattle.sdr_model.proofs.SumLemmas.{sum_by-removed}

@@ -36,7 +36,7 @@ use Rattle.sdr_tally.specs.declared.tally.Note.{Note}
 use Rattle.sdr_model.specs.declared.things.Thing.TheVariants as things
 use Rattle.sdr_model.specs.declared.zco.Capsule.{Capsule}
 use Rattle.sdr_model.specs.declared.zco.ZcoObject.{ZcoObject}
-use Rattle.sdr_parts.proofs.AmountLemmas.{amount-plus}
+use Rattle.sdr_model.proofs.AmountLemmas.{amount-plus}
 use Rattle.sdr_tally.proofs.CapsuleLemmas.{charge-capsule, modest-capsule, owned-capsule}
 use Rattle.sdr_tally.proofs.ExtentLemmas.{charge-extent, modest-extent, owned-extent}
 use Rattle.sdr_tally.proofs.NotesLemmas.{naming-push}

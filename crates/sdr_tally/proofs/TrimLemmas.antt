@@ -31,7 +31,7 @@ use Rattle.sdr_model.specs.declared.things.Thing.{Thing}
 use Rattle.sdr_model.specs.declared.things.Thing.TheVariants as things
 use Rattle.sdr_model.specs.declared.zco.Capsule.{Capsule}
 use Rattle.sdr_model.specs.declared.zco.ZcoObject.{ZcoObject}
-use Rattle.sdr_parts.proofs.AmountLemmas.{amount-by}
+use Rattle.sdr_model.proofs.AmountLemmas.{amount-by}
 use Rattle.sdr_undo.proofs.OwnersLemmas.{All-from_map}
 use Rattle.sdr_model.proofs.SumLemmas.{counted_at, sum_by-removed}
 

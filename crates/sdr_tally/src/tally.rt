@@ -12,7 +12,7 @@ use crate::notes::Notes;
 use sdr_base::{Acct, Addr, Amounts, NoMemory};
 use sdr_model::Extent;
 use sdr_parts::Change;
-use sdr_parts::amounts::{minus, plus};
+use sdr_model::amounts::{minus, plus};
 use std::alloc::Global;
 
 /// What names an address.

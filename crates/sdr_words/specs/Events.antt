@@ -1,5 +1,5 @@
 -- The event that a verb makes of its arguments.
-use Rattle.std.specs.Prelude.{ℕ, [], min, slice_index}
+use Rattle.std.specs.Prelude.{ℕ, Bool, true, false, [], min, slice_index}
 use Rattle.sdr_base.specs.declared.account.Acct.TheVariants as accounts
 use Rattle.sdr_base.specs.declared.kind.Space.TheVariants as spaces
 use Rattle.sdr_model.specs.declared.call.Call.TheVariants as calls
@@ -101,6 +101,74 @@ event_by verbs.ReceiveTrailers g = events.Say (calls.ReceiveTrailers (number g 0
 event_by verbs.Request g = events.Say (calls.Request g.account (number g 0) (number g 1) (number g 2) (min (number g 3) 255) (min (number g 4) 255))
 event_by verbs.Awarded g = events.Say (calls.Awarded (number g 0))
 event_by verbs.Shred g = events.Say (calls.Shred (number g 0))
+
+-- whether the verb is one on raw objects, or on what is made of blocks, that takes numbers alone, and an order
+abbrev pub takes_things : Verb → Bool
+takes_things verbs.Malloc = true
+takes_things verbs.Free = true
+takes_things verbs.Length = true
+takes_things verbs.Read = true
+takes_things verbs.Stage = true
+takes_things verbs.StringLength = true
+takes_things verbs.StringRead = true
+takes_things verbs.StringDup = true
+takes_things verbs.List = true
+takes_things verbs.ListDestroy = true
+takes_things verbs.ListLength = true
+takes_things verbs.ListUser = true
+takes_things verbs.SetListUser = true
+takes_things verbs.InsertFirst = true
+takes_things verbs.InsertLast = true
+takes_things verbs.InsertBefore = true
+takes_things verbs.InsertAfter = true
+takes_things verbs.InsertOrdered = true
+takes_things verbs.Search = true
+takes_things verbs.Delete = true
+takes_things verbs.First = true
+takes_things verbs.Last = true
+takes_things verbs.Next = true
+takes_things verbs.Prev = true
+takes_things verbs.Datum = true
+takes_things verbs.SetDatum = true
+takes_things verbs.Table = true
+takes_things verbs.Row = true
+takes_things verbs.Dimensions = true
+takes_things verbs.TableUser = true
+takes_things verbs.TableDestroy = true
+takes_things verbs.Hash = true
+takes_things verbs.HashCount = true
+takes_things verbs.HashDestroy = true
+takes_things verbs.Entry = true
+takes_things verb = false
+
+-- whether the verb is one on sources, accounts, tickets or zero-copy objects that takes no text
+abbrev pub takes_objects : Verb → Bool
+takes_objects verbs.BulkRef = true
+takes_objects verbs.ObjRef = true
+takes_objects verbs.DestroyRef = true
+takes_objects verbs.Count = true
+takes_objects verbs.Occupancy = true
+takes_objects verbs.Maximum = true
+takes_objects verbs.SetMaximum = true
+takes_objects verbs.Create = true
+takes_objects verbs.AppendExtent = true
+takes_objects verbs.DiscardFirstHeader = true
+takes_objects verbs.DiscardLastTrailer = true
+takes_objects verbs.Bond = true
+takes_objects verbs.ClonePart = true
+takes_objects verbs.Delimit = true
+takes_objects verbs.Strip = true
+takes_objects verbs.ZcoLength = true
+takes_objects verbs.SourceLength = true
+takes_objects verbs.Destroy = true
+takes_objects verbs.Transmit = true
+takes_objects verbs.ReceiveHeaders = true
+takes_objects verbs.ReceiveSource = true
+takes_objects verbs.ReceiveTrailers = true
+takes_objects verbs.Request = true
+takes_objects verbs.Awarded = true
+takes_objects verbs.Shred = true
+takes_objects verb = false
 
 -- the event of a step's verb without arguments
 abbrev pub event_without : Step → Event

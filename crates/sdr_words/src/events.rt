@@ -1,6 +1,7 @@
 // The events that verbs make of their arguments.
-ghost use Rattle.std.specs.Prelude.{◌≡◌, min, slice_index};
-ghost use Rattle.sdr_words.specs.Events.{event_by, event_without};
+ghost use Rattle.std.specs.Prelude.{◌≡◌, IfSome, IsNone, false, min};
+ghost use Rattle.sdr_model.specs.declared.event.Event.TheVariants as events;
+ghost use Rattle.sdr_words.specs.Events.{event_by, event_without, takes_objects, takes_things};
 
 use crate::given::Given;
 use crate::{Verb, verb_at};
@@ -21,104 +22,122 @@ fn as_priority(number: u64) -> u8
     u8::try_from(number).unwrap_or(u8::MAX)
 }
 
+// The call of a verb on raw objects and on what is made of blocks, where it takes numbers alone, and an order.
+fn call_on_things(verb: Verb, given: &Given) -> Option<Call>
+    ensures call { IfSome result (λ call. events.Say call ≡ event_by verb given.now) }
+    ensures none { IsNone result → takes_things verb ≡ false }
+{
+    let [a, b, c, ..] = given.first_numbers();
+    let order = given.order;
+    Some(match verb {
+        Verb::Malloc => Call::Malloc(a),
+        Verb::Free => Call::Free(a),
+        Verb::Length => Call::Length(a),
+        Verb::Read => Call::Read(a, b, c),
+        Verb::Stage => Call::Stage(a, b),
+        Verb::StringLength => Call::StringLength(a),
+        Verb::StringRead => Call::StringRead(a),
+        Verb::StringDup => Call::StringDup(a),
+        Verb::List => Call::List(a),
+        Verb::ListDestroy => Call::ListDestroy(a),
+        Verb::ListLength => Call::ListLength(a),
+        Verb::ListUser => Call::ListUser(a),
+        Verb::SetListUser => Call::SetListUser(a, b),
+        Verb::InsertFirst => Call::InsertFirst(a, b),
+        Verb::InsertLast => Call::InsertLast(a, b),
+        Verb::InsertBefore => Call::InsertBefore(a, b),
+        Verb::InsertAfter => Call::InsertAfter(a, b),
+        Verb::InsertOrdered => Call::InsertOrdered(a, b, order),
+        Verb::Search => Call::Search(a, b, order),
+        Verb::Delete => Call::Delete(a),
+        Verb::First => Call::First(a),
+        Verb::Last => Call::Last(a),
+        Verb::Next => Call::Next(a),
+        Verb::Prev => Call::Prev(a),
+        Verb::Datum => Call::Datum(a),
+        Verb::SetDatum => Call::SetDatum(a, b),
+        Verb::Table => Call::Table(a, b, c),
+        Verb::Row => Call::Row(a, b),
+        Verb::Dimensions => Call::Dimensions(a),
+        Verb::TableUser => Call::TableUser(a),
+        Verb::TableDestroy => Call::TableDestroy(a),
+        Verb::Hash => Call::Hash(a, b),
+        Verb::HashCount => Call::HashCount(a),
+        Verb::HashDestroy => Call::HashDestroy(a),
+        Verb::Entry => Call::Entry(a),
+        _ => return None,
+    })
+}
+
+// The call of a verb on sources, accounts, tickets and zero-copy objects, where it takes no text.
+fn call_on_objects(verb: Verb, given: &Given) -> Option<Call>
+    ensures call { IfSome result (λ call. events.Say call ≡ event_by verb given.now) }
+    ensures none { IsNone result → takes_objects verb ≡ false }
+{
+    let [a, b, c, d, e] = given.first_numbers();
+    let (account, space) = (given.account, given.space);
+    Some(match verb {
+        Verb::BulkRef => Call::BulkRef(a, b),
+        Verb::ObjRef => Call::ObjRef(a),
+        Verb::DestroyRef => Call::DestroyRef(a),
+        Verb::Count => Call::Count(a),
+        Verb::Occupancy => Call::Occupancy(account, space),
+        Verb::Maximum => Call::Maximum(account, space),
+        Verb::SetMaximum => Call::SetMaximum(account, space, a),
+        Verb::Create => Call::Create(account, a),
+        Verb::AppendExtent => Call::AppendExtent(a, b, c, d, e),
+        Verb::DiscardFirstHeader => Call::DiscardFirstHeader(a),
+        Verb::DiscardLastTrailer => Call::DiscardLastTrailer(a),
+        Verb::Bond => Call::Bond(a, b),
+        Verb::ClonePart => Call::ClonePart(a, b, c, d),
+        Verb::Delimit => Call::Delimit(a, b, c),
+        Verb::Strip => Call::Strip(a),
+        Verb::ZcoLength => Call::ZcoLength(a),
+        Verb::SourceLength => Call::SourceLength(a),
+        Verb::Destroy => Call::Destroy(a),
+        Verb::Transmit => Call::Transmit(a, b, c),
+        Verb::ReceiveHeaders => Call::ReceiveHeaders(a, b, c),
+        Verb::ReceiveSource => Call::ReceiveSource(a, b, c),
+        Verb::ReceiveTrailers => Call::ReceiveTrailers(a, b, c),
+        Verb::Request => Call::Request(account, a, b, c, as_priority(d), as_priority(e)),
+        Verb::Awarded => Call::Awarded(a),
+        Verb::Shred => Call::Shred(a),
+        _ => return None,
+    })
+}
+
 /// The event of a verb with these arguments.
 pub fn event_by(verb: Verb, given: Given) -> Event
     ensures { result ≡ event_by verb given }
 {
-    let [a, b, c, d, e] = given.first_numbers();
-    let Given {
-        text,
-        account,
-        space,
-        order,
-        ..
-    } = given;
+    if let Some(call) = call_on_things(verb, &given) {
+        return Event::Say(call);
+    }
+    if let Some(call) = call_on_objects(verb, &given) {
+        return Event::Say(call);
+    }
+    let [a, b, ..] = given.first_numbers();
+    let text = given.text;
     match verb {
         Verb::Begin => Event::Begin,
         Verb::End => Event::End,
         Verb::Cancel => Event::Cancel,
         Verb::Exit => Event::Exit,
         Verb::Await => Event::Look(a),
-        Verb::Malloc => Event::Say(Call::Malloc(a)),
-        Verb::Free => Event::Say(Call::Free(a)),
-        Verb::Length => Event::Say(Call::Length(a)),
-        Verb::Read => Event::Say(Call::Read(a, b, c)),
         Verb::Write => Event::Say(Call::Write(a, b, text)),
-        Verb::Stage => Event::Say(Call::Stage(a, b)),
         Verb::String => Event::Say(Call::String(text)),
-        Verb::StringLength => Event::Say(Call::StringLength(a)),
-        Verb::StringRead => Event::Say(Call::StringRead(a)),
-        Verb::StringDup => Event::Say(Call::StringDup(a)),
-        Verb::List => Event::Say(Call::List(a)),
-        Verb::ListDestroy => Event::Say(Call::ListDestroy(a)),
-        Verb::ListLength => Event::Say(Call::ListLength(a)),
-        Verb::ListUser => Event::Say(Call::ListUser(a)),
-        Verb::SetListUser => Event::Say(Call::SetListUser(a, b)),
-        Verb::InsertFirst => Event::Say(Call::InsertFirst(a, b)),
-        Verb::InsertLast => Event::Say(Call::InsertLast(a, b)),
-        Verb::InsertBefore => Event::Say(Call::InsertBefore(a, b)),
-        Verb::InsertAfter => Event::Say(Call::InsertAfter(a, b)),
-        Verb::InsertOrdered => Event::Say(Call::InsertOrdered(a, b, order)),
-        Verb::Search => Event::Say(Call::Search(a, b, order)),
-        Verb::Delete => Event::Say(Call::Delete(a)),
-        Verb::First => Event::Say(Call::First(a)),
-        Verb::Last => Event::Say(Call::Last(a)),
-        Verb::Next => Event::Say(Call::Next(a)),
-        Verb::Prev => Event::Say(Call::Prev(a)),
-        Verb::Datum => Event::Say(Call::Datum(a)),
-        Verb::SetDatum => Event::Say(Call::SetDatum(a, b)),
-        Verb::Table => Event::Say(Call::Table(a, b, c)),
-        Verb::Row => Event::Say(Call::Row(a, b)),
         Verb::SetRow => Event::Say(Call::SetRow(a, b, text)),
-        Verb::Dimensions => Event::Say(Call::Dimensions(a)),
-        Verb::TableUser => Event::Say(Call::TableUser(a)),
-        Verb::TableDestroy => Event::Say(Call::TableDestroy(a)),
-        Verb::Hash => Event::Say(Call::Hash(a, b)),
         Verb::HashInsert => Event::Say(Call::HashInsert(a, text, b)),
         Verb::HashRetrieve => Event::Say(Call::HashRetrieve(a, text)),
         Verb::HashRevise => Event::Say(Call::HashRevise(a, text, b)),
         Verb::HashRemove => Event::Say(Call::HashRemove(a, text)),
-        Verb::HashCount => Event::Say(Call::HashCount(a)),
-        Verb::HashDestroy => Event::Say(Call::HashDestroy(a)),
         Verb::Catlg => Event::Say(Call::Catlg(text, as_type(a), b)),
         Verb::Find => Event::Say(Call::Find(text)),
         Verb::Uncatlg => Event::Say(Call::Uncatlg(text)),
-        Verb::Entry => Event::Say(Call::Entry(a)),
         Verb::FileRef => Event::Say(Call::FileRef(text, a)),
-        Verb::BulkRef => Event::Say(Call::BulkRef(a, b)),
-        Verb::ObjRef => Event::Say(Call::ObjRef(a)),
-        Verb::DestroyRef => Event::Say(Call::DestroyRef(a)),
-        Verb::Count => Event::Say(Call::Count(a)),
-        Verb::Occupancy => Event::Say(Call::Occupancy(account, space)),
-        Verb::Maximum => Event::Say(Call::Maximum(account, space)),
-        Verb::SetMaximum => Event::Say(Call::SetMaximum(account, space, a)),
-        Verb::Create => Event::Say(Call::Create(account, a)),
-        Verb::AppendExtent => Event::Say(Call::AppendExtent(a, b, c, d, e)),
         Verb::PrependHeader => Event::Say(Call::PrependHeader(a, b, text)),
         Verb::AppendTrailer => Event::Say(Call::AppendTrailer(a, b, text)),
-        Verb::DiscardFirstHeader => Event::Say(Call::DiscardFirstHeader(a)),
-        Verb::DiscardLastTrailer => Event::Say(Call::DiscardLastTrailer(a)),
-        Verb::Bond => Event::Say(Call::Bond(a, b)),
-        Verb::ClonePart => Event::Say(Call::ClonePart(a, b, c, d)),
-        Verb::Delimit => Event::Say(Call::Delimit(a, b, c)),
-        Verb::Strip => Event::Say(Call::Strip(a)),
-        Verb::ZcoLength => Event::Say(Call::ZcoLength(a)),
-        Verb::SourceLength => Event::Say(Call::SourceLength(a)),
-        Verb::Destroy => Event::Say(Call::Destroy(a)),
-        Verb::Transmit => Event::Say(Call::Transmit(a, b, c)),
-        Verb::ReceiveHeaders => Event::Say(Call::ReceiveHeaders(a, b, c)),
-        Verb::ReceiveSource => Event::Say(Call::ReceiveSource(a, b, c)),
-        Verb::ReceiveTrailers => Event::Say(Call::ReceiveTrailers(a, b, c)),
-        Verb::Request => Event::Say(Call::Request(
-            account,
-            a,
-            b,
-            c,
-            as_priority(d),
-            as_priority(e),
-        )),
-        Verb::Awarded => Event::Say(Call::Awarded(a)),
-        Verb::Shred => Event::Say(Call::Shred(a)),
+        _ => unreachable!(),
     }
 }
 

@@ -1,6 +1,6 @@
 // The verbs of scripts: the one table by which they are read, which is the grammar's.
 ghost use Rattle.std.specs.Prelude.{◌≡◌, [], map, slice_get, unwrap_or};
-ghost use Rattle.sdr_words.specs.Verbs.{place_among, place_of, verb_at, shapes_at};
+ghost use Rattle.sdr_words.specs.Verbs.{names, place_among, place_of, shapes, shapes_at, verb_at, verbs};
 
 /// What an argument of a verb may be.
 #[derive(Clone, Copy)]
@@ -255,26 +255,33 @@ fn verb_in(rows: &[Row], place: usize) -> Verb
     }
 }
 
+// The table: its verbs, their names and the shapes of their arguments are the grammar's.
+#[tactic(auto, unfolding(crate::specs::Verbs::verbs, crate::specs::Verbs::names, crate::specs::Verbs::shapes))]
+fn table() -> &'static [Row]
+    ensures verbs { map (λ row. row.0) result.now ≡ verbs }
+    ensures names { map (λ row. row.1.now) result.now ≡ names }
+    ensures shapes { map (λ row. row.2.now) result.now ≡ shapes }
+{
+    &VERBS
+}
+
 /// The place of the verb with this name.
-#[tactic(auto, unfolding(crate::specs::Verbs::names))]
 pub fn place_of(name: &[u8]) -> Option<usize>
     ensures { result ≡ place_of name.now }
 {
-    place_among(&VERBS, name)
+    place_among(table(), name)
 }
 
 /// The shapes of the arguments of the verb at a place.
-#[tactic(auto, unfolding(crate::specs::Verbs::shapes))]
 pub fn shapes_at(place: usize) -> &'static [Shape]
     ensures { result.now ≡ shapes_at place }
 {
-    shapes_in(&VERBS, place)
+    shapes_in(table(), place)
 }
 
 /// The verb at a place, `begin` where there is none.
-#[tactic(auto, unfolding(crate::specs::Verbs::verbs))]
 pub fn verb_at(place: usize) -> Verb
     ensures { result ≡ verb_at place }
 {
-    verb_in(&VERBS, place)
+    verb_in(table(), place)
 }

@@ -29,7 +29,7 @@ use Rattle.sdr_model.specs.declared.things.Thing.TheVariants as things
 use Rattle.sdr_model.specs.declared.zco.Capsule.{Capsule}
 use Rattle.sdr_model.specs.declared.zco.Extent.{Extent}
 use Rattle.sdr_model.specs.declared.zco.ZcoObject.{ZcoObject}
-use Rattle.sdr_parts.proofs.AmountLemmas.{nothing_in}
+use Rattle.sdr_model.proofs.AmountLemmas.{nothing_in}
 use Rattle.sdr_tally.proofs.BondLemmas.{extents-shift}
 use Rattle.sdr_parts.proofs.BoundsLemmas.{amounts_of, capsules_length-charged, extents_length-charged}
 use Rattle.sdr_tally.proofs.CapsuleLemmas.{owned-kept}

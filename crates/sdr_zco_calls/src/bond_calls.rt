@@ -14,7 +14,7 @@ use sdr_changes::bonding::{charge_marks, put_texts};
 use sdr_draft::Undoable;
 use sdr_model::{Call, Capsule, Extent, Reply, ZcoObject};
 use sdr_parts::Change;
-use sdr_parts::amounts::NOTHING;
+use sdr_model::amounts::NOTHING;
 use sdr_parts::charges::{heap_charge, rise};
 use sdr_parts::object::object_of;
 use std::alloc::Global;

@@ -17,7 +17,7 @@ use sdr_changes::dropping::{drop_all, touch_all};
 use sdr_changes::touching::touch_sources;
 use sdr_draft::Undoable;
 use sdr_model::{Call, Reply, ZcoObject};
-use sdr_parts::amounts::NOTHING;
+use sdr_model::amounts::NOTHING;
 use sdr_parts::cuts::{cut_all, whole_of};
 use sdr_parts::object::{outside_part, part_end};
 use sdr_parts::{Change, Edit, Stripping};

@@ -16,20 +16,11 @@ ghost use Rattle.sdr_shell.specs.Form.{form_of};
 ghost use Rattle.sdr_shell.specs.declared.form.Form.{Form};
 
 mod about;
-mod file_disk;
-mod opening;
-mod place;
-mod real;
-#[cfg(test)]
-mod tests;
 
 use crate::about::{HELP, VERSION, print};
-use crate::file_disk::FileDisk;
-use crate::opening::{make_disk, open_disk};
-use crate::place::{Place, place_of};
-use crate::real::{StdSink, StdSource};
 use sdr_base::{Media, NoGate, NoMemory, Sink, Source};
 use sdr_disk::{Disk, MemoryDisk};
+use sdr_files::{FileDisk, Place, StdSink, StdSource, make_disk, open_disk, place_of};
 use sdr_media::FolderMedia;
 use sdr_shell::{NO_MEMORY, is_form, top};
 use std::alloc::Global;
@@ -91,7 +82,7 @@ fn answer<
 }
 
 // The same on a file, where it could be opened.
-#[tactic(auto, using(crate::specs::Untold::untold))]
+#[tactic(auto, using(sdr_files::specs::Untold::untold))]
 fn answer_on_file<
     R: Threads + Wait + Sync + AllocGlobal + Eprint,
     M: Media + Send + Drop,

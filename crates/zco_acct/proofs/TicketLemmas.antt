@@ -14,8 +14,9 @@ use Rattle.sdr_base.specs.declared.kind.Kind.TheVariants as kinds
 use Rattle.sdr_base.proofs.LayoutLemmas.{number_at-layout}
 use Rattle.sdr_base.proofs.StoredLemmas.{big_number-same}
 use Rattle.sdr_base.proofs.WritingLemmas.{reaches}
+use Rattle.sdr_model.specs.TicketRows.{ticket_row}
 use Rattle.sdr_model.specs.declared.accounts.Ticket.{Ticket}
-use Rattle.zco_acct.specs.Kept.{KeepsTicket, SomeTicket, queued_block, row_of}
+use Rattle.zco_acct.specs.Kept.{KeepsTicket, SomeTicket, queued_block}
 use Rattle.zco_acct.specs.Tickets.{TellsTicket, amounts_at, grant_bytes, granted_with, queued_at, with_grant}
 use Rattle.sdr_base.specs.Objects.{Heap, with_bytes}
 use Rattle.zco_acct.specs.declared.ticket.Queued.{Queued}
@@ -29,7 +30,7 @@ number_in place count bytes le = big_number-same place 8 bytes (take count (drop
 
 -- the words of a ticket
 abbrev pub words : Acct → ℕ → Ticket → List ℕ
-words acct next t = ticket_words acct next (row_of t)
+words acct next t = ticket_words acct next (ticket_row t)
 
 -- a ticket's block has 96 bytes
 pub ticket_reaches : {found : Option Block} → SomeTicket found → Reaches found 96

@@ -4,9 +4,10 @@ use Rattle.sdr_base.specs.Blocks.{Block}
 use Rattle.sdr_base.specs.Entries.{Entries, Stands}
 use Rattle.sdr_base.specs.Linked.{first_of, last_of, linked}
 use Rattle.sdr_base.specs.Objects.{Heap}
-use Rattle.sdr_base.specs.Tickets.{TicketRow, ticket_block}
+use Rattle.sdr_base.specs.Tickets.{ticket_block}
 use Rattle.sdr_base.specs.declared.account.Acct.{Acct}
 use Rattle.sdr_base.specs.declared.account.Amounts.{Amounts}
+use Rattle.sdr_model.specs.TicketRows.{ticket_row}
 use Rattle.sdr_model.specs.declared.accounts.Ticket.{Ticket}
 use Rattle.zco_acct.specs.Words.{first_word, last_word}
 
@@ -14,21 +15,9 @@ use Rattle.zco_acct.specs.Words.{first_word, last_word}
 abbrev pub block_of : Ticket → ℕ
 block_of t = t.block
 
--- the plain row of a ticket
-abbrev pub row_of : Ticket → TicketRow
-row_of t = record {
-  addr = t.block;
-  number = t.number;
-  coarse = t.coarse;
-  fine = t.fine;
-  asked = t.asked;
-  left = t.left;
-  granted = t.granted;
-}
-
 -- the block of a ticket in the queue of an account, before another
 abbrev pub queued_block : Acct → ℕ → ℕ → Ticket → Block
-queued_block acct previous next t = ticket_block acct previous next (row_of t)
+queued_block acct previous next t = ticket_block acct previous next (ticket_row t)
 
 -- the blocks of the tickets in the queue of an account: a chain in queue order
 abbrev pub queue_entries : Acct → List Ticket → Entries

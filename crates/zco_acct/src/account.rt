@@ -14,7 +14,7 @@ use sdr_base::control::{
 };
 use sdr_base::{Acct, Amounts, Objects, Refusal, Space, Stop, check_failed};
 use sdr_model::MOST_AMOUNT;
-use sdr_parts::amounts::minus;
+use sdr_model::amounts::minus;
 
 // Where the control words of an account begin.
 fn begin_of(acct: Acct) -> u64

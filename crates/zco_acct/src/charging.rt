@@ -14,7 +14,7 @@ use crate::account::{maxima, occupied, set_occupied};
 use crate::queue::{Found, Sought, search};
 use crate::ticket::put_grant;
 use sdr_base::{Acct, Amounts, Objects, Refusal, Space, Stop, check_failed};
-use sdr_parts::amounts::{NOTHING, amount, first_above, is_nothing, minus, plus};
+use sdr_model::amounts::{NOTHING, amount, first_above, is_nothing, minus, plus};
 
 /// Charges an account so many bytes of each space. What is left of the grant of the ticket of this
 /// number covers what it can, and gives that up; what it doesn't cover is occupied from then on. 0

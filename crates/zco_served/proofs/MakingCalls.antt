@@ -3,7 +3,7 @@ use Rattle.std.proofs.Common.{◌≡◌, ◌∙◌, ◌⊎◌, ◌≤◌, ◌<�
 use Rattle.std.proofs.lemmas.Bool.Decides.{nat_tests}
 use Rattle.sdr_answers.proofs.RowLemmas.{row_refused, short_refused, took_one}
 use Rattle.sdr_answers.specs.Answering.{IsRefused}
-use Rattle.sdr_audit.proofs.ChangeLemmas.{nothing_at}
+use Rattle.sdr_audit.proofs.ChangeLemmas.{nothing_at, part_changed}
 use Rattle.sdr_audit.proofs.PartLemmas.{thing_new}
 use Rattle.sdr_audit.specs.Rows.{source_row}
 use Rattle.sdr_audit.specs.Standing.{HeapStandsFor, with_taken_marked}
@@ -31,7 +31,7 @@ use Rattle.sdr_model.specs.declared.things.Thing.TheVariants as things
 use Rattle.sdr_model.specs.declared.zco.Subject.TheVariants as subjects
 use Rattle.sdr_model.specs.declared.zco.ZcoSource.{ZcoSource}
 use Rattle.zco_ref.specs.Making.{BulkStops, FileStops, IsNoPath, IsPathLength, IsTooLong, MakesBulk, MakesFile}
-use Rattle.zco_served.proofs.StepLemmas.{IsFree, answered_later, part_changed, roots_kept}
+use Rattle.zco_served.proofs.StepLemmas.{IsFree, answered_later, roots_kept}
 use Rattle.zco_served.proofs.UsesLemmas.{none_counted}
 use Rattle.zco_served.specs.Answering.{Answered, IsServed}
 

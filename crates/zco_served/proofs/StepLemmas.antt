@@ -1,10 +1,10 @@
 -- How a call on sources is a step.
 use Rattle.std.proofs.Common.{◌≡◌, ◌∙◌, ℕ, List, [], true, inl, refl, sym, ap, subst, arith, append-nil}
 use Rattle.std.specs.Prelude.{All}
-use Rattle.sdr_audit.proofs.ChangeLemmas.{part_becomes}
+use Rattle.sdr_audit.proofs.ChangeLemmas.{part_changed}
 use Rattle.sdr_audit.proofs.RootsLemmas.{roots_where}
 use Rattle.sdr_audit.specs.Standing.{HeapStandsFor, entries_of, roots_of, with_taken_marked}
-use Rattle.sdr_base.specs.Entries.{Changes, Entries, Swaps}
+use Rattle.sdr_base.specs.Entries.{Changes}
 use Rattle.sdr_base.specs.Making.{Made}
 use Rattle.sdr_base.specs.Objects.{Heap}
 use Rattle.sdr_base.specs.declared.account.Acct.{Acct}
@@ -94,14 +94,6 @@ module _ (w : World) (things : Things) (call : Call) (moves : List Move) (reply 
     accounts = refl;
     taken = refl;
   }
-
--- a part of a world's blocks becomes another, where the control words stay
-pub part_changed : {old new : Heap} {w : World} (w' : World) {part part' : Entries} (moves : List Move) → HeapStandsFor old w →
-    Swaps (entries_of w) (entries_of w') part part' → Changes old.blocks new.blocks part part' → Made moves old new →
-    roots_of w' ≡ roots_of w → w'.marks ≡ w.marks → HeapStandsFor new (with_taken_marked w' moves)
-part_changed {old} {new} {w} w' {part} {part'} moves s swaps changes made roots marks =
-    part_becomes old new w w' part part' moves s swaps changes (ap (λ (h : Heap). h.marks) made.all)
-    (ap (λ (h : Heap). h.roots) made.all ∙ s.roots ∙ sym roots) marks
 
 -- all blocks of a world become those of another
 pub all_changed : {old new : Heap} {w : World} (w' : World) (moves : List Move) → HeapStandsFor old w →

@@ -1,6 +1,6 @@
-mod StopLemmas
+pub mod StopLemmas
 mod RootLemmas
-mod ServedLemmas
+pub mod ServedLemmas
 mod ServingLemmas
 mod ServesLemmas
 mod LinkLemmas

@@ -9,7 +9,7 @@ use Rattle.sdr_base.specs.declared.kind.Space.{Space}
 use Rattle.sdr_model.specs.Amounts.{amount, are_within, minus, plus}
 use Rattle.sdr_model.specs.Queue.{front_waiting, granted, served}
 use Rattle.sdr_model.specs.declared.accounts.Ticket.{Ticket}
-use Rattle.sdr_parts.proofs.AmountLemmas.{amount-by, amount-plus, same_amounts}
+use Rattle.sdr_model.proofs.AmountLemmas.{amount-by, amount-plus, same_amounts}
 use Rattle.zco_acct.specs.Kept.{TicketFits, block_of}
 use Rattle.zco_space.specs.Places.{at_addr}
 use Rattle.zco_space.specs.Served.{granted_in, newly_granted, occupied_after}

@@ -13,7 +13,7 @@ use Rattle.sdr_model.specs.Amounts.{are_within, minus, plus}
 use Rattle.sdr_model.specs.Queue.{front_waiting}
 use Rattle.sdr_model.specs.declared.accounts.Ticket.{Ticket}
 use Rattle.sdr_base.specs.declared.kind.Space.TheVariants as spaces
-use Rattle.sdr_parts.proofs.AmountLemmas.{within_in}
+use Rattle.sdr_model.proofs.AmountLemmas.{within_in}
 use Rattle.zco_acct.specs.Kept.{AmountsFit, KeepsQueue, SomeQueue, SomeTicket, queue_entries}
 use Rattle.zco_acct.specs.Tickets.{TellsTicket, with_grant}
 use Rattle.zco_acct.specs.Words.{first_word, last_word, maxima_in, occupied_in, with_occupied}

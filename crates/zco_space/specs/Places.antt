@@ -11,8 +11,9 @@ use Rattle.sdr_base.specs.declared.kind.Kind.TheVariants as kinds
 use Rattle.sdr_base.specs.declared.moves.Move.TheVariants.{Took}
 use Rattle.sdr_model.specs.Amounts.{no_amounts}
 use Rattle.sdr_model.specs.Queue.{enqueued}
+use Rattle.sdr_model.specs.TicketRows.{ticket_row}
 use Rattle.sdr_model.specs.declared.accounts.Ticket.{Ticket}
-use Rattle.zco_acct.specs.Kept.{KeepsQueue, TicketFits, block_of, queue_entries, row_of}
+use Rattle.zco_acct.specs.Kept.{KeepsQueue, TicketFits, block_of, queue_entries}
 use Rattle.zco_space.specs.Links.{with_ends}
 use Rattle.zco_space.specs.declared.requesting.Place.{Place}
 
@@ -28,7 +29,7 @@ at_addr t addr = record t { block = addr }
 
 -- a block for a ticket was taken, before another
 pub record TakesTicket (acct : Acct) (t : Ticket) (next : ℕ) (old new : Heap) (addr : ℕ) : Type 0 where
-  pub takes : TakesBytes kinds.Ticket (layout (ticket_words acct next (row_of t)) []) addr old new
+  pub takes : TakesBytes kinds.Ticket (layout (ticket_words acct next (ticket_row t)) []) addr old new
 
 -- this is where a new ticket goes in a queue
 pub record IsPlace (new : Ticket) (tickets : List Ticket) (place : Place) : Type 0 where

@@ -14,7 +14,7 @@ use crate::serving::serve;
 use sdr_base::control::NEXT_TICKET;
 use sdr_base::{Acct, Addr, Amounts, Kind, Objects, Refusal, Stop, take_words};
 use sdr_model::{MOST_AMOUNT, Ticket};
-use sdr_parts::amounts::{NOTHING, amount, first_above};
+use sdr_model::amounts::{NOTHING, amount, first_above};
 use zco_acct::{Notice, Notify, Sought, last_word, maxima, search};
 
 /// Asks an account for so many bytes of each space, and serves its queue. Of two tickets that wait,

@@ -13,7 +13,7 @@ ghost use Rattle.zco_space.specs.Served.{GrantsTicket, ServesQueue, newly_grante
 
 use sdr_base::{Acct, Amounts, Objects, Stop};
 use sdr_model::Ticket;
-use sdr_parts::amounts::{minus, plus};
+use sdr_model::amounts::{minus, plus};
 use zco_acct::{
     MOST_TICKETS, Notice, Notify, first_word, maxima, occupied, put_grant, read_ticket,
     set_occupied,

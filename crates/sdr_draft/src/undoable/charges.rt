@@ -8,7 +8,7 @@ ghost use Rattle.sdr_model.specs.Zco.{source_at};
 use crate::Undoable;
 use sdr_base::{Addr, Amounts, Space};
 use sdr_model::{Extent, ZcoObject};
-use sdr_parts::amounts::{NOTHING, plus};
+use sdr_model::amounts::{NOTHING, plus};
 use sdr_parts::charges::{bytes_charge, capsules_charge};
 
 impl Undoable {

@@ -13,7 +13,7 @@ ghost use Rattle.sdr_tally.specs.Allowed.{IsBound, IsGrantOf, MayTakeBack, Refus
 use crate::Undoable;
 use sdr_base::{Acct, Amounts, NoMemory, Refusal};
 use sdr_model::{Accounts, Pending, Ticket};
-use sdr_parts::amounts::{amount, first_above, minus, plus};
+use sdr_model::amounts::{amount, first_above, minus, plus};
 use sdr_parts::queue::{barrier, left};
 
 impl Undoable {

@@ -19,7 +19,7 @@ ghost use Rattle.sdr_undo.specs.Owners.{MayPut};
 use crate::Undoable;
 use sdr_base::{Addr, Amounts};
 use sdr_model::{Thing, ZcoObject};
-use sdr_parts::amounts::NOTHING;
+use sdr_model::amounts::NOTHING;
 use sdr_tally::Tally;
 use sdr_undo::Store;
 

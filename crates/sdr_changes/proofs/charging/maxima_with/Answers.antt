@@ -4,7 +4,7 @@ use Rattle.sdr_model.specs.Accounts.{account_of, most_amount}
 use Rattle.sdr_model.specs.Amounts.{amount}
 use Rattle.sdr_model.specs.declared.accounts.Account.{Account}
 use Rattle.sdr_model.specs.declared.accounts.Accounts.{Accounts}
-use Rattle.sdr_parts.proofs.AmountLemmas.{with_amount_small}
+use Rattle.sdr_model.proofs.AmountLemmas.{with_amount_small}
 use Rattle.sdr_parts.proofs.QueueLemmas.{keeps_of}
 use Rattle.sdr_changes.proofs.charging.maxima_with.Goals as goal
 

@@ -1,4 +1,4 @@
-use Rattle.std.proofs.Common.{◌≡◌, ◌∙◌, ◌≤◌, ◌+◌, ◌||◌, ℕ, List, ap, arith, length, not, refl, subst, sym}
+use Rattle.std.proofs.Common.{◌∙◌, ◌≤◌, ◌+◌, ◌||◌, ℕ, List, ap, arith, length, not, refl, subst, sym}
 use Rattle.sdr_region.proofs.ContentLemmas.{large_inside, large_next, large_wrong}
 use Rattle.sdr_region.specs.Content.{is_filled_at}
 use Rattle.sdr_region.specs.Labels.{is_led}

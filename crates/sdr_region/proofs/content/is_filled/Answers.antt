@@ -1,4 +1,4 @@
-use Rattle.std.proofs.Common.{◌≡◌, ◌∙◌, ◌||◌, ℕ, Bool, List, Option, Some, ap, arith, length-take, min, not, sym, true}
+use Rattle.std.proofs.Common.{◌≡◌, ◌∙◌, ◌||◌, ℕ, Bool, Option, Some, ap, arith, length-take, min, not, sym, true}
 use Rattle.sdr_base.specs.Kinds.{kind_of}
 use Rattle.sdr_base.specs.Parts.{part}
 use Rattle.sdr_base.specs.Stored.{leader_kind, leader_length}

@@ -1,11 +1,11 @@
--- The lists before this control word are walked over, and nothing has changed but marks.
+-- The lists before this control word are walked over, and nothing has changed but what is left.
 use Rattle.std.specs.Prelude.{Ok}
 use Rattle.sdr_region.specs.Auditing.{Audits}
-use Rattle.sdr_region.specs.Listed.{ListsWalked}
+use Rattle.sdr_region.specs.Listed.{Leaves, ListsWalked}
 use Rattle.sdr_region.proofs.free.walk_lists.Given as goal
 
 abbrev pub invariant-loop-word : goal.invariant-loop-word
 invariant-loop-word g l = record {
-  walked : ListsWalked (g.C.Cells.bytes l.fn.c) l.spots l.reached l.word;
+  left : Leaves (g.C.Cells.bytes l.fn.c) l.spots (λ told reached. ListsWalked (g.C.Cells.bytes l.fn.c) told reached l.word);
   audits : Audits {T = Unit {0}} g.C.Cells.bytes g.C.Cells.transaction g.C.Cells.quiet l.fn.c l.c (Ok tt);
 }

@@ -7,7 +7,7 @@ use Rattle.sdr_undo.specs.Draft.{Draft}
 use Rattle.sdr_tally.specs.Tallies.{world_of}
 use Rattle.sdr_model.specs.declared.accounts.Account.{Account}
 use Rattle.sdr_model.specs.declared.accounts.Accounts.{Accounts}
-use Rattle.sdr_parts.proofs.AmountLemmas.{amount-by, amount-plus, same_amounts}
+use Rattle.sdr_model.proofs.AmountLemmas.{amount-by, amount-plus, same_amounts}
 use Rattle.sdr_draft.proofs.undoable.Undoable.occupied.Goals as goal
 
 pub returns-clause-value : goal.returns-clause-value

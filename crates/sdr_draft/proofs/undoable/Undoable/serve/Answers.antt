@@ -7,7 +7,7 @@ use Rattle.sdr_parts.specs.Grants.{KeepGrants}
 use Rattle.sdr_undo.specs.Ledger.{Ledger}
 use Rattle.sdr_tally.specs.Tallies.{world_of}
 use Rattle.sdr_tally.proofs.AccountLemmas.{AreBound, bound_served}
-use Rattle.sdr_parts.proofs.AmountLemmas.{amount-by}
+use Rattle.sdr_model.proofs.AmountLemmas.{amount-by}
 use Rattle.sdr_tally.proofs.TallyLemmas.{IsKept-accounts}
 use Rattle.sdr_draft.proofs.undoable.Undoable.serve.Goals as goal
 

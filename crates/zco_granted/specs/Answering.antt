@@ -1,0 +1,102 @@
+-- What a call on accounts and tickets comes to on a heap that stands for a world, whatever that has.
+use Rattle.std.specs.Prelude.{◌≡◌, ◌+◌, ◌*◌, ℕ, Bool, true, false, List, ⊤, All, Result, Ok, Err}
+use Rattle.std.specs.Option.{option_map_or}
+use Rattle.sdr_answers.specs.Answering.{IsRefused}
+use Rattle.sdr_audit.specs.Standing.{HeapStandsFor}
+use Rattle.sdr_base.specs.Objects.{Heap}
+use Rattle.sdr_base.specs.declared.account.Acct.{Acct}
+use Rattle.sdr_base.specs.declared.account.Acct.TheVariants as accts
+use Rattle.sdr_base.specs.declared.stop.Stop.{Stop}
+use Rattle.sdr_base.specs.declared.stop.Stop.TheVariants as stops
+use Rattle.sdr_laws.specs.Fresh.{AreFresh}
+use Rattle.sdr_lock.specs.Demand.{grants_between}
+use Rattle.sdr_model.specs.AccountSteps.{new_ticket, pending_of, with_maximum, with_request, without_ticket}
+use Rattle.sdr_model.specs.Accounts.{account_of, with_account}
+use Rattle.sdr_model.specs.Blocks.{addresses_of, blocks_of}
+use Rattle.sdr_model.specs.Fields.{FitsFields, IsWord}
+use Rattle.sdr_model.specs.Queue.{with_served}
+use Rattle.sdr_model.specs.Rows.{ByRow}
+use Rattle.sdr_model.specs.Step.{is_answer}
+use Rattle.sdr_model.specs.Steps.{taken_addresses}
+use Rattle.sdr_model.specs.Valid.{KeepQueues}
+use Rattle.sdr_model.specs.World.{World}
+use Rattle.sdr_model.specs.declared.answer.Reply.{Reply}
+use Rattle.sdr_model.specs.declared.call.Call.{Call}
+use Rattle.sdr_model.specs.declared.call.Call.TheVariants as calls
+use Rattle.zco_acct.specs.Kept.{SomeQueue}
+use Rattle.zco_served.specs.Answering.{IsServed}
+
+-- the queues of both accounts are kept
+pub record IsGood (heap : Heap) : Type 0 where
+  pub inbound : SomeQueue heap accts.Inbound
+  pub outbound : SomeQueue heap accts.Outbound
+
+-- whether the call is one on accounts or tickets
+abbrev pub is_account_call : Call → Bool
+is_account_call (calls.Occupancy acct space) = true
+is_account_call (calls.Maximum acct space) = true
+is_account_call (calls.SetMaximum acct space value) = true
+is_account_call (calls.Request acct file bulk heap coarse fine) = true
+is_account_call (calls.Awarded ticket) = true
+is_account_call (calls.Shred ticket) = true
+is_account_call call = false
+
+-- The world that a call leaves which its row answers, but for marks and the block of a new ticket.
+abbrev pub left_by : World → Call → World
+left_by w (calls.SetMaximum acct space value) =
+    with_served (record w {
+      accounts =
+          with_account w.accounts acct (with_maximum (account_of w.accounts acct) space value);
+    }) acct
+left_by w (calls.Request acct file bulk heap coarse fine) =
+    with_request w acct (new_ticket w.accounts.next 0 (record { file = file; bulk = bulk; heap = heap }) coarse fine)
+left_by w (calls.Shred number) = option_map_or (without_ticket w) (pending_of w number) w
+left_by w call = w
+
+-- how many tickets it grants
+abbrev pub grants_of : World → Call → ℕ
+grants_of w call = grants_between w (left_by w call)
+
+-- so many lines it touches at most beside those for the tickets that it grants
+abbrev pub own_lines : Call → ℕ
+own_lines (calls.SetMaximum acct space value) = 1
+own_lines (calls.Request acct file bulk heap coarse fine) = 33
+own_lines (calls.Shred number) = 30
+own_lines call = 0
+
+-- so many lines a call on accounts or tickets touches at most: 32 for each ticket that it grants
+abbrev pub call_lines : World → Call → ℕ
+call_lines w call = own_lines call + 32 * grants_of w call
+
+-- the queues of the world keep their laws but for the front ticket, and the world's numbers fit the fields of blocks
+pub record KeepsTickets (w : World) : Type 0 where
+  pub queues : KeepQueues w.accounts
+  pub fits : FitsFields w
+
+-- Whatever world the heap stood for in which queues keep their laws, it stands for that with the account's queue served; and
+-- no move was made.
+pub record Serves (acct : Acct) (old new : Heap) : Type 0 where
+  pub stands : (w : World) → HeapStandsFor old w → KeepsTickets w → HeapStandsFor new (with_served w acct)
+  pub moves : new.moves ≡ old.moves
+
+-- A call that had no move before is answered by its row, with the heap's moves, of which each takes a block where none was. The
+-- heap stands for the world after it, which shows these bytes.
+pub record Answered (w : World) (call : Call) (new : Heap) (shown : List ℕ) (reply : Reply) : Type 0 where
+  pub after : World
+  pub row : ByRow w (record { moves = new.moves; after = after; reply = reply }) call
+  pub answered : is_answer reply ≡ true
+  pub fresh : AreFresh (addresses_of (blocks_of w)) new.moves
+  pub stands : HeapStandsFor new after
+  pub gave : after.shown ≡ shown
+  pub words : All IsWord (taken_addresses new.moves)
+  pub taken : after.taken ≡ w.taken
+
+-- what a call comes to in a world
+abbrev pub ComesIn : World → Call → Heap → Heap → List ℕ → List ℕ → Result Reply Stop → Type 0
+ComesIn w call old new was shown (Ok reply) = Answered w call new shown reply
+ComesIn w call old new was shown (Err (stops.Refused refusal)) = IsRefused w call old new was shown refusal
+ComesIn w call old new was shown (Err stop) = ⊤
+
+-- what a call comes to in each world in which it is served and for which the heap stood
+pub record Comes (call : Call) (old new : Heap) (was shown : List ℕ) (result : Result Reply Stop) : Type 0 where
+  pub each : (w : World) → HeapStandsFor old w → IsServed w → ComesIn w call old new was shown result

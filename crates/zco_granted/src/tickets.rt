@@ -1,0 +1,89 @@
+// The calls on tickets, as steps of the machine.
+ghost use Rattle.std.specs.Prelude.{[], ◌≡◌, ◌≤◌};
+ghost use Rattle.sdr_audit.specs.Standing.{HeapStandsFor};
+ghost use Rattle.sdr_base.specs.Moves.{KeepsSome};
+ghost use Rattle.sdr_base.specs.Works.{Works};
+ghost use Rattle.sdr_model.specs.World.{World};
+ghost use Rattle.sdr_model.specs.declared.call.Call.TheVariants as calls;
+ghost use Rattle.zco_acct.specs.Kept.{SomeQueue};
+ghost use Rattle.zco_granted.specs.Answering.{Comes, IsGood, call_lines};
+ghost use Rattle.zco_served.specs.Answering.{IsServed};
+
+use sdr_answers::Page;
+use sdr_base::{Acct, Amounts, Objects, Stop};
+use sdr_model::Reply;
+use zco_acct::{Notice, Notify};
+
+/// What a request asks: so many bytes of each space of an account, with these priorities.
+#[derive(Clone, Copy)]
+pub struct Asking {
+    pub acct: Acct,
+    pub asked: Amounts,
+    pub coarse: u8,
+    pub fine: u8,
+}
+
+// Asks an account for space.
+pub fn request<O: Objects, F: Notify>(
+    o: &mut O,
+    asking: &Asking,
+    notice: &Notice<F>,
+    page: &mut Page,
+) -> Result<Reply, Stop>
+    requires kept { KeepsSome (O.keeps o.old) }
+    requires spare { 1 ≤ (O.heap o.old).spare }
+    requires queue { SomeQueue (O.heap o.old) asking.now.acct }
+    requires unmoved { (O.heap o.old).moves ≡ [] }
+    ensures comes { Comes (calls.Request asking.now.acct asking.now.asked.file asking.now.asked.bulk
+        asking.now.asked.heap asking.now.coarse asking.now.fine)
+        (O.heap o.old) (O.heap o.new) page.old page.new result }
+    ensures works { (w : World) → HeapStandsFor (O.heap o.old) w → IsServed w →
+        Works O.HasHeap (call_lines w (calls.Request asking.now.acct asking.now.asked.file
+        asking.now.asked.bulk asking.now.asked.heap asking.now.coarse asking.now.fine))
+        o.old o.new result }
+{
+    let Asking {
+        acct,
+        asked,
+        coarse,
+        fine,
+    } = *asking;
+    let (number, granted) = zco_space::request(o, acct, &asked, coarse, fine, notice)?;
+    page.clear();
+    Ok(Reply::Ticket { number, granted })
+}
+
+// Whether a ticket is granted.
+pub fn awarded<O: Objects>(o: &mut O, ticket: u64, page: &mut Page) -> Result<Reply, Stop>
+    requires kept { KeepsSome (O.keeps o.old) }
+    requires good { IsGood (O.heap o.old) }
+    requires unmoved { (O.heap o.old).moves ≡ [] }
+    ensures comes { Comes (calls.Awarded ticket)
+        (O.heap o.old) (O.heap o.new) page.old page.new result }
+    ensures works { Works O.HasHeap 0 o.old o.new result }
+{
+    zco_space::awarded(o, ticket)?;
+    page.clear();
+    Ok(Reply::Done)
+}
+
+// Ends a ticket.
+pub fn shred<O: Objects, F: Notify>(
+    o: &mut O,
+    ticket: u64,
+    notice: &Notice<F>,
+    page: &mut Page,
+) -> Result<Reply, Stop>
+    requires kept { KeepsSome (O.keeps o.old) }
+    requires spare { 1 ≤ (O.heap o.old).spare }
+    requires good { IsGood (O.heap o.old) }
+    requires unmoved { (O.heap o.old).moves ≡ [] }
+    ensures comes { Comes (calls.Shred ticket)
+        (O.heap o.old) (O.heap o.new) page.old page.new result }
+    ensures works { (w : World) → HeapStandsFor (O.heap o.old) w → IsServed w →
+        Works O.HasHeap (call_lines w (calls.Shred ticket)) o.old o.new result }
+{
+    zco_space::shred(o, ticket, notice)?;
+    page.clear();
+    Ok(Reply::Done)
+}
