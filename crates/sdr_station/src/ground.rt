@@ -29,10 +29,11 @@ use sdr_model::{Answer, Call, Reply};
 use sdr_served::{answer, built};
 use std::alloc::Global;
 use std::marker::Model;
+use zco_acct::{Notice, Notify};
 
 /// A heap on an image as the ground of a lock.
 #[derive(Drop)]
-pub struct HeapGround<D: Disk> {
+pub struct HeapGround<D: Disk, F: Notify + Drop> {
     heap: Heap<Image<D>>,
     /// The bytes that the last answered call gave.
     shown: Page,
@@ -43,9 +44,11 @@ pub struct HeapGround<D: Disk> {
     moment: u64,
     /// How many lines opening has put back.
     restored: u64,
+    /// What is told each time space is made available.
+    notice: Notice<F>,
 }
 
-impl<D: Disk> Model for HeapGround<D> {
+impl<D: Disk, F: Notify + Drop> Model for HeapGround<D, F> {
     ghost use Rattle.sdr_station.specs.Grounded.{Grounded, IsGround};
 
     ghost Value = { Grounded D };
@@ -67,7 +70,7 @@ impl<D: Disk> Model for HeapGround<D> {
     }) };
 }
 
-impl<D: Disk> HasGround for HeapGround<D> {
+impl<D: Disk, F: Notify + Drop> HasGround for HeapGround<D, F> {
     ghost use Rattle.std.specs.Prelude.{None, ⊤};
     ghost use Rattle.sdr_lock.specs.Gaps.{no_gaps};
     ghost use Rattle.sdr_station.specs.Grounded as grounded;
@@ -117,11 +120,15 @@ fn of_audit(why: AuditError) -> OpenError
     }
 }
 
-impl<D: Disk> HeapGround<D> {
+impl<D: Disk, F: Notify + Drop> HeapGround<D, F> {
     /// Opens the heap on a disk. Where batches are open, their lines are put back. All memory is taken
     /// here. A crash on the way leaves the same heap as one before, where nothing is pending on the disk
     /// that is handed in, or a recovery of it was stopped. So far only a fresh heap is opened.
-    pub fn open(alloc: Global, disk: D) -> Result<HeapGround<D>, Shut<D>>
+    pub fn open(
+        alloc: Global,
+        disk: D,
+        notice: Notice<F>,
+    ) -> Result<HeapGround<D, F>, Shut<D>>
         ensures opened { IfOk result (IsOpen D.bytes D.moment D.may_leave disk) }
         ensures why { IfErr result (λ shut.
             ExplainsOpen (D.bytes disk) (D.faults disk) (D.faults shut.disk) shut.why) }
@@ -157,6 +164,7 @@ impl<D: Disk> HeapGround<D> {
                 stopped: false,
                 moment,
                 restored,
+                notice,
             }),
             Err(shut) => Err(Shut {
                 why: OpenError::NoMemory,
@@ -171,14 +179,14 @@ impl<D: Disk> HeapGround<D> {
         requires going { self.old.stopped ≡ false }
         requires built { built call.now ≡ true }
         ensures memory { Brings StandsInMemory self.old self.new (Calls None call.now result) }
-        ensures answered { Brings ⟦<HeapGround<D> as HasGround>⟧.stands self.old self.new
+        ensures answered { Brings ⟦<HeapGround<D, F> as HasGround>⟧.stands self.old self.new
             (Calls None call.now result) }
         ensures stopped { self.new.stopped ≡ dooms call.now result }
         ensures gives { Gives result self.new }
         ensures sound { self.new.heap.cells.failed ≡ false }
         ensures restored { self.new.restored ≡ self.old.restored }
-        ensures keeps { KeepsGround ⟦<HeapGround<D> as HasGround>⟧ true self.old self.new }
-        ensures any_moment { LeavesBefore ⟦<HeapGround<D> as HasGround>⟧ self.old self.new }
+        ensures keeps { KeepsGround ⟦<HeapGround<D, F> as HasGround>⟧ true self.old self.new }
+        ensures any_moment { LeavesBefore ⟦<HeapGround<D, F> as HasGround>⟧ self.old self.new }
     {
         self.heap.fresh();
         match answer(&mut self.heap, call, &mut self.shown) {
@@ -199,13 +207,13 @@ impl<D: Disk> HeapGround<D> {
         requires going { self.old.stopped ≡ false }
         ensures memory { OnOk result (Brings StandsInMemory self.old self.new Keeps) }
         ensures kept { OnOk result
-            (Brings ⟦<HeapGround<D> as HasGround>⟧.stands self.old self.new Keeps) }
+            (Brings ⟦<HeapGround<D, F> as HasGround>⟧.stands self.old self.new Keeps) }
         ensures going { OnOk result (self.new.stopped ≡ false) }
         ensures sound { OnOk result (self.new.heap.cells.failed ≡ false) }
         ensures restored { self.new.restored ≡ self.old.restored }
-        ensures fault { OnErr result (MeetsFault ⟦<HeapGround<D> as HasGround>⟧ self.old self.new) }
-        ensures keeps { KeepsGround ⟦<HeapGround<D> as HasGround>⟧ false self.old self.new }
-        ensures any_moment { LeavesEither ⟦<HeapGround<D> as HasGround>⟧ self.old self.new }
+        ensures fault { OnErr result (MeetsFault ⟦<HeapGround<D, F> as HasGround>⟧ self.old self.new) }
+        ensures keeps { KeepsGround ⟦<HeapGround<D, F> as HasGround>⟧ false self.old self.new }
+        ensures any_moment { LeavesEither ⟦<HeapGround<D, F> as HasGround>⟧ self.old self.new }
     {
         match commit(&mut self.heap) {
             Ok(()) => {
@@ -226,14 +234,14 @@ impl<D: Disk> HeapGround<D> {
     pub fn restore(&mut self) -> Result<(), Fault>
         ensures memory { OnOk result (Brings StandsInMemory self.old self.new PutsBack) }
         ensures put_back { OnOk result
-            (Brings ⟦<HeapGround<D> as HasGround>⟧.stands self.old self.new PutsBack) }
+            (Brings ⟦<HeapGround<D, F> as HasGround>⟧.stands self.old self.new PutsBack) }
         ensures going { OnOk result
             (self.old.heap.cells.failed ≡ false → self.new.stopped ≡ false) }
         ensures sound { OnOk result (self.new.heap.cells.failed ≡ self.old.heap.cells.failed) }
         ensures restored { self.new.restored ≡ self.old.restored }
-        ensures fault { OnErr result (MeetsFault ⟦<HeapGround<D> as HasGround>⟧ self.old self.new) }
-        ensures keeps { KeepsGround ⟦<HeapGround<D> as HasGround>⟧ false self.old self.new }
-        ensures any_moment { LeavesBefore ⟦<HeapGround<D> as HasGround>⟧ self.old self.new }
+        ensures fault { OnErr result (MeetsFault ⟦<HeapGround<D, F> as HasGround>⟧ self.old self.new) }
+        ensures keeps { KeepsGround ⟦<HeapGround<D, F> as HasGround>⟧ false self.old self.new }
+        ensures any_moment { LeavesBefore ⟦<HeapGround<D, F> as HasGround>⟧ self.old self.new }
     {
         match cancel(&mut self.heap) {
             Ok(()) => {
@@ -264,6 +272,7 @@ impl<D: Disk> HeapGround<D> {
             stopped: _,
             moment: _,
             restored: _,
+            notice: _,
         } = self;
         heap.into_cells().into_disk()
     }
@@ -300,7 +309,7 @@ impl<D: Disk> HeapGround<D> {
     }
 }
 
-impl<D: Disk> Serves for HeapGround<D> {
+impl<D: Disk, F: Notify + Drop> Serves for HeapGround<D, F> {
     fn moment(&self) -> u64 {
         self.moment
     }
@@ -308,16 +317,16 @@ impl<D: Disk> Serves for HeapGround<D> {
     // Want of memory comes just where a call was stopped, or where it isn't served yet.
     fn call(&mut self, call: &Call) -> Result<Reply, Halt>
         ensures answered { IfOk result (λ reply.
-            Brings ⟦<HeapGround<D> as HasGround>⟧.stands self.old self.new
+            Brings ⟦<HeapGround<D, F> as HasGround>⟧.stands self.old self.new
             (Calls None call.now reply)) }
         ensures gap { IfOk result (λ reply. HasGapCause (Answer.Reply reply) no_gaps no_gaps) }
         ensures memory { IsErrOf result Halt.Memory → self.new ≡ self.old }
         ensures stopped { IsErrOf result Halt.Memory
             ↔ ((self.old.stopped ≡ true) ⊎ (built call.now ≡ false)) }
         ensures fault { IsErrOf result Halt.Fault
-            → MeetsFault ⟦<HeapGround<D> as HasGround>⟧ self.old self.new }
-        ensures keeps { KeepsGround ⟦<HeapGround<D> as HasGround>⟧ true self.old self.new }
-        ensures any_moment { LeavesBefore ⟦<HeapGround<D> as HasGround>⟧ self.old self.new }
+            → MeetsFault ⟦<HeapGround<D, F> as HasGround>⟧ self.old self.new }
+        ensures keeps { KeepsGround ⟦<HeapGround<D, F> as HasGround>⟧ true self.old self.new }
+        ensures any_moment { LeavesBefore ⟦<HeapGround<D, F> as HasGround>⟧ self.old self.new }
     {
         if self.stopped || !built(call) {
             return Err(Halt::Memory);
@@ -328,13 +337,13 @@ impl<D: Disk> Serves for HeapGround<D> {
     // Want of memory comes just where a call was stopped.
     fn keep(&mut self) -> Result<(), Halt>
         ensures kept { OnOk result
-            (Brings ⟦<HeapGround<D> as HasGround>⟧.stands self.old self.new Keeps) }
+            (Brings ⟦<HeapGround<D, F> as HasGround>⟧.stands self.old self.new Keeps) }
         ensures memory { IsErrOf result Halt.Memory → self.new ≡ self.old }
         ensures stopped { IsErrOf result Halt.Memory ↔ (self.old.stopped ≡ true) }
         ensures fault { IsErrOf result Halt.Fault
-            → MeetsFault ⟦<HeapGround<D> as HasGround>⟧ self.old self.new }
-        ensures keeps { KeepsGround ⟦<HeapGround<D> as HasGround>⟧ false self.old self.new }
-        ensures any_moment { LeavesEither ⟦<HeapGround<D> as HasGround>⟧ self.old self.new }
+            → MeetsFault ⟦<HeapGround<D, F> as HasGround>⟧ self.old self.new }
+        ensures keeps { KeepsGround ⟦<HeapGround<D, F> as HasGround>⟧ false self.old self.new }
+        ensures any_moment { LeavesEither ⟦<HeapGround<D, F> as HasGround>⟧ self.old self.new }
     {
         if self.stopped {
             return Err(Halt::Memory);

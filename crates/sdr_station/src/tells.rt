@@ -12,6 +12,7 @@ use sdr_lock::{Room, Tells};
 use sdr_model::Call;
 use sdr_served::built;
 use std::alloc::AllocError;
+use zco_acct::Notify;
 
 // How many bytes a call that is served gives at most.
 fn most_bytes(call: &Call) -> usize
@@ -25,7 +26,7 @@ fn most_bytes(call: &Call) -> usize
     }
 }
 
-impl<D: Disk> Tells for HeapGround<D> {
+impl<D: Disk, F: Notify + Drop> Tells for HeapGround<D, F> {
     fn moves(&self) -> &[Move] {
         HeapGround::moves(self)
     }
