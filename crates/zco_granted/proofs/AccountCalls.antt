@@ -8,7 +8,7 @@ use Rattle.sdr_answers.specs.Answering.{Aim, IsRefused}
 use Rattle.sdr_audit.specs.Standing.{HeapStandsFor}
 use Rattle.sdr_base.specs.Blocks.{Blocks, with_at}
 use Rattle.sdr_base.specs.Entries.{Changes, Entries, Stands}
-use Rattle.sdr_base.specs.Objects.{Heap, OnlyUnmoved}
+use Rattle.sdr_base.specs.Objects.{Heap}
 use Rattle.sdr_base.specs.declared.account.Acct.{Acct}
 use Rattle.sdr_base.specs.declared.account.Acct.TheVariants as accts
 use Rattle.sdr_base.specs.declared.account.Amounts.{Amounts}
@@ -42,7 +42,7 @@ use Rattle.zco_acct.specs.Kept.{SomeQueue, queue_entries}
 use Rattle.zco_acct.specs.Words.{first_word, last_word, maxima_in, maximum_word, occupied_in}
 use Rattle.zco_granted.proofs.AccountLemmas.{account_becomes, account_words, roots_before, unmarked, world_with}
 use Rattle.zco_granted.proofs.ComingLemmas.{log_full, tickets_kept, untied_answered}
-use Rattle.zco_granted.proofs.QueueLemmas.{maxima_are, occupied_is, queue_kept}
+use Rattle.zco_granted.proofs.QueueLemmas.{maxima_are, occupied_is}
 use Rattle.zco_granted.proofs.WordLemmas.{maximum_set}
 use Rattle.zco_granted.specs.Answering.{Answered, KeepsTickets, Serves, grants_of}
 use Rattle.zco_served.specs.Answering.{IsServed}
@@ -195,9 +195,9 @@ pub maximum_refused : (old new : Heap) (w : World) (acct : Acct) (space : Space)
     IsRefused w (calls.SetMaximum acct space value) old new was was refusal
 maximum_refused old new w acct space value was (refusals.TooLarge of asked most) unmoved m = record {
   step = inl (row_refused w (calls.SetMaximum acct space value) new (refusals.TooLarge of asked most)
-      (ap (λ (h : Heap). h.moves) m.1.1.1.1 ∙ unmoved)
-      (on_true _ _ (nat_lt most_amount value) (above value m.1.1.1.0)
-      (refl, refl, λ i. replies.Refused (refusals.TooLarge (m.0 i) (m.1.0 i) (m.1.1.0 i)))));
+      (ap (λ (h : Heap). h.moves) m.4 ∙ unmoved)
+      (on_true _ _ (nat_lt most_amount value) (above value m.3)
+      (refl, refl, λ i. replies.Refused (refusals.TooLarge (m.0 i) (m.1 i) (m.2 i)))));
   left = λ reads. absurd (true≢false (sym reads));
   gave = refl;
 }

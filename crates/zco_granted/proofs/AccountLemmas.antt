@@ -1,5 +1,5 @@
 -- What becomes of a heap that stands for a world where one account changes, or is served.
-use Rattle.std.proofs.Common.{◌≡◌, ◌∙◌, ℕ, List, [], ◌++◌, map, refl, sym, ap, subst, append-nil}
+use Rattle.std.proofs.Common.{◌≡◌, ◌∙◌, ◌≤◌, ℕ, List, [], ◌++◌, map, refl, sym, ap, subst, append-nil}
 use Rattle.sdr_audit.proofs.ChangeLemmas.{part_becomes}
 use Rattle.sdr_audit.proofs.PartLemmas.{queue_part}
 use Rattle.sdr_audit.specs.Standing.{HeapStandsFor, entries_of, roots_of, with_taken_marked}
@@ -7,7 +7,7 @@ use Rattle.sdr_audit.specs.Standing as audit
 use Rattle.sdr_base.specs.Blocks.{Blocks}
 use Rattle.sdr_base.specs.Entries.{Changes, Entries, Stands, Swaps}
 use Rattle.sdr_base.specs.Linked.{first_of, last_of}
-use Rattle.sdr_base.specs.Making.{besides, marked_by}
+use Rattle.sdr_base.specs.Making.{marked_by}
 use Rattle.sdr_base.specs.Objects.{Heap}
 use Rattle.sdr_base.specs.Tickets.{ticket_entries}
 use Rattle.sdr_base.specs.declared.account.Acct.{Acct}
@@ -15,6 +15,8 @@ use Rattle.sdr_base.specs.declared.account.Acct.TheVariants as accts
 use Rattle.sdr_base.specs.declared.account.Amounts.{Amounts}
 use Rattle.sdr_base.specs.declared.moves.Move.{Move}
 use Rattle.sdr_laws.proofs.AccountQueues.{account_kept, queues_from}
+use Rattle.sdr_laws.proofs.BarredLemmas.{tickets_now}
+use Rattle.sdr_lock.specs.Demand.{grants_between}
 use Rattle.sdr_model.specs.Accounts.{account_of, tickets_of, with_account}
 use Rattle.sdr_model.specs.Charges.{occupancies}
 use Rattle.sdr_model.specs.Queue.{served, with_served}
@@ -24,12 +26,13 @@ use Rattle.sdr_model.specs.declared.accounts.Account.{Account}
 use Rattle.sdr_model.specs.declared.accounts.Ticket.{Ticket}
 use Rattle.zco_acct.specs.Kept.{SomeQueue, block_of, queue_entries}
 use Rattle.zco_acct.specs.Words.{maxima_in, occupied_in, with_occupied}
+use Rattle.zco_granted.proofs.GrantLemmas.{grants_many, queue_awaits}
 use Rattle.zco_granted.proofs.OccupiedLemmas.{occupied_with, served_occupied}
 use Rattle.zco_granted.proofs.QueueLemmas.{first_rows, last_rows, maxima_are, occupied_is, queue_kept, same_entries}
 use Rattle.zco_granted.proofs.WordLemmas.{AccountWords, occupied_set, roots_same, roots_with, set_occupied, words_of}
 use Rattle.zco_granted.specs.Answering.{KeepsTickets, Serves}
 use Rattle.zco_space.proofs.ServedLemmas.{first-served, last-served}
-use Rattle.zco_space.specs.Served.{ServesQueue, occupied_after}
+use Rattle.zco_space.specs.Served.{ServesQueue, newly_granted, occupied_after, queue_served}
 
 -- the world with another account in the place of one, and this next number
 abbrev pub world_with : World → Acct → Account → ℕ → World
@@ -140,6 +143,21 @@ served_words w acct m o ts = λ i. record {
   last = sym (last-served 0 m o ts) i;
 }
 
+-- the heap's queue is served as the world's is
+queue_same : {heap : Heap} {w : World} (acct : Acct) → HeapStandsFor heap w →
+    queue_served heap acct (tickets_of w.accounts acct) ≡ queue_after w acct
+queue_same {heap} {w} acct s = λ i. served (maxima_are acct s i) (occupied_is acct s i) (tickets_of w.accounts acct)
+
+-- so many tickets are granted
+pub serve_grants : {heap : Heap} {w : World} (acct : Acct) → HeapStandsFor heap w → KeepsTickets w →
+    newly_granted (tickets_of w.accounts acct) (queue_served heap acct (tickets_of w.accounts acct))
+    ≤ grants_between w (with_served w acct)
+serve_grants {heap} {w} acct s keeps =
+    let ts = tickets_of w.accounts acct in
+    subst (λ (us : List Ticket). newly_granted ts us ≤ grants_between w (with_served w acct)) (sym (queue_same acct s))
+    (grants_many w (with_served w acct) acct (account_of w.accounts acct).maxima (occupancies w acct) ts
+    (queue_awaits w (queues_from w.accounts keeps.queues) acct) (tickets_now w.accounts acct (queue_after w acct)))
+
 -- the heap stands for the world with the queue served
 pub serves : {acct : Acct} {old new : Heap} {count : ℕ} → SomeQueue old acct → ServesQueue acct old new count → Serves acct old new
 serves {acct} {old} {new} {count} some q = record {
@@ -149,9 +167,7 @@ serves {acct} {old} {new} {count} some q = record {
       let o = occupancies w acct in
       let k = queue_kept acct s keeps in
       let us = queue_after w acct in
-      let same : served (maxima_in old acct) (occupied_in old acct) ts ≡ us =
-      ap (λ (a : Amounts). served a (occupied_in old acct) ts) (maxima_are acct s)
-      ∙ ap (λ (a : Amounts). served m a ts) (occupied_is acct s) in
+      let same = queue_same acct s in
       let valid = (account_kept w.accounts acct (queues_from w.accounts keeps.queues)).queue.valid in
       let sum : occupied_after (occupied_in old acct) ts (served (maxima_in old acct) (occupied_in old acct) ts)
       ≡ occupied_with w acct us =

@@ -1,5 +1,5 @@
 -- What a call on accounts and tickets comes to, by what the call below came to.
-use Rattle.std.proofs.Common.{◌≡◌, ◌∙◌, ℕ, List, [], Err, Ok, true, false, true≢false, refl, subst, sym}
+use Rattle.std.proofs.Common.{◌≡◌, ◌∙◌, ℕ, List, [], Err, Ok, false, true≢false, refl, subst, sym}
 use Rattle.sdr_answers.specs.Answering as answers
 use Rattle.sdr_answers.specs.Answering.{Aim, IsRefused}
 use Rattle.sdr_audit.specs.Standing.{HeapStandsFor}

@@ -1,7 +1,7 @@
 -- The ticket of a number, as the heap's queues have it and as the world does.
-use Rattle.std.proofs.Common.{◌≡◌, ◌∙◌, ◌<◌, ◌+◌, ◌==◌, ℕ, zero, suc, List, [], ◌∷◌, ◌++◌, Bool, true, false, cond, not, nat_lt, find, position, length, remove, refl, sym, ap, subst, arith, if◌then◌else◌}
+use Rattle.std.proofs.Common.{◌≡◌, ◌∙◌, ◌<◌, ◌+◌, ◌==◌, ℕ, suc, List, [], ◌∷◌, ◌++◌, Bool, true, false, cond, not, nat_lt, find, length, remove, refl, sym, ap, subst, arith, if◌then◌else◌}
 use Rattle.std.proofs.Math.Numerals.{one-add}
-use Rattle.std.proofs.lemmas.Bool.{lt-ltb}
+use Rattle.std.proofs.lemmas.Bool.{le-ltb, lt-ltb}
 use Rattle.std.proofs.lemmas.List.Folds.{find-append}
 use Rattle.std.specs.List.{position_or_len}
 use Rattle.std.specs.Option.{option_map, option_map_or, option_or}
@@ -9,9 +9,10 @@ use Rattle.std.specs.Prelude.{Option, None, Some, slice_get, unwrap_or}
 use Rattle.sdr_base.specs.declared.account.Acct.{Acct}
 use Rattle.sdr_base.specs.declared.account.Acct.TheVariants as accts
 use Rattle.sdr_model.specs.AccountSteps.{is_granted, pending_of}
-use Rattle.sdr_model.specs.Accounts.{Pending, no_ticket, pending_in, ticket_at, tickets_of}
+use Rattle.sdr_model.specs.Accounts.{no_ticket, pending_in, ticket_at, tickets_of}
 use Rattle.sdr_model.specs.World.{World}
 use Rattle.sdr_model.specs.declared.accounts.Accounts.{Accounts}
+use Rattle.sdr_model.specs.declared.accounts.Pending.{Pending}
 use Rattle.sdr_model.specs.declared.accounts.Ticket.{Ticket}
 use Rattle.zco_acct.specs.Walks.{has_number}
 use Rattle.zco_space.specs.Requests.{number_granted}
@@ -77,8 +78,7 @@ none_at number (x ∷ xs) none = by (x.number == number) refl none (none_at numb
         ∙ one-add (position_or_len (has_number number) xs) ∙ ap suc (rest none)
 
 not_below : (n : ℕ) → nat_lt n n ≡ false
-not_below zero = refl
-not_below (suc n) = not_below n
+not_below n = le-ltb n n (omega arith)
 
 pub none_pending : (a : Accounts) (acct : Acct) (number : ℕ) → find (has_number number) (tickets_of a acct) ≡ None →
     pending_in a acct number ≡ None
@@ -150,7 +150,7 @@ located_pending w number acct t is =
   where
     by : (o p : Option Ticket) → find (has_number number) w.accounts.inbound.tickets ≡ o →
         find (has_number number) w.accounts.outbound.tickets ≡ p →
-        option_or (option_map (λ (t : Ticket). (accts.Inbound, t)) o) (option_map (λ (t : Ticket). (accts.Outbound, t)) p)
+        option_or {T = Acct × Ticket} (option_map (λ (t : Ticket). (accts.Inbound, t)) o) (option_map (λ (t : Ticket). (accts.Outbound, t)) p)
         ≡ Some (acct, t) → IsPending w number acct t
     by (Some u) p e f same =
         let here : (accts.Inbound, u) ≡ (acct, t) = cc in
@@ -167,7 +167,7 @@ unlocated w number is =
   where
     by : (o p : Option Ticket) → find (has_number number) w.accounts.inbound.tickets ≡ o →
         find (has_number number) w.accounts.outbound.tickets ≡ p →
-        option_or (option_map (λ (t : Ticket). (accts.Inbound, t)) o) (option_map (λ (t : Ticket). (accts.Outbound, t)) p)
+        option_or {T = Acct × Ticket} (option_map (λ (t : Ticket). (accts.Inbound, t)) o) (option_map (λ (t : Ticket). (accts.Outbound, t)) p)
         ≡ None → HasNone w number
     by (Some u) p e f same = absurd cc
     by None (Some u) e f same = absurd cc

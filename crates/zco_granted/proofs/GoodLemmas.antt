@@ -1,10 +1,8 @@
 -- The queues are kept where a heap stands for a world in which calls on accounts and tickets are served.
 use Rattle.sdr_audit.specs.Standing.{HeapStandsFor}
 use Rattle.sdr_base.specs.Objects.{Heap}
-use Rattle.sdr_base.specs.declared.account.Acct.{Acct}
 use Rattle.sdr_base.specs.declared.account.Acct.TheVariants as accts
 use Rattle.sdr_model.specs.World.{World}
-use Rattle.zco_acct.specs.Kept.{SomeQueue}
 use Rattle.zco_granted.proofs.ComingLemmas.{tickets_kept}
 use Rattle.zco_granted.proofs.QueueLemmas.{queue_kept}
 use Rattle.zco_granted.specs.Answering.{IsGood}

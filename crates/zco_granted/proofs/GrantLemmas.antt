@@ -1,7 +1,7 @@
 -- A queue that is served grants no more tickets than the world has granted since.
-use Rattle.std.proofs.Common.{◌≡◌, ◌∙◌, ◌<◌, ◌+◌, ◌≤◌, ◌==◌, ◌&&◌, ◌||◌, not, ℕ, List, [], ◌∷◌, ◌++◌, Bool, true, false, nat_eq, remove, ap, sym, subst, arith}
+use Rattle.std.proofs.Common.{◌≡◌, ◌∙◌, ◌+◌, ◌≤◌, ◌==◌, ◌&&◌, ◌||◌, not, ℕ, List, [], ◌∷◌, Bool, true, false, nat_eq, remove, ap, sym, subst, arith}
 use Rattle.std.specs.Cmp.{nat_eq_equiv}
-use Rattle.std.specs.List.{AllByRecursion, count_by, list_any}
+use Rattle.std.specs.List.{AllByRecursion, count_by}
 use Rattle.std.proofs.lemmas.List.Folds.{list_any-append}
 use Rattle.std.proofs.lemmas.List.Sums.{sum_by-append, sum_by-cons}
 use Rattle.sdr_base.specs.declared.account.Acct.{Acct}
@@ -81,10 +81,10 @@ there_once : (ts us : List Ticket) → ((k : ℕ) → times k us ≤ times k ts)
 there_once ts [] less = tt
 there_once ts (u ∷ us) less = (
   (let here = sum_by-cons (λ (t : Ticket). weight (nat_eq u.number t.number)) u us in
-  let self = ap weight (nat_eq_equiv.refl u.number) in
-  let l = less u.number in omega (arith, here, self, l)),
+      let self = ap weight (nat_eq_equiv.refl u.number) in
+      let l = less u.number in omega (arith, here, self, l)),
   there_once ts us (λ k.
-  let here = sum_by-cons (λ (t : Ticket). weight (nat_eq k t.number)) u us in let l = less k in omega (arith, here, l)),
+      let here = sum_by-cons (λ (t : Ticket). weight (nat_eq k t.number)) u us in let l = less k in omega (arith, here, l)),
 )
 
 -- what is granted in a world is so in one of both queues

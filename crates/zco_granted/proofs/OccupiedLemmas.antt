@@ -1,5 +1,5 @@
 -- What is occupied once a queue was served, and once a ticket has come or gone.
-use Rattle.std.proofs.Common.{◌≡◌, ◌∙◌, ℕ, ◌+◌, ◌-◌, ◌≤◌, List, [], ◌∷◌, Bool, true, false, sym, ap, arith, if◌then◌else◌, refl}
+use Rattle.std.proofs.Common.{◌≡◌, ◌∙◌, ℕ, ◌+◌, ◌-◌, ◌≤◌, List, [], ◌∷◌, Bool, sym, ap, arith, if◌then◌else◌, refl}
 use Rattle.std.specs.FinMap as finite
 use Rattle.std.specs.List.{AllByRecursion, sum_by}
 use Rattle.std.proofs.lemmas.List.Sums.{sum_by-cons}
@@ -10,7 +10,7 @@ use Rattle.sdr_laws.proofs.BarredLemmas.{amount_by, amounts_same, left_in-cons}
 use Rattle.sdr_laws.proofs.QueueLemmas.{serving}
 use Rattle.sdr_model.proofs.AmountLemmas.{amount-minus}
 use Rattle.sdr_model.specs.Amounts.{amount, amounts_by, minus, plus}
-use Rattle.sdr_model.specs.Charges.{left_in, occupancies, occupancy, thing_charge}
+use Rattle.sdr_model.specs.Charges.{left_in, thing_charge}
 use Rattle.sdr_model.specs.Queue.{granted, served}
 use Rattle.sdr_model.specs.Valid.{IsValidTicket}
 use Rattle.sdr_model.specs.World.{World}

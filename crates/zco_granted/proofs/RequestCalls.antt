@@ -1,10 +1,10 @@
 -- A request for space, as a step.
-use Rattle.std.proofs.Common.{◌≡◌, ◌∙◌, ◌≤◌, ◌<◌, ◌+◌, ◌==◌, ◌++◌, ℕ, List, [], ◌∷◌, Bool, true, false, true≢false, inl, nat_le, refl, sym, ap, subst, arith, if◌then◌else◌}
+use Rattle.std.proofs.Common.{◌≡◌, ◌∙◌, ◌≤◌, ◌+◌, ◌==◌, ◌++◌, ℕ, List, [], ◌∷◌, Bool, true, false, true≢false, inl, nat_le, refl, sym, ap, subst, arith, if◌then◌else◌}
 use Rattle.std.proofs.lemmas.Bool.Decides.{nat_tests}
 use Rattle.std.specs.List.{AllByRecursion}
 use Rattle.std.specs.Option.{option_map, option_or}
 use Rattle.std.specs.Prelude.{All, Option, None, Some}
-use Rattle.sdr_answers.proofs.RowLemmas.{HasMoves, TakesAim, row_refused, short_refused, took_has}
+use Rattle.sdr_answers.proofs.RowLemmas.{TakesAim, row_refused, short_refused, took_has}
 use Rattle.sdr_answers.specs.Answering.{IsRefused}
 use Rattle.sdr_audit.specs.Standing.{HeapStandsFor, with_taken_marked}
 use Rattle.sdr_base.specs.Blocks.{with_at}
@@ -44,7 +44,7 @@ use Rattle.sdr_model.specs.declared.answer.Reply.TheVariants as replies
 use Rattle.sdr_model.specs.declared.call.Call.{Call}
 use Rattle.sdr_model.specs.declared.call.Call.TheVariants as calls
 use Rattle.zco_acct.specs.Kept.{block_of, queue_entries}
-use Rattle.zco_acct.specs.Words.{first_word, last_word, maxima_in, occupied_in}
+use Rattle.zco_acct.specs.Words.{first_word, last_word, occupied_in}
 use Rattle.zco_granted.proofs.AccountLemmas.{account_becomes, account_with, account_words, roots_before, served_words, world_with}
 use Rattle.zco_granted.proofs.ComingLemmas.{tickets_kept}
 use Rattle.zco_granted.proofs.FoundLemmas.{granted_is}
@@ -163,7 +163,7 @@ module _ (old new : Heap) (w : World) (acct : Acct) (asked : Amounts) (coarse fi
       }) (asks acct asked coarse fine)
   request_row addr a =
       on_none _ _ (first_above asked maxima) a.within
-      (on_false _ _ (w.accounts.next == most_amount) a.numbered (refl, refl, refl))
+      (on_false _ _ (w.accounts.next == most_amount) a.numbered (refl, (refl, refl)))
 
   pub request_aim : IsAllowed → TakesAim w (asks acct asked coarse fine) 96
   request_aim a = record { after = _; reply = _; row = request_row 0 a; answered = refl }
@@ -259,10 +259,10 @@ requested_answered old new w acct asked coarse fine value unmoved s served r =
         reply = replies.Ticket value.0 value.1;
       }) (asks acct asked coarse fine)) (sym m.is)
           (subst (λ (p : Reply). ByRow w (record {
-        moves = moves;
-        after = with_taken_marked (with_request w acct t) moves;
-        reply = p;
-      }) (asks acct asked coarse fine)) (sym reply) (request_row old new w acct asked coarse fine s served addr a));
+            moves = moves;
+            after = with_taken_marked (with_request w acct t) moves;
+            reply = p;
+          }) (asks acct asked coarse fine)) (sym reply) (request_row old new w acct asked coarse fine s served addr a));
       answered = refl;
       fresh = subst (λ (ms : List Move). AreFresh (addresses_of (blocks_of w)) ms) (sym m.is) m.fresh;
       stands = subst (λ (v : World). HeapStandsFor new (with_taken_marked v moves)) (sym (request_world w acct t))

@@ -1,5 +1,5 @@
 -- A ticket that is looked at, and one that goes, as steps.
-use Rattle.std.proofs.Common.{◌≡◌, ◌∙◌, ◌≤◌, ◌++◌, ℕ, List, [], ◌∷◌, Bool, true, false, true≢false, inl, find, remove, refl, sym, ap, subst, arith, if◌then◌else◌}
+use Rattle.std.proofs.Common.{◌≡◌, ◌∙◌, ◌≤◌, ◌++◌, ℕ, List, [], ◌∷◌, Bool, true, false, true≢false, inl, remove, refl, sym, ap, subst, arith, if◌then◌else◌}
 use Rattle.std.specs.List.{AllByRecursion}
 use Rattle.std.specs.Option.{option_map_or}
 use Rattle.std.specs.Prelude.{All, Option, None, Some}
@@ -24,8 +24,9 @@ use Rattle.sdr_laws.proofs.QueueLemmas.{all_gone}
 use Rattle.sdr_laws.specs.Fresh.{AreFresh}
 use Rattle.sdr_lock.proofs.WorkLemmas.{on_false, on_none, on_some, on_true}
 use Rattle.sdr_lock.specs.Demand.{grants_between}
+use Rattle.sdr_lock.specs.Serving.{shown_among}
 use Rattle.sdr_model.specs.AccountSteps.{pending_of, without_ticket}
-use Rattle.sdr_model.specs.Accounts.{Pending, account_of, tickets_of}
+use Rattle.sdr_model.specs.Accounts.{account_of, tickets_of}
 use Rattle.sdr_model.specs.Amounts.{minus}
 use Rattle.sdr_model.specs.Blocks.{addresses_of, blocks_of}
 use Rattle.sdr_model.specs.Fields.{IsWord}
@@ -34,23 +35,25 @@ use Rattle.sdr_model.specs.Rows.{ByRow}
 use Rattle.sdr_model.specs.Steps.{taken_addresses}
 use Rattle.sdr_model.specs.Valid.{IsValidTicket}
 use Rattle.sdr_model.specs.World.{World}
+use Rattle.sdr_model.specs.declared.accounts.Pending.{Pending}
 use Rattle.sdr_model.specs.declared.accounts.Ticket.{Ticket}
 use Rattle.sdr_model.specs.declared.answer.Reply.TheVariants as replies
 use Rattle.sdr_model.specs.declared.call.Call.TheVariants as calls
 use Rattle.zco_acct.specs.Kept.{block_of, queue_entries}
 use Rattle.zco_acct.specs.Refusals.{unusable}
-use Rattle.zco_acct.specs.Walks.{has_number}
-use Rattle.zco_acct.specs.Words.{first_word, last_word, maxima_in, occupied_in}
+use Rattle.zco_acct.specs.Words.{first_word, last_word}
+use Rattle.zco_acct.specs.declared.queue.Found.{Found}
 use Rattle.zco_granted.proofs.AccountLemmas.{account_becomes, account_with, account_words, roots_before, served_words, unmarked, world_with}
 use Rattle.zco_granted.proofs.ComingLemmas.{tickets_kept, untied_answered}
-use Rattle.zco_granted.proofs.FoundLemmas.{HasNone, IsPending, located_pending, pending_at, pending_or, unlocated}
+use Rattle.zco_granted.proofs.FoundLemmas.{IsPending, located_pending, pending_at, pending_nowhere, pending_or, unlocated}
 use Rattle.zco_granted.proofs.GrantLemmas.{grants_many, left_await}
 use Rattle.zco_granted.proofs.OccupiedLemmas.{occupied_less, occupied_with, served_occupied}
 use Rattle.zco_granted.proofs.QueueLemmas.{maxima_are, occupied_is, queue_kept}
 use Rattle.zco_granted.proofs.WordLemmas.{AccountWords, ends_set, occupied_set, roots_with, set_occupied}
-use Rattle.zco_granted.specs.Answering.{Answered, grants_of, left_by}
+use Rattle.zco_granted.specs.Answering.{Answered, Sees, grants_of}
 use Rattle.zco_served.specs.Answering.{IsServed}
-use Rattle.zco_space.specs.Located.{AwardStops, IsAwarded}
+use Rattle.zco_space.proofs.FindLemmas.{located_is}
+use Rattle.zco_space.specs.Located.{AwardStops, IsAwarded, StandsIn, StandsNowhere}
 use Rattle.zco_space.specs.Served.{newly_granted, occupied_after}
 use Rattle.zco_space.specs.Shreds.{ShredStops, ShredsTicket, given_back, located, queue_of, shredded, shreds_granted, without_number}
 
@@ -256,11 +259,11 @@ pub shredded_refused : (old new : Heap) (w : World) (number : ℕ) (was : List �
 shredded_refused old new w number was (refusals.BadTicket ticket) unmoved s served m =
     let keeps = tickets_kept served in
     let none = unlocated w number
-    (m.1.0.lacks w.accounts.inbound.tickets w.accounts.outbound.tickets (queue_kept accts.Inbound s keeps)
+    (m.1.lacks w.accounts.inbound.tickets w.accounts.outbound.tickets (queue_kept accts.Inbound s keeps)
     (queue_kept accts.Outbound s keeps)) in
     record {
       step = inl (row_refused w (calls.Shred number) new (refusals.BadTicket ticket)
-          (ap (λ (h : Heap). h.moves) m.1.1 ∙ unmoved)
+          (ap (λ (h : Heap). h.moves) m.2 ∙ unmoved)
           (on_none _ _ (pending_of w number) none.none (refl, refl, ap (λ (n : ℕ). replies.Refused (refusals.BadTicket n)) m.0)));
       left = λ reads. absurd (true≢false (sym reads));
       gave = refl;
@@ -283,27 +286,49 @@ queue_is : (w : World) (acct : Acct) →
 queue_is w accts.Inbound = refl
 queue_is w accts.Outbound = refl
 
+-- by the ticket's account
+abbrev granted_by : Heap → ℕ → World → Option (Acct × Ticket) → ℕ
+granted_by old number w o =
+    option_map_or (λ (q : Acct × Ticket).
+    newly_granted (without_number number (queue_of q.0 w.accounts.inbound.tickets w.accounts.outbound.tickets))
+    (shredded old q.0 number q.1 (queue_of q.0 w.accounts.inbound.tickets w.accounts.outbound.tickets)))
+    o 0
+
 pub shred_grants : (old : Heap) (w : World) (number : ℕ) → HeapStandsFor old w → IsServed w →
     shreds_granted old number w.accounts.inbound.tickets w.accounts.outbound.tickets ≤ grants_of w (calls.Shred number)
 shred_grants old w number s served =
     by (located number w.accounts.inbound.tickets w.accounts.outbound.tickets) refl
   where
-    abbrev granted_by : Option (Acct × Ticket) → ℕ
-    granted_by o =
-        option_map_or (λ (q : Acct × Ticket).
-        newly_granted (without_number number (queue_of q.0 w.accounts.inbound.tickets w.accounts.outbound.tickets))
-        (shredded old q.0 number q.1 (queue_of q.0 w.accounts.inbound.tickets w.accounts.outbound.tickets)))
-        o 0
-
     by : (o : Option (Acct × Ticket)) → located number w.accounts.inbound.tickets w.accounts.outbound.tickets ≡ o →
-        granted_by (located number w.accounts.inbound.tickets w.accounts.outbound.tickets) ≤ grants_of w (calls.Shred number)
-    by None e = let none = ap granted_by e in omega (arith, none)
+        granted_by old number w (located number w.accounts.inbound.tickets w.accounts.outbound.tickets) ≤ grants_of w (calls.Shred number)
+    by None e = let none = ap (granted_by old number w) e in omega (arith, none)
     by (Some q) e =
         let p = located_pending w number q.0 q.1 e in
         let many = left_grants old w s served number q.0 q.1 p in
-        let is : granted_by (located number w.accounts.inbound.tickets w.accounts.outbound.tickets)
+        let is : granted_by old number w (located number w.accounts.inbound.tickets w.accounts.outbound.tickets)
         ≡ newly_granted (without_number number (tickets_of w.accounts q.0)) (shredded old q.0 number q.1 (tickets_of w.accounts q.0)) =
-        ap granted_by e ∙ ap (λ (ts : List Ticket). newly_granted (without_number number ts) (shredded old q.0 number q.1 ts)) (queue_is w q.0) in
+        ap (granted_by old number w) e ∙ ap (λ (ts : List Ticket). newly_granted (without_number number ts) (shredded old q.0 number q.1 ts)) (queue_is w q.0) in
         let left : grants_of w (calls.Shred number) ≡ grants_between w (without_ticket w (pending_at q.0 p.found.place q.1)) =
         ap (λ (o : Option Pending). grants_between w (option_map_or (without_ticket w) o w)) p.is in
         omega (arith, many, is, left)
+
+-- what is seen of a ticket
+pub sees_some : {old : Heap} {number : ℕ} (acct : Acct) (found : Found) → StandsIn old number acct found →
+    Sees number old (Some found.ticket.granted)
+sees_some {old} {number} acct found at = record {
+  sees = λ w s served.
+      let keeps = tickets_kept served in
+      let p = located_pending w number acct found.ticket
+      (located_is acct found at w.accounts.inbound.tickets w.accounts.outbound.tickets (queue_kept accts.Inbound s keeps)
+      (queue_kept accts.Outbound s keeps)) in
+      sym (ap shown_among p.is);
+}
+
+pub sees_none : {old : Heap} {number : ℕ} → StandsNowhere old number → Sees number old None
+sees_none {old} {number} nowhere = record {
+  sees = λ w s served.
+      let keeps = tickets_kept served in
+      let p = pending_nowhere w number (nowhere.inbound.searched w.accounts.inbound.tickets (queue_kept accts.Inbound s keeps))
+      (nowhere.outbound.searched w.accounts.outbound.tickets (queue_kept accts.Outbound s keeps)) in
+      sym (ap shown_among p.none);
+}

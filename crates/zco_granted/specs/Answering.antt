@@ -1,5 +1,5 @@
 -- What a call on accounts and tickets comes to on a heap that stands for a world, whatever that has.
-use Rattle.std.specs.Prelude.{◌≡◌, ◌+◌, ◌*◌, ℕ, Bool, true, false, List, ⊤, All, Result, Ok, Err}
+use Rattle.std.specs.Prelude.{◌≡◌, ◌+◌, ◌*◌, ℕ, Bool, true, false, List, ⊤, All, Option, Result, Ok, Err}
 use Rattle.std.specs.Option.{option_map_or}
 use Rattle.sdr_answers.specs.Answering.{IsRefused}
 use Rattle.sdr_audit.specs.Standing.{HeapStandsFor}
@@ -10,6 +10,7 @@ use Rattle.sdr_base.specs.declared.stop.Stop.{Stop}
 use Rattle.sdr_base.specs.declared.stop.Stop.TheVariants as stops
 use Rattle.sdr_laws.specs.Fresh.{AreFresh}
 use Rattle.sdr_lock.specs.Demand.{grants_between}
+use Rattle.sdr_lock.specs.Serving.{shown_in}
 use Rattle.sdr_model.specs.AccountSteps.{new_ticket, pending_of, with_maximum, with_request, without_ticket}
 use Rattle.sdr_model.specs.Accounts.{account_of, with_account}
 use Rattle.sdr_model.specs.Blocks.{addresses_of, blocks_of}
@@ -78,6 +79,10 @@ pub record KeepsTickets (w : World) : Type 0 where
 pub record Serves (acct : Acct) (old new : Heap) : Type 0 where
   pub stands : (w : World) → HeapStandsFor old w → KeepsTickets w → HeapStandsFor new (with_served w acct)
   pub moves : new.moves ≡ old.moves
+
+-- Whatever world the heap stands for in which calls are served, this says whether the ticket is there, and granted.
+pub record Sees (ticket : ℕ) (heap : Heap) (granted : Option Bool) : Type 0 where
+  pub sees : (w : World) → HeapStandsFor heap w → IsServed w → granted ≡ shown_in w ticket
 
 -- A call that had no move before is answered by its row, with the heap's moves, of which each takes a block where none was. The
 -- heap stands for the world after it, which shows these bytes.

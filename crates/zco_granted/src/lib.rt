@@ -2,7 +2,8 @@
 //!
 //! 1. Each call is a step of the machine on the world that the blocks stand for, whatever sources, objects and tickets that has.
 //! 2. A call that makes room serves its account's queue itself: that is part of its step.
-//! 3. The queues are kept wherever a heap stands for such a world.
+//! 3. A look sees of a ticket what the world shows.
+//! 4. The queues are kept wherever a heap stands for such a world.
 #![tactic(auto)]
 
 mod accounts;
@@ -11,3 +12,4 @@ mod tickets;
 
 pub use accounts::serve;
 pub use answering::answer;
+pub use tickets::look;

@@ -1,18 +1,20 @@
 // The calls on tickets, as steps of the machine.
-ghost use Rattle.std.specs.Prelude.{[], ◌≡◌, ◌≤◌};
+ghost use Rattle.std.specs.Prelude.{[], ◌≡◌, ◌≤◌, IfErr, IfOk};
 ghost use Rattle.sdr_audit.specs.Standing.{HeapStandsFor};
 ghost use Rattle.sdr_base.specs.Moves.{KeepsSome};
-ghost use Rattle.sdr_base.specs.Works.{Works};
+ghost use Rattle.sdr_base.specs.Objects.{OnlyFault};
+ghost use Rattle.sdr_base.specs.Works.{Looks, Works};
 ghost use Rattle.sdr_model.specs.World.{World};
 ghost use Rattle.sdr_model.specs.declared.call.Call.TheVariants as calls;
 ghost use Rattle.zco_acct.specs.Kept.{SomeQueue};
-ghost use Rattle.zco_granted.specs.Answering.{Comes, IsGood, call_lines};
+ghost use Rattle.zco_granted.specs.Answering.{Comes, IsGood, Sees, call_lines};
 ghost use Rattle.zco_served.specs.Answering.{IsServed};
 
 use sdr_answers::Page;
 use sdr_base::{Acct, Amounts, Objects, Stop};
 use sdr_model::Reply;
 use zco_acct::{Notice, Notify};
+use zco_space::find_ticket;
 
 /// What a request asks: so many bytes of each space of an account, with these priorities.
 #[derive(Clone, Copy)]
@@ -86,4 +88,18 @@ pub fn shred<O: Objects, F: Notify>(
     zco_space::shred(o, ticket, notice)?;
     page.clear();
     Ok(Reply::Done)
+}
+
+/// Whether the ticket of this number, of either account, is there, and granted.
+pub fn look<O: Objects>(o: &mut O, ticket: u64) -> Result<Option<bool>, Stop>
+    requires kept { KeepsSome (O.keeps o.old) }
+    requires good { IsGood (O.heap o.old) }
+    ensures seen { IfOk result (Sees ticket (O.heap o.old)) }
+    ensures refused { IfErr result OnlyFault }
+    ensures looks { Looks O.HasHeap o.old o.new result }
+{
+    match find_ticket(o, ticket)? {
+        None => Ok(None),
+        Some(standing) => Ok(Some(standing.found.ticket.granted)),
+    }
 }

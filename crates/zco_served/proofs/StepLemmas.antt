@@ -1,5 +1,5 @@
 -- How a call on sources is a step.
-use Rattle.std.proofs.Common.{◌≡◌, ◌∙◌, ℕ, List, [], true, inl, refl, sym, ap, subst, arith, append-nil}
+use Rattle.std.proofs.Common.{◌≡◌, ℕ, List, [], true, inl, refl, sym, ap, subst, arith, append-nil}
 use Rattle.std.specs.Prelude.{All}
 use Rattle.sdr_audit.proofs.ChangeLemmas.{part_changed}
 use Rattle.sdr_audit.proofs.RootsLemmas.{roots_where}

@@ -7,7 +7,7 @@ mod LinkLemmas
 mod PlaceLemmas
 mod EnterLemmas
 mod OutLemmas
-mod FindLemmas
+pub mod FindLemmas
 mod RequestLemmas
 mod ShredLemmas
 mod ServedRows

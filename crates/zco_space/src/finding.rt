@@ -10,14 +10,14 @@ ghost use Rattle.zco_space.specs.Located.{AwardStops, IsAwarded, Locates};
 use sdr_base::{Acct, Objects, Refusal, Stop};
 use zco_acct::{Found, Sought, search};
 
-// A ticket, and the account in whose queue it stands.
+/// A ticket, and the account in whose queue it stands.
 #[derive(Clone, Copy)]
 pub struct Standing {
     pub acct: Acct,
     pub found: Found,
 }
 
-// The ticket of a number, in the queue of either account. It is linear in both.
+/// The ticket of a number, in the queue of either account. It is linear in both.
 pub fn find_ticket<O: Objects>(o: &mut O, number: u64) -> Result<Option<Standing>, Stop>
     requires kept { KeepsSome (O.keeps o.old) }
     requires inbound { SomeQueue (O.heap o.old) accts.Inbound }

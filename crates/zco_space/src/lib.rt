@@ -14,7 +14,7 @@ mod requesting;
 mod serving;
 mod shredding;
 
-pub use finding::awarded;
+pub use finding::{Standing, awarded, find_ticket};
 pub use requesting::request;
 pub use serving::serve;
 pub use shredding::shred;

@@ -13,8 +13,8 @@ use crate::linking::{link_last, link_next};
 use crate::serving::serve;
 use sdr_base::control::NEXT_TICKET;
 use sdr_base::{Acct, Addr, Amounts, Kind, Objects, Refusal, Stop, take_words};
-use sdr_model::{MOST_AMOUNT, Ticket};
 use sdr_model::amounts::{NOTHING, amount, first_above};
+use sdr_model::{MOST_AMOUNT, Ticket};
 use zco_acct::{Notice, Notify, Sought, last_word, maxima, search};
 
 /// Asks an account for so many bytes of each space, and serves its queue. Of two tickets that wait,
