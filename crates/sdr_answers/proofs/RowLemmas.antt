@@ -42,9 +42,9 @@ shows old new w bytes same s =
 -- a call without moves that was answered
 pub unmoved_answered : (w after : World) (call : Call) (new : Heap) (shown : List ℕ) (reply : Reply) → new.moves ≡ []
     → ByRow w (record { moves = []; after = after; reply = reply }) call → is_answer reply ≡ true → HeapStandsFor new after
-    → after.shown ≡ shown → after.accounts ≡ w.accounts → after.taken ≡ w.taken
+    → after.shown ≡ shown → after.taken ≡ w.taken
     → Answered w call new shown reply
-unmoved_answered w after call new shown reply none row answered stands gave accounts taken = record {
+unmoved_answered w after call new shown reply none row answered stands gave taken = record {
   after = after;
   row = subst (λ (ms : List Move). ByRow w (record { moves = ms; after = after; reply = reply }) call) (sym none) row;
   answered = answered;
@@ -52,7 +52,6 @@ unmoved_answered w after call new shown reply none row answered stands gave acco
   stands = stands;
   gave = gave;
   words = subst (λ (ms : List Move). All IsWord (taken_addresses ms)) (sym none) (All-nil IsWord);
-  accounts = accounts;
   taken = taken;
 }
 
@@ -63,7 +62,7 @@ pub looked : {X : Type 0} (w : World) (call : Call) (addr : ℕ) (named : Option
     → is_answer reply ≡ true → old.moves ≡ [] → new ≡ old → HeapStandsFor old w → Answered w call new (bytes x) reply
 looked w call addr named bytes say x old new reply row is told answered unmoved same s =
     unmoved_answered w (record w { shown = bytes x }) call new (bytes x) reply (ap (λ (h : Heap). h.moves) same ∙ unmoved)
-    (row _ (on_some _ _ named x is (refl, refl, told))) answered (shows old new w (bytes x) same s) refl refl refl
+    (row _ (on_some _ _ named x is (refl, refl, told))) answered (shows old new w (bytes x) same s) refl refl
 
 -- what a row gives that refuses a call without moves
 pub row_refused : (w : World) (call : Call) (new : Heap) (refusal : Refusal) → new.moves ≡ []
@@ -110,10 +109,10 @@ pub record Moved (w : World) (moves : List Move) (old new : Heap) : Type 0 where
 
 -- a call with moves was answered
 pub moved_answered : (w w' : World) (call : Call) (moves : List Move) (new : Heap) (reply : Reply) → HasMoves w moves new
-    → HeapStandsFor new (with_taken_marked w' moves) → w'.accounts ≡ w.accounts → w'.taken ≡ w.taken
+    → HeapStandsFor new (with_taken_marked w' moves) → w'.taken ≡ w.taken
     → ByRow w (record { moves = moves; after = with_taken_marked w' moves; reply = reply }) call → is_answer reply ≡ true
     → Answered w call new [] reply
-moved_answered w w' call moves new reply m stands accounts taken row answered = record {
+moved_answered w w' call moves new reply m stands taken row answered = record {
   after = with_taken_marked w' moves;
   row = subst (λ (ms : List Move). ByRow w (record { moves = ms; after = with_taken_marked w' moves; reply = reply }) call)
       (sym m.is) row;
@@ -122,7 +121,6 @@ moved_answered w w' call moves new reply m stands accounts taken row answered = 
   stands = stands;
   gave = refl;
   words = subst (λ (ms : List Move). All IsWord (taken_addresses ms)) (sym m.is) m.words;
-  accounts = accounts;
   taken = taken;
 }
 
@@ -206,7 +204,7 @@ thing_made w call need addr thing old new unmoved s valid untied makes row =
     moved_answered w (with_thing w addr thing) call (Took need addr ∷ []) new (replies.At addr)
     (took_one w need addr old new s valid unmoved makes.adds.fresh makes.adds.nonzero makes.adds.small makes.made).has
     (comes need addr old new w thing untied s makes)
-    refl refl row refl
+    refl row refl
 
 -- a thing became another
 pub thing_changed : (w : World) (call : Call) (addr : ℕ) (thing other : Thing) (moves : List Move) (reply : Reply)
@@ -219,7 +217,7 @@ pub thing_changed : (w : World) (call : Call) (addr : ℕ) (thing other : Thing)
 thing_changed w call addr thing other moves reply old new there was is s m change row answered =
     moved_answered w (with_thing w addr other) call moves new reply m.has
     (changes addr old new w thing other moves there was is s change m.made)
-    refl refl row answered
+    refl row answered
 
 -- a thing went
 pub thing_went : (w : World) (call : Call) (addr : ℕ) (thing : Thing) (moves : List Move) (reply : Reply) (old new : Heap)
@@ -231,7 +229,7 @@ pub thing_went : (w : World) (call : Call) (addr : ℕ) (thing : Thing) (moves :
 thing_went w call addr thing moves reply old new there was s m change row answered =
     moved_answered w (without_thing w addr) call moves new reply m.has
     (goes addr old new w thing moves there was s change m.made)
-    refl refl row answered
+    refl row answered
 
 -- the row of a call would answer it with the one move that takes a block of this need
 pub record TakesAim (w : World) (call : Call) (need : ℕ) : Type 0 where

@@ -28,16 +28,10 @@ use Rattle.sdr_model.specs.declared.call.Call.TheVariants as calls
 use Rattle.sdr_string.specs.Calls.{IsString}
 use Rattle.sdr_table.specs.Kept.{IsTable}
 
--- a world that calls which are served leave: there is no ticket
-pub record IsPlain (w : World) : Type 0 where
-  pub inbound : w.accounts.inbound.tickets ≡ []
-  pub outbound : w.accounts.outbound.tickets ≡ []
-
--- a world in which calls are served: it is whole, its numbers fit the fields of blocks, and it is plain
+-- a world in which calls are served: it is whole, and its numbers fit the fields of blocks
 pub record IsServed (w : World) : Type 0 where
   pub whole : model.IsWhole w
   pub fits : FitsFields w
-  pub plain : IsPlain w
 
 -- What is of a kind is kept: a raw object's block has its source word, a string's has its text and a table's its rows, a list is
 -- kept for the block of a list and for that of an element, and a hash for the block of one. A catalogue is kept.
@@ -173,7 +167,6 @@ pub record Answered (w : World) (call : Call) (new : Heap) (shown : List ℕ) (r
   pub stands : HeapStandsFor new after
   pub gave : after.shown ≡ shown
   pub words : All IsWord (taken_addresses new.moves)
-  pub accounts : after.accounts ≡ w.accounts
   pub taken : after.taken ≡ w.taken
 
 -- The call is refused by a step that leaves the world. Where log room is wanting, its row would answer it.

@@ -36,7 +36,6 @@ use Rattle.sdr_answers.proofs.RawLemmas.{no_raw, raw_is_at}
 use Rattle.sdr_answers.proofs.RowLemmas.{full_refused, gave_back, marks_none, row_refused, thing_went}
 use Rattle.sdr_answers.proofs.TextLemmas.{no_text, text_is_at}
 use Rattle.sdr_answers.specs.Answering.{Answered, IsRefused, IsServed}
-use Rattle.sdr_served.proofs.ComingLemmas.{any_world}
 use Rattle.sdr_served.specs.Freeing.{IsFree, NamedStops}
 use Rattle.sdr_answers.proofs.ListLemmas.{IsSmall}
 use Rattle.sdr_base.proofs.LayoutLemmas.{number_at-layout}
@@ -73,8 +72,8 @@ one_goes heap new addr x is = record {
 unnamed_in : (heap : Heap) (w : World) (addr : ℕ) → heap.moves ≡ [] → HeapStandsFor heap w → IsServed w
     → IsUnnamed (heap.blocks addr) → source_on w addr ≡ None
 unnamed_in heap w addr unmoved s served u =
-    let r = named_is_at heap w addr s (any_world served) u.kind in
-    unnamed_at heap heap w unmoved s (any_world served) addr (u.none (or_null (source_on w addr)) r.bytes r.keeps)
+    let r = named_is_at heap w addr s served u.kind in
+    unnamed_at heap heap w unmoved s served addr (u.none (or_null (source_on w addr)) r.bytes r.keeps)
 
 -- a raw object is
 raw_freeable : (heap : Heap) (w : World) (addr : ℕ) → heap.moves ≡ [] → HeapStandsFor heap w → IsServed w
@@ -186,8 +185,8 @@ pub free_named : (addr : ℕ) (old new : Heap) (w : World) (was : List ℕ) (ref
     → IsSmall old → HeapStandsFor old w → IsServed w → NamedStops old.blocks addr (stops.Refused refusal)
     → IsRefused w (calls.Free addr) old new was was refusal
 free_named addr old new w was (refusals.InUse bad count) unmoved same small s served m =
-    let r = named_is_at old w addr s (any_world served) m.1.kind in
-    let u = used_as old old w unmoved s (any_world served) addr count small m.1 in
+    let r = named_is_at old w addr s served m.1.kind in
+    let u = used_as old old w unmoved s served addr count small m.1 in
     let o : Outcome = record { moves = []; after = w; reply = replies.Refused (refusals.InUse bad count) } in
     record {
       step =

@@ -8,7 +8,8 @@ pub mod HashReading
 pub mod HashChanging
 pub mod NameLemmas
 pub mod NameCalls
-pub mod ComingLemmas
 pub mod FreeLemmas
 pub mod GoodLemmas
+pub mod GrantLemmas
+pub mod NextLemmas
 pub mod DemandLemmas

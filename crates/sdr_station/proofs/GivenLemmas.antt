@@ -17,6 +17,10 @@ use Rattle.sdr_lock.proofs.StepLemmas.{from_option, from_test}
 use Rattle.sdr_lock.specs.Transaction.{bytes_given}
 use Rattle.sdr_model.proofs.FewLemmas.{in_takes_one}
 use Rattle.sdr_model.proofs.TableLemmas.{row-within}
+use Rattle.sdr_base.specs.declared.account.Amounts.{Amounts}
+use Rattle.sdr_model.specs.AccountSteps.{pending_of}
+use Rattle.sdr_model.specs.Accounts.{account_of, most_amount}
+use Rattle.sdr_model.specs.Amounts.{amount, first_above}
 use Rattle.sdr_model.specs.HashSteps.{OnHash, OnKey, as_hash, has_key, is_no_count, is_no_key_length, value_at}
 use Rattle.sdr_model.specs.Hashes.{Hash}
 use Rattle.sdr_model.specs.Limits.{is_no_name, is_no_path, longest_key, longest_name, longest_path, longest_raw, longest_read, longest_source, longest_string, most_buckets}
@@ -298,4 +302,21 @@ module _ (w : World) (o : Outcome) where
       unless source.flagged refusals.NotFound h (λ _ h.
       from_test (uses_of w addr == 0) h (λ _ h. shows_none h.1 h.2 refl refl) (λ _ h. shows_none h.1 h.2 refl refl))))
   given_row (calls.Count addr) is whole h = on addr (source_at w addr) h (λ source _ h. shows_none h.1 h.2 refl refl)
+  given_row (calls.Occupancy acct space) is whole h = shows_none h.1 h.2 refl refl
+  given_row (calls.Maximum acct space) is whole h = shows_none h.1 h.2 refl refl
+  given_row (calls.SetMaximum acct space value) is whole h =
+      unless (nat_lt most_amount value) (refusals.TooLarge space value most_amount) h (λ _ h. shows_none h.1 h.2 refl refl)
+  given_row (calls.Request acct file bulk heap coarse fine) is whole h =
+      let asked : Amounts = record { file = file; bulk = bulk; heap = heap } in
+      let maxima = (account_of w.accounts acct).maxima in
+      from_option (first_above asked maxima) h (λ _ h.
+      unless (w.accounts.next == most_amount) (refusals.BadTicket most_amount) h
+      (λ _ h. in_takes_one o.moves _ _ h (λ addr p. shows_none p.0 p.1 refl refl)))
+      (λ space _ h. refused (refusals.TooLarge space (amount asked space) (amount maxima space)) h)
+  given_row (calls.Awarded ticket) is whole h =
+      from_option (pending_of w ticket) h (λ _ h. refused (refusals.BadTicket ticket) h) (λ p _ h.
+      where_so p.ticket.granted (refusals.NotAwarded ticket) h (λ h. shows_none h.1 h.2 refl refl))
+  given_row (calls.Shred ticket) is whole h =
+      from_option (pending_of w ticket) h (λ _ h. refused (refusals.BadTicket ticket) h)
+      (λ p _ h. shows_none h.1 h.2 refl refl)
   given_row call is whole h = absurd (true≢false (sym is))

@@ -12,13 +12,15 @@ use Rattle.sdr_model.specs.ListSteps.{as_list}
 use Rattle.sdr_model.specs.Reading.{is_reading}
 use Rattle.sdr_model.specs.HashSteps.{as_hash, has_key}
 use Rattle.sdr_model.specs.Hashes.{Hash}
-use Rattle.sdr_model.specs.RowMoves.{block_of, elements_in, entries_in, keyed_at, keyed_in, row_moves}
+use Rattle.sdr_model.specs.AccountSteps.{pending_of}
+use Rattle.sdr_model.specs.RowMoves.{block_of, block_of_ticket, elements_in, entries_in, keyed_at, keyed_in, row_moves}
 use Rattle.sdr_model.specs.Names.{name_of}
 use Rattle.sdr_model.specs.Rows.{ByRow}
 use Rattle.sdr_model.specs.Step.{StopsWith}
 use Rattle.sdr_model.specs.Steps.{Outcome, gave, taken_addresses}
 use Rattle.sdr_model.specs.World.{World, thing_at}
 use Rattle.sdr_model.specs.Zco.{uses_of}
+use Rattle.sdr_model.specs.declared.accounts.Pending.{Pending}
 use Rattle.sdr_model.specs.declared.answer.Reply.{Reply}
 use Rattle.sdr_model.specs.declared.answer.Reply.TheVariants as replies
 use Rattle.sdr_model.specs.declared.call.Call.{Call}
@@ -128,6 +130,11 @@ one_source : (source : ℕ) (unused : Bool) → length (gave (cond unused (sourc
 one_source source true = omega arith
 one_source source false = omega arith
 
+-- and so has a ticket that goes
+one_ticket : (found : Option Pending) → length (gave (block_of_ticket found)) ≤ 1
+one_ticket None = omega arith
+one_ticket (Some pending) = omega arith
+
 -- any other that is served has one at most
 pub moves_one : (size : ℕ) (call : Call) → built call ≡ true → ((list : ℕ) → call ≡ calls.ListDestroy list → ⊥)
     → ((hash : ℕ) → call ≡ calls.HashDestroy hash → ⊥) → MovesAtMost size call 1
@@ -187,4 +194,10 @@ moves_one size call is list hash = moves_at_most size call 1 (λ w stood changes
     by w at (calls.ObjRef raw) is other = omega arith
     by w at (calls.DestroyRef source) is other = one_source source (uses_of w source == 0)
     by w at (calls.Count source) is other = omega arith
+    by w at (calls.Occupancy acct space) is other = omega arith
+    by w at (calls.Maximum acct space) is other = omega arith
+    by w at (calls.SetMaximum acct space value) is other = omega arith
+    by w at (calls.Request acct file bulk heap coarse fine) is other = omega arith
+    by w at (calls.Awarded ticket) is other = omega arith
+    by w at (calls.Shred ticket) is other = one_ticket (pending_of w ticket)
     by w at call is other = absurd (true≢false (sym is))

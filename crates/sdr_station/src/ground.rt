@@ -6,13 +6,14 @@ ghost use Rattle.sdr_disk.specs.Told.{IfTold};
 ghost use Rattle.sdr_image.specs.Opening.{MayBeOpened};
 ghost use Rattle.sdr_lock.specs.Crash.{LeavesBefore, LeavesEither};
 ghost use Rattle.sdr_lock.specs.Gaps.{HasGapCause, no_gaps};
-ghost use Rattle.sdr_lock.specs.Serving.{Brings, Calls, Keeps, KeepsGround, MeetsFault, PutsBack};
+ghost use Rattle.sdr_lock.specs.Serving.{Brings, Calls, Keeps, KeepsGround, MeetsFault, PutsBack, Shows, StandsStill};
+ghost use Rattle.sdr_image.specs.Opened.{IsQuiet};
 ghost use Rattle.sdr_lock.specs.Standing.{Standing};
 ghost use Rattle.sdr_log.specs.Calls.{KeepsDisk};
 ghost use Rattle.sdr_log.specs.Logged.{GivesSame};
 ghost use Rattle.sdr_answers.specs.Answering.{dooms};
 ghost use Rattle.sdr_served.specs.Serving.{built};
-ghost use Rattle.sdr_station.specs.Grounded.{StandsForBoth, StandsInMemory};
+ghost use Rattle.sdr_station.specs.Grounded.{IsBack, IsBefore, StandsForBoth, StandsInMemory};
 ghost use Rattle.sdr_station.specs.Giving.{Gives};
 ghost use Rattle.sdr_station.specs.Opening.{ExplainsOpen, IsOfAudit, IsOfImage, IsOpen, LeavesBytes, disk_of};
 
@@ -29,6 +30,7 @@ use sdr_model::{Answer, Call, Reply};
 use sdr_served::{answer, built};
 use std::alloc::Global;
 use std::marker::Model;
+use zco_granted::look;
 use zco_acct::{Notice, Notify};
 
 /// A heap on an image as the ground of a lock.
@@ -40,6 +42,8 @@ pub struct HeapGround<D: Disk, F: Notify + Drop> {
     /// Whether a call was stopped on its way, so that the transaction can only be put back, or the disk has
     /// failed.
     stopped: bool,
+    /// Whether no call was made in the open transaction.
+    idle: bool,
     /// The disk's moment.
     moment: u64,
     /// How many lines opening has put back.
@@ -57,6 +61,7 @@ impl<D: Disk, F: Notify + Drop> Model for HeapGround<D, F> {
       heap = s.heap;
       shown = s.shown;
       stopped = s.stopped;
+      idle = s.idle;
       moment = s.moment;
       restored = s.restored;
     } };
@@ -65,6 +70,7 @@ impl<D: Disk, F: Notify + Drop> Model for HeapGround<D, F> {
       heap = s.heap;
       shown = s.shown;
       stopped = s.stopped;
+      idle = s.idle;
       moment = s.moment;
       restored = s.restored;
     }) };
@@ -162,6 +168,7 @@ impl<D: Disk, F: Notify + Drop> HeapGround<D, F> {
                 heap,
                 shown: Page::new(),
                 stopped: false,
+                idle: true,
                 moment,
                 restored,
                 notice,
@@ -189,7 +196,8 @@ impl<D: Disk, F: Notify + Drop> HeapGround<D, F> {
         ensures any_moment { LeavesBefore ⟦<HeapGround<D, F> as HasGround>⟧ self.old self.new }
     {
         self.heap.fresh();
-        match answer(&mut self.heap, call, &mut self.shown) {
+        self.idle = false;
+        match answer(&mut self.heap, call, &self.notice, &mut self.shown) {
             Ok(reply) => reply,
             Err(Stop::Refused(refusal)) => {
                 forget_moves(&mut self.heap, &refusal);
@@ -209,6 +217,7 @@ impl<D: Disk, F: Notify + Drop> HeapGround<D, F> {
         ensures kept { OnOk result
             (Brings ⟦<HeapGround<D, F> as HasGround>⟧.stands self.old self.new Keeps) }
         ensures going { OnOk result (self.new.stopped ≡ false) }
+        ensures idle { OnOk result (self.new.idle ≡ true) }
         ensures sound { OnOk result (self.new.heap.cells.failed ≡ false) }
         ensures restored { self.new.restored ≡ self.old.restored }
         ensures fault { OnErr result (MeetsFault ⟦<HeapGround<D, F> as HasGround>⟧ self.old self.new) }
@@ -220,11 +229,13 @@ impl<D: Disk, F: Notify + Drop> HeapGround<D, F> {
                 self.moment = moment_since(self.moment, &mut self.heap);
                 self.shown.clear();
                 self.stopped = false;
+                self.idle = true;
                 Ok(())
             }
             Err(_) => {
                 self.moment = moment_since(self.moment, &mut self.heap);
                 self.stopped = true;
+                self.idle = false;
                 Err(Fault)
             }
         }
@@ -237,6 +248,8 @@ impl<D: Disk, F: Notify + Drop> HeapGround<D, F> {
             (Brings ⟦<HeapGround<D, F> as HasGround>⟧.stands self.old self.new PutsBack) }
         ensures going { OnOk result
             (self.old.heap.cells.failed ≡ false → self.new.stopped ≡ false) }
+        ensures idle { OnOk result
+            (self.old.heap.cells.failed ≡ false → self.new.idle ≡ true) }
         ensures sound { OnOk result (self.new.heap.cells.failed ≡ self.old.heap.cells.failed) }
         ensures restored { self.new.restored ≡ self.old.restored }
         ensures fault { OnErr result (MeetsFault ⟦<HeapGround<D, F> as HasGround>⟧ self.old self.new) }
@@ -248,17 +261,89 @@ impl<D: Disk, F: Notify + Drop> HeapGround<D, F> {
                 self.moment = moment_since(self.moment, &mut self.heap);
                 self.shown.clear();
                 self.stopped = false;
+                self.idle = true;
                 Ok(())
             }
             Err(Stop::DiskFault) => {
                 self.moment = moment_since(self.moment, &mut self.heap);
                 self.stopped = true;
+                self.idle = false;
                 Err(Fault)
             }
             Err(Stop::Failed) => Ok(()),
             Err(Stop::MediaFault) => unreachable!(),
             Err(Stop::Refused(_)) => unreachable!(),
         }
+    }
+
+    // Puts the lines of the open transaction back, which can only be put back from then on, and answers whether
+    // the disk hadn't failed.
+    fn drop_changes(&mut self) -> Result<bool, Fault>
+        ensures memory { OnOk result (Brings StandsInMemory self.old self.new StandsStill) }
+        ensures dropped { OnOk result
+            (Brings ⟦<HeapGround<D, F> as HasGround>⟧.stands self.old self.new StandsStill) }
+        ensures back { IfOk result (λ sound. sound ≡ true → IsBack self.new) }
+        ensures failed { IfOk result (λ sound. sound ≡ false → self.old.heap.cells.failed ≡ true) }
+        ensures fault { OnErr result
+            (MeetsFault ⟦<HeapGround<D, F> as HasGround>⟧ self.old self.new) }
+        ensures restored { self.new.restored ≡ self.old.restored }
+        ensures keeps { KeepsGround ⟦<HeapGround<D, F> as HasGround>⟧ false self.old self.new }
+        ensures any_moment { LeavesBefore ⟦<HeapGround<D, F> as HasGround>⟧ self.old self.new }
+    {
+        match cancel(&mut self.heap) {
+            Ok(()) => {
+                self.moment = moment_since(self.moment, &mut self.heap);
+                self.stopped = true;
+                self.idle = false;
+                Ok(true)
+            }
+            Err(Stop::DiskFault) => {
+                self.moment = moment_since(self.moment, &mut self.heap);
+                self.stopped = true;
+                self.idle = false;
+                Err(Fault)
+            }
+            Err(Stop::Failed) => Ok(false),
+            Err(Stop::MediaFault) => unreachable!(),
+            Err(Stop::Refused(_)) => unreachable!(),
+        }
+    }
+
+    // Whether the ticket is there, and granted, where the heap in memory is that before the open transaction.
+    fn see(&mut self, ticket: u64) -> Option<bool>
+        requires sound { self.old.heap.cells.failed ≡ false }
+        requires before { IsBefore self.old }
+        ensures shown { Brings StandsInMemory self.old self.new (Shows ticket result) }
+        ensures stands { Brings ⟦<HeapGround<D, F> as HasGround>⟧.stands self.old self.new
+            (Shows ticket result) }
+        ensures same { self.new ≡ record self.old { heap = self.new.heap } }
+        ensures quiet { IsQuiet self.old.heap.cells self.new.heap.cells }
+    {
+        match look(&mut self.heap, ticket) {
+            Ok(granted) => granted,
+            Err(_) => unreachable!(),
+        }
+    }
+
+    /// Whether the ticket is there, and granted, before the open transaction. Where a call was made in that, its
+    /// lines are put back first, and it can only be put back from then on.
+    pub fn look(&mut self, ticket: u64) -> Result<Option<bool>, Fault>
+        ensures memory { IfOk result (λ granted.
+            Brings StandsInMemory self.old self.new (Shows ticket granted)) }
+        ensures shown { IfOk result (λ granted.
+            Brings ⟦<HeapGround<D, F> as HasGround>⟧.stands self.old self.new
+            (Shows ticket granted)) }
+        ensures idle { self.old.idle ≡ true → (self.new ≡ record self.old { heap = self.new.heap })
+            × IsQuiet self.old.heap.cells self.new.heap.cells × IsOk result }
+        ensures fault { OnErr result
+            (MeetsFault ⟦<HeapGround<D, F> as HasGround>⟧ self.old self.new) }
+        ensures keeps { KeepsGround ⟦<HeapGround<D, F> as HasGround>⟧ false self.old self.new }
+        ensures any_moment { LeavesBefore ⟦<HeapGround<D, F> as HasGround>⟧ self.old self.new }
+    {
+        if self.idle || self.drop_changes()? {
+            return Ok(self.see(ticket));
+        }
+        Ok(None)
     }
 
     /// The disk. What the open transaction has done is lost.
@@ -270,6 +355,7 @@ impl<D: Disk, F: Notify + Drop> HeapGround<D, F> {
             heap,
             shown: _,
             stopped: _,
+            idle: _,
             moment: _,
             restored: _,
             notice: _,
@@ -358,7 +444,7 @@ impl<D: Disk, F: Notify + Drop> Serves for HeapGround<D, F> {
         self.restore()
     }
 
-    fn look(&mut self, _ticket: u64) -> Result<Option<bool>, Fault> {
-        Ok(None)
+    fn look(&mut self, ticket: u64) -> Result<Option<bool>, Fault> {
+        HeapGround::look(self, ticket)
     }
 }

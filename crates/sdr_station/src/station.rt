@@ -97,16 +97,20 @@ impl<D: Disk, F: Notify + Drop> Station<D, F> {
         }
     }
 
-    /// Whether a ticket is granted. So far no world has one.
+    /// Whether a ticket is granted, outside a transaction. No line is touched.
     pub fn look(&mut self, ticket: u64) -> Result<bool, Stop>
-        requires { self.old.nesting.depth ≡ 0 }
-        ensures looks { LooksAt ⟦<HeapGround<D, F> as HasGround>⟧ ticket self.old result }
-        ensures same { self.new ≡ self.old }
+        requires outside { self.old.nesting.depth ≡ 0 }
+        ensures looks { LooksAt ticket self.old result }
+        ensures still { StaysLooked self.old self.new }
     {
         if self.failed.is_some() {
             return Err(Stop::Failed);
         }
-        Err(Stop::Refused(Refusal::BadTicket { ticket }))
+        match self.ground.look(ticket) {
+            Ok(Some(granted)) => Ok(granted),
+            Ok(None) => Err(Stop::Refused(Refusal::BadTicket { ticket })),
+            Err(Fault) => unreachable!(),
+        }
     }
 
     /// The disk. What the open transaction has done is lost.

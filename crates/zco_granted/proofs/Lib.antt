@@ -1,6 +1,6 @@
 pub mod QueueLemmas
 mod WordLemmas
-mod OccupiedLemmas
+pub mod OccupiedLemmas
 pub mod AccountLemmas
 mod FoundLemmas
 pub mod GrantLemmas

@@ -4,7 +4,7 @@ use Rattle.std.specs.List.{AllByRecursion}
 use Rattle.std.specs.Option.{option_map_or}
 use Rattle.std.specs.Prelude.{All, Option, None, Some}
 use Rattle.sdr_answers.proofs.RowLemmas.{gave_has, row_refused, shows, unmoved_answered}
-use Rattle.sdr_answers.specs.Answering.{Aim, IsRefused}
+use Rattle.sdr_answers.specs.Answering.{Aim, Answered, IsRefused, IsServed}
 use Rattle.sdr_audit.specs.Standing.{HeapStandsFor}
 use Rattle.sdr_base.specs.Blocks.{with_at}
 use Rattle.sdr_base.specs.Entries.{Changes}
@@ -44,14 +44,13 @@ use Rattle.zco_acct.specs.Refusals.{unusable}
 use Rattle.zco_acct.specs.Words.{first_word, last_word}
 use Rattle.zco_acct.specs.declared.queue.Found.{Found}
 use Rattle.zco_granted.proofs.AccountLemmas.{account_becomes, account_with, account_words, roots_before, served_words, unmarked, world_with}
-use Rattle.zco_granted.proofs.ComingLemmas.{tickets_kept, untied_answered}
+use Rattle.zco_granted.proofs.ComingLemmas.{tickets_kept}
 use Rattle.zco_granted.proofs.FoundLemmas.{IsPending, located_pending, pending_at, pending_nowhere, pending_or, unlocated}
 use Rattle.zco_granted.proofs.GrantLemmas.{grants_many, left_await}
 use Rattle.zco_granted.proofs.OccupiedLemmas.{occupied_less, occupied_with, served_occupied}
 use Rattle.zco_granted.proofs.QueueLemmas.{maxima_are, occupied_is, queue_kept}
 use Rattle.zco_granted.proofs.WordLemmas.{AccountWords, ends_set, occupied_set, roots_with, set_occupied}
-use Rattle.zco_granted.specs.Answering.{Answered, Sees, grants_of}
-use Rattle.zco_served.specs.Answering.{IsServed}
+use Rattle.zco_granted.specs.Answering.{Sees, grants_of}
 use Rattle.zco_space.proofs.FindLemmas.{located_is}
 use Rattle.zco_space.specs.Located.{AwardStops, IsAwarded, StandsIn, StandsNowhere}
 use Rattle.zco_space.specs.Served.{newly_granted, occupied_after}
@@ -91,10 +90,9 @@ module _ (old new : Heap) (w : World) (unmoved : old.moves ≡ []) (s : HeapStan
       pending_or w number
       (λ acct t p found.
       let granted = usable_granted number t (sym (ap (unusable number) found) ∙ none) in
-      untied_answered
-      (unmoved_answered w (record w { shown = [] }) (calls.Awarded number) new [] replies.Done still
+      unmoved_answered w (record w { shown = [] }) (calls.Awarded number) new [] replies.Done still
       (on_some _ _ (pending_of w number) (pending_at acct p.found.place t) p.is (on_true _ _ t.granted granted (refl, refl, refl)))
-      refl (shows old new w [] same s) refl refl refl refl))
+      refl (shows old new w [] same s) refl refl)
       (λ nowhere found. let no = sym (ap (unusable number) found) ∙ none in absurd cc)
 
   pub awarded_refused : (number : ℕ) (was : List ℕ) (refusal : Refusal) → AwardStops old number (stops.Refused refusal) →

@@ -4,7 +4,6 @@ pub mod UsesLemmas
 pub mod SourceLemmas
 pub mod GoodLemmas
 mod StepLemmas
-mod ComingLemmas
 mod MakingCalls
 pub mod NamingCalls
 mod GoingCalls

@@ -5,7 +5,7 @@ use Rattle.sdr_answers.proofs.EntryLemmas.{source_there}
 use Rattle.sdr_answers.proofs.ListLemmas.{IsSmall}
 use Rattle.sdr_answers.proofs.RawLemmas.{no_raw}
 use Rattle.sdr_answers.proofs.RowLemmas.{HasMoves, misnamed_refused, row_refused, short_refused, took_one}
-use Rattle.sdr_answers.specs.Answering.{IsRefused}
+use Rattle.sdr_answers.specs.Answering.{Answered, IsRefused, IsServed}
 use Rattle.sdr_audit.proofs.ChangeLemmas.{in_use, nothing_at}
 use Rattle.sdr_audit.specs.Rows.{source_row}
 use Rattle.sdr_audit.specs.Standing.{HeapStandsFor, entries_of, other_entries, thing_entries}
@@ -52,7 +52,6 @@ use Rattle.zco_served.proofs.RetiedLemmas.{retied}
 use Rattle.zco_served.proofs.SourceLemmas.{IsNamedAt, counted_in, named_is_at, source_stands}
 use Rattle.zco_served.proofs.StepLemmas.{all_changed, answered_later, fits_later, roots_kept}
 use Rattle.zco_served.proofs.UsesLemmas.{none_counted, same_counts}
-use Rattle.zco_served.specs.Answering.{Answered, IsServed}
 
 -- what is put at a place of a function stands there
 pub put_here : (values : ℕ → ℕ) (place value : ℕ) → with_at values place value place ≡ value

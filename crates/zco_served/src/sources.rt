@@ -1,11 +1,12 @@
 // The calls on sources, as steps of the machine.
 ghost use Rattle.std.specs.Prelude.{[], length, true, ◌+◌, ◌/◌, ◌≡◌, ◌≤◌};
+ghost use Rattle.sdr_answers.specs.Answering.{Comes};
 ghost use Rattle.sdr_base.specs.Moves.{KeepsSome};
 ghost use Rattle.sdr_base.specs.Works.{Works};
 ghost use Rattle.sdr_model.specs.Fields.{AreBytes, FitsCall, IsWord};
 ghost use Rattle.sdr_model.specs.declared.call.Call.TheVariants as calls;
 ghost use Rattle.zco_ref.specs.Kept.{IsFew, IsRaw, IsTied};
-ghost use Rattle.zco_served.specs.Answering.{Comes, IsGood, call_lines, is_source_call};
+ghost use Rattle.zco_served.specs.Answering.{IsGood, call_lines, is_source_call};
 
 use sdr_answers::Page;
 use sdr_base::{Addr, Objects, Stop};

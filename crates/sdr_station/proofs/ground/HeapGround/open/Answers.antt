@@ -40,6 +40,7 @@ returns-in-Ok-new-clause-opened g c =
       heap = sym made i;
       shown = sym c.new-in-Ok-new.ensures i;
       stopped = false;
+      idle = true;
       moment = sym c.now-moment.ensures.moment i;
       restored = sym c.restored-restored.ensures i;
     })
@@ -69,6 +70,7 @@ invariant_of-result g c =
       heap = sym made i;
       shown = sym c.new-in-Ok-new.ensures i;
       stopped = false;
+      idle = true;
       moment = sym c.now-moment.ensures.moment i;
       restored = sym c.restored-restored.ensures i;
     })
