@@ -10,6 +10,5 @@ pub mod NameLemmas
 pub mod NameCalls
 pub mod FreeLemmas
 pub mod GoodLemmas
-pub mod GrantLemmas
 pub mod NextLemmas
 pub mod DemandLemmas

@@ -34,9 +34,12 @@ served_next : (w : World) (acct : Acct) → next_of (with_served w acct) ≡ nex
 served_next w accts.Inbound = refl
 served_next w accts.Outbound = refl
 
-maximum_next : (w : World) (acct : Acct) (space : Space) (value : ℕ)
-    → next_of (record w { accounts = with_account w.accounts acct (with_maximum (account_of w.accounts acct) space value) })
-    ≡ next_of w
+-- the world with another maximum of a space
+abbrev maxed : World → Acct → Space → ℕ → World
+maxed w acct space value =
+    record w { accounts = with_account w.accounts acct (with_maximum (account_of w.accounts acct) space value) }
+
+maximum_next : (w : World) (acct : Acct) (space : Space) (value : ℕ) → next_of (maxed w acct space value) ≡ next_of w
 maximum_next w accts.Inbound space value = refl
 maximum_next w accts.Outbound space value = refl
 
@@ -83,7 +86,7 @@ module _ (w : World) (o : Outcome) where
       from_test (uses_of w addr == 0) h (λ _ h. same_next _ h.1 refl) (λ _ h. same_next _ h.1 refl))))
   next_kept (calls.SetMaximum acct space value) is row =
       from_test (nat_lt most_amount value) row (λ _ h. same_next _ h.1 refl)
-      (λ _ h. same_next _ h.1 (served_next _ acct ∙ maximum_next w acct space value))
+      (λ _ h. same_next _ h.1 (served_next (maxed w acct space value) acct ∙ maximum_next w acct space value))
   next_kept (calls.Request acct file bulk heap coarse fine) is row =
       let asked : Amounts = record { file = file; bulk = bulk; heap = heap } in
       from_option (first_above asked (account_of w.accounts acct).maxima) row (λ _ h.

@@ -18,7 +18,7 @@ use Rattle.sdr_model.specs.declared.call.Call.{Call}
 use Rattle.sdr_laws.proofs.FieldLaws.{fields_fit}
 use Rattle.sdr_laws.proofs.WholeLaws.{whole_kept}
 use Rattle.sdr_lock.specs.Crash.{LeavesBefore}
-use Rattle.sdr_lock.specs.Demand.{Demand, MayFillLog, demand_after, grants_between}
+use Rattle.sdr_lock.specs.Demand.{Demand, MayFillLog, demand_after}
 use Rattle.sdr_lock.specs.Gaps.{HasGapCause, no_gaps}
 use Rattle.sdr_lock.specs.Ground.{Ground, State, Steps, StepsOn}
 use Rattle.sdr_lock.specs.Serving.{Brings, Calls}
@@ -174,8 +174,7 @@ module _ {D : Type 0} (faults : D → ℕ) (old : Grounded D) (going : old.stopp
 
     -- the same world after a reading call that was refused
     within_refused : (heap' : Held (Opened D)) (refusal : Refusal) → heap'.cells ≡ heap.cells → heap'.size ≡ heap.size → heap'.marks ≡ heap.marks
-        → heap_in heap ≡ heap_in fresh_heap → page ≡ old.shown
-        → length heap.cells.touched ≤ length old.heap.cells.touched + 32 * grants_between v.now.world v.now.world
+        → heap_in heap ≡ heap_in fresh_heap → page ≡ old.shown → length heap.cells.touched ≤ length old.heap.cells.touched
         → StandsWithin heap' page (next v.now.world (replies.Refused refusal))
     within_refused heap' refusal cells size marks left gave lines =
         let w = at.now going in
@@ -257,8 +256,8 @@ module _ {D : Type 0} (faults : D → ℕ) (old : Grounded D) (going : old.stopp
           holds = stands_on (refused_ground refusal n) v at q.0 q.1 after at.taken (at.gave ∙ sym s.2) at.stood
               (λ going_on.
               let reads = reads_only (is_reading call) going_on in
-              let few = reading_lines (heap_in fresh_heap) v.now.world call is reads in
-              within_refused v at moves (refused_ground refusal n).heap refusal refl refl refl (s.1 reads) s.2 (omega (arith, works.room.most, few)))
+              let none = reading_lines (heap_in fresh_heap) v.now.world call is reads in
+              within_refused v at moves (refused_ground refusal n).heap refusal refl refl refl (s.1 reads) s.2 (omega (arith, works.room.most, none)))
               refl;
           tells = record {
             steps = subst (λ (ms : List Move). Steps v.now call (record { reply = replies.Refused refusal; moves = ms; after = after })) (sym same)

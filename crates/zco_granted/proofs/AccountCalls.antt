@@ -79,7 +79,8 @@ maxed_world w accts.Outbound space value = refl
 pub maxed_keeps : (w : World) (acct : Acct) (space : Space) (value : ℕ) → value ≤ most_amount → KeepsTickets w →
     KeepsTickets (maxed w acct space value)
 maxed_keeps w acct space value small keeps = record {
-  queues = keep_from _ (queued_keeps w acct (with_account w.accounts acct (with_maximum (account_of w.accounts acct) space value))
+  queues = keep_from _ (queued_keeps w acct (with_account w.accounts acct (with_maximum
+      (account_of w.accounts acct) space value))
       (Queued.maximum space value small refl refl) (queues_from w.accounts keeps.queues));
   fits = by acct;
 }
@@ -113,7 +114,8 @@ pub maxed_stands : {old mid : Heap} {w : World} {acct : Acct} {space : Space} {v
 maxed_stands {old} {mid} {w} {acct} {space} {value} s set =
     let was = account_words w acct (account_of w.accounts acct) in
     subst (HeapStandsFor mid) (sym (maxed_world w acct space value))
-    (unmarked (account_becomes old mid w acct (with_maximum (account_of w.accounts acct) space value) w.accounts.next [] s
+    (unmarked (account_becomes old mid w acct (with_maximum
+    (account_of w.accounts acct) space value) w.accounts.next [] s
     (blocks_stay (queue_entries acct (tickets_of w.accounts acct)) (ap (λ (h : Heap). h.blocks) set.set))
     (ap (λ (h : Heap). h.marks) set.set)
     (ap (λ (h : Heap). h.roots) set.set
@@ -141,8 +143,10 @@ maxed_queue old mid acct space value some set =
       tickets = some.tickets;
       keeps = record {
         rest = k.rest;
-        stands = (blocks_stay (queue_entries acct some.tickets) (ap (λ (h : Heap). h.blocks) set.set)).kept k.rest k.stands;
-        first = ap (λ (h : Heap). h.roots (first_word acct)) set.set ∙ (ends_apart old.roots acct space value).0 ∙ k.first;
+        stands = (blocks_stay (queue_entries acct some.tickets) (ap (λ
+            (h : Heap). h.blocks) set.set)).kept k.rest k.stands;
+        first = ap (λ (h : Heap). h.roots (first_word acct)) set.set ∙ (ends_apart old.roots acct space value).0
+            ∙ k.first;
         last = ap (λ (h : Heap). h.roots (last_word acct)) set.set ∙ (ends_apart old.roots acct space value).1 ∙ k.last;
         fits = k.fits;
       };
@@ -159,8 +163,10 @@ abbrev maxed_shown : World → Acct → Space → ℕ → World
 maxed_shown w acct space value = record (with_served (maxed w acct space value) acct) { shown = [] }
 
 maximum_row : (w : World) (acct : Acct) (space : Space) (value : ℕ) → value ≤ most_amount →
-    ByRow w (record { moves = []; after = maxed_shown w acct space value; reply = replies.Done }) (calls.SetMaximum acct space value)
-maximum_row w acct space value small = on_false _ _ (nat_lt most_amount value) (above_not value small) (refl, refl, refl)
+    ByRow w (record { moves = []; after = maxed_shown w acct space value; reply = replies.Done })
+    (calls.SetMaximum acct space value)
+maximum_row w acct space value small = on_false _ _ (nat_lt most_amount value) (above_not value small)
+    (refl, refl, refl)
 
 pub maximum_aim : (w : World) (acct : Acct) (space : Space) (value : ℕ) → value ≤ most_amount →
     Aim w (calls.SetMaximum acct space value)
@@ -187,7 +193,8 @@ maximum_answered_by old mid new w acct space value unmoved s served set serves =
     }
 
 -- or it was refused
-pub maximum_refused : (old new : Heap) (w : World) (acct : Acct) (space : Space) (value : ℕ) (was : List ℕ) (refusal : Refusal) →
+pub maximum_refused : (old new : Heap) (w : World) (acct : Acct) (space : Space) (value : ℕ) (was : List ℕ)
+    (refusal : Refusal) →
     old.moves ≡ [] → MaximumStops space value old new (stops.Refused refusal) →
     IsRefused w (calls.SetMaximum acct space value) old new was was refusal
 maximum_refused old new w acct space value was (refusals.TooLarge of asked most) unmoved m = record {

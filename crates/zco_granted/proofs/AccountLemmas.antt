@@ -64,7 +64,8 @@ words_are w accts.Outbound account next = λ i. record {
 }
 
 others_stay : (w : World) (acct : Acct) (account : Account) (next : ℕ) (a : AccountWords) →
-    roots_with (world_with w acct account next) acct a (world_with w acct account next).accounts.next ≡ roots_with w acct a next
+    roots_with (world_with w acct account next) acct a (world_with w acct account next).accounts.next
+    ≡ roots_with w acct a next
 others_stay w accts.Inbound account next a = refl
 others_stay w accts.Outbound account next a = refl
 
@@ -94,7 +95,8 @@ queue_swaps : (w : World) (acct : Acct) (account : Account) (next : ℕ) →
 queue_swaps w accts.Inbound account next = queue_part w accts.Inbound account.tickets
 queue_swaps w accts.Outbound account next = queue_part w accts.Outbound account.tickets
 
-changes_rows : {b b' : Blocks} (acct : Acct) (ts us : List Ticket) → Changes b b' (queue_entries acct ts) (queue_entries acct us) →
+changes_rows : {b b' : Blocks} (acct : Acct) (ts us : List Ticket) →
+    Changes b b' (queue_entries acct ts) (queue_entries acct us) →
     Changes b b' (ticket_entries acct (map ticket_row ts)) (ticket_entries acct (map ticket_row us))
 changes_rows {b} {b'} acct ts us c = record {
   kept = λ rest s.
@@ -105,7 +107,8 @@ changes_rows {b} {b'} acct ts us c = record {
 -- one account becomes another
 pub account_becomes : (old new : Heap) (w : World) (acct : Acct) (account : Account) (next : ℕ) (moves : List Move) →
     HeapStandsFor old w →
-    Changes old.blocks new.blocks (queue_entries acct (tickets_of w.accounts acct)) (queue_entries acct account.tickets) →
+    Changes old.blocks new.blocks (queue_entries acct (tickets_of w.accounts acct))
+    (queue_entries acct account.tickets) →
     new.marks ≡ marked_by old.marks moves → new.roots ≡ roots_with w acct (account_words w acct account) next →
     HeapStandsFor new (with_taken_marked (world_with w acct account next) moves)
 account_becomes old new w acct account next moves s changes marks roots =
@@ -116,7 +119,8 @@ account_becomes old new w acct account next moves s changes marks roots =
 -- a heap that stands for a world with nothing marked more stands for the world
 pub unmarked : {heap : Heap} {w : World} → HeapStandsFor heap (with_taken_marked w []) → HeapStandsFor heap w
 unmarked {heap} {w} s =
-    let v = subst (λ (marks : List ℕ). HeapStandsFor heap (record w { marks = marks; shown = [] })) (append-nil w.marks) s in
+    let v = subst (λ (marks : List ℕ). HeapStandsFor heap (record w { marks = marks; shown = [] }))
+    (append-nil w.marks) s in
     record { blocks = v.blocks; roots = v.roots; marks = v.marks }
 
 -- the account with these tickets
@@ -159,7 +163,8 @@ serve_grants {heap} {w} acct s keeps =
     (queue_awaits w (queues_from w.accounts keeps.queues) acct) (tickets_now w.accounts acct (queue_after w acct)))
 
 -- the heap stands for the world with the queue served
-pub serves : {acct : Acct} {old new : Heap} {count : ℕ} → SomeQueue old acct → ServesQueue acct old new count → Serves acct old new
+pub serves : {acct : Acct} {old new : Heap} {count : ℕ} → SomeQueue old acct → ServesQueue acct old new count →
+    Serves acct old new
 serves {acct} {old} {new} {count} some q = record {
   stands = λ w s keeps.
       let ts = tickets_of w.accounts acct in
@@ -171,9 +176,11 @@ serves {acct} {old} {new} {count} some q = record {
       let valid = (account_kept w.accounts acct (queues_from w.accounts keeps.queues)).queue.valid in
       let sum : occupied_after (occupied_in old acct) ts (served (maxima_in old acct) (occupied_in old acct) ts)
       ≡ occupied_with w acct us =
-      ap (λ (a : Amounts). occupied_after a ts (served (maxima_in old acct) (occupied_in old acct) ts)) (occupied_is acct s)
+      ap (λ (a : Amounts). occupied_after a ts (served (maxima_in old acct) (occupied_in old acct) ts))
+      (occupied_is acct s)
       ∙ ap (λ (xs : List Ticket). occupied_after o ts xs) same ∙ served_occupied w acct m ts valid in
-      let changes = subst (λ (xs : List Ticket). Changes old.blocks new.blocks (queue_entries acct ts) (queue_entries acct xs)) same
+      let changes = subst (λ (xs : List Ticket). Changes old.blocks new.blocks (queue_entries acct ts)
+      (queue_entries acct xs)) same
       (q.changes ts k) in
       let roots : new.roots ≡ set_occupied (roots_of w) acct (occupied_with w acct us) =
       ap (λ (h : Heap). h.roots) (q.others ts k)

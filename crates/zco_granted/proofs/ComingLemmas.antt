@@ -11,7 +11,8 @@ use Rattle.sdr_model.specs.declared.call.Call.{Call}
 use Rattle.zco_granted.specs.Answering.{KeepsTickets}
 
 -- log room is wanting for a change, once some of it was made
-pub log_full : (w : World) (call : Call) (old mid new : Heap) (was : List ℕ) (refusal : Refusal) → is_reading call ≡ false →
+pub log_full : (w : World) (call : Call) (old mid new : Heap) (was : List ℕ) (refusal : Refusal) →
+    is_reading call ≡ false →
     Aim w call → OnlyUnmoved mid new (stops.Refused refusal) → IsRefused w call old new was was refusal
 log_full w call old mid new was (refusals.LogFull lines room) changing aim s = record {
   step = (aim, changing);

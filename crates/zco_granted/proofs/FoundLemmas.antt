@@ -26,7 +26,8 @@ pub record IsFoundAt (number : ℕ) (ts : List Ticket) (t : Ticket) : Type 0 whe
   pub there : slice_get ts place ≡ Some t
   pub gone : without_number number ts ≡ remove ts place
 
-pub found_at : (number : ℕ) (ts : List Ticket) (t : Ticket) → find (has_number number) ts ≡ Some t → IsFoundAt number ts t
+pub found_at : (number : ℕ) (ts : List Ticket) (t : Ticket) → find (has_number number) ts ≡ Some t →
+    IsFoundAt number ts t
 unfolding without_number
 found_at number [] t is = absurd cc
 found_at number (x ∷ xs) t is = by (x.number == number) refl is (found_at number xs t)
@@ -48,24 +49,28 @@ found_at number (x ∷ xs) t is = by (x.number == number) refl is (found_at numb
           at = ap (λ (b : Bool). cond (not b) (1 + position_or_len (has_number number) xs) 0) e
               ∙ one-add (position_or_len (has_number number) xs) ∙ ap suc r.at;
           there = r.there;
-          gone = ap (λ (b : Bool). if b then xs else x ∷ without_number number xs) e ∙ ap (λ (us : List Ticket). x ∷ us) r.gone;
+          gone = ap (λ (b : Bool). if b then xs else x ∷ without_number number xs) e
+              ∙ ap (λ (us : List Ticket). x ∷ us) r.gone;
         }
 
 -- so it is pending in the account
 abbrev pub pending_at : Acct → ℕ → Ticket → Pending
 pending_at acct place t = record { acct = acct; place = place; ticket = t }
 
-pub found_pending : (a : Accounts) (acct : Acct) (number : ℕ) (t : Ticket) → (f : IsFoundAt number (tickets_of a acct) t) →
+pub found_pending : (a : Accounts) (acct : Acct) (number : ℕ) (t : Ticket) →
+    (f : IsFoundAt number (tickets_of a acct) t) →
     pending_in a acct number ≡ Some (pending_at acct f.place t)
 found_pending a acct number t f =
     let ts = tickets_of a acct in
-    ap (λ (i : ℕ). option_map (λ place. pending_at acct place (ticket_at ts place)) (cond (nat_lt i (length ts)) (Some i) None)) f.at
+    ap (λ (i : ℕ). option_map (λ place. pending_at acct place (ticket_at ts place)) (cond (nat_lt i (length ts))
+    (Some i) None)) f.at
     ∙ ap (λ (b : Bool). option_map (λ place. pending_at acct place (ticket_at ts place)) (cond b (Some f.place) None))
     (lt-ltb f.place (length ts) f.within)
     ∙ ap (λ (o : Option Ticket). Some (pending_at acct f.place (unwrap_or o no_ticket))) f.there
 
 -- where none is found, none is pending
-none_at : (number : ℕ) (ts : List Ticket) → find (has_number number) ts ≡ None → position_or_len (has_number number) ts ≡ length ts
+none_at : (number : ℕ) (ts : List Ticket) → find (has_number number) ts ≡ None →
+    position_or_len (has_number number) ts ≡ length ts
 none_at number [] none = refl
 none_at number (x ∷ xs) none = by (x.number == number) refl none (none_at number xs)
   where
@@ -84,9 +89,11 @@ pub none_pending : (a : Accounts) (acct : Acct) (number : ℕ) → find (has_num
     pending_in a acct number ≡ None
 none_pending a acct number none =
     let ts = tickets_of a acct in
-    ap (λ (i : ℕ). option_map (λ place. pending_at acct place (ticket_at ts place)) (cond (nat_lt i (length ts)) (Some i) None))
+    ap (λ (i : ℕ). option_map (λ place. pending_at acct place (ticket_at ts place)) (cond (nat_lt i (length ts))
+    (Some i) None))
     (none_at number ts none)
-    ∙ ap (λ (b : Bool). option_map (λ place. pending_at acct place (ticket_at ts place)) (cond b (Some (length ts)) None))
+    ∙ ap (λ (b : Bool). option_map (λ place. pending_at acct place (ticket_at ts place)) (cond b (Some
+    (length ts)) None))
     (not_below (length ts))
 
 -- whether it is granted
@@ -113,7 +120,8 @@ pub record IsPending (w : World) (number : ℕ) (acct : Acct) (t : Ticket) : Typ
 pub record HasNone (w : World) (number : ℕ) : Type 0 where
   pub none : pending_of w number ≡ None
 
-pub pending_inbound : (w : World) (number : ℕ) (t : Ticket) → find (has_number number) w.accounts.inbound.tickets ≡ Some t →
+pub pending_inbound : (w : World) (number : ℕ) (t : Ticket) →
+    find (has_number number) w.accounts.inbound.tickets ≡ Some t →
     IsPending w number accts.Inbound t
 pending_inbound w number t is =
     let f = found_at number w.accounts.inbound.tickets t is in
@@ -123,7 +131,8 @@ pending_inbound w number t is =
           (found_pending w.accounts accts.Inbound number t f);
     }
 
-pub pending_outbound : (w : World) (number : ℕ) (t : Ticket) → find (has_number number) w.accounts.inbound.tickets ≡ None →
+pub pending_outbound : (w : World) (number : ℕ) (t : Ticket) →
+    find (has_number number) w.accounts.inbound.tickets ≡ None →
     find (has_number number) w.accounts.outbound.tickets ≡ Some t → IsPending w number accts.Outbound t
 pending_outbound w number t none is =
     let f = found_at number w.accounts.outbound.tickets t is in
@@ -146,11 +155,13 @@ pending_nowhere w number none nor = record {
 pub located_pending : (w : World) (number : ℕ) (acct : Acct) (t : Ticket) →
     located number w.accounts.inbound.tickets w.accounts.outbound.tickets ≡ Some (acct, t) → IsPending w number acct t
 located_pending w number acct t is =
-    by (find (has_number number) w.accounts.inbound.tickets) (find (has_number number) w.accounts.outbound.tickets) refl refl is
+    by (find (has_number number) w.accounts.inbound.tickets) (find
+    (has_number number) w.accounts.outbound.tickets) refl refl is
   where
     by : (o p : Option Ticket) → find (has_number number) w.accounts.inbound.tickets ≡ o →
         find (has_number number) w.accounts.outbound.tickets ≡ p →
-        option_or {T = Acct × Ticket} (option_map (λ (t : Ticket). (accts.Inbound, t)) o) (option_map (λ (t : Ticket). (accts.Outbound, t)) p)
+        option_or {T = Acct × Ticket} (option_map (λ (t : Ticket). (accts.Inbound, t)) o) (option_map (λ (t : Ticket).
+        (accts.Outbound, t)) p)
         ≡ Some (acct, t) → IsPending w number acct t
     by (Some u) p e f same =
         let here : (accts.Inbound, u) ≡ (acct, t) = cc in
@@ -163,11 +174,13 @@ located_pending w number acct t is =
 pub unlocated : (w : World) (number : ℕ) →
     located number w.accounts.inbound.tickets w.accounts.outbound.tickets ≡ None → HasNone w number
 unlocated w number is =
-    by (find (has_number number) w.accounts.inbound.tickets) (find (has_number number) w.accounts.outbound.tickets) refl refl is
+    by (find (has_number number) w.accounts.inbound.tickets) (find
+    (has_number number) w.accounts.outbound.tickets) refl refl is
   where
     by : (o p : Option Ticket) → find (has_number number) w.accounts.inbound.tickets ≡ o →
         find (has_number number) w.accounts.outbound.tickets ≡ p →
-        option_or {T = Acct × Ticket} (option_map (λ (t : Ticket). (accts.Inbound, t)) o) (option_map (λ (t : Ticket). (accts.Outbound, t)) p)
+        option_or {T = Acct × Ticket} (option_map (λ (t : Ticket). (accts.Inbound, t)) o) (option_map (λ (t : Ticket).
+        (accts.Outbound, t)) p)
         ≡ None → HasNone w number
     by (Some u) p e f same = absurd cc
     by None (Some u) e f same = absurd cc
@@ -177,15 +190,18 @@ unlocated w number is =
 pub pending_or : {R : Type 0} (w : World) (number : ℕ) →
     ((acct : Acct) (t : Ticket) → IsPending w number acct t →
     find (has_number number) (w.accounts.inbound.tickets ++ w.accounts.outbound.tickets) ≡ Some t → R) →
-    (HasNone w number → find (has_number number) (w.accounts.inbound.tickets ++ w.accounts.outbound.tickets) ≡ None → R) → R
+    (HasNone w number → find (has_number number) (w.accounts.inbound.tickets ++ w.accounts.outbound.tickets) ≡ None →
+    R) → R
 pending_or {R} w number there nowhere =
-    by (find (has_number number) w.accounts.inbound.tickets) (find (has_number number) w.accounts.outbound.tickets) refl refl
+    by (find (has_number number) w.accounts.inbound.tickets) (find
+    (has_number number) w.accounts.outbound.tickets) refl refl
   where
     joined : (o p : Option Ticket) → find (has_number number) w.accounts.inbound.tickets ≡ o →
         find (has_number number) w.accounts.outbound.tickets ≡ p →
         find (has_number number) (w.accounts.inbound.tickets ++ w.accounts.outbound.tickets) ≡ option_or o p
     joined o p e f =
-        find-append (has_number number) w.accounts.inbound.tickets w.accounts.outbound.tickets ∙ (λ i. option_or (e i) (f i))
+        find-append (has_number number) w.accounts.inbound.tickets w.accounts.outbound.tickets
+        ∙ (λ i. option_or (e i) (f i))
 
     by : (o p : Option Ticket) → find (has_number number) w.accounts.inbound.tickets ≡ o →
         find (has_number number) w.accounts.outbound.tickets ≡ p → R

@@ -26,7 +26,7 @@ pub record Awaits (w : World) (t : Ticket) : Type 0 where
   pub waits : t.granted ≡ false → is_granted_in w t.number ≡ false
 
 -- whether a ticket is granted that wasn't
-abbrev newly : World → Ticket → Bool
+abbrev pub newly : World → Ticket → Bool
 newly w t = t.granted && not (is_granted_in w t.number)
 
 pub served_many : (w : World) (m o : Amounts) (ts : List Ticket) → AllByRecursion (Awaits w) ts →
@@ -77,14 +77,16 @@ grants_many w v acct m o ts all is =
     omega (arith, many, part)
 
 -- each of these tickets has a number that is there
-there_once : (ts us : List Ticket) → ((k : ℕ) → times k us ≤ times k ts) → AllByRecursion (λ (t : Ticket). 1 ≤ times t.number ts) us
+there_once : (ts us : List Ticket) → ((k : ℕ) → times k us ≤ times k ts) →
+    AllByRecursion (λ (t : Ticket). 1 ≤ times t.number ts) us
 there_once ts [] less = tt
 there_once ts (u ∷ us) less = (
   (let here = sum_by-cons (λ (t : Ticket). weight (nat_eq u.number t.number)) u us in
       let self = ap weight (nat_eq_equiv.refl u.number) in
       let l = less u.number in omega (arith, here, self, l)),
   there_once ts us (λ k.
-      let here = sum_by-cons (λ (t : Ticket). weight (nat_eq k t.number)) u us in let l = less k in omega (arith, here, l)),
+      let here = sum_by-cons (λ (t : Ticket). weight (nat_eq k t.number)) u us in let l = less k in
+      omega (arith, here, l)),
 )
 
 -- what is granted in a world is so in one of both queues

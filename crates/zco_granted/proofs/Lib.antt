@@ -1,6 +1,6 @@
 pub mod QueueLemmas
 mod WordLemmas
-pub mod OccupiedLemmas
+mod OccupiedLemmas
 pub mod AccountLemmas
 mod FoundLemmas
 pub mod GrantLemmas
@@ -8,4 +8,6 @@ pub mod ComingLemmas
 pub mod GoodLemmas
 mod AccountCalls
 mod RequestCalls
-mod TicketCalls
+pub mod DemandLemmas
+mod AwardCalls
+mod ShredCalls

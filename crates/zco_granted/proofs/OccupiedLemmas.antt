@@ -7,11 +7,13 @@ use Rattle.sdr_base.specs.declared.account.Acct.{Acct}
 use Rattle.sdr_base.specs.declared.account.Amounts.{Amounts}
 use Rattle.sdr_base.specs.declared.kind.Space.{Space}
 use Rattle.sdr_laws.proofs.BarredLemmas.{amount_by, amounts_same, left_in-cons}
+use Rattle.sdr_laws.proofs.OccupancyLaws.{left_placed}
 use Rattle.sdr_laws.proofs.QueueLemmas.{serving}
-use Rattle.sdr_model.proofs.AmountLemmas.{amount-minus}
-use Rattle.sdr_model.specs.Amounts.{amount, amounts_by, minus, plus}
+use Rattle.sdr_laws.proofs.QueueOrder.{enqueued_is}
+use Rattle.sdr_model.proofs.AmountLemmas.{amount-minus, nothing_in}
+use Rattle.sdr_model.specs.Amounts.{amount, amounts_by, minus, no_amounts, plus}
 use Rattle.sdr_model.specs.Charges.{left_in, thing_charge}
-use Rattle.sdr_model.specs.Queue.{granted, served}
+use Rattle.sdr_model.specs.Queue.{enqueued, granted, served}
 use Rattle.sdr_model.specs.Valid.{IsValidTicket}
 use Rattle.sdr_model.specs.World.{World}
 use Rattle.sdr_model.specs.declared.accounts.Ticket.{Ticket}
@@ -84,13 +86,23 @@ served_occupied w acct m ts valid =
     amounts_same (occupied_after o ts us) (occupied_with w acct us) (λ space.
     let r = served_alike space m o ts valid in
     let was = amount_by (λ space. things_charge w acct space + left_in space ts) space in
-    let sum : amount o space + (granted_in space us - granted_in space ts) ≡ things_charge w acct space + left_in space us =
+    let sum : amount o space + (granted_in space us - granted_in space ts)
+    ≡ things_charge w acct space + left_in space us =
     omega (arith, r.alike, r.more, was) in
     amount_by (λ space. amount o space + (granted_in space us - granted_in space ts)) space ∙ sum
     ∙ sym (amount_by (λ space. things_charge w acct space + left_in space us) space))
 
+-- a ticket of which nothing is left leaves as much in its queue
+pub left_entered : (space : Space) (ts : List Ticket) (n : Ticket) → n.left ≡ no_amounts →
+    left_in space (enqueued ts n) ≡ left_in space ts
+left_entered space ts n none =
+    let placed = left_placed space ts n in
+    let nothing = ap (λ (a : Amounts). amount a space) none ∙ nothing_in space in
+    ap (left_in space) (enqueued_is ts n) ∙ omega (arith, placed, nothing)
+
 -- as much is occupied where as much is left
-pub occupied_same : (w : World) (acct : Acct) (ts us : List Ticket) → ((space : Space) → left_in space us ≡ left_in space ts) →
+pub occupied_same : (w : World) (acct : Acct) (ts us : List Ticket) → ((space : Space) →
+    left_in space us ≡ left_in space ts) →
     occupied_with w acct ts ≡ occupied_with w acct us
 occupied_same w acct ts us same =
     amounts_same (occupied_with w acct ts) (occupied_with w acct us) (λ space.

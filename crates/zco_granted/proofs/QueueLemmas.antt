@@ -74,7 +74,8 @@ unfolding roots_by
 next_root w = refl
 
 -- so are what is occupied, the maxima and the next number
-pub occupied_is : {heap : Heap} {w : World} (acct : Acct) → HeapStandsFor heap w → occupied_in heap acct ≡ occupancies w acct
+pub occupied_is : {heap : Heap} {w : World} (acct : Acct) → HeapStandsFor heap w →
+    occupied_in heap acct ≡ occupancies w acct
 occupied_is {heap} {w} acct s =
     ap (λ (r : ℕ → ℕ). amounts_by (λ space. r (occupancy_word acct space))) s.roots ∙ occupied_roots w acct
 
@@ -106,7 +107,8 @@ less_fits a b is fits =
       heap = omega (arith, heap, fits.heap);
     }
 
-ticket_fits : (next : ℕ) (t : Ticket) → IsValidTicket t → FitsTicket t → t.number < next → next ≤ most_amount → TicketFits t
+ticket_fits : (next : ℕ) (t : Ticket) → IsValidTicket t → FitsTicket t → t.number < next → next ≤ most_amount →
+    TicketFits t
 ticket_fits next t v f below most =
     let asked = within_fits t.asked v.asked in
     record {
@@ -122,7 +124,8 @@ all_fit : (next : ℕ) (ts : List Ticket) → AllByRecursion IsValidTicket ts �
     AllByRecursion (λ (t : Ticket). t.number < next) ts → next ≤ most_amount → All TicketFits ts
 all_fit next [] valid fits below most = All-nil TicketFits
 all_fit next (t ∷ ts) valid fits below most =
-    All-cons TicketFits t ts (ticket_fits next t valid.0 fits.0 below.0 most) (all_fit next ts valid.1 fits.1 below.1 most)
+    All-cons TicketFits t ts (ticket_fits next t valid.0 fits.0 below.0 most)
+    (all_fit next ts valid.1 fits.1 below.1 most)
 
 pub fits_of : (w : World) (acct : Acct) → FitsFields w → All FitsTicket (tickets_of w.accounts acct)
 fits_of w accts.Inbound fits = fits.inbound
@@ -138,10 +141,12 @@ queue_kept {heap} {w} acct s keeps =
     let queue = (account_kept w.accounts acct queues).queue in
     record {
       rest = swap.before ++ swap.behind;
-      stands = subst (λ (es : Entries). Stands heap.blocks (es ++ (swap.before ++ swap.behind))) (same_entries acct 0 ts)
+      stands = subst (λ (es : Entries). Stands heap.blocks (es ++ (swap.before ++ swap.behind)))
+          (same_entries acct 0 ts)
           (focused swap s.blocks);
       first = ap (λ (r : ℕ → ℕ). r (first_word acct)) s.roots ∙ first_root w acct;
       last = ap (λ (r : ℕ → ℕ). r (last_word acct)) s.roots ∙ last_root w acct;
-      fits = all_fit w.accounts.next ts queue.valid (recursion_from_All FitsTicket ts (fits_of w acct keeps.fits)) queue.below
+      fits = all_fit w.accounts.next ts queue.valid (recursion_from_All FitsTicket ts
+          (fits_of w acct keeps.fits)) queue.below
           queues.next;
     }

@@ -21,17 +21,14 @@ use Rattle.sdr_base.specs.declared.refusal.Refusal.{Refusal}
 use Rattle.sdr_base.specs.declared.refusal.Refusal.TheVariants as refusals
 use Rattle.sdr_base.specs.declared.stop.Stop.TheVariants as stops
 use Rattle.sdr_laws.proofs.AccountQueues.{account_kept, queues_from}
-use Rattle.sdr_laws.proofs.OccupancyLaws.{left_placed}
 use Rattle.sdr_laws.proofs.QueueLaws.{within_all}
 use Rattle.sdr_laws.proofs.QueueOrder.{all_placed, enqueued_is}
 use Rattle.sdr_laws.specs.Fresh.{AreFresh}
 use Rattle.sdr_lock.proofs.WorkLemmas.{on_false, on_none, on_some, on_true}
-use Rattle.sdr_model.proofs.AmountLemmas.{nothing_in}
 use Rattle.sdr_model.specs.AccountSteps.{is_granted, new_ticket, with_request}
 use Rattle.sdr_model.specs.Accounts.{account_of, most_amount, pending_in, tickets_of}
 use Rattle.sdr_model.specs.Amounts.{amount, amounts_by, first_above}
 use Rattle.sdr_model.specs.Blocks.{addresses_of, blocks_of}
-use Rattle.sdr_model.specs.Charges.{left_in}
 use Rattle.sdr_model.specs.Fields.{IsWord}
 use Rattle.sdr_model.specs.Queue.{enqueued, served}
 use Rattle.sdr_model.specs.Rows.{ByRow}
@@ -49,7 +46,7 @@ use Rattle.zco_granted.proofs.AccountLemmas.{account_becomes, account_with, acco
 use Rattle.zco_granted.proofs.ComingLemmas.{tickets_kept}
 use Rattle.zco_granted.proofs.FoundLemmas.{granted_is}
 use Rattle.zco_granted.proofs.GrantLemmas.{grants_many, new_awaits}
-use Rattle.zco_granted.proofs.OccupiedLemmas.{occupied_same, occupied_with, served_occupied}
+use Rattle.zco_granted.proofs.OccupiedLemmas.{left_entered, occupied_same, occupied_with, served_occupied}
 use Rattle.zco_granted.proofs.QueueLemmas.{maxima_are, next_is, occupied_is, queue_kept}
 use Rattle.zco_granted.proofs.WordLemmas.{AccountWords, ends_set, next_set, occupied_set, roots_with, set_occupied}
 use Rattle.zco_granted.specs.Answering.{grants_of}
@@ -79,15 +76,10 @@ module _ (old new : Heap) (w : World) (acct : Acct) (asked : Amounts) (coarse fi
   abbrev served_at : ℕ → List Ticket
   served_at addr = served maxima (occupied_with w acct (queue_at addr)) (queue_at addr)
 
-  -- nothing is left of it
-  left_same : (addr : ℕ) (space : Space) → left_in space (queue_at addr) ≡ left_in space tickets
-  left_same addr space =
-      let placed = left_placed space tickets (new_at addr) in
-      let none = nothing_in space in
-      ap (left_in space) (enqueued_is tickets (new_at addr)) ∙ omega (arith, placed, none)
-
+  -- nothing is left of it, so as much is occupied
   occupied_at : (addr : ℕ) → occupied_in old acct ≡ occupied_with w acct (queue_at addr)
-  occupied_at addr = occupied_is acct s ∙ occupied_same w acct tickets (queue_at addr) (left_same addr)
+  occupied_at addr = occupied_is acct s ∙ occupied_same w acct tickets (queue_at addr)
+      (λ space. left_entered space tickets (new_at addr) refl)
 
   requested_is : (addr : ℕ) → requested old asked coarse fine tickets addr ≡ queue_at addr
   requested_is addr = ap (λ (n : ℕ). enqueued tickets (new_ticket n addr asked coarse fine)) (next_is s)
@@ -97,7 +89,8 @@ module _ (old new : Heap) (w : World) (acct : Acct) (asked : Amounts) (coarse fi
 
   -- why the row refuses it
   world_refusal : request_refusal old acct asked
-      ≡ option_or (option_map (λ space. refusals.TooLarge space (amount asked space) (amount maxima space)) (first_above asked maxima))
+      ≡ option_or (option_map (λ space. refusals.TooLarge space (amount asked space) (amount maxima space))
+      (first_above asked maxima))
       (if nat_le most_amount w.accounts.next then Some (refusals.BadTicket most_amount) else None)
   world_refusal = λ i.
       option_or
@@ -108,7 +101,8 @@ module _ (old new : Heap) (w : World) (acct : Acct) (asked : Amounts) (coarse fi
   low : nat_le most_amount w.accounts.next ≡ false → (w.accounts.next == most_amount) ≡ false
   low is = grind (arith, nat_tests)
 
-  high : w.accounts.next ≤ most_amount → nat_le most_amount w.accounts.next ≡ true → (w.accounts.next == most_amount) ≡ true
+  high : w.accounts.next ≤ most_amount → nat_le most_amount w.accounts.next ≡ true →
+      (w.accounts.next == most_amount) ≡ true
   high most is = grind (arith, nat_tests)
 
   -- where it doesn't
@@ -216,7 +210,8 @@ module _ (old new : Heap) (w : World) (acct : Acct) (asked : Amounts) (coarse fi
 request_world : (w : World) (acct : Acct) (t : Ticket) →
     with_request w acct t
     ≡ world_with w acct (account_with w acct (served (account_of w.accounts acct).maxima
-    (occupied_with w acct (enqueued (tickets_of w.accounts acct) t)) (enqueued (tickets_of w.accounts acct) t))) (t.number + 1)
+    (occupied_with w acct (enqueued (tickets_of w.accounts acct) t)) (enqueued (tickets_of w.accounts acct) t)))
+    (t.number + 1)
 request_world w accts.Inbound t = refl
 request_world w accts.Outbound t = refl
 
@@ -228,7 +223,8 @@ request_tickets w accts.Inbound t = refl
 request_tickets w accts.Outbound t = refl
 
 -- it was answered
-pub requested_answered : (old new : Heap) (w : World) (acct : Acct) (asked : Amounts) (coarse fine : ℕ) (value : ℕ × Bool) →
+pub requested_answered : (old new : Heap) (w : World) (acct : Acct) (asked : Amounts) (coarse fine : ℕ)
+    (value : ℕ × Bool) →
     old.moves ≡ [] → HeapStandsFor old w → IsServed w → RequestsTicket acct asked coarse fine old new value →
     Answered w (asks acct asked coarse fine) new [] (replies.Ticket value.0 value.1)
 requested_answered old new w acct asked coarse fine value unmoved s served r =
@@ -266,7 +262,8 @@ requested_answered old new w acct asked coarse fine value unmoved s served r =
       fresh = subst (λ (ms : List Move). AreFresh (addresses_of (blocks_of w)) ms) (sym m.is) m.fresh;
       stands = subst (λ (v : World). HeapStandsFor new (with_taken_marked v moves)) (sym (request_world w acct t))
           (account_becomes old new w acct (account_with w acct us) (w.accounts.next + 1) moves s
-          (subst (λ (xs : List Ticket). Changes old.blocks new.blocks (queue_entries acct ts) (queue_entries acct xs)) is adds.changes)
+          (subst (λ (xs : List Ticket). Changes old.blocks new.blocks (queue_entries acct ts)
+          (queue_entries acct xs)) is adds.changes)
           (ap (λ (h : Heap). h.marks) others)
           (roots_then old new w acct asked coarse fine s served addr a (ap (λ (h : Heap). h.roots) others)));
       gave = refl;
@@ -291,10 +288,12 @@ requested_refused old new w acct asked coarse fine was (refusals.BadTicket ticke
 }
 requested_refused old new w acct asked coarse fine was refusal unmoved s served m =
     short_refused w (asks acct asked coarse fine) 96 old new was refusal refl
-    (request_aim old new w acct asked coarse fine s served (allowed old new w acct asked coarse fine s served m.0)) unmoved m.1
+    (request_aim old new w acct asked coarse fine s served
+    (allowed old new w acct asked coarse fine s served m.0)) unmoved m.1
 
 -- so many tickets were granted
-pub request_grants : (old new : Heap) (w : World) (acct : Acct) (asked : Amounts) (coarse fine : ℕ) → HeapStandsFor old w →
+pub request_grants : (old new : Heap) (w : World) (acct : Acct) (asked : Amounts) (coarse fine : ℕ) →
+    HeapStandsFor old w →
     IsServed w →
     requests_granted old acct asked coarse fine (tickets_of w.accounts acct) ≤ grants_of w (asks acct asked coarse fine)
 request_grants old new w acct asked coarse fine s served =
@@ -304,5 +303,6 @@ request_grants old new w acct asked coarse fine s served =
     let is = served_is old new w acct asked coarse fine s served 0 in
     let asked_is = requested_is old new w acct asked coarse fine s served 0 in
     subst (λ (n : ℕ). n ≤ grants_of w (asks acct asked coarse fine)) (sym (λ i. newly_granted (asked_is i) (is i)))
-    (grants_many w (with_request w acct t) acct (account_of w.accounts acct).maxima (occupied_with w acct (enqueued ts t))
+    (grants_many w (with_request w acct t) acct (account_of w.accounts acct).maxima (occupied_with w acct
+    (enqueued ts t))
     (enqueued ts t) (new_awaits w q acct t refl) (request_tickets w acct t))

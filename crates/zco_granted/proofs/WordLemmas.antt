@@ -37,7 +37,8 @@ abbrev pub roots_with : World → Acct → AccountWords → ℕ → ℕ → ℕ
 roots_with w accts.Inbound a next =
     let names = map name_row w.names in
     roots_by
-    (root_words (first_of name_addr 0 names) (last_of name_addr 0 names) (words a) (account_roots w accts.Outbound) next)
+    (root_words (first_of name_addr 0 names) (last_of name_addr 0 names) (words a)
+    (account_roots w accts.Outbound) next)
 roots_with w accts.Outbound a next =
     let names = map name_row w.names in
     roots_by
@@ -83,9 +84,11 @@ pub ends_set : (w : World) (acct : Acct) (a : AccountWords) (next first last : �
     with_at (with_at (roots_with w acct a next) (first_word acct) first) (last_word acct) last
     ≡ roots_with w acct (record a { first = first; last = last }) next
 ends_set w accts.Inbound a next first last =
-    ap (λ (r : ℕ → ℕ). with_at r 99 last) (with_at-roots_by _ 9 first (omega arith)) ∙ with_at-roots_by _ 10 last (omega arith)
+    ap (λ (r : ℕ → ℕ). with_at r 99 last) (with_at-roots_by _ 9 first (omega arith))
+    ∙ with_at-roots_by _ 10 last (omega arith)
 ends_set w accts.Outbound a next first last =
-    ap (λ (r : ℕ → ℕ). with_at r 107 last) (with_at-roots_by _ 17 first (omega arith)) ∙ with_at-roots_by _ 18 last (omega arith)
+    ap (λ (r : ℕ → ℕ). with_at r 107 last) (with_at-roots_by _ 17 first (omega arith))
+    ∙ with_at-roots_by _ 18 last (omega arith)
 
 -- the next number is set
 pub next_set : (w : World) (acct : Acct) (a : AccountWords) (next more : ℕ) →

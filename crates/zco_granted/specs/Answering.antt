@@ -49,24 +49,21 @@ left_by w call = w
 abbrev pub grants_of : World → Call → ℕ
 grants_of w call = grants_between w (left_by w call)
 
--- so many lines it touches at most beside those for the tickets that it grants
-abbrev pub own_lines : Call → ℕ
-own_lines (calls.SetMaximum acct space value) = 1
-own_lines (calls.Request acct file bulk heap coarse fine) = 33
-own_lines (calls.Shred number) = 30
-own_lines call = 0
-
--- so many lines a call on accounts or tickets touches at most: 32 for each ticket that it grants
+-- so many lines a call on accounts or tickets touches at most: 32 for each ticket that it grants, beside its own
 abbrev pub call_lines : World → Call → ℕ
-call_lines w call = own_lines call + 32 * grants_of w call
+call_lines w (calls.SetMaximum acct space value) = 1 + 32 * grants_of w (calls.SetMaximum acct space value)
+call_lines w (calls.Request acct file bulk heap coarse fine) =
+    33 + 32 * grants_of w (calls.Request acct file bulk heap coarse fine)
+call_lines w (calls.Shred number) = 30 + 32 * grants_of w (calls.Shred number)
+call_lines w call = 0
 
 -- the queues of the world keep their laws but for the front ticket, and the world's numbers fit the fields of blocks
 pub record KeepsTickets (w : World) : Type 0 where
   pub queues : KeepQueues w.accounts
   pub fits : FitsFields w
 
--- Whatever world the heap stood for in which queues keep their laws, it stands for that with the account's queue served; and
--- no move was made.
+-- Whatever world the heap stood for in which queues keep their laws, it stands for that with the account's queue served;
+-- and no move was made.
 pub record Serves (acct : Acct) (old new : Heap) : Type 0 where
   pub stands : (w : World) → HeapStandsFor old w → KeepsTickets w → HeapStandsFor new (with_served w acct)
   pub moves : new.moves ≡ old.moves

@@ -14,7 +14,8 @@ returns-in_err-serve-clause-works g c =
     λ w stands keeps.
     let few = serve_grants c.args.acct stands keeps in
     rw (p.1, p.2)
-    (works_stopped _ (works_more (c.in_err-serve.ensures.works (tickets_of w.accounts c.args.acct) (queue_kept c.args.acct stands keeps))
+    (works_stopped _ (works_more (c.in_err-serve.ensures.works (tickets_of w.accounts c.args.acct)
+    (queue_kept c.args.acct stands keeps))
     (omega (arith, few))))
 
 pub returns-clause-served : goal.returns-clause-served
@@ -24,5 +25,6 @@ pub returns-clause-works : goal.returns-clause-works
 returns-clause-works g c =
     λ w stands keeps.
     let few = serve_grants c.args.acct stands keeps in
-    works_ok (works_more (c.in_ok-serve.ensures.works (tickets_of w.accounts c.args.acct) (queue_kept c.args.acct stands keeps))
+    works_ok (works_more (c.in_ok-serve.ensures.works (tickets_of w.accounts c.args.acct)
+    (queue_kept c.args.acct stands keeps))
     (omega (arith, few)))

@@ -1,5 +1,5 @@
 -- A ticket is there, or it isn't.
-use Rattle.zco_granted.proofs.TicketCalls.{sees_none, sees_some}
+use Rattle.zco_granted.proofs.AwardCalls.{sees_none, sees_some}
 use Rattle.zco_granted.proofs.tickets.look.Goals as goal
 
 pub returns-in-None-clause-seen : goal.returns-in-None-clause-seen

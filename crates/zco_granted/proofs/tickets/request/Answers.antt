@@ -46,7 +46,8 @@ returns-clause-comes g c =
     let a = c.args.asking.now in
     comes_answered (asks a.acct a.asked a.coarse a.fine) old new c.args.page.now c.clear.new.self
     (replies.Ticket c.in_ok-number.number c.in_ok-number.granted) c.clear.ensures
-    (λ w stands served. requested_answered old new w a.acct a.asked a.coarse a.fine (c.in_ok-number.number, c.in_ok-number.granted)
+    (λ w stands served. requested_answered old new w a.acct a.asked a.coarse a.fine
+    (c.in_ok-number.number, c.in_ok-number.granted)
     c.requires.unmoved stands served c.in_ok-number.ensures.requested)
 
 pub returns-clause-works : goal.returns-clause-works

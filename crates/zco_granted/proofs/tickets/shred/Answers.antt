@@ -9,7 +9,7 @@ use Rattle.sdr_model.specs.declared.call.Call.TheVariants as calls
 use Rattle.sdr_answers.proofs.CallLemmas.{comes_answered, comes_stopped}
 use Rattle.zco_granted.proofs.ComingLemmas.{tickets_kept}
 use Rattle.zco_granted.proofs.QueueLemmas.{queue_kept}
-use Rattle.zco_granted.proofs.TicketCalls.{shred_grants, shredded_answered, shredded_refused}
+use Rattle.zco_granted.proofs.ShredCalls.{shred_grants, shredded_answered, shredded_refused}
 use Rattle.zco_space.proofs.StopLemmas.{works_stopped}
 use Rattle.zco_space.specs.Shreds.{ShredStops}
 use Rattle.zco_granted.proofs.tickets.shred.Goals as goal

@@ -1,9 +1,9 @@
--- A ticket that is looked at, and one that goes, as steps.
-use Rattle.std.proofs.Common.{◌≡◌, ◌∙◌, ◌≤◌, ◌++◌, ℕ, List, [], ◌∷◌, Bool, true, false, true≢false, inl, remove, refl, sym, ap, subst, arith, if◌then◌else◌}
+-- A ticket that goes, as a step.
+use Rattle.std.proofs.Common.{◌≡◌, ◌∙◌, ◌≤◌, ◌++◌, ℕ, List, [], ◌∷◌, true≢false, inl, remove, refl, sym, ap, subst, arith}
 use Rattle.std.specs.List.{AllByRecursion}
 use Rattle.std.specs.Option.{option_map_or}
 use Rattle.std.specs.Prelude.{All, Option, None, Some}
-use Rattle.sdr_answers.proofs.RowLemmas.{gave_has, row_refused, shows, unmoved_answered}
+use Rattle.sdr_answers.proofs.RowLemmas.{gave_has, row_refused}
 use Rattle.sdr_answers.specs.Answering.{Aim, Answered, IsRefused, IsServed}
 use Rattle.sdr_audit.specs.Standing.{HeapStandsFor}
 use Rattle.sdr_base.specs.Blocks.{with_at}
@@ -22,9 +22,8 @@ use Rattle.sdr_laws.proofs.AccountQueues.{account_kept, queues_from}
 use Rattle.sdr_laws.proofs.BarredLemmas.{left_gone}
 use Rattle.sdr_laws.proofs.QueueLemmas.{all_gone}
 use Rattle.sdr_laws.specs.Fresh.{AreFresh}
-use Rattle.sdr_lock.proofs.WorkLemmas.{on_false, on_none, on_some, on_true}
+use Rattle.sdr_lock.proofs.WorkLemmas.{on_none, on_some}
 use Rattle.sdr_lock.specs.Demand.{grants_between}
-use Rattle.sdr_lock.specs.Serving.{shown_among}
 use Rattle.sdr_model.specs.AccountSteps.{pending_of, without_ticket}
 use Rattle.sdr_model.specs.Accounts.{account_of, tickets_of}
 use Rattle.sdr_model.specs.Amounts.{minus}
@@ -40,88 +39,17 @@ use Rattle.sdr_model.specs.declared.accounts.Ticket.{Ticket}
 use Rattle.sdr_model.specs.declared.answer.Reply.TheVariants as replies
 use Rattle.sdr_model.specs.declared.call.Call.TheVariants as calls
 use Rattle.zco_acct.specs.Kept.{block_of, queue_entries}
-use Rattle.zco_acct.specs.Refusals.{unusable}
 use Rattle.zco_acct.specs.Words.{first_word, last_word}
-use Rattle.zco_acct.specs.declared.queue.Found.{Found}
 use Rattle.zco_granted.proofs.AccountLemmas.{account_becomes, account_with, account_words, roots_before, served_words, unmarked, world_with}
 use Rattle.zco_granted.proofs.ComingLemmas.{tickets_kept}
-use Rattle.zco_granted.proofs.FoundLemmas.{IsPending, located_pending, pending_at, pending_nowhere, pending_or, unlocated}
+use Rattle.zco_granted.proofs.FoundLemmas.{IsPending, located_pending, pending_at, unlocated}
 use Rattle.zco_granted.proofs.GrantLemmas.{grants_many, left_await}
 use Rattle.zco_granted.proofs.OccupiedLemmas.{occupied_less, occupied_with, served_occupied}
 use Rattle.zco_granted.proofs.QueueLemmas.{maxima_are, occupied_is, queue_kept}
 use Rattle.zco_granted.proofs.WordLemmas.{AccountWords, ends_set, occupied_set, roots_with, set_occupied}
-use Rattle.zco_granted.specs.Answering.{Sees, grants_of}
-use Rattle.zco_space.proofs.FindLemmas.{located_is}
-use Rattle.zco_space.specs.Located.{AwardStops, IsAwarded, StandsIn, StandsNowhere}
+use Rattle.zco_granted.specs.Answering.{grants_of}
 use Rattle.zco_space.specs.Served.{newly_granted, occupied_after}
 use Rattle.zco_space.specs.Shreds.{ShredStops, ShredsTicket, given_back, located, queue_of, shredded, shreds_granted, without_number}
-
--- why a ticket that is there can't be used
-usable_granted : (number : ℕ) (t : Ticket) → unusable number (Some t) ≡ None → t.granted ≡ true
-usable_granted number t none = by t.granted refl none
-  where
-    by : (b : Bool) → t.granted ≡ b → (if b then None else Some (refusals.NotAwarded number)) ≡ None → t.granted ≡ true
-    by true e is = e
-    by false e is = absurd cc
-
-record Waits (number : ℕ) (t : Ticket) (refusal : Refusal) : Type 0 where
-  waiting : t.granted ≡ false
-  this : refusals.NotAwarded number ≡ refusal
-
-unusable_waits : (number : ℕ) (t : Ticket) (refusal : Refusal) → unusable number (Some t) ≡ Some refusal → Waits number t refusal
-unusable_waits number t refusal some = by t.granted refl some
-  where
-    by : (b : Bool) → t.granted ≡ b → (if b then None else Some (refusals.NotAwarded number)) ≡ Some refusal →
-        Waits number t refusal
-    by true e is = absurd cc
-    by false e is = record { waiting = e; this = cc }
-
--- a call that looks at a ticket
-module _ (old new : Heap) (w : World) (unmoved : old.moves ≡ []) (s : HeapStandsFor old w) (served : IsServed w)
-    (same : new ≡ old) where
-  still : new.moves ≡ []
-  still = ap (λ (h : Heap). h.moves) same ∙ unmoved
-
-  pub awarded_answered : (number : ℕ) → IsAwarded old number → Answered w (calls.Awarded number) new [] replies.Done
-  awarded_answered number a =
-      let keeps = tickets_kept served in
-      let none = a.none w.accounts.inbound.tickets w.accounts.outbound.tickets (queue_kept accts.Inbound s keeps)
-      (queue_kept accts.Outbound s keeps) in
-      pending_or w number
-      (λ acct t p found.
-      let granted = usable_granted number t (sym (ap (unusable number) found) ∙ none) in
-      unmoved_answered w (record w { shown = [] }) (calls.Awarded number) new [] replies.Done still
-      (on_some _ _ (pending_of w number) (pending_at acct p.found.place t) p.is (on_true _ _ t.granted granted (refl, refl, refl)))
-      refl (shows old new w [] same s) refl refl)
-      (λ nowhere found. let no = sym (ap (unusable number) found) ∙ none in absurd cc)
-
-  pub awarded_refused : (number : ℕ) (was : List ℕ) (refusal : Refusal) → AwardStops old number (stops.Refused refusal) →
-      IsRefused w (calls.Awarded number) old new was was refusal
-  awarded_refused number was refusal m =
-      let keeps = tickets_kept served in
-      let some = m.some w.accounts.inbound.tickets w.accounts.outbound.tickets (queue_kept accts.Inbound s keeps)
-      (queue_kept accts.Outbound s keeps) in
-      pending_or w number
-      (λ acct t p found.
-      let waits = unusable_waits number t refusal (sym (ap (unusable number) found) ∙ some) in
-      subst (λ (r : Refusal). IsRefused w (calls.Awarded number) old new was was r) waits.this
-      (record {
-        step = inl (row_refused w (calls.Awarded number) new (refusals.NotAwarded number) still
-            (on_some _ _ (pending_of w number) (pending_at acct p.found.place t) p.is
-            (on_false _ _ t.granted waits.waiting (refl, refl, refl))));
-        left = λ reads. same;
-        gave = refl;
-      }))
-      (λ nowhere found.
-      let no : Some (refusals.BadTicket number) ≡ Some refusal = sym (ap (unusable number) found) ∙ some in
-      let this : refusals.BadTicket number ≡ refusal = cc in
-      subst (λ (r : Refusal). IsRefused w (calls.Awarded number) old new was was r) this
-      (record {
-        step = inl (row_refused w (calls.Awarded number) new (refusals.BadTicket number) still
-            (on_none _ _ (pending_of w number) nowhere.none (refl, refl, refl)));
-        left = λ reads. same;
-        gave = refl;
-      }))
 
 -- the world without a ticket is that with another account
 gone_world : (w : World) (acct : Acct) (place : ℕ) (t : Ticket) →
@@ -140,7 +68,8 @@ gone_tickets w accts.Inbound place t = refl
 gone_tickets w accts.Outbound place t = refl
 
 -- a ticket of a world that goes
-module _ (old : Heap) (w : World) (s : HeapStandsFor old w) (valid_world : IsServed w) (number : ℕ) (acct : Acct) (t : Ticket)
+module _ (old : Heap) (w : World) (s : HeapStandsFor old w) (valid_world : IsServed w) (number : ℕ) (acct : Acct)
+    (t : Ticket)
     (p : IsPending w number acct t) where
   abbrev tickets : List Ticket
   tickets = tickets_of w.accounts acct
@@ -177,13 +106,16 @@ module _ (old : Heap) (w : World) (s : HeapStandsFor old w) (valid_world : IsSer
       all_gone IsValidTicket tickets p.found.place
       (account_kept w.accounts acct (queues_from w.accounts valid_world.whole.queues)).queue.valid
 
-  occupied_then : occupied_after (given_back old acct t) (without_number number tickets) (shredded old acct number t tickets)
+  occupied_then : occupied_after (given_back old acct t) (without_number number tickets)
+      (shredded old acct number t tickets)
       ≡ occupied_with w acct served_left
   occupied_then =
-      (λ i. occupied_after (given_is i) (p.found.gone i) (shredded_is i)) ∙ served_occupied w acct maxima left left_valid
+      (λ i. occupied_after (given_is i) (p.found.gone i) (shredded_is i))
+      ∙ served_occupied w acct maxima left left_valid
 
   pub left_roots : {roots : ℕ → ℕ} →
-      roots ≡ set_occupied (with_at (with_at old.roots (first_word acct) (first_of block_of 0 (without_number number tickets)))
+      roots ≡ set_occupied (with_at (with_at old.roots (first_word acct) (first_of block_of 0
+      (without_number number tickets)))
       (last_word acct) (last_of block_of 0 (without_number number tickets))) acct
       (occupied_after (given_back old acct t) (without_number number tickets) (shredded old acct number t tickets)) →
       roots ≡ roots_with w acct (account_words w acct (account_with w acct served_left)) w.accounts.next
@@ -195,30 +127,35 @@ module _ (old : Heap) (w : World) (s : HeapStandsFor old w) (valid_world : IsSer
       let ended : AccountWords = record was { first = first; last = last } in
       is
       ∙ (λ i. set_occupied (with_at (with_at ((s.roots ∙ roots_before w acct) i) (first_word acct)
-      (first_of block_of 0 (p.found.gone i))) (last_word acct) (last_of block_of 0 (p.found.gone i))) acct (occupied_then i))
+      (first_of block_of 0 (p.found.gone i))) (last_word acct) (last_of block_of 0 (p.found.gone i))) acct
+      (occupied_then i))
       ∙ ap (λ (r : ℕ → ℕ). set_occupied r acct o) (ends_set w acct was w.accounts.next first last)
       ∙ occupied_set w acct ended w.accounts.next o
       ∙ ap (λ (b : AccountWords). roots_with w acct b w.accounts.next)
       (served_words w acct maxima (occupied_with w acct left) left)
 
   pub left_stands : (new : Heap) →
-      Changes old.blocks new.blocks (queue_entries acct tickets) (queue_entries acct (shredded old acct number t tickets)) →
+      Changes old.blocks new.blocks (queue_entries acct tickets) (queue_entries acct
+      (shredded old acct number t tickets)) →
       new.marks ≡ old.marks →
       new.roots ≡ roots_with w acct (account_words w acct (account_with w acct served_left)) w.accounts.next →
       HeapStandsFor new after
   left_stands new changes marks roots =
       subst (HeapStandsFor new) (sym (gone_world w acct p.found.place t))
       (unmarked (account_becomes old new w acct (account_with w acct served_left) w.accounts.next (Gave t.block ∷ []) s
-      (subst (λ (xs : List Ticket). Changes old.blocks new.blocks (queue_entries acct tickets) (queue_entries acct xs)) shredded_is
+      (subst (λ (xs : List Ticket). Changes old.blocks new.blocks (queue_entries acct tickets)
+      (queue_entries acct xs)) shredded_is
       changes)
       marks roots))
 
   -- so many tickets are granted then
-  pub left_grants : newly_granted (without_number number tickets) (shredded old acct number t tickets) ≤ grants_between w after
+  pub left_grants : newly_granted (without_number number tickets) (shredded old acct number t tickets)
+      ≤ grants_between w after
   left_grants =
       subst (λ (n : ℕ). n ≤ grants_between w after) (sym (λ i. newly_granted (p.found.gone i) (shredded_is i)))
       (grants_many w after acct maxima (occupied_with w acct left) left
-      (left_await w (queues_from w.accounts valid_world.whole.queues) acct p.found.place) (gone_tickets w acct p.found.place t))
+      (left_await w (queues_from w.accounts valid_world.whole.queues) acct p.found.place)
+      (gone_tickets w acct p.found.place t))
 
 -- it went
 pub shredded_answered : (old new : Heap) (w : World) (number : ℕ) → old.moves ≡ [] → HeapStandsFor old w → IsServed w →
@@ -262,7 +199,12 @@ shredded_refused old new w number was (refusals.BadTicket ticket) unmoved s serv
     record {
       step = inl (row_refused w (calls.Shred number) new (refusals.BadTicket ticket)
           (ap (λ (h : Heap). h.moves) m.2 ∙ unmoved)
-          (on_none _ _ (pending_of w number) none.none (refl, refl, ap (λ (n : ℕ). replies.Refused (refusals.BadTicket n)) m.0)));
+          (on_none _ _ (pending_of w number) none.none (
+            refl,
+            refl,
+            ap (λ (n : ℕ). replies.Refused
+                (refusals.BadTicket n)) m.0,
+          )));
       left = λ reads. absurd (true≢false (sym reads));
       gave = refl;
     }
@@ -298,35 +240,18 @@ shred_grants old w number s served =
     by (located number w.accounts.inbound.tickets w.accounts.outbound.tickets) refl
   where
     by : (o : Option (Acct × Ticket)) → located number w.accounts.inbound.tickets w.accounts.outbound.tickets ≡ o →
-        granted_by old number w (located number w.accounts.inbound.tickets w.accounts.outbound.tickets) ≤ grants_of w (calls.Shred number)
+        granted_by old number w (located number w.accounts.inbound.tickets w.accounts.outbound.tickets)
+        ≤ grants_of w (calls.Shred number)
     by None e = let none = ap (granted_by old number w) e in omega (arith, none)
     by (Some q) e =
         let p = located_pending w number q.0 q.1 e in
         let many = left_grants old w s served number q.0 q.1 p in
         let is : granted_by old number w (located number w.accounts.inbound.tickets w.accounts.outbound.tickets)
-        ≡ newly_granted (without_number number (tickets_of w.accounts q.0)) (shredded old q.0 number q.1 (tickets_of w.accounts q.0)) =
-        ap (granted_by old number w) e ∙ ap (λ (ts : List Ticket). newly_granted (without_number number ts) (shredded old q.0 number q.1 ts)) (queue_is w q.0) in
-        let left : grants_of w (calls.Shred number) ≡ grants_between w (without_ticket w (pending_at q.0 p.found.place q.1)) =
+        ≡ newly_granted (without_number number (tickets_of w.accounts q.0)) (shredded old q.0 number q.1
+        (tickets_of w.accounts q.0)) =
+        ap (granted_by old number w) e ∙ ap (λ (ts : List Ticket). newly_granted (without_number number ts)
+        (shredded old q.0 number q.1 ts)) (queue_is w q.0) in
+        let left : grants_of w (calls.Shred number) ≡ grants_between w (without_ticket w
+        (pending_at q.0 p.found.place q.1)) =
         ap (λ (o : Option Pending). grants_between w (option_map_or (without_ticket w) o w)) p.is in
         omega (arith, many, is, left)
-
--- what is seen of a ticket
-pub sees_some : {old : Heap} {number : ℕ} (acct : Acct) (found : Found) → StandsIn old number acct found →
-    Sees number old (Some found.ticket.granted)
-sees_some {old} {number} acct found at = record {
-  sees = λ w s served.
-      let keeps = tickets_kept served in
-      let p = located_pending w number acct found.ticket
-      (located_is acct found at w.accounts.inbound.tickets w.accounts.outbound.tickets (queue_kept accts.Inbound s keeps)
-      (queue_kept accts.Outbound s keeps)) in
-      sym (ap shown_among p.is);
-}
-
-pub sees_none : {old : Heap} {number : ℕ} → StandsNowhere old number → Sees number old None
-sees_none {old} {number} nowhere = record {
-  sees = λ w s served.
-      let keeps = tickets_kept served in
-      let p = pending_nowhere w number (nowhere.inbound.searched w.accounts.inbound.tickets (queue_kept accts.Inbound s keeps))
-      (nowhere.outbound.searched w.accounts.outbound.tickets (queue_kept accts.Outbound s keeps)) in
-      sym (ap shown_among p.none);
-}
