@@ -5,7 +5,7 @@ use Rattle.sdr_answers.specs.Answering.{IsServed}
 use Rattle.sdr_audit.specs.Standing.{HeapStandsFor}
 use Rattle.sdr_base.proofs.MovesLemmas.{Moves-none}
 use Rattle.sdr_base.specs.KeptHeap.{KeepsRegion}
-use Rattle.sdr_base.specs.Moves.{MovesPools}
+use Rattle.sdr_base.specs.Moves.{KeepsSome, MovesPools}
 use Rattle.sdr_base.specs.Objects.{Heap, OnlyFault}
 use Rattle.sdr_base.specs.Pools.{Pools}
 use Rattle.sdr_base.specs.Transaction.{Explains}
@@ -27,7 +27,8 @@ use Rattle.sdr_station.proofs.ClosingLemmas.{within_of}
 use Rattle.sdr_station.proofs.GroundLemmas.{heap_ground}
 use Rattle.sdr_station.proofs.ServingLemmas.{image_heap}
 use Rattle.sdr_station.specs.Grounded.{Grounded, HasStood, HoldsWorld, IsBack, IsBefore, IsGround, Leaves, StandsAtRest, StandsInMemory, StandsSome, StandsWithin, heap_in}
-use Rattle.zco_granted.specs.Answering.{Sees}
+use Rattle.zco_granted.proofs.GoodLemmas.{good_of}
+use Rattle.zco_granted.specs.Answering.{IsGood, Sees}
 
 -- what stands within a transaction holds its world
 within_holds : {D : Type 0} {h : Held (Opened D)} {shown : List ℕ} {s : State} → StandsWithin h shown s → HoldsWorld h s.world
@@ -51,6 +52,17 @@ before_back moment g ground back = record {
       (ap (λ (b : List ℕ). length b) back.bytes ∙ at.size)
       (subst (λ (b : List ℕ). StandsAtRest (room_of g.heap.cells.frame) b v.before) (sym back.bytes) at.before));
 }
+
+-- there is a heap in it
+pub keeps_before_look : {D : Type 0} (g : Grounded D) → IsBefore g → KeepsSome (KeepsRegion g.heap.size g.heap.cells.bytes)
+keeps_before_look g before =
+    let h = before.holds before.some.for before.some.holds in record { pools = h.pools; keeps = h.keeps }
+
+-- and its queues are kept
+pub queues_before_look : {D : Type 0} (g : Grounded D) → IsBefore g → IsGood (heap_in g.heap)
+queues_before_look g before =
+    let h = before.holds before.some.for before.some.holds in
+    good_of (heap_in g.heap) before.some.for.before.world h.heap (record { whole = h.whole; fits = h.fits })
 
 -- A look that read the heap of a ground.
 module _ {D T : Type 0} (faults : D → ℕ) (old : Grounded D) (heap : Held (Opened D)) (result : Result T Stop)
@@ -115,6 +127,17 @@ module _ {D T : Type 0} (faults : D → ℕ) (old : Grounded D) (heap : Held (Op
             still = record { before = refl; now = refl };
           };
         };
+  }
+
+  -- which is still one
+  pub looked_ground : (moment : D → ℕ) → IsGround moment old → IsGround moment (record old { heap = heap })
+  looked_ground moment ground = record {
+    seen = let same = ap moment looked_quiet.0.disk in omega (arith, same, ground.seen);
+    sound = λ going. looked_quiet.0.failed ∙ ground.sound going;
+    going = ground.going;
+    stands = λ sound.
+        let some = ground.stands (sym looked_quiet.0.failed ∙ sound) in
+        record { for = some.for; holds = looked_still some.for some.holds };
   }
 
 -- no look meets a disk fault where the disk hadn't failed

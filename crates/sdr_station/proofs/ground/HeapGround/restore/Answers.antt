@@ -49,6 +49,7 @@ returns-in-Ok g c =
       memory = all.memory;
       put_back = all.brings;
       going = λ _. refl;
+      idle = λ _. refl;
       sound = all.sound ∙ sym (ap (λ (o : Grounded D). o.heap.cells.failed) (sym c.self.view_is) ∙ sound);
       restored = ap (λ (o : Grounded D). o.restored) c.self.view_is;
       fault = tt;

@@ -48,6 +48,7 @@ returns-in-Ok g c =
       memory = all.memory;
       kept = all.brings;
       going = refl;
+      idle = refl;
       sound = all.sound;
       restored = ap (λ (o : Grounded D). o.restored) c.self.view_is;
       fault = tt;
