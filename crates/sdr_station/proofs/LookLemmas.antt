@@ -23,10 +23,10 @@ use Rattle.sdr_lock.specs.Standing.{Standing}
 use Rattle.sdr_log.specs.Frame.{room_of}
 use Rattle.sdr_log.specs.declared.frame.Frame.{Frame}
 use Rattle.sdr_model.specs.World.{World}
-use Rattle.sdr_station.proofs.ClosingLemmas.{within_of}
+use Rattle.sdr_station.proofs.ClosingLemmas.{dropped_ground, within_of}
 use Rattle.sdr_station.proofs.GroundLemmas.{heap_ground}
 use Rattle.sdr_station.proofs.ServingLemmas.{image_heap}
-use Rattle.sdr_station.specs.Grounded.{Grounded, HasStood, HoldsWorld, IsBack, IsBefore, IsGround, Leaves, StandsAtRest, StandsInMemory, StandsSome, StandsWithin, heap_in}
+use Rattle.sdr_station.specs.Grounded.{Grounded, HasStood, HoldsWorld, IsBefore, IsGround, Leaves, StandsAtRest, StandsForBoth, StandsInMemory, StandsSome, StandsWithin, heap_in}
 use Rattle.zco_granted.proofs.GoodLemmas.{good_of}
 use Rattle.zco_granted.specs.Answering.{IsGood, Sees}
 
@@ -42,15 +42,14 @@ before_idle moment g ground idle = record {
       subst (λ (s : State). HoldsWorld g.heap s.world) (at.idle idle) (within_holds (at.now (ground.going idle)));
 }
 
--- and one that has the bytes at begin
-pub before_back : {D : Type 0} (moment : D → ℕ) (g : Grounded D) → IsGround moment g → IsBack g → IsBefore g
-before_back moment g ground back = record {
-  some = ground.stands back.sound;
+-- and so does one whose changes were dropped
+pub before_dropped : {D : Type 0} (moment : D → ℕ) (old : Grounded D) (disk : D) (now : ℕ)
+    → IsGround moment (dropped_ground old disk now) → old.heap.cells.failed ≡ false → IsBefore (dropped_ground old disk now)
+before_dropped moment old disk now ground sound = record {
+  some = ground.stands sound;
   holds = λ v at.
       within_holds
-      (within_of g.heap (length g.heap.marks) v.before back.unmarked back.touched
-      (ap (λ (b : List ℕ). length b) back.bytes ∙ at.size)
-      (subst (λ (b : List ℕ). StandsAtRest (room_of g.heap.cells.frame) b v.before) (sym back.bytes) at.before));
+      (within_of (dropped_ground old disk now).heap (length old.heap.marks) v.before refl refl at.size at.before);
 }
 
 -- there is a heap in it
@@ -167,6 +166,14 @@ shows_later old mid new ticket granted first second = record {
           };
         };
       };
+}
+
+-- a ground whose disk has failed stands for nothing, and so anything is shown
+pub shows_failed : {D : Type 0} (told : D → Option (List ℕ)) (moment : D → ℕ) (may_leave : D → ℕ → List ℕ → Type 0)
+    (old new : Grounded D) (ticket : ℕ) → old.heap.cells.failed ≡ true
+    → Brings (λ g v. StandsForBoth told moment may_leave g v) old new (Shows ticket None)
+shows_failed told moment may_leave old new ticket failed = record {
+  each = λ v at. absurd (true≢false (sym failed ∙ at.memory.sound));
 }
 
 -- a crash leaves what it did where the disk and the moment stay

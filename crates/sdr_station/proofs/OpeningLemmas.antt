@@ -1,5 +1,5 @@
 -- A fresh heap that was opened.
-use Rattle.std.proofs.Common.{◌≡◌, ◌∙◌, ◌≤◌, ◌*◌, ℕ, List, [], false, Option, Some, refl, sym, ap, subst, length}
+use Rattle.std.proofs.Common.{◌≡◌, ◌∙◌, ◌≤◌, ◌*◌, ℕ, List, [], false, true, Option, Some, refl, sym, ap, subst, length}
 use Rattle.std.specs.Prelude.{replicate}
 use Rattle.sdr_audit.proofs.FreshLemmas.{fresh_stands_whole}
 use Rattle.sdr_audit.specs.Checking.{IsFresh}

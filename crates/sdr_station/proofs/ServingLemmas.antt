@@ -238,16 +238,18 @@ module _ {D : Type 0} (faults : D → ℕ) (old : Grounded D) (going : old.stopp
 
   -- a refused call for which there was log room
   brings_stopped : (refusal : Refusal) (n : ℕ) → moves_left refusal heap.moves ≡ heap.moves
+      → ((w : World) → WorksIn (Err (stops.Refused refusal)) → HeapStandsFor (heap_in fresh_heap) w → IsServed w
+      → Moves (KeepsRegion fresh_heap.size fresh_heap.cells.bytes) (KeepsRegion heap.size heap.cells.bytes) [] heap.moves)
       → ((room : ℕ) (d : Demand) (w : World) → MayFillLog room d w call (replies.Refused refusal))
       → ((w : World) → HeapStandsFor (heap_in fresh_heap) w → IsServed w
       → StepTo w (record { moves = heap.moves; after = w; reply = replies.Refused refusal }) call × (is_reading call ≡ true → heap_in heap ≡ heap_in fresh_heap) × (page ≡ old.shown))
       → WorksIn (Err (stops.Refused refusal))
       → Brings StandsInMemory old (refused_ground refusal n) (Calls None call (replies.Refused refusal))
-  brings_stopped refusal n same full steps each = record {
+  brings_stopped refusal n same moved full steps each = record {
     each = λ v at.
         let w = at.now going in
         let works = each v.now.world (fresh_stands v at) (served_in w) in
-        let moves = works.moved fresh_heap (Moves-none (KeepsRegion fresh_heap.size fresh_heap.cells.bytes) (KeepsRegion fresh_heap.size fresh_heap.cells.bytes) [] (λ P k. k)) in
+        let moves = moved v.now.world each (fresh_stands v at) (served_in w) in
         let s = steps v.now.world (fresh_stands v at) (served_in w) in
         let q = quiet_of works in
         let after = next v at moves v.now.world (replies.Refused refusal) in
@@ -334,7 +336,11 @@ module _ {D : Type 0} (faults : D → ℕ) (old : Grounded D) (going : old.stopp
   brings_refused (refusals.LogFull lines room) n comes works =
       brings_full lines room n (λ w stands served. let r = comes.each w stands served in (r.step.0, r.step.1, r.gave)) works
   brings_refused refusal n comes works =
-      brings_stopped refusal n refl (λ room d w. tt)
+      brings_stopped refusal n refl
+      (λ w each stands served.
+      (each w stands served).moved fresh_heap
+      (Moves-none (KeepsRegion fresh_heap.size fresh_heap.cells.bytes) (KeepsRegion fresh_heap.size fresh_heap.cells.bytes) [] (λ P k. k)))
+      (λ room d w. tt)
       (λ w stands served. let r = comes.each w stands served in (r.step, r.left, r.gave)) works
 
 -- what a call brings in memory it brings on its disk, where the disk is quiet and the moment the same

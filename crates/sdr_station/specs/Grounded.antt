@@ -1,5 +1,5 @@
 -- A heap on an image as the ground of a lock: what it stands for.
-use Rattle.std.specs.Prelude.{◌≡◌, ◌≤◌, ◌*◌, ℕ, Bool, true, false, List, [], length, replicate, Option, Some}
+use Rattle.std.specs.Prelude.{◌≡◌, ◌≤◌, ◌*◌, ℕ, Bool, true, false, List, length, Option, Some}
 use Rattle.sdr_audit.specs.Standing.{HeapStandsFor, StandsForWhole}
 use Rattle.sdr_base.specs.Entries.{Few}
 use Rattle.sdr_base.specs.KeptHeap.{KeepsRegion, block_in, root_in}
@@ -89,13 +89,6 @@ pub record StandsForBoth {D : Type 0} (told : D → Option (List ℕ)) (moment :
   pub rests : Rests told moment may_leave g.heap.cells
   pub moment_is : IfTold (told g.heap.cells.disk) (λ _. g.moment ≡ moment g.heap.cells.disk)
   pub memory : StandsInMemory g v
-
--- the heap in memory has the bytes at begin: no line is touched, and nothing is marked
-pub record IsBack {D : Type 0} (g : Grounded D) : Type 0 where
-  pub sound : g.heap.cells.failed ≡ false
-  pub bytes : g.heap.cells.bytes ≡ g.heap.cells.begun
-  pub touched : g.heap.cells.touched ≡ []
-  pub unmarked : g.heap.marks ≡ replicate (length g.heap.marks) false
 
 -- the heap in memory stands for something
 pub record StandsSome {D : Type 0} (g : Grounded D) : Type 0 where

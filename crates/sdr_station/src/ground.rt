@@ -13,7 +13,7 @@ ghost use Rattle.sdr_log.specs.Calls.{KeepsDisk};
 ghost use Rattle.sdr_log.specs.Logged.{GivesSame};
 ghost use Rattle.sdr_answers.specs.Answering.{dooms};
 ghost use Rattle.sdr_served.specs.Serving.{built};
-ghost use Rattle.sdr_station.specs.Grounded.{IsBack, IsBefore, StandsForBoth, StandsInMemory};
+ghost use Rattle.sdr_station.specs.Grounded.{IsBefore, StandsForBoth, StandsInMemory};
 ghost use Rattle.sdr_station.specs.Giving.{Gives};
 ghost use Rattle.sdr_station.specs.Opening.{ExplainsOpen, IsOfAudit, IsOfImage, IsOpen, LeavesBytes, disk_of};
 
@@ -282,7 +282,8 @@ impl<D: Disk, F: Notify + Drop> HeapGround<D, F> {
         ensures memory { OnOk result (Brings StandsInMemory self.old self.new StandsStill) }
         ensures dropped { OnOk result
             (Brings ⟦<HeapGround<D, F> as HasGround>⟧.stands self.old self.new StandsStill) }
-        ensures back { IfOk result (λ sound. sound ≡ true → IsBack self.new) }
+        ensures back { IfOk result (λ sound. sound ≡ true
+            → (self.new.heap.cells.failed ≡ false) × IsBefore self.new) }
         ensures failed { IfOk result (λ sound. sound ≡ false → self.old.heap.cells.failed ≡ true) }
         ensures fault { OnErr result
             (MeetsFault ⟦<HeapGround<D, F> as HasGround>⟧ self.old self.new) }
@@ -340,7 +341,10 @@ impl<D: Disk, F: Notify + Drop> HeapGround<D, F> {
         ensures keeps { KeepsGround ⟦<HeapGround<D, F> as HasGround>⟧ false self.old self.new }
         ensures any_moment { LeavesBefore ⟦<HeapGround<D, F> as HasGround>⟧ self.old self.new }
     {
-        if self.idle || self.drop_changes()? {
+        if self.idle {
+            return Ok(self.see(ticket));
+        }
+        if self.drop_changes()? {
             return Ok(self.see(ticket));
         }
         Ok(None)

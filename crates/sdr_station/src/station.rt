@@ -11,7 +11,7 @@ ghost use Rattle.sdr_served.specs.Serving.{built};
 ghost use Rattle.sdr_station.specs.Giving.{Fills, Gives};
 ghost use Rattle.sdr_station.specs.Opening.{ExplainsOpen, IsOpen, LeavesBytes};
 ghost use Rattle.sdr_station.specs.Rooming.{MovesAtMost, TellsRoom};
-ghost use Rattle.sdr_station.specs.Stationed.{Begins, Closes, ClosesBy, HasRisen, LooksAt, SaysOr, StaysLooked};
+ghost use Rattle.sdr_station.specs.Stationed.{Begins, Closes, ClosesBy, HasRisen, IsTicketTold, LooksAt, SaysOr, StaysLooked};
 ghost use Rattle.sdr_station.specs.Stationed.{closed_as, disk_under};
 
 use crate::HeapGround;
@@ -107,9 +107,18 @@ impl<D: Disk, F: Notify + Drop> Station<D, F> {
             return Err(Stop::Failed);
         }
         match self.ground.look(ticket) {
-            Ok(Some(granted)) => Ok(granted),
-            Ok(None) => Err(Stop::Refused(Refusal::BadTicket { ticket })),
+            Ok(shown) => Self::ticket_told(ticket, shown),
             Err(Fault) => unreachable!(),
+        }
+    }
+
+    // What is told of a ticket that is shown so.
+    fn ticket_told(ticket: u64, shown: Option<bool>) -> Result<bool, Stop>
+        ensures { IsTicketTold ticket shown result }
+    {
+        match shown {
+            Some(granted) => Ok(granted),
+            None => Err(Stop::Refused(Refusal::BadTicket { ticket })),
         }
     }
 

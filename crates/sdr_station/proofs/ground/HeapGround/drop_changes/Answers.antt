@@ -8,7 +8,8 @@ use Rattle.sdr_lock.specs.Crash.{LeavesBefore}
 use Rattle.sdr_lock.specs.Serving.{StandsStill}
 use Rattle.sdr_station.proofs.ClosingLemmas.{ClosesTo, closes_dropped, dropped_ground, leaves_back}
 use Rattle.sdr_station.proofs.GroundLemmas.{heap_ground}
-use Rattle.sdr_station.specs.Grounded.{Grounded}
+use Rattle.sdr_station.proofs.LookLemmas.{before_dropped}
+use Rattle.sdr_station.specs.Grounded.{Grounded, IsBefore, IsGround}
 use Rattle.sdr_station.proofs.ground.HeapGround.drop_changes.Goals as goal
 
 pub returns-in-Ok : goal.returns-in-Ok
@@ -48,12 +49,11 @@ returns-in-Ok g c =
     record {
       memory = all.memory;
       dropped = all.brings;
-      back = λ was. record {
-        sound = all.sound;
-        bytes = ap (λ (h : Held (Opened D)). h.cells.bytes) heap ∙ sym (ap (λ (h : Held (Opened D)). h.cells.begun) heap);
-        touched = ap (λ (h : Held (Opened D)). h.cells.touched) heap;
-        unmarked = ?;
-      };
+      back = λ was. (
+        all.sound,
+        subst (λ (n : Grounded D). IsBefore n) (sym is)
+            (before_dropped m old disk at.result (subst (λ (n : Grounded D). IsGround m n) is closed.is_ground) sound),
+      );
       failed = λ was. absurd (true≢false was);
       fault = tt;
       restored = ap (λ (o : Grounded D). o.restored) c.self.view_is;

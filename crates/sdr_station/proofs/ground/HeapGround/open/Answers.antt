@@ -1,4 +1,4 @@
-use Rattle.std.proofs.Common.{◌∙◌, ap, arith, false, sym, subst}
+use Rattle.std.proofs.Common.{◌∙◌, ap, arith, false, sym, subst, true}
 use Rattle.sdr_disk.specs.Moments.{AtEach}
 use Rattle.sdr_heap.specs.Noted.{Held}
 use Rattle.sdr_image.specs.Opened.{Opened}
