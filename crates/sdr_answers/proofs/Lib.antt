@@ -1,6 +1,5 @@
 pub mod CallLemmas
 pub mod EntryLemmas
-pub mod FreeLemmas
 pub mod KindLemmas
 pub mod MallocLemmas
 pub mod RawLemmas

@@ -65,7 +65,6 @@ length_answered addr value old new w unmoved same told s whole =
           [];
     }) (calls.Length addr) new [] (replies.Value value) (ap (λ (h : Heap). h.moves) same ∙ unmoved)
     (by (old.blocks addr) (block_at w addr) (block_told old w addr s whole.valid) told) refl (shows old new w [] same s) refl refl
-    refl refl
   where
     kind_in : Option (Kind × ℕ) → Kind
     kind_in None = kinds.Raw
@@ -175,7 +174,7 @@ read_answered addr place count into old new w unmoved same reads s whole =
     }) (calls.Read addr place count) new into (replies.Bytes count) (ap (λ (h : Heap). h.moves) same ∙ unmoved)
     (on_raw w (read_outcome w into count) addr r.bytes _ r.there
     (on_false _ _ _ few (on_false _ _ _ inside (refl, ap (λ (b : List ℕ). record w { shown = b }) bytes, refl))))
-    refl (shows old new w into same s) refl refl refl refl
+    refl (shows old new w into same s) refl refl
 
 -- the first bytes were given, and the object is marked
 pub stage_answered : (addr count : ℕ) (into : List ℕ) (old new : Heap) (w : World) → old.moves ≡ [] → new ≡ with_mark old addr
@@ -195,7 +194,7 @@ stage_answered addr count into old new w unmoved marked reads s whole =
     refl
     (subst (λ (h : Heap). HeapStandsFor h after) (sym marked)
     (record { blocks = s.blocks; roots = s.roots; marks = marked_one old.marks w.marks addr s.marks }))
-    refl refl refl refl
+    refl refl
 
 -- why bytes weren't read
 pub read_refused : (addr place count : ℕ) (old new : Heap) (w : World) (was : List ℕ) (refusal : Refusal) → old.moves ≡ []

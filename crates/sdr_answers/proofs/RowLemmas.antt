@@ -4,10 +4,9 @@ use Rattle.std.specs.Prelude.{All, filter}
 use Rattle.std.proofs.lemmas.List.Elements.{All-cons, All-nil}
 use Rattle.sdr_answers.proofs.KindLemmas.{missed, none_of}
 use Rattle.sdr_answers.specs.Answering.{Aim, Answered, IsRefused}
-use Rattle.sdr_audit.proofs.ChangeLemmas.{changes, comes, goes, nothing_at}
-use Rattle.sdr_audit.proofs.TiesLemmas.{same_ties, untied_alike}
+use Rattle.sdr_audit.proofs.ChangeLemmas.{changes, comes, goes}
 use Rattle.sdr_audit.specs.Standing.{HeapStandsFor, thing_entries, with_taken_marked}
-use Rattle.sdr_audit.specs.Ties.{IsUntied, NoneIsTied, ties_of}
+use Rattle.sdr_audit.specs.Ties.{IsUntied, ties_of}
 use Rattle.sdr_base.specs.Blocks.{IsKind}
 use Rattle.sdr_base.specs.Entries.{Changes}
 use Rattle.sdr_base.specs.Making.{Made, MakesThing, besides, with_moves}
@@ -43,9 +42,9 @@ shows old new w bytes same s =
 -- a call without moves that was answered
 pub unmoved_answered : (w after : World) (call : Call) (new : Heap) (shown : List ℕ) (reply : Reply) → new.moves ≡ []
     → ByRow w (record { moves = []; after = after; reply = reply }) call → is_answer reply ≡ true → HeapStandsFor new after
-    → after.shown ≡ shown → ties_of after ≡ ties_of w → after.accounts ≡ w.accounts → after.taken ≡ w.taken
+    → after.shown ≡ shown → after.taken ≡ w.taken
     → Answered w call new shown reply
-unmoved_answered w after call new shown reply none row answered stands gave ties accounts taken = record {
+unmoved_answered w after call new shown reply none row answered stands gave taken = record {
   after = after;
   row = subst (λ (ms : List Move). ByRow w (record { moves = ms; after = after; reply = reply }) call) (sym none) row;
   answered = answered;
@@ -53,8 +52,6 @@ unmoved_answered w after call new shown reply none row answered stands gave ties
   stands = stands;
   gave = gave;
   words = subst (λ (ms : List Move). All IsWord (taken_addresses ms)) (sym none) (All-nil IsWord);
-  ties = ties;
-  accounts = accounts;
   taken = taken;
 }
 
@@ -65,7 +62,7 @@ pub looked : {X : Type 0} (w : World) (call : Call) (addr : ℕ) (named : Option
     → is_answer reply ≡ true → old.moves ≡ [] → new ≡ old → HeapStandsFor old w → Answered w call new (bytes x) reply
 looked w call addr named bytes say x old new reply row is told answered unmoved same s =
     unmoved_answered w (record w { shown = bytes x }) call new (bytes x) reply (ap (λ (h : Heap). h.moves) same ∙ unmoved)
-    (row _ (on_some _ _ named x is (refl, refl, told))) answered (shows old new w (bytes x) same s) refl refl refl refl
+    (row _ (on_some _ _ named x is (refl, refl, told))) answered (shows old new w (bytes x) same s) refl refl
 
 -- what a row gives that refuses a call without moves
 pub row_refused : (w : World) (call : Call) (new : Heap) (refusal : Refusal) → new.moves ≡ []
@@ -112,10 +109,10 @@ pub record Moved (w : World) (moves : List Move) (old new : Heap) : Type 0 where
 
 -- a call with moves was answered
 pub moved_answered : (w w' : World) (call : Call) (moves : List Move) (new : Heap) (reply : Reply) → HasMoves w moves new
-    → HeapStandsFor new (with_taken_marked w' moves) → ties_of w' ≡ ties_of w → w'.accounts ≡ w.accounts → w'.taken ≡ w.taken
+    → HeapStandsFor new (with_taken_marked w' moves) → w'.taken ≡ w.taken
     → ByRow w (record { moves = moves; after = with_taken_marked w' moves; reply = reply }) call → is_answer reply ≡ true
     → Answered w call new [] reply
-moved_answered w w' call moves new reply m stands ties accounts taken row answered = record {
+moved_answered w w' call moves new reply m stands taken row answered = record {
   after = with_taken_marked w' moves;
   row = subst (λ (ms : List Move). ByRow w (record { moves = ms; after = with_taken_marked w' moves; reply = reply }) call)
       (sym m.is) row;
@@ -124,8 +121,6 @@ moved_answered w w' call moves new reply m stands ties accounts taken row answer
   stands = stands;
   gave = refl;
   words = subst (λ (ms : List Move). All IsWord (taken_addresses ms)) (sym m.is) m.words;
-  ties = ties;
-  accounts = accounts;
   taken = taken;
 }
 
@@ -209,9 +204,7 @@ thing_made w call need addr thing old new unmoved s valid untied makes row =
     moved_answered w (with_thing w addr thing) call (Took need addr ∷ []) new (replies.At addr)
     (took_one w need addr old new s valid unmoved makes.adds.fresh makes.adds.nonzero makes.adds.small makes.made).has
     (comes need addr old new w thing untied s makes)
-    (same_ties w addr (Some thing) (untied_alike (thing_at w addr) _
-    (subst NoneIsTied (sym (nothing_at addr s makes.adds.fresh)) tt) untied))
-    refl refl row refl
+    refl row refl
 
 -- a thing became another
 pub thing_changed : (w : World) (call : Call) (addr : ℕ) (thing other : Thing) (moves : List Move) (reply : Reply)
@@ -224,8 +217,7 @@ pub thing_changed : (w : World) (call : Call) (addr : ℕ) (thing other : Thing)
 thing_changed w call addr thing other moves reply old new there was is s m change row answered =
     moved_answered w (with_thing w addr other) call moves new reply m.has
     (changes addr old new w thing other moves there was is s change m.made)
-    (same_ties w addr (Some other) (untied_alike (thing_at w addr) _ (subst NoneIsTied (sym there) was) is)) refl refl row
-    answered
+    refl row answered
 
 -- a thing went
 pub thing_went : (w : World) (call : Call) (addr : ℕ) (thing : Thing) (moves : List Move) (reply : Reply) (old new : Heap)
@@ -237,7 +229,7 @@ pub thing_went : (w : World) (call : Call) (addr : ℕ) (thing : Thing) (moves :
 thing_went w call addr thing moves reply old new there was s m change row answered =
     moved_answered w (without_thing w addr) call moves new reply m.has
     (goes addr old new w thing moves there was s change m.made)
-    (same_ties w addr None (untied_alike (thing_at w addr) _ (subst NoneIsTied (sym there) was) tt)) refl refl row answered
+    refl row answered
 
 -- the row of a call would answer it with the one move that takes a block of this need
 pub record TakesAim (w : World) (call : Call) (need : ℕ) : Type 0 where

@@ -1,7 +1,6 @@
 -- What a call comes to on a heap that stands for a world.
-use Rattle.std.specs.Prelude.{◌≡◌, ◌+◌, ◌*◌, ◌/◌, ℕ, Bool, true, false, ◌||◌, not, List, [], length, ⊤, All, None, Result, Ok, Err}
+use Rattle.std.specs.Prelude.{◌≡◌, ◌+◌, ◌*◌, ◌/◌, ℕ, Bool, true, false, not, List, [], length, ⊤, All, Result, Ok, Err}
 use Rattle.sdr_audit.specs.Standing.{HeapStandsFor}
-use Rattle.sdr_audit.specs.Ties.{ties_of}
 use Rattle.sdr_base.specs.Objects.{Heap}
 use Rattle.sdr_base.specs.declared.moves.Move.{Move}
 use Rattle.sdr_base.specs.declared.refusal.Refusal.{Refusal}
@@ -11,7 +10,7 @@ use Rattle.sdr_base.specs.declared.stop.Stop.TheVariants as stops
 use Rattle.sdr_cat.specs.Kept.{SomeNames}
 use Rattle.sdr_hash.specs.Destroying.{entries_in}
 use Rattle.sdr_hash.specs.Kept.{IsHash}
-use Rattle.sdr_heap.specs.Raw.{IsUnnamed, IsWhole}
+use Rattle.sdr_heap.specs.Raw.{IsWhole}
 use Rattle.sdr_laws.specs.Fresh.{AreFresh}
 use Rattle.sdr_list.specs.Kept.{IsElement, IsList, elements_in}
 use Rattle.sdr_model.specs.Blocks.{addresses_of, blocks_of}
@@ -22,7 +21,6 @@ use Rattle.sdr_model.specs.Step.{StepTo, is_answer}
 use Rattle.sdr_model.specs.Steps.{Outcome, taken_addresses}
 use Rattle.sdr_model.specs.Whole as model
 use Rattle.sdr_model.specs.World.{World}
-use Rattle.sdr_model.specs.Zco.{source_on}
 use Rattle.sdr_model.specs.declared.answer.Reply.{Reply}
 use Rattle.sdr_model.specs.declared.answer.Reply.TheVariants as replies
 use Rattle.sdr_model.specs.declared.call.Call.{Call}
@@ -30,23 +28,15 @@ use Rattle.sdr_model.specs.declared.call.Call.TheVariants as calls
 use Rattle.sdr_string.specs.Calls.{IsString}
 use Rattle.sdr_table.specs.Kept.{IsTable}
 
--- a world that calls which are served leave: there is no ticket, and no source of a raw object
-pub record IsPlain (w : World) : Type 0 where
-  pub inbound : w.accounts.inbound.tickets ≡ []
-  pub outbound : w.accounts.outbound.tickets ≡ []
-  pub unnamed : (raw : ℕ) → source_on w raw ≡ None
-
--- a world in which calls are served: it is whole, its numbers fit the fields of blocks, and it is plain
+-- a world in which calls are served: it is whole, and its numbers fit the fields of blocks
 pub record IsServed (w : World) : Type 0 where
   pub whole : model.IsWhole w
   pub fits : FitsFields w
-  pub plain : IsPlain w
 
--- What is of a kind is kept: a raw object's block has its source word, which is 0, a string's has its text and a table's its
--- rows, a list is kept for the block of a list and for that of an element, and a hash for the block of one. A catalogue is kept.
+-- What is of a kind is kept: a raw object's block has its source word, a string's has its text and a table's its rows, a list is
+-- kept for the block of a list and for that of an element, and a hash for the block of one. A catalogue is kept.
 pub record IsGood (heap : Heap) : Type 0 where
   pub raws : (addr : ℕ) → IsWhole (heap.blocks addr)
-  pub unnamed : (addr : ℕ) → IsUnnamed (heap.blocks addr)
   pub strings : (addr : ℕ) → IsString (heap.blocks addr)
   pub lists : (addr : ℕ) → IsList heap.blocks addr
   pub elements : (addr : ℕ) → IsElement heap.blocks addr
@@ -54,15 +44,19 @@ pub record IsGood (heap : Heap) : Type 0 where
   pub hashes : (addr : ℕ) → IsHash heap.blocks addr
   pub names : SomeNames heap
 
--- whether the call is one on raw objects
+-- whether the call is one on raw objects that leaves their sources alone
 abbrev pub is_raw_call : Call → Bool
 is_raw_call (calls.Malloc bytes) = true
-is_raw_call (calls.Free addr) = true
 is_raw_call (calls.Length addr) = true
 is_raw_call (calls.Read addr place count) = true
 is_raw_call (calls.Write addr place bytes) = true
 is_raw_call (calls.Stage addr count) = true
 is_raw_call call = false
+
+-- whether it gives a raw object or a string back, so that it asks for a source
+abbrev pub is_free_call : Call → Bool
+is_free_call (calls.Free addr) = true
+is_free_call call = false
 
 -- whether it is one on strings
 abbrev pub is_string_call : Call → Bool
@@ -123,17 +117,12 @@ is_name_call (calls.Uncatlg name) = true
 is_name_call (calls.Entry place) = true
 is_name_call call = false
 
--- whether the call is served
-abbrev pub built : Call → Bool
-built call =
-    is_raw_call call || is_string_call call || is_list_call call || is_table_call call || is_hash_call call || is_name_call call
-
 -- whether a call that was answered so dooms its transaction: it is a change that was refused
 abbrev pub dooms : Call → Reply → Bool
 dooms call (replies.Refused refusal) = not (is_reading call)
 dooms call reply = false
 
--- so many lines a call that is served touches at most on this heap
+-- so many lines one of these calls touches at most on this heap
 abbrev pub call_lines : Heap → Call → ℕ
 call_lines heap (calls.Malloc bytes) = 24 + (8 + bytes) / 64
 call_lines heap (calls.Free addr) = 24
@@ -178,8 +167,6 @@ pub record Answered (w : World) (call : Call) (new : Heap) (shown : List ℕ) (r
   pub stands : HeapStandsFor new after
   pub gave : after.shown ≡ shown
   pub words : All IsWord (taken_addresses new.moves)
-  pub ties : ties_of after ≡ ties_of w
-  pub accounts : after.accounts ≡ w.accounts
   pub taken : after.taken ≡ w.taken
 
 -- The call is refused by a step that leaves the world. Where log room is wanting, its row would answer it.

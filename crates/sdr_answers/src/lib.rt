@@ -4,16 +4,18 @@
 //!    their order, and the blocks stand for the world after it; or it is refused, as its row or the want of a block or of log
 //!    room has it.
 //! 2. It touches no more lines than its transaction may by what it has asked.
-//! 3. Which calls are served stands here (`built`); those on tables, hashes and the catalogue are answered in the crate above.
+//! 3. What a call is on, and how many lines it may touch, stands here for the crate above too, which answers `free` and the calls
+//!    on tables, hashes and the catalogue.
 #![tactic(auto)]
 
+mod kinds;
 pub mod lists;
 mod page;
 pub mod raws;
-mod served;
 pub mod strings;
 
-pub use page::{PAGE, Page};
-pub use served::{
-    built, is_hash_call, is_list_call, is_name_call, is_raw_call, is_string_call, is_table_call,
+pub use kinds::{
+    is_free_call, is_hash_call, is_list_call, is_name_call, is_raw_call, is_string_call,
+    is_table_call,
 };
+pub use page::{PAGE, Page};

@@ -2,7 +2,7 @@
 ghost use Rattle.std.specs.Prelude.{IfErr, OnOk, [], length, true, ℕ, ◌+◌, ◌/◌, ◌<◌, ◌≡◌, ◌≤◌};
 ghost use Rattle.sdr_base.specs.Moves.{KeepsSome};
 ghost use Rattle.sdr_base.specs.Works.{Looks, Works};
-ghost use Rattle.sdr_heap.specs.Raw.{IsUnnamed, IsWhole, ReadStops};
+ghost use Rattle.sdr_heap.specs.Raw.{IsWhole, ReadStops};
 ghost use Rattle.sdr_model.specs.Fields.{AreBytes, FitsCall};
 ghost use Rattle.sdr_model.specs.declared.call.Call.TheVariants as calls;
 ghost use Rattle.sdr_answers.specs.Answering.{Comes, IsGood, call_lines, is_raw_call};
@@ -24,20 +24,6 @@ fn malloc<O: Objects>(o: &mut O, bytes: u64, page: &mut Page) -> Result<Reply, S
     let addr = sdr_heap::malloc(o, bytes)?;
     page.clear();
     Ok(Reply::At { addr })
-}
-
-// Gives a raw object that no source names, or a string, back.
-fn free<O: Objects>(o: &mut O, addr: Addr, page: &mut Page) -> Result<Reply, Stop>
-    requires kept { KeepsSome (O.keeps o.old) }
-    requires spare { 1 ≤ (O.heap o.old).spare }
-    requires unnamed { IsUnnamed ((O.heap o.old).blocks addr) }
-    requires unmoved { (O.heap o.old).moves ≡ [] }
-    ensures comes { Comes (calls.Free addr) (O.heap o.old) (O.heap o.new) page.old page.new result }
-    ensures works { Works O.HasHeap 24 o.old o.new result }
-{
-    sdr_heap::free(o, addr)?;
-    page.clear();
-    Ok(Reply::Done)
 }
 
 // The length of a thing.
@@ -173,7 +159,7 @@ fn write<O: Objects>(
     Ok(Reply::Done)
 }
 
-// Answers a call on raw objects.
+// Answers a call on raw objects that leaves their sources alone.
 pub fn answer<O: Objects>(o: &mut O, call: &Call, page: &mut Page) -> Result<Reply, Stop>
     requires kept { KeepsSome (O.keeps o.old) }
     requires room { (O.heap o.old).size / 4 + 4 ≤ (O.heap o.old).spare }
@@ -186,7 +172,6 @@ pub fn answer<O: Objects>(o: &mut O, call: &Call, page: &mut Page) -> Result<Rep
 {
     match call {
         Call::Malloc(bytes) => malloc(o, *bytes, page),
-        Call::Free(addr) => free(o, *addr, page),
         Call::Length(addr) => length(o, *addr, page),
         Call::Read(addr, place, count) => read(o, *addr, *place, *count, page),
         Call::Write(addr, place, bytes) => write(o, *addr, *place, bytes.as_slice(), page),

@@ -1,10 +1,10 @@
 -- Which steps a heap serves.
 use Rattle.std.specs.Prelude.{◌≡◌, ℕ, Bool, true, not, List, Option, find}
 use Rattle.std.specs.Option.{option_map}
-use Rattle.sdr_answers.specs.Answering.{built}
 use Rattle.sdr_model.specs.declared.event.Event.{Event}
 use Rattle.sdr_model.specs.declared.event.Event.TheVariants as events
 use Rattle.sdr_model.specs.declared.script.Step.{Step}
+use Rattle.sdr_served.specs.Serving.{built}
 use Rattle.sdr_words.specs.Bindings.{Binding, event_of}
 use Rattle.sdr_words.specs.Events.{event_without}
 

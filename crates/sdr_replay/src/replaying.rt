@@ -14,9 +14,10 @@ use sdr_model::Step;
 use sdr_station::{HeapGround, OpenError, Shut};
 use std::alloc::Global;
 use std::marker::Brand;
+use zco_acct::{Compares, Notice};
 
 // What a schedule has come to, with the disk of the heap on which it ran.
-fn with_disk<D: Disk, J: HandedIn>(ran: Ran<HeapGround<Handed<D, J>>>) -> Ran<D>
+fn with_disk<D: Disk, J: HandedIn>(ran: Ran<HeapGround<Handed<D, J>, Compares>>) -> Ran<D>
     ensures disk { result ≡ with_base ran ran.base.heap.cells.disk }
     ensures size { D.size result.base ≡ J.was.size }
     ensures tells { is_some (D.bytes result.base) ≡ J.was.tells }
@@ -54,7 +55,7 @@ fn replay_on<D: Disk, J: HandedIn, K: Sink>(
     ensures same { IfErr result (λ _. out.new ≡ out.old) }
     ensures later { K.faults out.old ≤ K.faults out.new }
 {
-    let ground = match HeapGround::open(alloc, Handed::<D, J>::new(disk)) {
+    let ground = match HeapGround::open(alloc, Handed::<D, J>::new(disk), Notice::new(Compares)) {
         Ok(ground) => ground,
         Err(Shut { why, disk }) => {
             return Err(Shut {
@@ -63,7 +64,7 @@ fn replay_on<D: Disk, J: HandedIn, K: Sink>(
             });
         }
     };
-    match play::<HeapGround<Handed<D, J>>, Brand, K>(alloc, script, ground, out) {
+    match play::<HeapGround<Handed<D, J>, Compares>, Brand, K>(alloc, script, ground, out) {
         Ok(ran) => Ok(with_disk(ran)),
         Err(ground) => Err(Shut {
             why: OpenError::NoMemory,

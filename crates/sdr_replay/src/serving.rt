@@ -3,8 +3,8 @@ ghost use Rattle.std.specs.Prelude.{◌≡◌, None};
 ghost use Rattle.std.specs.List.{AllByRecursion};
 ghost use Rattle.sdr_replay.specs.Serving.{IsServed, first_unserved, is_served, serves};
 
-use sdr_answers::built;
 use sdr_model::{Event, Step};
+use sdr_served::built;
 use sdr_words::event_without;
 use std::alloc::Global;
 

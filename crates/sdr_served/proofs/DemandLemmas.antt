@@ -20,165 +20,199 @@ use Rattle.sdr_model.specs.Steps.{Outcome, gave, taken_addresses}
 use Rattle.sdr_model.specs.World.{World, thing_at}
 use Rattle.sdr_model.specs.declared.call.Call.{Call}
 use Rattle.sdr_model.specs.declared.call.Call.TheVariants as calls
-use Rattle.sdr_answers.specs.Answering.{IsServed, built, call_lines}
+use Rattle.sdr_answers.specs.Answering.{IsServed}
+use Rattle.zco_granted.proofs.DemandLemmas.{enough as tickets_enough}
+use Rattle.sdr_served.specs.Serving.{built, call_lines}
 
 -- a call that is answered by its row asks for as many lines as it touches
 pub enough : (d : Demand) (heap : Heap) (w : World) (call : Call) (o : Outcome) → built call ≡ true → HeapStandsFor heap w
     → IsServed w
     → IsSmall heap → ByRow w o call → is_answer o.reply ≡ true
-    → most_lines d + call_lines heap call ≤ most_lines (demand_after d w call o)
+    → most_lines d + call_lines heap w call ≤ most_lines (demand_after d w call o)
 enough d heap w call o is s served small row answered =
-    by call is (moves_are_the_rows w o.after call o.moves o.reply (inl row) answered)
+    by call is row (moves_are_the_rows w o.after call o.moves o.reply (inl row) answered)
   where
     at : ℕ → ℕ
     at = slice_index (taken_addresses o.moves)
 
-    by : (c : Call) → built c ≡ true → o.moves ≡ row_moves w c at
-        → most_lines d + call_lines heap c ≤ most_lines (demand_after d w c o)
-    by (calls.Malloc bytes) is moves =
+    by : (c : Call) → built c ≡ true → ByRow w o c → o.moves ≡ row_moves w c at
+        → most_lines d + call_lines heap w c ≤ most_lines (demand_after d w c o)
+    by (calls.Malloc bytes) is there moves =
         let one : length o.moves ≡ 1 = ap (λ (ms : List Move). length ms) moves in
         let need : bytes_taken o.moves ≡ 8 + bytes + 0 = ap bytes_taken moves in
         omega (arith, one, need)
-    by (calls.Free addr) is moves =
+    by (calls.Free addr) is there moves =
         let one : length o.moves ≡ 1 = ap (λ (ms : List Move). length ms) moves in
         omega (arith, one)
-    by (calls.Length addr) is moves = omega (arith)
-    by (calls.Read addr place count) is moves = omega (arith)
-    by (calls.Write addr place bytes) is moves = omega (arith)
-    by (calls.Stage addr count) is moves = omega (arith)
-    by (calls.String text) is moves =
+    by (calls.Length addr) is there moves = omega (arith)
+    by (calls.Read addr place count) is there moves = omega (arith)
+    by (calls.Write addr place bytes) is there moves = omega (arith)
+    by (calls.Stage addr count) is there moves = omega (arith)
+    by (calls.String text) is there moves =
         let one : length o.moves ≡ 1 = ap (λ (ms : List Move). length ms) moves in
         let need : bytes_taken o.moves ≡ 1 + length text + 0 = ap bytes_taken moves in
         omega (arith, one, need)
-    by (calls.StringLength addr) is moves = omega (arith)
-    by (calls.StringRead addr) is moves = omega (arith)
-    by (calls.StringDup addr) is moves =
+    by (calls.StringLength addr) is there moves = omega (arith)
+    by (calls.StringRead addr) is there moves = omega (arith)
+    by (calls.StringDup addr) is there moves =
         let one : length o.moves ≡ 1 = ap (λ (ms : List Move). length ms) moves in
         omega (arith, one)
-    by (calls.List user) is moves =
+    by (calls.List user) is there moves =
         let one : length o.moves ≡ 1 = ap (λ (ms : List Move). length ms) moves in
         omega (arith, one)
-    by (calls.SetListUser list user) is moves = omega (arith)
-    by (calls.InsertFirst list datum) is moves =
+    by (calls.SetListUser list user) is there moves = omega (arith)
+    by (calls.InsertFirst list datum) is there moves =
         let one : length o.moves ≡ 1 = ap (λ (ms : List Move). length ms) moves in
         omega (arith, one)
-    by (calls.InsertLast list datum) is moves =
+    by (calls.InsertLast list datum) is there moves =
         let one : length o.moves ≡ 1 = ap (λ (ms : List Move). length ms) moves in
         omega (arith, one)
-    by (calls.InsertBefore element datum) is moves =
+    by (calls.InsertBefore element datum) is there moves =
         let one : length o.moves ≡ 1 = ap (λ (ms : List Move). length ms) moves in
         omega (arith, one)
-    by (calls.InsertAfter element datum) is moves =
+    by (calls.InsertAfter element datum) is there moves =
         let one : length o.moves ≡ 1 = ap (λ (ms : List Move). length ms) moves in
         omega (arith, one)
-    by (calls.InsertOrdered list datum keys) is moves =
+    by (calls.InsertOrdered list datum keys) is there moves =
         let one : length o.moves ≡ 1 = ap (λ (ms : List Move). length ms) moves in
         omega (arith, one)
-    by (calls.Delete element) is moves =
+    by (calls.Delete element) is there moves =
         let one : length o.moves ≡ 1 = ap (λ (ms : List Move). length ms) moves in
         omega (arith, one)
-    by (calls.SetDatum element datum) is moves = omega (arith)
-    by (calls.ListLength list) is moves = omega (arith)
-    by (calls.ListUser list) is moves = omega (arith)
-    by (calls.Search list datum keys) is moves = omega (arith)
-    by (calls.First list) is moves = omega (arith)
-    by (calls.Last list) is moves = omega (arith)
-    by (calls.Next element) is moves = omega (arith)
-    by (calls.Prev element) is moves = omega (arith)
-    by (calls.Datum element) is moves = omega (arith)
-    by (calls.ListDestroy list) is moves =
+    by (calls.SetDatum element datum) is there moves = omega (arith)
+    by (calls.ListLength list) is there moves = omega (arith)
+    by (calls.ListUser list) is there moves = omega (arith)
+    by (calls.Search list datum keys) is there moves = omega (arith)
+    by (calls.First list) is there moves = omega (arith)
+    by (calls.Last list) is there moves = omega (arith)
+    by (calls.Next element) is there moves = omega (arith)
+    by (calls.Prev element) is there moves = omega (arith)
+    by (calls.Datum element) is there moves = omega (arith)
+    by (calls.ListDestroy list) is there moves =
         let elements = elements_in (as_list (thing_at w list)) in
         let all : length o.moves ≡ length (gave (elements ++ list ∷ [])) = ap (λ (ms : List Move). length ms) moves in
         let same = length-map (elements ++ list ∷ []) (λ (addr : ℕ). Gave addr) in
         let split = length-append elements (list ∷ []) in
         let few = elements_told heap w list s served small in
         omega (arith, all, same, split, few)
-    by (calls.Table rows size user) is moves =
+    by (calls.Table rows size user) is there moves =
         let one : length o.moves ≡ 1 = ap (λ (ms : List Move). length ms) moves in
         let need : bytes_taken o.moves ≡ 24 + rows * size + 0 = ap bytes_taken moves in
         omega (arith, one, need)
-    by (calls.Row table row) is moves = omega (arith)
-    by (calls.SetRow table row bytes) is moves = omega (arith)
-    by (calls.Dimensions table) is moves = omega (arith)
-    by (calls.TableUser table) is moves = omega (arith)
-    by (calls.TableDestroy table) is moves =
+    by (calls.Row table row) is there moves = omega (arith)
+    by (calls.SetRow table row bytes) is there moves = omega (arith)
+    by (calls.Dimensions table) is there moves = omega (arith)
+    by (calls.TableUser table) is there moves = omega (arith)
+    by (calls.TableDestroy table) is there moves =
         let one : length o.moves ≡ 1 = ap (λ (ms : List Move). length ms) moves in
         omega (arith, one)
-    by (calls.Hash key_length buckets) is moves =
+    by (calls.Hash key_length buckets) is there moves =
         let one : length o.moves ≡ 1 = ap (λ (ms : List Move). length ms) moves in
         let need : bytes_taken o.moves ≡ 24 + 8 * buckets + 0 = ap bytes_taken moves in
         omega (arith, one, need)
-    by (calls.HashInsert hash key value) is moves =
+    by (calls.HashInsert hash key value) is there moves =
         let one : length o.moves ≡ 1 = ap (λ (ms : List Move). length ms) moves in
         let need : bytes_taken o.moves ≡ 16 + length key + 0 = ap bytes_taken moves in
         omega (arith, one, need)
-    by (calls.HashRetrieve hash key) is moves = omega (arith)
-    by (calls.HashRevise hash key value) is moves = omega (arith)
-    by (calls.HashRemove hash key) is moves = omega (arith)
-    by (calls.HashCount hash) is moves = omega (arith)
-    by (calls.HashDestroy hash) is moves =
+    by (calls.HashRetrieve hash key) is there moves = omega (arith)
+    by (calls.HashRevise hash key value) is there moves = omega (arith)
+    by (calls.HashRemove hash key) is there moves = omega (arith)
+    by (calls.HashCount hash) is there moves = omega (arith)
+    by (calls.HashDestroy hash) is there moves =
         let entries = entries_in (as_hash (thing_at w hash)) in
         let all : length o.moves ≡ length (gave (entries ++ hash ∷ [])) = ap (λ (ms : List Move). length ms) moves in
         let same = length-map (entries ++ hash ∷ []) (λ (addr : ℕ). Gave addr) in
         let split = length-append entries (hash ∷ []) in
         let few = entries_are heap w hash s served small in
         omega (arith, all, same, split, few)
-    by (calls.Catlg name kind object) is moves =
+    by (calls.Catlg name kind object) is there moves =
         let one : length o.moves ≡ 1 = ap (λ (ms : List Move). length ms) moves in
         omega (arith, one)
-    by (calls.Find name) is moves = omega (arith)
-    by (calls.Uncatlg name) is moves = omega (arith)
-    by (calls.Entry place) is moves = omega (arith)
-    by c is moves = absurd (true≢false (sym is))
+    by (calls.Find name) is there moves = omega (arith)
+    by (calls.Uncatlg name) is there moves = omega (arith)
+    by (calls.Entry place) is there moves = omega (arith)
+    by (calls.FileRef path bytes) is there moves =
+        let one : length o.moves ≡ 1 = ap (λ (ms : List Move). length ms) moves in
+        let need : bytes_taken o.moves ≡ 48 + length path + 0 = ap bytes_taken moves in
+        omega (arith, one, need)
+    by (calls.BulkRef item bytes) is there moves =
+        let one : length o.moves ≡ 1 = ap (λ (ms : List Move). length ms) moves in
+        omega (arith, one)
+    by (calls.ObjRef raw) is there moves =
+        let one : length o.moves ≡ 1 = ap (λ (ms : List Move). length ms) moves in
+        omega (arith, one)
+    by (calls.DestroyRef source) is there moves = omega (arith)
+    by (calls.Count source) is there moves = omega (arith)
+    by (calls.Occupancy acct space) is there moves = tickets_enough d w (calls.Occupancy acct space) o refl there answered
+    by (calls.Maximum acct space) is there moves = tickets_enough d w (calls.Maximum acct space) o refl there answered
+    by (calls.SetMaximum acct space value) is there moves =
+        tickets_enough d w (calls.SetMaximum acct space value) o refl there answered
+    by (calls.Request acct file bulk heap coarse fine) is there moves =
+        tickets_enough d w (calls.Request acct file bulk heap coarse fine) o refl there answered
+    by (calls.Awarded number) is there moves = tickets_enough d w (calls.Awarded number) o refl there answered
+    by (calls.Shred number) is there moves = tickets_enough d w (calls.Shred number) o refl there answered
+    by c is there moves = absurd (true≢false (sym is))
 
 -- a call that reads touches none
-pub reading_lines : (heap : Heap) (call : Call) → built call ≡ true → is_reading call ≡ true → call_lines heap call ≡ 0
-reading_lines heap (calls.Malloc bytes) is reads = absurd (true≢false (sym reads))
-reading_lines heap (calls.Free addr) is reads = absurd (true≢false (sym reads))
-reading_lines heap (calls.Length addr) is reads = refl
-reading_lines heap (calls.Read addr place count) is reads = refl
-reading_lines heap (calls.Write addr place bytes) is reads = absurd (true≢false (sym reads))
-reading_lines heap (calls.Stage addr count) is reads = refl
-reading_lines heap (calls.String text) is reads = absurd (true≢false (sym reads))
-reading_lines heap (calls.StringLength addr) is reads = refl
-reading_lines heap (calls.StringRead addr) is reads = refl
-reading_lines heap (calls.StringDup addr) is reads = absurd (true≢false (sym reads))
-reading_lines heap (calls.List user) is reads = absurd (true≢false (sym reads))
-reading_lines heap (calls.ListDestroy list) is reads = absurd (true≢false (sym reads))
-reading_lines heap (calls.SetListUser list user) is reads = absurd (true≢false (sym reads))
-reading_lines heap (calls.InsertFirst list datum) is reads = absurd (true≢false (sym reads))
-reading_lines heap (calls.InsertLast list datum) is reads = absurd (true≢false (sym reads))
-reading_lines heap (calls.InsertBefore element datum) is reads = absurd (true≢false (sym reads))
-reading_lines heap (calls.InsertAfter element datum) is reads = absurd (true≢false (sym reads))
-reading_lines heap (calls.InsertOrdered list datum keys) is reads = absurd (true≢false (sym reads))
-reading_lines heap (calls.Delete element) is reads = absurd (true≢false (sym reads))
-reading_lines heap (calls.SetDatum element datum) is reads = absurd (true≢false (sym reads))
-reading_lines heap (calls.ListLength list) is reads = refl
-reading_lines heap (calls.ListUser list) is reads = refl
-reading_lines heap (calls.Search list datum keys) is reads = refl
-reading_lines heap (calls.First list) is reads = refl
-reading_lines heap (calls.Last list) is reads = refl
-reading_lines heap (calls.Next element) is reads = refl
-reading_lines heap (calls.Prev element) is reads = refl
-reading_lines heap (calls.Datum element) is reads = refl
-reading_lines heap (calls.Table rows size user) is reads = absurd (true≢false (sym reads))
-reading_lines heap (calls.Row table row) is reads = refl
-reading_lines heap (calls.SetRow table row bytes) is reads = absurd (true≢false (sym reads))
-reading_lines heap (calls.Dimensions table) is reads = refl
-reading_lines heap (calls.TableUser table) is reads = refl
-reading_lines heap (calls.TableDestroy table) is reads = absurd (true≢false (sym reads))
-reading_lines heap (calls.Hash key_length buckets) is reads = absurd (true≢false (sym reads))
-reading_lines heap (calls.HashInsert hash key value) is reads = absurd (true≢false (sym reads))
-reading_lines heap (calls.HashRetrieve hash key) is reads = refl
-reading_lines heap (calls.HashRevise hash key value) is reads = absurd (true≢false (sym reads))
-reading_lines heap (calls.HashRemove hash key) is reads = absurd (true≢false (sym reads))
-reading_lines heap (calls.HashCount hash) is reads = refl
-reading_lines heap (calls.HashDestroy hash) is reads = absurd (true≢false (sym reads))
-reading_lines heap (calls.Catlg name kind object) is reads = absurd (true≢false (sym reads))
-reading_lines heap (calls.Find name) is reads = refl
-reading_lines heap (calls.Uncatlg name) is reads = absurd (true≢false (sym reads))
-reading_lines heap (calls.Entry place) is reads = refl
-reading_lines heap call is reads = absurd (true≢false (sym is))
+pub reading_lines : (heap : Heap) (w : World) (call : Call) → built call ≡ true → is_reading call ≡ true
+    → call_lines heap w call ≡ 0
+reading_lines heap w (calls.Malloc bytes) is reads = absurd (true≢false (sym reads))
+reading_lines heap w (calls.Free addr) is reads = absurd (true≢false (sym reads))
+reading_lines heap w (calls.Length addr) is reads = refl
+reading_lines heap w (calls.Read addr place count) is reads = refl
+reading_lines heap w (calls.Write addr place bytes) is reads = absurd (true≢false (sym reads))
+reading_lines heap w (calls.Stage addr count) is reads = refl
+reading_lines heap w (calls.String text) is reads = absurd (true≢false (sym reads))
+reading_lines heap w (calls.StringLength addr) is reads = refl
+reading_lines heap w (calls.StringRead addr) is reads = refl
+reading_lines heap w (calls.StringDup addr) is reads = absurd (true≢false (sym reads))
+reading_lines heap w (calls.List user) is reads = absurd (true≢false (sym reads))
+reading_lines heap w (calls.ListDestroy list) is reads = absurd (true≢false (sym reads))
+reading_lines heap w (calls.SetListUser list user) is reads = absurd (true≢false (sym reads))
+reading_lines heap w (calls.InsertFirst list datum) is reads = absurd (true≢false (sym reads))
+reading_lines heap w (calls.InsertLast list datum) is reads = absurd (true≢false (sym reads))
+reading_lines heap w (calls.InsertBefore element datum) is reads = absurd (true≢false (sym reads))
+reading_lines heap w (calls.InsertAfter element datum) is reads = absurd (true≢false (sym reads))
+reading_lines heap w (calls.InsertOrdered list datum keys) is reads = absurd (true≢false (sym reads))
+reading_lines heap w (calls.Delete element) is reads = absurd (true≢false (sym reads))
+reading_lines heap w (calls.SetDatum element datum) is reads = absurd (true≢false (sym reads))
+reading_lines heap w (calls.ListLength list) is reads = refl
+reading_lines heap w (calls.ListUser list) is reads = refl
+reading_lines heap w (calls.Search list datum keys) is reads = refl
+reading_lines heap w (calls.First list) is reads = refl
+reading_lines heap w (calls.Last list) is reads = refl
+reading_lines heap w (calls.Next element) is reads = refl
+reading_lines heap w (calls.Prev element) is reads = refl
+reading_lines heap w (calls.Datum element) is reads = refl
+reading_lines heap w (calls.Table rows size user) is reads = absurd (true≢false (sym reads))
+reading_lines heap w (calls.Row table row) is reads = refl
+reading_lines heap w (calls.SetRow table row bytes) is reads = absurd (true≢false (sym reads))
+reading_lines heap w (calls.Dimensions table) is reads = refl
+reading_lines heap w (calls.TableUser table) is reads = refl
+reading_lines heap w (calls.TableDestroy table) is reads = absurd (true≢false (sym reads))
+reading_lines heap w (calls.Hash key_length buckets) is reads = absurd (true≢false (sym reads))
+reading_lines heap w (calls.HashInsert hash key value) is reads = absurd (true≢false (sym reads))
+reading_lines heap w (calls.HashRetrieve hash key) is reads = refl
+reading_lines heap w (calls.HashRevise hash key value) is reads = absurd (true≢false (sym reads))
+reading_lines heap w (calls.HashRemove hash key) is reads = absurd (true≢false (sym reads))
+reading_lines heap w (calls.HashCount hash) is reads = refl
+reading_lines heap w (calls.HashDestroy hash) is reads = absurd (true≢false (sym reads))
+reading_lines heap w (calls.Catlg name kind object) is reads = absurd (true≢false (sym reads))
+reading_lines heap w (calls.Find name) is reads = refl
+reading_lines heap w (calls.Uncatlg name) is reads = absurd (true≢false (sym reads))
+reading_lines heap w (calls.Entry place) is reads = refl
+reading_lines heap w (calls.FileRef path bytes) is reads = absurd (true≢false (sym reads))
+reading_lines heap w (calls.BulkRef item bytes) is reads = absurd (true≢false (sym reads))
+reading_lines heap w (calls.ObjRef raw) is reads = absurd (true≢false (sym reads))
+reading_lines heap w (calls.DestroyRef source) is reads = absurd (true≢false (sym reads))
+reading_lines heap w (calls.Count source) is reads = refl
+reading_lines heap w (calls.Occupancy acct space) is reads = refl
+reading_lines heap w (calls.Maximum acct space) is reads = refl
+reading_lines heap w (calls.SetMaximum acct space value) is reads = absurd (true≢false (sym reads))
+reading_lines heap w (calls.Request acct file bulk heap_bytes coarse fine) is reads = absurd (true≢false (sym reads))
+reading_lines heap w (calls.Awarded number) is reads = refl
+reading_lines heap w (calls.Shred number) is reads = absurd (true≢false (sym reads))
+reading_lines heap w call is reads = absurd (true≢false (sym is))
 
 -- no call takes back what was asked
 pub asks_more : (d : Demand) (w : World) (call : Call) (o : Outcome) → most_lines d ≤ most_lines (demand_after d w call o)

@@ -144,8 +144,7 @@ module _ (old new : Heap) (w : World) (unmoved : old.moves ≡ []) (s : HeapStan
       let k = key_at old w addr key (λ item. item.value) value s served finds.is finds.finds in
       let told : value ≡ value_at k.at.hash.entries k.told.place = sym (ap value_of k.told.keyed.there ∙ k.told.told) in
       unmoved_answered w (record w { shown = [] }) (calls.HashRetrieve addr key) new [] (replies.Value value) (ap (λ (h : Heap). h.moves) same ∙ unmoved)
-      (on_key old w addr key _ _ _ _ k (refl, refl, ap (λ n. replies.Value n) told)) refl (shows old new w [] same s) refl refl refl
-      refl
+      (on_key old w addr key _ _ _ _ k (refl, refl, ap (λ n. replies.Value n) told)) refl (shows old new w [] same s) refl refl
 
   pub unretrieved : (addr : ℕ) (key was : List ℕ) (refusal : Refusal) → new ≡ old
       → FindStops old.blocks addr key (stops.Refused refusal)

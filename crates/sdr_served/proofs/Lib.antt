@@ -8,5 +8,7 @@ pub mod HashReading
 pub mod HashChanging
 pub mod NameLemmas
 pub mod NameCalls
+pub mod FreeLemmas
 pub mod GoodLemmas
+pub mod NextLemmas
 pub mod DemandLemmas

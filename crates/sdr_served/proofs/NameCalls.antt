@@ -107,7 +107,7 @@ module _ (old new : Heap) (w : World) (unmoved : old.moves ≡ []) (s : HeapStan
             [];
       }) (calls.Find name) new [] (replies.Pair told.0 told.1) (ap (λ (h : Heap). h.moves) same ∙ unmoved)
       (on_named _ name _ _ n.0 finds.is n.1 (refl, refl, sym (ap (λ (p : ℕ × ℕ). replies.Pair p.0 p.1) is)))
-      refl (shows old new w [] same s) refl refl refl refl
+      refl (shows old new w [] same s) refl refl
     where
       some_is : {A : Type 0} {x y : A} → Some x ≡ Some y → x ≡ y
       some_is e = cc
@@ -177,7 +177,7 @@ module _ (old new : Heap) (w : World) (unmoved : old.moves ≡ []) (s : HeapStan
       (moves_are rows (Took name_need addr ∷ []) words))
       (names_become (calls.Catlg name kind object) (with_name name kind object addr) rows (Took name_need addr ∷ []) same
       adds.changes words)
-      refl refl refl (catlg_row name kind object addr catalogues.lacks.is (lacks_name name catalogues.lacks)) refl
+      refl (catlg_row name kind object addr catalogues.lacks.is (lacks_name name catalogues.lacks)) refl
 
   pub catlg_refused : (name : List ℕ) (kind object : ℕ) (was : List ℕ) (refusal : Refusal)
       → CatlgStops name old new (stops.Refused refusal)
@@ -238,7 +238,7 @@ module _ (old new : Heap) (w : World) (unmoved : old.moves ≡ []) (s : HeapStan
       (gave_has w (addr ∷ []) new (moves_are rows (Gave addr ∷ []) words))
       (names_become (calls.Uncatlg name) (without_name w.names name) rows (Gave addr ∷ []) (without_is w.names name)
       (goes.changes (map name_row w.names) keeps) words)
-      refl refl refl (uncatlg_row name n.0 addr goes.there.is n.1 n.2) refl
+      refl (uncatlg_row name n.0 addr goes.there.is n.1 n.2) refl
 
   pub uncatlg_refused : (name was : List ℕ) (refusal : Refusal) → UncatlgStops name old new (stops.Refused refusal)
       → IsRefused w (calls.Uncatlg name) old new was was refusal
@@ -277,7 +277,7 @@ module _ (old new : Heap) (w : World) (unmoved : old.moves ≡ []) (s : HeapStan
       (ap (λ (h : Heap). h.moves) same ∙ unmoved)
       (on_some _ _ (slice_get w.names place) n.0 n.1
       (refl, ap (λ (b : List ℕ). record w { shown = b }) name, λ i. replies.Named (count i) (kind i) (object i)))
-      refl (shows old new w (take value.0 into) same s) refl refl refl refl
+      refl (shows old new w (take value.0 into) same s) refl refl
     where
       at_place : (o : Option Name) (row : NameRow) → option_map name_row o ≡ Some row
           → (n : Name) × (o ≡ Some n) × (name_row n ≡ row)

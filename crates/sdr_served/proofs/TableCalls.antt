@@ -189,7 +189,7 @@ module _ (old new : Heap) (w : World) (unmoved : old.moves ≡ []) (s : HeapStan
       (on_row addr row (record { moves = []; after = record w { shown = take size into }; reply = replies.Bytes size }) _ t
       is.inside
       (on_false _ _ _ few (refl, ap (λ (b : List ℕ). record w { shown = b }) bytes, ap (λ n. replies.Bytes n) is.bytes)))
-      refl (shows old new w (take size into) same s) refl refl refl refl
+      refl (shows old new w (take size into) same s) refl refl
 
   pub row_unread : (addr row : ℕ) (was : List ℕ) (refusal : Refusal) → new ≡ old
       → RowStops (old.blocks addr) addr row (stops.Refused refusal)

@@ -1,31 +1,61 @@
 // The answer of each call that is served.
-ghost use Rattle.std.specs.Prelude.{◌≡◌, ◌≤◌, ◌+◌, ◌/◌, [], true};
-ghost use Rattle.sdr_answers.specs.Answering.{Comes, IsGood, built, call_lines};
+ghost use Rattle.std.specs.Prelude.{◌≡◌, ◌≤◌, ◌+◌, ◌/◌, [], true, false};
+ghost use Rattle.sdr_answers.specs.Answering as answers;
+ghost use Rattle.sdr_answers.specs.Answering.{Comes, IsServed};
+ghost use Rattle.sdr_audit.specs.Standing.{HeapStandsFor};
 ghost use Rattle.sdr_base.specs.Moves.{KeepsSome};
 ghost use Rattle.sdr_base.specs.Works.{Works};
 ghost use Rattle.sdr_model.specs.Fields.{FitsCall};
+ghost use Rattle.sdr_model.specs.World.{World};
+ghost use Rattle.sdr_served.specs.Serving.{IsGood, built, call_lines};
+ghost use Rattle.zco_granted.specs.Answering.{is_account_call};
+ghost use Rattle.zco_served.specs.Answering.{is_source_call};
 
-use crate::{hashes, names, tables};
+use crate::{freeing, hashes, names, tables};
 use sdr_answers::{
-    Page, is_hash_call, is_list_call, is_raw_call, is_string_call, is_table_call, lists, raws,
-    strings,
+    Page, is_free_call, is_hash_call, is_list_call, is_name_call, is_raw_call, is_string_call,
+    is_table_call, lists, raws, strings,
 };
 use sdr_base::{Objects, Stop};
 use sdr_model::{Call, Reply};
+use zco_acct::{Notice, Notify};
+use zco_granted::is_account_call;
+use zco_served::is_source_call;
 
-/// Answers a call that is served.
-pub fn answer<O: Objects>(o: &mut O, call: &Call, page: &mut Page) -> Result<Reply, Stop>
+/// Whether the call is served yet.
+pub fn built(call: &Call) -> bool
+    ensures { result ≡ built call.now }
+{
+    is_raw_call(call)
+        || is_free_call(call)
+        || is_string_call(call)
+        || is_list_call(call)
+        || is_table_call(call)
+        || is_hash_call(call)
+        || is_name_call(call)
+        || is_source_call(call)
+        || is_account_call(call)
+}
+
+// Answers a call that is served, but one on sources, accounts or tickets.
+fn answer_other<O: Objects>(o: &mut O, call: &Call, page: &mut Page) -> Result<Reply, Stop>
     requires kept { KeepsSome (O.keeps o.old) }
     requires room { (O.heap o.old).size / 4 + 4 ≤ (O.heap o.old).spare }
     requires good { IsGood (O.heap o.old) }
     requires unmoved { (O.heap o.old).moves ≡ [] }
     requires built { built call.now ≡ true }
+    requires no_source { is_source_call call.now ≡ false }
+    requires no_account { is_account_call call.now ≡ false }
     ensures comes { Comes call.now (O.heap o.old) (O.heap o.new) page.old page.new result }
-    ensures works { Works O.HasHeap (call_lines (O.heap o.old) call.now) o.old o.new result }
+    ensures works { Works O.HasHeap
+        (answers.call_lines (O.heap o.old) call.now) o.old o.new result }
     ensures fits { FitsCall call.now }
 {
     if is_raw_call(call) {
         return raws::answer(o, call, page);
+    }
+    if is_free_call(call) {
+        return freeing::answer(o, call, page);
     }
     if is_string_call(call) {
         return strings::answer(o, call, page);
@@ -40,4 +70,30 @@ pub fn answer<O: Objects>(o: &mut O, call: &Call, page: &mut Page) -> Result<Rep
         return hashes::answer(o, call, page);
     }
     names::answer(o, call, page)
+}
+
+/// Answers a call that is served. A callback is told each time space is made available.
+pub fn answer<O: Objects, F: Notify>(
+    o: &mut O,
+    call: &Call,
+    notice: &Notice<F>,
+    page: &mut Page,
+) -> Result<Reply, Stop>
+    requires kept { KeepsSome (O.keeps o.old) }
+    requires room { (O.heap o.old).size / 4 + 4 ≤ (O.heap o.old).spare }
+    requires good { IsGood (O.heap o.old) }
+    requires unmoved { (O.heap o.old).moves ≡ [] }
+    requires built { built call.now ≡ true }
+    ensures comes { Comes call.now (O.heap o.old) (O.heap o.new) page.old page.new result }
+    ensures works { (w : World) → HeapStandsFor (O.heap o.old) w → IsServed w →
+        Works O.HasHeap (call_lines (O.heap o.old) w call.now) o.old o.new result }
+    ensures fits { FitsCall call.now }
+{
+    if is_source_call(call) {
+        return zco_served::answer(o, call, page);
+    }
+    if is_account_call(call) {
+        return zco_granted::answer(o, call, notice, page);
+    }
+    answer_other(o, call, page)
 }

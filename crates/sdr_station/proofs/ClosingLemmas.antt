@@ -17,13 +17,11 @@ use Rattle.sdr_image.specs.Opened.{Opened, Rests, transaction_of}
 use Rattle.sdr_lock.specs.Crash.{LeavesBefore, LeavesEither, LeavesOr}
 use Rattle.sdr_lock.specs.Demand.{most_lines}
 use Rattle.sdr_lock.specs.Ground.{Ground, HasHeap, State, kept, put_back}
-use Rattle.sdr_lock.specs.Serving.{Brings, Keeps, KeepsGround, MeetsFault, PutsBack, shown_in}
+use Rattle.sdr_lock.specs.Serving.{Brings, Keeps, KeepsGround, MeetsFault, PutsBack, StandsStill}
 use Rattle.sdr_lock.specs.Standing.{Standing}
 use Rattle.sdr_log.specs.Frame.{room_of}
 use Rattle.sdr_log.specs.Logged.{Gives}
 use Rattle.sdr_model.specs.World.{World}
-use Rattle.sdr_model.specs.declared.accounts.Ticket.{Ticket}
-use Rattle.sdr_answers.specs.Answering.{IsPlain}
 use Rattle.sdr_station.specs.Closing as closing
 use Rattle.sdr_station.specs.Grounded.{Grounded, IsGround, Opens, StandsAtRest, StandsForBoth, StandsInMemory, StandsWithin, heap_in}
 use Rattle.sdr_station.proofs.GroundLemmas.{ground_brought, heap_ground, keeps_later, unmarked}
@@ -42,7 +40,6 @@ at_rest_of h shown s taken w = record {
     fits = fits_rest s.world w.fits;
     next = w.next;
   };
-  plain = record { inbound = w.plain.inbound; outbound = w.plain.outbound; unnamed = w.plain.unnamed };
   demand = refl;
 }
 
@@ -62,22 +59,9 @@ within_of h n s none untouched size at = record {
   whole = at.stands.whole;
   fits = at.stands.fits;
   next = at.stands.next;
-  plain = at.plain;
   gave = at.stands.stands.shown;
   lines = subst (λ (touched : List ℕ). length touched ≤ most_lines s.demand) (sym untouched) (omega arith);
 }
-
--- no ticket is there in a world without tickets
-pub no_ticket : (w : World) (ticket : ℕ) → IsPlain w → shown_in w ticket ≡ None
-no_ticket w ticket none =
-    let at : List Ticket → List Ticket → Option Bool =
-    λ a b. shown_in (record w {
-      accounts = record w.accounts {
-        inbound = record w.accounts.inbound { tickets = a };
-        outbound = record w.accounts.outbound { tickets = b };
-      };
-    }) ticket in
-    λ i. at (none.inbound i) (none.outbound i)
 
 -- the ground whose transaction was kept on a disk
 abbrev pub kept_ground : {D : Type 0} → Grounded D → D → ℕ → Grounded D
@@ -85,6 +69,7 @@ kept_ground old disk now = record {
   heap = closing.committed old.heap disk;
   shown = [];
   stopped = false;
+  idle = true;
   moment = now;
   restored = old.restored;
 }
@@ -95,6 +80,7 @@ back_ground old disk now = record {
   heap = closing.put_back old.heap disk;
   shown = [];
   stopped = false;
+  idle = true;
   moment = now;
   restored = old.restored;
 }
@@ -116,6 +102,7 @@ memory_kept old disk now going = record {
           gave = refl;
           stood = stood_of within;
           now = λ _. within;
+          idle = λ _. refl;
           moves = at.moves;
         };
         tells = (refl, refl);
@@ -141,10 +128,43 @@ memory_back old disk now = record {
           gave = at.before.stands.stands.shown;
           stood = stood_of within;
           now = λ _. within;
+          idle = λ _. refl;
           moves = at.moves;
         };
         tells = (refl, refl);
       };
+}
+
+-- the one whose transaction was dropped: its lines were put back, and it can only be put back
+abbrev pub dropped_ground : {D : Type 0} → Grounded D → D → ℕ → Grounded D
+dropped_ground old disk now = record {
+  heap = closing.put_back old.heap disk;
+  shown = old.shown;
+  stopped = true;
+  idle = false;
+  moment = now;
+  restored = old.restored;
+}
+
+-- what is dropped in memory: the states stay
+pub memory_dropped : {D : Type 0} (old : Grounded D) (disk : D) (now : ℕ)
+    → Brings StandsInMemory old (dropped_ground old disk now) StandsStill
+memory_dropped old disk now = record {
+  each = λ v at. record {
+    for = v;
+    holds = record {
+      sound = at.sound;
+      size = at.size;
+      before = at.before;
+      taken = at.taken;
+      gave = at.gave;
+      stood = at.stood;
+      now = λ going. absurd (true≢false going);
+      idle = λ idle. absurd (true≢false (sym idle));
+      moves = at.moves;
+    };
+    tells = record { before = refl; now = refl };
+  };
 }
 
 -- what a close that was answered leaves of a ground
@@ -250,16 +270,17 @@ module _ {D : Type 0} (told : D → Option (List ℕ)) (moment : D → ℕ) (fau
 
   -- what a close leaves of a ground on which it was brought
   closes_to : {keeps : Bool} {Q : Standing → Standing → Type 0} (new : Grounded D) → new.heap.cells.disk ≡ disk → new.moment ≡ now
-      → new.heap.cells.failed ≡ false → IsGround moment old → faults old.heap.cells.disk ≤ faults disk
+      → new.heap.cells.failed ≡ false → (new.idle ≡ true → new.stopped ≡ false) → IsGround moment old
+      → faults old.heap.cells.disk ≤ faults disk
       → (Rests told moment may_leave old.heap.cells → Rests told moment may_leave new.heap.cells) → Brings StandsInMemory old new Q
       → LeavesOr keeps (heap_ground told moment faults may_leave) old new → ClosesTo told moment faults may_leave keeps Q old new
-  closes_to new on at_now still ground later rests brings leaves = record {
+  closes_to new on at_now still going ground later rests brings leaves = record {
     memory = brings;
     brings = brings_closed new on at_now rests brings;
     sound = still;
     keeps = keeps_later told moment faults may_leave old new (subst (λ (d : D). faults old.heap.cells.disk ≤ faults d) (sym on) later);
     any_moment = leaves;
-    is_ground = ground_brought moment old new ground (omega (arith, ap moment on, at_now, is)) sound still brings;
+    is_ground = ground_brought moment old new ground (omega (arith, ap moment on, at_now, is)) sound still going brings;
   }
 
   -- a transaction that is kept
@@ -270,7 +291,7 @@ module _ {D : Type 0} (told : D → Option (List ℕ)) (moment : D → ℕ) (fau
       → ClosesTo told moment faults may_leave true Keeps old new
   closes_kept new same ground going later rests also =
       subst (λ (n : Grounded D). ClosesTo told moment faults may_leave true Keeps old n) (sym same)
-      (closes_to (kept_ground old disk now) refl refl sound ground later rests (memory_kept old disk now going)
+      (closes_to (kept_ground old disk now) refl refl sound (λ _. refl) ground later rests (memory_kept old disk now going)
       (leaves_either (kept_ground old disk now) refl refl going also))
 
   -- a transaction that is put back
@@ -279,8 +300,20 @@ module _ {D : Type 0} (told : D → Option (List ℕ)) (moment : D → ℕ) (fau
       → ((image : List ℕ) → P image → Gives old.heap.cells.begun image) → ClosesTo told moment faults may_leave false PutsBack old new
   closes_back new same ground later rests also =
       subst (λ (n : Grounded D). ClosesTo told moment faults may_leave false PutsBack old n) (sym same)
-      (closes_to (back_ground old disk now) refl refl sound ground later rests (memory_back old disk now)
+      (closes_to (back_ground old disk now) refl refl sound (λ _. refl) ground later rests (memory_back old disk now)
       (leaves_back (back_ground old disk now) refl refl also))
+
+  -- a transaction that is dropped
+  pub closes_dropped : (new : Grounded D) → new ≡ dropped_ground old disk now → IsGround moment old
+      → faults old.heap.cells.disk ≤ faults disk
+      → (Rests told moment may_leave old.heap.cells → Rests told moment may_leave (dropped_ground old disk now).heap.cells)
+      → ((image : List ℕ) → P image → Gives old.heap.cells.begun image)
+      → ClosesTo told moment faults may_leave false StandsStill old new
+  closes_dropped new same ground later rests also =
+      subst (λ (n : Grounded D). ClosesTo told moment faults may_leave false StandsStill old n) (sym same)
+      (closes_to (dropped_ground old disk now) refl refl sound (λ idle. absurd (true≢false (sym idle))) ground later rests
+      (memory_dropped old disk now)
+      (leaves_back (dropped_ground old disk now) refl refl also))
 
 -- where a close is stopped, the disk has failed
 pub stop_fails : (old new : Transaction) (s : Stop) → Explains {T = Unit {0}} old new (Err s) → IfRefused {T = Unit {0}} (Err s) (λ _. ⊥)

@@ -1,23 +1,29 @@
 -- The bytes that the row of a served call gives.
 use Rattle.std.proofs.Common.{◌≡◌, ◌∙◌, ◌≤◌, ◌+◌, ◌*◌, ◌==◌, ◌++◌, ◌∷◌, ℕ, List, [], Bool, true, false, true≢false, Option, None, Some, MatchBool, length, take, min, nat_lt, nat_le, position, refl, sym, ap, subst, arith}
-use Rattle.std.specs.Prelude.{IfSome, get_or, slice_get}
+use Rattle.std.specs.Prelude.{IfSome, get_or, is_some, slice_get}
 use Rattle.std.proofs.lemmas.Bool.{ltb-false}
 use Rattle.std.proofs.lemmas.Bool.Decides.{nat_tests}
 use Rattle.std.proofs.lemmas.List.{length-take-le}
 use Rattle.std.proofs.lemmas.Option.{get_or_from_slice_get, slice_get-map, slice_get_within}
 use Rattle.std.specs.Option.{option_map}
-use Rattle.sdr_answers.specs.Answering.{built}
+use Rattle.sdr_served.specs.Serving.{built}
 use Rattle.sdr_base.proofs.PartsLemmas.{length-part}
 use Rattle.sdr_base.specs.Parts.{part}
+use Rattle.sdr_base.specs.Kinds.{kind_number}
+use Rattle.sdr_base.specs.declared.kind.Kind.TheVariants as kinds
 use Rattle.sdr_base.specs.declared.refusal.Refusal.{Refusal}
 use Rattle.sdr_base.specs.declared.refusal.Refusal.TheVariants as refusals
 use Rattle.sdr_lock.proofs.StepLemmas.{from_option, from_test}
 use Rattle.sdr_lock.specs.Transaction.{bytes_given}
 use Rattle.sdr_model.proofs.FewLemmas.{in_takes_one}
 use Rattle.sdr_model.proofs.TableLemmas.{row-within}
+use Rattle.sdr_base.specs.declared.account.Amounts.{Amounts}
+use Rattle.sdr_model.specs.AccountSteps.{pending_of}
+use Rattle.sdr_model.specs.Accounts.{account_of, most_amount}
+use Rattle.sdr_model.specs.Amounts.{amount, first_above}
 use Rattle.sdr_model.specs.HashSteps.{OnHash, OnKey, as_hash, has_key, is_no_count, is_no_key_length, value_at}
 use Rattle.sdr_model.specs.Hashes.{Hash}
-use Rattle.sdr_model.specs.Limits.{is_no_name, longest_key, longest_name, longest_raw, longest_read, longest_string, most_buckets}
+use Rattle.sdr_model.specs.Limits.{is_no_name, is_no_path, longest_key, longest_name, longest_path, longest_raw, longest_read, longest_source, longest_string, most_buckets}
 use Rattle.sdr_model.specs.ListSteps.{as_list}
 use Rattle.sdr_model.specs.NameSteps.{OnName}
 use Rattle.sdr_model.specs.Names.{name_of}
@@ -29,7 +35,8 @@ use Rattle.sdr_model.specs.Tables.{Table}
 use Rattle.sdr_model.specs.Valid.{IsBetween, IsValidTable, IsValidThing, names_of}
 use Rattle.sdr_model.specs.Whole.{IsWhole}
 use Rattle.sdr_model.specs.World.{World, as_raw, as_text, block_at, is_marked, misnamed, spot_of, thing_at}
-use Rattle.sdr_model.specs.Zco.{source_on, uses_of}
+use Rattle.sdr_model.specs.SourceSteps.{OnUnnamed}
+use Rattle.sdr_model.specs.Zco.{owned_raw, source_at, source_on, uses_of}
 use Rattle.sdr_model.specs.declared.answer.Answer.TheVariants as answers
 use Rattle.sdr_model.specs.declared.answer.Reply.{Reply}
 use Rattle.sdr_model.specs.declared.answer.Reply.TheVariants as replies
@@ -153,11 +160,13 @@ module _ (w : World) (o : Outcome) where
       → Given o most
   where_so b refusal h f = from_test b h (λ _ p. f p) (λ _ h. refused refusal h)
 
+  on_unnamed : {P : Type 0} {most : ℕ} (raw : ℕ) → OnUnnamed w o raw P → (P → Given o most) → Given o most
+  on_unnamed raw h f =
+      from_option (source_on w raw) h (λ _ h. f h) (λ source _ h. refused (refusals.InUse raw (uses_of w source)) h)
+
   frees : (addr : ℕ) (raw text : Option (List ℕ)) → FreesThing w o addr raw text → Given o 0
   frees addr None None h = refused (misnamed w addr) h
-  frees addr (Some bytes) text h =
-      from_option (source_on w addr) h (λ _ h. shows_none h.1 h.2 refl refl)
-      (λ source _ h. refused (refusals.InUse addr (uses_of w source)) h)
+  frees addr (Some bytes) text h = on_unnamed addr h (λ h. shows_none h.1 h.2 refl refl)
   frees addr None (Some text) h = shows_none h.1 h.2 refl refl
 
   on_name : {P : Type 0} {Q : Name → Type 0} {most : ℕ} (name : List ℕ) → OnName w o name P Q → (P → Given o most)
@@ -279,4 +288,35 @@ module _ (w : World) (o : Outcome) where
       from_option (slice_get w.names place) h (λ _ h. refused refusals.NotFound h) (λ n there h.
       let short = name_short w place n whole there in
       shows w n.name (length n.name) refl refl (omega (arith, short)) h)
+  given_row (calls.FileRef path bytes) is whole h =
+      unless (is_no_path (length path)) (refusals.BadLength (length path) longest_path) h (λ _ h.
+      unless (nat_lt longest_source bytes) (refusals.BadLength bytes longest_source) h
+      (λ _ h. in_takes_one o.moves _ _ h (λ addr p. shows_none p.0 p.1 refl refl)))
+  given_row (calls.BulkRef item bytes) is whole h =
+      unless (nat_lt longest_source bytes) (refusals.BadLength bytes longest_source) h
+      (λ _ h. in_takes_one o.moves _ _ h (λ addr p. shows_none p.0 p.1 refl refl))
+  given_row (calls.ObjRef raw) is whole h = on raw (as_raw (thing_at w raw)) h (λ bytes _ h.
+      on_unnamed raw h (λ h. in_takes_one o.moves _ _ h (λ addr p. shows_none p.0 p.1 refl refl)))
+  given_row (calls.DestroyRef addr) is whole h = on addr (source_at w addr) h (λ source _ h.
+      unless (is_some (owned_raw source)) (refusals.WrongKind addr (kind_number kinds.Source)) h (λ _ h.
+      unless source.flagged refusals.NotFound h (λ _ h.
+      from_test (uses_of w addr == 0) h (λ _ h. shows_none h.1 h.2 refl refl) (λ _ h. shows_none h.1 h.2 refl refl))))
+  given_row (calls.Count addr) is whole h = on addr (source_at w addr) h (λ source _ h. shows_none h.1 h.2 refl refl)
+  given_row (calls.Occupancy acct space) is whole h = shows_none h.1 h.2 refl refl
+  given_row (calls.Maximum acct space) is whole h = shows_none h.1 h.2 refl refl
+  given_row (calls.SetMaximum acct space value) is whole h =
+      unless (nat_lt most_amount value) (refusals.TooLarge space value most_amount) h (λ _ h. shows_none h.1 h.2 refl refl)
+  given_row (calls.Request acct file bulk heap coarse fine) is whole h =
+      let asked : Amounts = record { file = file; bulk = bulk; heap = heap } in
+      let maxima = (account_of w.accounts acct).maxima in
+      from_option (first_above asked maxima) h (λ _ h.
+      unless (w.accounts.next == most_amount) (refusals.BadTicket most_amount) h
+      (λ _ h. in_takes_one o.moves _ _ h (λ addr p. shows_none p.0 p.1 refl refl)))
+      (λ space _ h. refused (refusals.TooLarge space (amount asked space) (amount maxima space)) h)
+  given_row (calls.Awarded ticket) is whole h =
+      from_option (pending_of w ticket) h (λ _ h. refused (refusals.BadTicket ticket) h) (λ p _ h.
+      where_so p.ticket.granted (refusals.NotAwarded ticket) h (λ h. shows_none h.1 h.2 refl refl))
+  given_row (calls.Shred ticket) is whole h =
+      from_option (pending_of w ticket) h (λ _ h. refused (refusals.BadTicket ticket) h)
+      (λ p _ h. shows_none h.1 h.2 refl refl)
   given_row call is whole h = absurd (true≢false (sym is))

@@ -41,19 +41,20 @@ unmarked n addr = ap (λ b. (addr % WORD == 0) && b) (none_of n (addr / WORD)) �
 
 -- where the heap in memory stood for something, and what it stands for follows, the new one is a ground
 pub ground_brought : {D : Type 0} {P : Standing → Standing → Type 0} (moment : D → ℕ) (old new : Grounded D) → IsGround moment old
-    → moment new.heap.cells.disk ≤ new.moment → old.heap.cells.failed ≡ false → new.heap.cells.failed ≡ false → Brings StandsInMemory old new P
-    → IsGround moment new
-ground_brought moment old new is seen was sound brings =
+    → moment new.heap.cells.disk ≤ new.moment → old.heap.cells.failed ≡ false → new.heap.cells.failed ≡ false
+    → (new.idle ≡ true → new.stopped ≡ false) → Brings StandsInMemory old new P → IsGround moment new
+ground_brought moment old new is seen was sound going brings =
     let some = is.stands was in
     let s = brings.each some.for some.holds in
-    record { seen = seen; sound = λ _. sound; stands = λ _. record { for = s.for; holds = s.holds } }
+    record { seen = seen; sound = λ _. sound; going = going; stands = λ _. record { for = s.for; holds = s.holds } }
 
 -- where the disk has failed, a stopped ground is one
 pub ground_failed : {D : Type 0} (moment : D → ℕ) (g : Grounded D) → moment g.heap.cells.disk ≤ g.moment → g.stopped ≡ true
-    → g.heap.cells.failed ≡ true → IsGround moment g
-ground_failed moment g seen stopped failed = record {
+    → g.idle ≡ false → g.heap.cells.failed ≡ true → IsGround moment g
+ground_failed moment g seen stopped made failed = record {
   seen = seen;
   sound = λ going. absurd (true≢false (sym stopped ∙ going));
+  going = λ idle. absurd (true≢false (sym idle ∙ made));
   stands = λ sound. absurd (true≢false (sym failed ∙ sound));
 }
 

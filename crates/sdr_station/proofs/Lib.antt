@@ -11,3 +11,4 @@ pub mod ServingLemmas
 pub mod StationLemmas
 pub mod StoodLemmas
 pub mod TellingLemmas
+pub mod LookLemmas

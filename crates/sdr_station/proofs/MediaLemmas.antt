@@ -13,7 +13,7 @@ use Rattle.sdr_model.specs.declared.answer.Reply.{Reply}
 use Rattle.sdr_model.specs.declared.answer.Reply.TheVariants as replies
 use Rattle.sdr_model.specs.declared.call.Call.{Call}
 use Rattle.sdr_model.specs.declared.call.Call.TheVariants as calls
-use Rattle.sdr_answers.specs.Answering.{built}
+use Rattle.sdr_served.specs.Serving.{built}
 
 -- it reads none
 reads_none : (call : Call) → built call ≡ true → reads_media call ≡ false

@@ -1,8 +1,6 @@
 -- A fresh heap that was opened.
-use Rattle.std.proofs.Common.{◌≡◌, ◌∙◌, ◌≤◌, ◌*◌, ℕ, List, [], false, Option, Some, refl, sym, ap, subst, length}
+use Rattle.std.proofs.Common.{◌≡◌, ◌∙◌, ◌≤◌, ◌*◌, ℕ, List, [], false, true, Option, Some, refl, sym, ap, subst, length}
 use Rattle.std.specs.Prelude.{replicate}
-use Rattle.std.specs.FinMap.{get-empty}
-use Rattle.std.specs.Ordering.{nat_cmp}
 use Rattle.sdr_audit.proofs.FreshLemmas.{fresh_stands_whole}
 use Rattle.sdr_audit.specs.Checking.{IsFresh}
 use Rattle.sdr_audit.specs.Standing.{StandsForWhole}
@@ -17,7 +15,6 @@ use Rattle.sdr_image.specs.Opened.{IsQuiet, Opened}
 use Rattle.sdr_image.specs.Opening.{IsOpened, UnlessFault}
 use Rattle.sdr_image.specs.declared.error.ImageError.{ImageError}
 use Rattle.sdr_image.specs.declared.error.ImageError.TheVariants as images
-use Rattle.sdr_laws.proofs.FreshWorlds.{fresh_fits}
 use Rattle.sdr_lock.specs.Ground.{Ground, State, resting}
 use Rattle.sdr_log.specs.Calls.{PutsBack}
 use Rattle.sdr_log.specs.Frame.{room_of}
@@ -25,19 +22,9 @@ use Rattle.sdr_log.specs.declared.frame.Frame.{Frame}
 use Rattle.sdr_model.specs.World.{fresh_world}
 use Rattle.sdr_station.proofs.ClosingLemmas.{within_of}
 use Rattle.sdr_station.proofs.StoodLemmas.{stood_of}
-use Rattle.sdr_answers.proofs.EntryLemmas.{none_named}
-use Rattle.sdr_answers.specs.Answering.{IsPlain}
 use Rattle.sdr_station.specs.Grounded.{Grounded, IsGround, StandsAtRest, StandsInMemory}
 use Rattle.sdr_station.specs.Opening.{ArePutBack, IsOfAudit, IsOfImage, IsOpen, LeavesBytes}
 use Rattle.sdr_station.specs.declared.error.OpenError.{OpenError}
-
--- a world without things has no ticket and no source
-fresh_plain : (heap : ℕ) → IsPlain (fresh_world heap)
-fresh_plain heap = record {
-  inbound = refl;
-  outbound = refl;
-  unnamed = λ raw. none_named (fresh_world heap) raw (fresh_fits heap) (get-empty nat_cmp raw);
-}
 
 -- the bytes of a fresh heap stand for it at rest
 fresh_rest : (room lines : ℕ) (bytes : List ℕ) → 32 ≤ lines → lines ≤ 262144 → bytes ≡ fresh_heap lines
@@ -46,7 +33,6 @@ fresh_rest room lines bytes least most is = record {
   pools = fresh_pools lines;
   base = refl;
   stands = subst (λ (b : List ℕ). StandsForWhole b (fresh_world (32 * lines)) (fresh_pools lines)) (sym is) (fresh_stands_whole lines least most);
-  plain = fresh_plain (32 * lines);
   demand = refl;
 }
 
@@ -57,6 +43,7 @@ pub open_stands : {D : Type 0} (told : D → Option (List ℕ)) (moment : D → 
       heap = record { cells = j; size = length j.bytes; marks = replicate count false; moves = []; spare = spare };
       shown = [];
       stopped = false;
+      idle = true;
       moment = moment j.disk;
       restored = i.restored;
     })
@@ -69,6 +56,7 @@ open_stands {D} told moment may_leave disk i j count spare o q bytes touched f =
       heap = record { cells = j; size = length j.bytes; marks = replicate count false; moves = []; spare = spare };
       shown = [];
       stopped = false;
+      idle = true;
       moment = moment j.disk;
       restored = i.restored;
     } in
@@ -81,6 +69,7 @@ open_stands {D} told moment may_leave disk i j count spare o q bytes touched f =
       gave = refl;
       stood = stood_of within;
       now = λ _. within;
+      idle = λ _. refl;
       moves = refl;
     } in
     record {
@@ -89,6 +78,7 @@ open_stands {D} told moment may_leave disk i j count spare o q bytes touched f =
       most = f.most;
       long = ap (λ (b : List ℕ). length b) (bytes ∙ f.is) ∙ length-fresh_heap f.lines f.least;
       going = refl;
+      idle = refl;
       sound = q.failed ∙ o.sound;
       head = λ x is. o.head x is ∙ ap (λ (f : Frame). Some f) (sym q.frame);
       gives = λ x is. o.heap x is ∙ ap (λ (b : List ℕ). Some b) f.is;
@@ -105,7 +95,7 @@ open_stands {D} told moment may_leave disk i j count spare o q bytes touched f =
 -- what was opened is a ground
 pub open_ground : {D : Type 0} (told : D → Option (List ℕ)) (moment : D → ℕ) (may_leave : D → ℕ → List ℕ → Type 0) (disk : D) (g : Grounded D)
     → moment g.heap.cells.disk ≤ g.moment → IsOpen told moment may_leave disk g → IsGround moment g
-open_ground told moment may_leave disk g seen o = record { seen = seen; sound = λ _. o.sound; stands = λ _. record { for = _; holds = o.memory } }
+open_ground told moment may_leave disk g seen o = record { seen = seen; sound = λ _. o.sound; going = λ _. o.going; stands = λ _. record { for = _; holds = o.memory } }
 
 -- where an image isn't opened, the disk's bytes are the same unless it failed
 pub image_leaves : (old new : Option (List ℕ)) (error : ImageError) (why : OpenError) → IsOfImage error why → UnlessFault error (new ≡ old)

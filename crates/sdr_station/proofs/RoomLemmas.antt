@@ -1,5 +1,5 @@
 -- How many moves a served call has.
-use Rattle.std.proofs.Common.{◌≡◌, ◌≤◌, ◌+◌, ◌*◌, ◌/◌, ◌++◌, ◌∷◌, ◌⊎◌, ℕ, List, [], Option, None, Some, false, true, true≢false, inl, inr, refl, sym, ap, ◌∙◌, length, length-append, position, subst, arith}
+use Rattle.std.proofs.Common.{◌≡◌, ◌==◌, ◌≤◌, ◌+◌, ◌*◌, ◌/◌, ◌++◌, ◌∷◌, ◌⊎◌, ℕ, List, [], Bool, cond, Option, None, Some, false, true, true≢false, inl, inr, refl, sym, ap, ◌∙◌, length, length-append, position, subst, arith}
 use Rattle.std.proofs.lemmas.List.{length-map}
 use Rattle.std.specs.Prelude.{slice_index}
 use Rattle.sdr_base.specs.declared.moves.Move.{Move}
@@ -12,18 +12,21 @@ use Rattle.sdr_model.specs.ListSteps.{as_list}
 use Rattle.sdr_model.specs.Reading.{is_reading}
 use Rattle.sdr_model.specs.HashSteps.{as_hash, has_key}
 use Rattle.sdr_model.specs.Hashes.{Hash}
-use Rattle.sdr_model.specs.RowMoves.{block_of, elements_in, entries_in, keyed_at, keyed_in, row_moves}
+use Rattle.sdr_model.specs.AccountSteps.{pending_of}
+use Rattle.sdr_model.specs.RowMoves.{block_of, block_of_ticket, elements_in, entries_in, keyed_at, keyed_in, row_moves}
 use Rattle.sdr_model.specs.Names.{name_of}
 use Rattle.sdr_model.specs.Rows.{ByRow}
 use Rattle.sdr_model.specs.Step.{StopsWith}
 use Rattle.sdr_model.specs.Steps.{Outcome, gave, taken_addresses}
 use Rattle.sdr_model.specs.World.{World, thing_at}
+use Rattle.sdr_model.specs.Zco.{uses_of}
+use Rattle.sdr_model.specs.declared.accounts.Pending.{Pending}
 use Rattle.sdr_model.specs.declared.answer.Reply.{Reply}
 use Rattle.sdr_model.specs.declared.answer.Reply.TheVariants as replies
 use Rattle.sdr_model.specs.declared.call.Call.{Call}
 use Rattle.sdr_model.specs.declared.call.Call.TheVariants as calls
 use Rattle.sdr_model.specs.declared.name.Name.{Name}
-use Rattle.sdr_answers.specs.Answering.{built}
+use Rattle.sdr_served.specs.Serving.{built}
 use Rattle.sdr_station.proofs.StoodLemmas.{elements_few, entries_few}
 use Rattle.sdr_station.specs.Grounded.{HasStood}
 use Rattle.sdr_station.specs.Rooming.{MovesAtMost}
@@ -122,6 +125,16 @@ one_keyed (Some hash) key = by (position (has_key key) hash.entries)
     by None = omega arith
     by (Some place) = omega arith
 
+-- and so has a source that goes at once
+one_source : (source : ℕ) (unused : Bool) → length (gave (cond unused (source ∷ []) [])) ≤ 1
+one_source source true = omega arith
+one_source source false = omega arith
+
+-- and so has a ticket that goes
+one_ticket : (found : Option Pending) → length (gave (block_of_ticket found)) ≤ 1
+one_ticket None = omega arith
+one_ticket (Some pending) = omega arith
+
 -- any other that is served has one at most
 pub moves_one : (size : ℕ) (call : Call) → built call ≡ true → ((list : ℕ) → call ≡ calls.ListDestroy list → ⊥)
     → ((hash : ℕ) → call ≡ calls.HashDestroy hash → ⊥) → MovesAtMost size call 1
@@ -176,4 +189,15 @@ moves_one size call is list hash = moves_at_most size call 1 (λ w stood changes
     by w at (calls.Uncatlg name) is other = one_name (name_of w.names name)
     by w at (calls.Find name) is other = omega arith
     by w at (calls.Entry place) is other = omega arith
+    by w at (calls.FileRef path bytes) is other = omega arith
+    by w at (calls.BulkRef item bytes) is other = omega arith
+    by w at (calls.ObjRef raw) is other = omega arith
+    by w at (calls.DestroyRef source) is other = one_source source (uses_of w source == 0)
+    by w at (calls.Count source) is other = omega arith
+    by w at (calls.Occupancy acct space) is other = omega arith
+    by w at (calls.Maximum acct space) is other = omega arith
+    by w at (calls.SetMaximum acct space value) is other = omega arith
+    by w at (calls.Request acct file bulk heap coarse fine) is other = omega arith
+    by w at (calls.Awarded ticket) is other = omega arith
+    by w at (calls.Shred ticket) is other = one_ticket (pending_of w ticket)
     by w at call is other = absurd (true≢false (sym is))

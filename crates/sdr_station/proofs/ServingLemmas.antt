@@ -1,5 +1,5 @@
 -- A call that a heap on an image has answered, as a step of the machine.
-use Rattle.std.proofs.Common.{◌≡◌, ◌∙◌, ◌≤◌, ◌+◌, ◌⊎◌, ℕ, List, [], Bool, true, false, true≢false, not, Option, None, Some, Result, Ok, Err, inl, inr, refl, sym, ap, subst, length, arith}
+use Rattle.std.proofs.Common.{◌≡◌, ◌∙◌, ◌≤◌, ◌+◌, ◌⊎◌, ℕ, List, [], Bool, true, false, true≢false, not, Option, None, Result, Ok, Err, inl, inr, refl, sym, ap, subst, length, arith}
 use Rattle.sdr_audit.specs.Standing.{HeapStandsFor}
 use Rattle.sdr_base.proofs.MovesLemmas.{Moves-none}
 use Rattle.sdr_base.specs.KeptHeap.{KeepsRegion}
@@ -16,7 +16,6 @@ use Rattle.sdr_image.specs.Opened.{IsQuiet, Opened, transaction_of}
 use Rattle.sdr_model.specs.declared.answer.Reply.{Reply}
 use Rattle.sdr_model.specs.declared.call.Call.{Call}
 use Rattle.sdr_laws.proofs.FieldLaws.{fields_fit}
-use Rattle.sdr_laws.proofs.FreshLemmas.{none_there}
 use Rattle.sdr_laws.proofs.WholeLaws.{whole_kept}
 use Rattle.sdr_lock.specs.Crash.{LeavesBefore}
 use Rattle.sdr_lock.specs.Demand.{Demand, MayFillLog, demand_after}
@@ -26,28 +25,25 @@ use Rattle.sdr_lock.specs.Serving.{Brings, Calls}
 use Rattle.sdr_lock.specs.Standing.{Standing}
 use Rattle.sdr_log.specs.Frame.{room_of}
 use Rattle.sdr_log.specs.declared.frame.Frame.{Frame}
-use Rattle.sdr_audit.specs.Ties.{Ties, or_null, ties_of}
 use Rattle.sdr_base.specs.declared.refusal.Refusal.{Refusal}
 use Rattle.sdr_base.specs.declared.refusal.Refusal.TheVariants as refusals
 use Rattle.sdr_base.specs.declared.stop.Stop.TheVariants as stops
-use Rattle.sdr_model.specs.declared.accounts.Accounts.{Accounts}
 use Rattle.sdr_model.specs.Fields.{FitsCall}
 use Rattle.sdr_model.specs.Reading.{is_reading}
 use Rattle.sdr_model.specs.Step.{StepTo, is_answer}
 use Rattle.sdr_model.specs.Steps.{Outcome}
-use Rattle.sdr_model.specs.Valid.{IsValid}
-use Rattle.sdr_model.specs.World.{World, thing_at}
-use Rattle.sdr_model.specs.Zco.{source_on}
+use Rattle.sdr_model.specs.World.{World}
 use Rattle.sdr_model.specs.declared.answer.Answer.TheVariants as answers
 use Rattle.sdr_model.specs.declared.answer.Reply.TheVariants as replies
 use Rattle.sdr_served.proofs.DemandLemmas.{asks_more, enough, reading_lines}
-use Rattle.sdr_answers.proofs.EntryLemmas.{source_there}
 use Rattle.sdr_served.proofs.GoodLemmas.{good_of}
+use Rattle.sdr_served.proofs.NextLemmas.{next_kept}
 use Rattle.sdr_station.proofs.StoodLemmas.{small_in, stood_of}
 use Rattle.sdr_station.proofs.GroundLemmas.{heap_ground}
 use Rattle.sdr_station.proofs.MediaLemmas.{gap_none, misses_none}
 use Rattle.sdr_station.specs.CrashNow.{crash_now}
-use Rattle.sdr_answers.specs.Answering.{Aim, Answered, Comes, IsGood, IsServed, built, dooms, call_lines}
+use Rattle.sdr_answers.specs.Answering.{Aim, Answered, Comes, IsServed, dooms}
+use Rattle.sdr_served.specs.Serving.{IsGood, built, call_lines}
 use Rattle.sdr_station.specs.Closing.{moves_left}
 use Rattle.sdr_station.specs.Grounded.{Grounded, HasStood, Leaves, StandsAtRest, StandsForBoth, StandsInMemory, StandsSome, StandsWithin, heap_in}
 
@@ -63,7 +59,7 @@ image_heap faults = record {
 
 -- calls are served in the world that an open transaction has made
 pub served_in : {D : Type 0} {h : Held (Opened D)} {shown : List ℕ} {s : State} → StandsWithin h shown s → IsServed s.world
-served_in w = record { whole = w.whole; fits = w.fits; plain = w.plain }
+served_in w = record { whole = w.whole; fits = w.fits }
 
 -- what is of a kind is kept before a call
 pub good_in : {D : Type 0} (h : Held (Opened D)) (spare : ℕ) {shown : List ℕ} {s : State} → StandsWithin h shown s
@@ -79,21 +75,6 @@ not_full : (room : ℕ) (d : Demand) (w : World) (call : Call) (reply : Reply) �
 not_full room d w call (replies.Refused refusal) is = absurd (true≢false (sym is))
 not_full room d w call reply is = tt
 
--- where things are tied as before, no source names a raw object
-still_unnamed : (w w' : World) (raw : ℕ) → ties_of w' ≡ ties_of w → IsValid w' → source_on w raw ≡ None → source_on w' raw ≡ None
-still_unnamed w w' raw ties valid none = by (source_on w' raw) refl
-  where
-    null : or_null (source_on w' raw) ≡ 0
-    null = ap (λ (t : Ties). t.named_by raw) ties ∙ ap or_null none
-
-    by : (o : Option ℕ) → source_on w' raw ≡ o → source_on w' raw ≡ None
-    by None is = is
-    by (Some addr) is =
-        let n = source_there w' raw addr is in
-        let zero : addr ≡ 0 = sym (ap or_null is) ∙ null in
-        let gone : thing_at w' addr ≡ None = ap (thing_at w') zero ∙ none_there w' 0 valid.nonzero in
-        absurd (let no : None ≡ Some _ = sym gone ∙ n.there in cc)
-
 -- A call on a heap that stood for a standing, and has not stopped.
 module _ {D : Type 0} (faults : D → ℕ) (old : Grounded D) (going : old.stopped ≡ false) (call : Call) (is : built call ≡ true) (fit : FitsCall call) (spare : ℕ)
     (heap : Held (Opened D)) (page : List ℕ) where
@@ -105,6 +86,12 @@ module _ {D : Type 0} (faults : D → ℕ) (old : Grounded D) (going : old.stopp
   fresh_stands : (v : Standing) → StandsInMemory old v → HeapStandsFor (heap_in fresh_heap) v.now.world
   fresh_stands v at = let s = (at.now going).heap in record { blocks = s.blocks; roots = s.roots; marks = s.marks }
 
+  -- what the call works, in each world that the heap before it stood for
+  abbrev pub WorksIn : Result Reply Stop → Type 0
+  WorksIn result =
+      (w : World) → HeapStandsFor (heap_in fresh_heap) w → IsServed w
+      → Works {T = Reply} (image_heap faults) (call_lines (heap_in fresh_heap) w call) fresh_heap heap result
+
   -- what was quiet since then was quiet
   quiet_of : {T : Type 0} {lines : ℕ} {result : Result T Stop} → Works (image_heap faults) lines fresh_heap heap result
       → IsQuiet fresh_heap.cells heap.cells × (heap.size ≡ fresh_heap.size)
@@ -113,8 +100,9 @@ module _ {D : Type 0} (faults : D → ℕ) (old : Grounded D) (going : old.stopp
   -- what stands still of a standing
   stands_on : (new : Grounded D) (v : Standing) → StandsInMemory old v → IsQuiet old.heap.cells new.heap.cells → new.heap.size ≡ old.heap.size → (now : State) → now.world.taken ≡ 0
       → now.world.shown ≡ new.shown → HasStood old.heap.size now.world → (new.stopped ≡ false → StandsWithin new.heap new.shown now)
+      → new.idle ≡ false
       → StandsInMemory new (record { before = v.before; now = now; moves = new.heap.moves })
-  stands_on new v at q size now taken gave stood within = record {
+  stands_on new v at q size now taken gave stood within made = record {
     sound = q.failed ∙ at.sound;
     size = ap (λ (bytes : List ℕ). length bytes) q.begun ∙ at.size ∙ sym size;
     before =
@@ -124,6 +112,7 @@ module _ {D : Type 0} (faults : D → ℕ) (old : Grounded D) (going : old.stopp
     gave = gave;
     stood = subst (λ (n : ℕ). HasStood n now.world) (sym size) stood;
     now = within;
+    idle = λ idle. absurd (true≢false (sym idle ∙ made));
     moves = refl;
   }
 
@@ -161,7 +150,7 @@ module _ {D : Type 0} (faults : D → ℕ) (old : Grounded D) (going : old.stopp
         })
 
     -- the world after an answered call, on this heap
-    within_answered : (reply : Reply) → heap.cells.frame ≡ old.heap.cells.frame → length heap.cells.touched ≤ length old.heap.cells.touched + call_lines (heap_in fresh_heap) call
+    within_answered : (reply : Reply) → heap.cells.frame ≡ old.heap.cells.frame → length heap.cells.touched ≤ length old.heap.cells.touched + call_lines (heap_in fresh_heap) v.now.world call
         → (ans : Answered v.now.world call (heap_in heap) page reply) → StandsWithin heap page (next ans.after reply)
     within_answered reply frame lines ans =
         let w = at.now going in
@@ -170,6 +159,7 @@ module _ {D : Type 0} (faults : D → ℕ) (old : Grounded D) (going : old.stopp
         let more =
         enough v.now.demand (heap_in fresh_heap) v.now.world call o is (fresh_stands v at) (served_in w)
         (small_in fresh_heap w.keeps) ans.row ans.answered in
+        let later = next_kept v.now.world o call is ans.row in
         record {
           pools = lead.after;
           base = refl;
@@ -177,12 +167,7 @@ module _ {D : Type 0} (faults : D → ℕ) (old : Grounded D) (going : old.stopp
           heap = ans.stands;
           whole = whole;
           fits = fields_fit v.now.world ans.after call heap.moves reply w.whole.valid w.whole.fits w.fits fit ans.words (inl ans.row);
-          next = subst (λ (a : Accounts). 1 ≤ a.next) (sym ans.accounts) w.next;
-          plain = record {
-            inbound = ap (λ (a : Accounts). a.inbound.tickets) ans.accounts ∙ w.plain.inbound;
-            outbound = ap (λ (a : Accounts). a.outbound.tickets) ans.accounts ∙ w.plain.outbound;
-            unnamed = λ raw. still_unnamed v.now.world ans.after raw ans.ties whole.valid (w.plain.unnamed raw);
-          };
+          next = omega (arith, w.next, later);
           gave = ans.gave;
           lines = omega (arith, lines, w.lines, more);
         }
@@ -204,7 +189,6 @@ module _ {D : Type 0} (faults : D → ℕ) (old : Grounded D) (going : old.stopp
           whole = w.whole;
           fits = w.fits;
           next = w.next;
-          plain = w.plain;
           gave = w.gave ∙ sym gave;
           lines = omega (arith, lines, w.lines, more);
         } in
@@ -213,20 +197,21 @@ module _ {D : Type 0} (faults : D → ℕ) (old : Grounded D) (going : old.stopp
 
   -- an answered call brings what its row does
   pub brings_answered : (reply : Reply) → Comes call (heap_in fresh_heap) (heap_in heap) old.shown page (Ok reply)
-      → Works {T = Reply} (image_heap faults) (call_lines (heap_in fresh_heap) call) fresh_heap heap (Ok reply)
-      → Brings StandsInMemory old (record { heap = heap; shown = page; stopped = old.stopped; moment = old.moment; restored = old.restored }) (Calls None call reply)
-  brings_answered reply comes works = record {
+      → WorksIn (Ok reply)
+      → Brings StandsInMemory old (record { heap = heap; shown = page; stopped = old.stopped; idle = false; moment = old.moment; restored = old.restored }) (Calls None call reply)
+  brings_answered reply comes each = record {
     each = λ v at.
         let w = at.now going in
+        let works = each v.now.world (fresh_stands v at) (served_in w) in
         let ans = comes.each v.now.world (fresh_stands v at) (served_in w) in
         let moves = works.moved fresh_heap (Moves-none (KeepsRegion fresh_heap.size fresh_heap.cells.bytes) (KeepsRegion fresh_heap.size fresh_heap.cells.bytes) [] (λ P k. k)) in
         let q = quiet_of works in
         let after = next v at moves ans.after reply in
         record {
           for = record { before = v.before; now = after; moves = heap.moves };
-          holds = stands_on (record { heap = heap; shown = page; stopped = old.stopped; moment = old.moment; restored = old.restored }) v at q.0 q.1 after (ans.taken ∙ at.taken) ans.gave
+          holds = stands_on (record { heap = heap; shown = page; stopped = old.stopped; idle = false; moment = old.moment; restored = old.restored }) v at q.0 q.1 after (ans.taken ∙ at.taken) ans.gave
               (subst (λ (n : ℕ). HasStood n ans.after) q.1 (stood_of (within_answered v at moves reply q.0.frame works.room.most ans)))
-              (λ _. within_answered v at moves reply q.0.frame works.room.most ans);
+              (λ _. within_answered v at moves reply q.0.frame works.room.most ans) refl;
           tells = record {
             steps = steps_to v at moves ans.after reply q.0.frame (inl ans.row)
                 (not_full (room_of old.heap.cells.frame) v.now.demand v.now.world call reply ans.answered);
@@ -242,6 +227,7 @@ module _ {D : Type 0} (faults : D → ℕ) (old : Grounded D) (going : old.stopp
     heap = record heap { moves = moves_left refusal heap.moves; spare = n };
     shown = page;
     stopped = not (is_reading call);
+    idle = false;
     moment = old.moment;
     restored = old.restored;
   }
@@ -252,15 +238,18 @@ module _ {D : Type 0} (faults : D → ℕ) (old : Grounded D) (going : old.stopp
 
   -- a refused call for which there was log room
   brings_stopped : (refusal : Refusal) (n : ℕ) → moves_left refusal heap.moves ≡ heap.moves
+      → ((w : World) → WorksIn (Err (stops.Refused refusal)) → HeapStandsFor (heap_in fresh_heap) w → IsServed w
+      → Moves (KeepsRegion fresh_heap.size fresh_heap.cells.bytes) (KeepsRegion heap.size heap.cells.bytes) [] heap.moves)
       → ((room : ℕ) (d : Demand) (w : World) → MayFillLog room d w call (replies.Refused refusal))
       → ((w : World) → HeapStandsFor (heap_in fresh_heap) w → IsServed w
       → StepTo w (record { moves = heap.moves; after = w; reply = replies.Refused refusal }) call × (is_reading call ≡ true → heap_in heap ≡ heap_in fresh_heap) × (page ≡ old.shown))
-      → Moves (KeepsRegion fresh_heap.size fresh_heap.cells.bytes) (KeepsRegion heap.size heap.cells.bytes) [] heap.moves
-      → Works {T = Reply} (image_heap faults) (call_lines (heap_in fresh_heap) call) fresh_heap heap (Err (stops.Refused refusal))
+      → WorksIn (Err (stops.Refused refusal))
       → Brings StandsInMemory old (refused_ground refusal n) (Calls None call (replies.Refused refusal))
-  brings_stopped refusal n same full steps moves works = record {
+  brings_stopped refusal n same moved full steps each = record {
     each = λ v at.
         let w = at.now going in
+        let works = each v.now.world (fresh_stands v at) (served_in w) in
+        let moves = moved v.now.world each (fresh_stands v at) (served_in w) in
         let s = steps v.now.world (fresh_stands v at) (served_in w) in
         let q = quiet_of works in
         let after = next v at moves v.now.world (replies.Refused refusal) in
@@ -269,8 +258,9 @@ module _ {D : Type 0} (faults : D → ℕ) (old : Grounded D) (going : old.stopp
           holds = stands_on (refused_ground refusal n) v at q.0 q.1 after at.taken (at.gave ∙ sym s.2) at.stood
               (λ going_on.
               let reads = reads_only (is_reading call) going_on in
-              let none = reading_lines (heap_in fresh_heap) call is reads in
-              within_refused v at moves (refused_ground refusal n).heap refusal refl refl refl (s.1 reads) s.2 (omega (arith, works.room.most, none)));
+              let none = reading_lines (heap_in fresh_heap) v.now.world call is reads in
+              within_refused v at moves (refused_ground refusal n).heap refusal refl refl refl (s.1 reads) s.2 (omega (arith, works.room.most, none)))
+              refl;
           tells = record {
             steps = subst (λ (ms : List Move). Steps v.now call (record { reply = replies.Refused refusal; moves = ms; after = after })) (sym same)
                 (steps_to v at moves v.now.world (replies.Refused refusal) q.0.frame s.0 (full (room_of old.heap.cells.frame) v.now.demand v.now.world));
@@ -291,12 +281,13 @@ module _ {D : Type 0} (faults : D → ℕ) (old : Grounded D) (going : old.stopp
   -- a refused call for which there was none
   brings_full : (lines room n : ℕ)
       → ((w : World) → HeapStandsFor (heap_in fresh_heap) w → IsServed w → Aim w call × (is_reading call ≡ false) × (page ≡ old.shown))
-      → Works {T = Reply} (image_heap faults) (call_lines (heap_in fresh_heap) call) fresh_heap heap (Err (stops.Refused (refusals.LogFull lines room)))
+      → WorksIn (Err (stops.Refused (refusals.LogFull lines room)))
       → Brings StandsInMemory old (refused_ground (refusals.LogFull lines room) n)
       (Calls None call (replies.Refused (refusals.LogFull lines room)))
-  brings_full lines room n aims works = record {
+  brings_full lines room n aims each = record {
     each = λ v at.
         let w = at.now going in
+        let works = each v.now.world (fresh_stands v at) (served_in w) in
         let reply = replies.Refused (refusals.LogFull lines room) in
         let aim = aims v.now.world (fresh_stands v at) (served_in w) in
         let q = quiet_of works in
@@ -308,7 +299,7 @@ module _ {D : Type 0} (faults : D → ℕ) (old : Grounded D) (going : old.stopp
         record {
           for = record { before = v.before; now = after; moves = [] };
           holds = stands_on (refused_ground (refusals.LogFull lines room) n) v at q.0 q.1 after at.taken (at.gave ∙ sym aim.2) at.stood
-              (λ going_on. absurd (true≢false (ap not (sym aim.1) ∙ going_on)));
+              (λ going_on. absurd (true≢false (ap not (sym aim.1) ∙ going_on))) refl;
           tells = record {
             steps = subst (λ (b : Ground). StepsOn b v.now call (record { reply = reply; moves = []; after = after })) (sym w.base) (record {
               step = inr (record {
@@ -340,15 +331,17 @@ module _ {D : Type 0} (faults : D → ℕ) (old : Grounded D) (going : old.stopp
 
   -- a refused call brings what its step does
   pub brings_refused : (refusal : Refusal) (n : ℕ) → Comes call (heap_in fresh_heap) (heap_in heap) old.shown page (Err (stops.Refused refusal))
-      → Works {T = Reply} (image_heap faults) (call_lines (heap_in fresh_heap) call) fresh_heap heap (Err (stops.Refused refusal))
+      → WorksIn (Err (stops.Refused refusal))
       → Brings StandsInMemory old (refused_ground refusal n) (Calls None call (replies.Refused refusal))
   brings_refused (refusals.LogFull lines room) n comes works =
       brings_full lines room n (λ w stands served. let r = comes.each w stands served in (r.step.0, r.step.1, r.gave)) works
   brings_refused refusal n comes works =
-      brings_stopped refusal n refl (λ room d w. tt)
-      (λ w stands served. let r = comes.each w stands served in (r.step, r.left, r.gave))
-      (works.moved fresh_heap (Moves-none (KeepsRegion fresh_heap.size fresh_heap.cells.bytes) (KeepsRegion fresh_heap.size fresh_heap.cells.bytes) [] (λ P k. k)))
-      works
+      brings_stopped refusal n refl
+      (λ w each stands served.
+      (each w stands served).moved fresh_heap
+      (Moves-none (KeepsRegion fresh_heap.size fresh_heap.cells.bytes) (KeepsRegion fresh_heap.size fresh_heap.cells.bytes) [] (λ P k. k)))
+      (λ room d w. tt)
+      (λ w stands served. let r = comes.each w stands served in (r.step, r.left, r.gave)) works
 
 -- what a call brings in memory it brings on its disk, where the disk is quiet and the moment the same
 pub brings_quiet : {D : Type 0} (told : D → Option (List ℕ)) (moment : D → ℕ) (may_leave : D → ℕ → List ℕ → Type 0)

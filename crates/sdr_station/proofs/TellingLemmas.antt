@@ -1,6 +1,6 @@
 -- Room for whatever a served call may come to.
 use Rattle.std.proofs.Common.{◌≡◌, ◌≤◌, ◌⊎◌, ℕ, List, true, ap, inl, inr, length, min, refl, subst, arith}
-use Rattle.sdr_answers.specs.Answering.{built}
+use Rattle.sdr_served.specs.Serving.{built}
 use Rattle.sdr_base.specs.declared.moves.Move.{Move}
 use Rattle.sdr_lock.specs.Ground.{Ground, State, StepsOn}
 use Rattle.sdr_lock.specs.Room.{HoldsAny}

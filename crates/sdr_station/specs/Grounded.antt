@@ -1,5 +1,5 @@
 -- A heap on an image as the ground of a lock: what it stands for.
-use Rattle.std.specs.Prelude.{◌≡◌, ◌≤◌, ◌*◌, ℕ, Bool, false, List, length, Option, Some}
+use Rattle.std.specs.Prelude.{◌≡◌, ◌≤◌, ◌*◌, ℕ, Bool, true, false, List, length, Option, Some}
 use Rattle.sdr_audit.specs.Standing.{HeapStandsFor, StandsForWhole}
 use Rattle.sdr_base.specs.Entries.{Few}
 use Rattle.sdr_base.specs.KeptHeap.{KeepsRegion, block_in, root_in}
@@ -17,14 +17,14 @@ use Rattle.sdr_log.specs.Log.{put_back_of}
 use Rattle.sdr_model.specs.Fields.{FitsFields}
 use Rattle.sdr_model.specs.Whole.{IsWhole}
 use Rattle.sdr_model.specs.World.{World}
-use Rattle.sdr_answers.specs.Answering.{IsPlain}
 
--- the heap; the bytes that the last answered call gave; whether the transaction can only be put back; the disk's moment; and how
--- many lines opening has put back
+-- the heap; the bytes that the last answered call gave; whether the transaction can only be put back, and whether no call was
+-- made in it; the disk's moment; and how many lines opening has put back
 pub record Grounded (D : Type 0) : Type 0 where
   pub heap : Held (Opened D)
   pub shown : List ℕ
   pub stopped : Bool
+  pub idle : Bool
   pub moment : ℕ
   pub restored : ℕ
 
@@ -44,7 +44,6 @@ pub record StandsAtRest (room : ℕ) (bytes : List ℕ) (s : State) : Type 0 whe
   pub pools : Pools
   pub base : s.base ≡ Ground.OnHeap room pools
   pub stands : StandsForWhole bytes s.world pools
-  pub plain : IsPlain s.world
   pub demand : s.demand ≡ no_demand
 
 -- The heap stands for the state that the open transaction has made, whose world is whole and fits its fields. These bytes are
@@ -57,7 +56,6 @@ pub record StandsWithin {D : Type 0} (h : Held (Opened D)) (shown : List ℕ) (s
   pub whole : IsWhole s.world
   pub fits : FitsFields s.world
   pub next : 1 ≤ s.world.accounts.next
-  pub plain : IsPlain s.world
   pub gave : s.world.shown ≡ shown
   pub lines : length h.cells.touched ≤ most_lines s.demand
 
@@ -72,7 +70,8 @@ pub record HasStood (size : ℕ) (w : World) : Type 0 where
 
 -- The heap in memory, whose disk hasn't failed, stands for the states before the transaction and now: the bytes at begin stand
 -- for the one, and for the other the heap does, unless a call was stopped on its way. The moves are the heap's, and the bytes
--- that are shown are those that stand here. A heap of this size has stood for the world now.
+-- that are shown are those that stand here. A heap of this size has stood for the world now. Where no call was made in the
+-- transaction, both states are the same.
 pub record StandsInMemory {D : Type 0} (g : Grounded D) (v : Standing) : Type 0 where
   pub sound : g.heap.cells.failed ≡ false
   pub size : length g.heap.cells.begun ≡ g.heap.size
@@ -81,6 +80,7 @@ pub record StandsInMemory {D : Type 0} (g : Grounded D) (v : Standing) : Type 0 
   pub gave : v.now.world.shown ≡ g.shown
   pub stood : HasStood g.heap.size v.now.world
   pub now : g.stopped ≡ false → StandsWithin g.heap g.shown v.now
+  pub idle : g.idle ≡ true → v.now ≡ v.before
   pub moves : v.moves ≡ g.heap.moves
 
 -- A heap on an image stands for the states before the transaction and now: it does so in memory, and the disk rests.
@@ -95,11 +95,25 @@ pub record StandsSome {D : Type 0} (g : Grounded D) : Type 0 where
   pub for : Standing
   pub holds : StandsInMemory g for
 
+-- the heap is kept, and stands for the world, which is whole and fits its fields
+pub record HoldsWorld {D : Type 0} (h : Held (Opened D)) (w : World) : Type 0 where
+  pub pools : Pools
+  pub keeps : KeepsRegion h.size h.cells.bytes pools
+  pub heap : HeapStandsFor (heap_in h) w
+  pub whole : IsWhole w
+  pub fits : FitsFields w
+
+-- the heap in memory stands for something, and holds the world before the transaction of whatever it stands for
+pub record IsBefore {D : Type 0} (g : Grounded D) : Type 0 where
+  pub some : StandsSome g
+  pub holds : (v : Standing) → StandsInMemory g v → HoldsWorld g.heap v.before.world
+
 -- What a ground keeps: its moment is no earlier than its disk's; unless the disk has failed, the heap in memory stands for
--- something; and where the disk has failed, the transaction can only be put back.
+-- something; where the disk has failed, the transaction can only be put back; and one in which no call was made goes on.
 pub record IsGround {D : Type 0} (moment : D → ℕ) (g : Grounded D) : Type 0 where
   pub seen : moment g.heap.cells.disk ≤ g.moment
   pub sound : g.stopped ≡ false → g.heap.cells.failed ≡ false
+  pub going : g.idle ≡ true → g.stopped ≡ false
   pub stands : g.heap.cells.failed ≡ false → StandsSome g
 
 -- what a crash at a moment may leave of a disk that tells its bytes

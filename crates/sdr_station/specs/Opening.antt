@@ -1,5 +1,5 @@
 -- When a heap is opened.
-use Rattle.std.specs.Prelude.{◌≡◌, ◌≤◌, ◌*◌, ◌/◌, ℕ, List, [], false, length, ⊤, Option, None, Some, Result, Ok, Err}
+use Rattle.std.specs.Prelude.{◌≡◌, ◌≤◌, ◌*◌, ◌/◌, ℕ, List, [], false, true, length, ⊤, Option, None, Some, Result, Ok, Err}
 use Rattle.sdr_audit.specs.Checking.{DiffersFirst}
 use Rattle.sdr_audit.specs.declared.checking.AuditError.{AuditError}
 use Rattle.sdr_audit.specs.declared.checking.AuditError.TheVariants as audits
@@ -38,6 +38,7 @@ pub record IsOpen {D : Type 0} (told : D → Option (List ℕ)) (moment : D → 
   pub most : lines ≤ MOST_LINES
   pub long : g.heap.size ≡ 64 * lines
   pub going : g.stopped ≡ false
+  pub idle : g.idle ≡ true
   pub sound : g.heap.cells.failed ≡ false
   pub head : IfTold (told disk) (λ x. frame_of (part 0 LINE x) ≡ Some g.heap.cells.frame)
   pub gives : IfTold (told disk) (λ x. put_back_of x ≡ Some (fresh_heap lines))

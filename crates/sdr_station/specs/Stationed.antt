@@ -5,7 +5,8 @@ use Rattle.sdr_base.specs.declared.stop.Stop.{Stop}
 use Rattle.sdr_base.specs.declared.stop.Stop.TheVariants as stops
 use Rattle.sdr_lock.specs.Crash.{LeavesOr, is_kept}
 use Rattle.sdr_lock.specs.Nesting.{Inner, closing, deepened, nested, noted, unbegun}
-use Rattle.sdr_lock.specs.Serving.{Brings, Calls, KeepsGround, MeetsFault, Settles, shown_in}
+use Rattle.sdr_image.specs.Opened.{IsQuiet}
+use Rattle.sdr_lock.specs.Serving.{Brings, Calls, KeepsGround, MeetsFault, Settles, StandsStill, shown_in}
 use Rattle.sdr_lock.specs.Standing.{Standing}
 use Rattle.sdr_lock.specs.declared.has_ground.HasGround.{Ghosts}
 use Rattle.sdr_lock.specs.declared.nesting.Nesting.{Nesting}
@@ -29,10 +30,11 @@ pub record Stationed (D : Type 0) : Type 0 where
   pub failed : Option ℕ
 
 -- Unless the disk has failed: where the transaction isn't doomed, no call was stopped in it; and where none has begun, none is
--- doomed.
+-- doomed, and no call was made.
 pub record IsStation {D : Type 0} (ground : Grounded D) (nesting : Nesting) (failed : Option ℕ) : Type 0 where
   pub going : failed ≡ None → nesting.doom ≡ None → ground.stopped ≡ false
   pub idle : failed ≡ None → nesting.depth ≡ 0 → nesting.doom ≡ None
+  pub outside : failed ≡ None → nesting.depth ≡ 0 → ground.idle ≡ true
   pub sound : failed ≡ None → ground.heap.cells.failed ≡ false
 
 -- the disk of a station that was opened, or of what is left where none was
@@ -135,10 +137,20 @@ ClosesBy g event inner old new result =
     (Rises (inner old.nesting) old new result))
     (λ moment. (result ≡ Err stops.Failed) × (new ≡ old))
 
--- what a look does: there is no ticket before the transaction, or it fails after a disk fault
-abbrev pub LooksAt : {D : Type 0} → Ghosts (Grounded D) → ℕ → Stationed D → Result Bool Stop → Type 0
-LooksAt g ticket s result =
+-- what is told of a ticket: whether it is granted, or that there is none
+abbrev pub IsTicketTold : ℕ → Option Bool → Result Bool Stop → Type 0
+IsTicketTold ticket None result = result ≡ Err (stops.Refused (refusals.BadTicket ticket))
+IsTicketTold ticket (Some granted) result = result ≡ Ok granted
+
+-- what a look tells: what the world before the transaction shows of the ticket, or it fails after a disk fault
+abbrev pub LooksAt : {D : Type 0} → ℕ → Stationed D → Result Bool Stop → Type 0
+LooksAt ticket s result =
     MatchOption s.failed
-    ((result ≡ Err (stops.Refused (refusals.BadTicket ticket)))
-    × ((v : Standing) → g.stands s.ground v → shown_in v.before.world ticket ≡ None))
+    ((v : Standing) → StandsInMemory s.ground v → IsTicketTold ticket (shown_in v.before.world ticket) result)
     (λ moment. result ≡ Err stops.Failed)
+
+-- all stays in a look but for the heap in memory, which stands for what it did, and whose disk is quiet
+pub record StaysLooked {D : Type 0} (old new : Stationed D) : Type 0 where
+  pub after : new ≡ record old { ground = record old.ground { heap = new.ground.heap } }
+  pub quiet : IsQuiet old.ground.heap.cells new.ground.heap.cells
+  pub still : Brings StandsInMemory old.ground new.ground StandsStill

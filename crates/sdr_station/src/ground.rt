@@ -1,23 +1,25 @@
 // A heap on an image as the ground of a lock.
 ghost use Rattle.std.specs.Prelude.{◌≡◌, ◌≤◌, ◌⊎◌, ◌↔◌, None, false, true, length};
-ghost use Rattle.std.specs.Prelude.{IfErr, IfOk, IsErrOf, OnErr, OnOk};
+ghost use Rattle.std.specs.Prelude.{IfErr, IfOk, IsErrOf, IsOk, OnErr, OnOk};
 ghost use Rattle.sdr_disk.specs.Moments.{AtEach};
 ghost use Rattle.sdr_disk.specs.Told.{IfTold};
 ghost use Rattle.sdr_image.specs.Opening.{MayBeOpened};
 ghost use Rattle.sdr_lock.specs.Crash.{LeavesBefore, LeavesEither};
 ghost use Rattle.sdr_lock.specs.Gaps.{HasGapCause, no_gaps};
-ghost use Rattle.sdr_lock.specs.Serving.{Brings, Calls, Keeps, KeepsGround, MeetsFault, PutsBack};
+ghost use Rattle.sdr_lock.specs.Serving.{Brings, Calls, Keeps, KeepsGround, MeetsFault, PutsBack, Shows, StandsStill};
+ghost use Rattle.sdr_image.specs.Opened.{IsQuiet};
 ghost use Rattle.sdr_lock.specs.Standing.{Standing};
 ghost use Rattle.sdr_log.specs.Calls.{KeepsDisk};
 ghost use Rattle.sdr_log.specs.Logged.{GivesSame};
-ghost use Rattle.sdr_answers.specs.Answering.{built, dooms};
-ghost use Rattle.sdr_station.specs.Grounded.{StandsForBoth, StandsInMemory};
+ghost use Rattle.sdr_answers.specs.Answering.{dooms};
+ghost use Rattle.sdr_served.specs.Serving.{built};
+ghost use Rattle.sdr_station.specs.Grounded.{IsBefore, StandsForBoth, StandsInMemory};
 ghost use Rattle.sdr_station.specs.Giving.{Gives};
 ghost use Rattle.sdr_station.specs.Opening.{ExplainsOpen, IsOfAudit, IsOfImage, IsOpen, LeavesBytes, disk_of};
 
 use crate::closing::{cancel, commit, forget_moves, moment_since};
 use crate::error::{OpenError, Shut};
-use sdr_answers::{Page, built};
+use sdr_answers::Page;
 use sdr_audit::{AuditError, check};
 use sdr_base::{Move, Stop};
 use sdr_disk::Disk;
@@ -25,26 +27,32 @@ use sdr_heap::Heap;
 use sdr_image::{Image, ImageError};
 use sdr_lock::{Fault, Halt, HasGround, Serves};
 use sdr_model::{Answer, Call, Reply};
-use sdr_served::answer;
+use sdr_served::{answer, built};
 use std::alloc::Global;
 use std::marker::Model;
+use zco_acct::{Notice, Notify};
+use zco_granted::look;
 
 /// A heap on an image as the ground of a lock.
 #[derive(Drop)]
-pub struct HeapGround<D: Disk> {
+pub struct HeapGround<D: Disk, F: Notify + Drop> {
     heap: Heap<Image<D>>,
     /// The bytes that the last answered call gave.
     shown: Page,
     /// Whether a call was stopped on its way, so that the transaction can only be put back, or the disk has
     /// failed.
     stopped: bool,
+    /// Whether no call was made in the open transaction.
+    idle: bool,
     /// The disk's moment.
     moment: u64,
     /// How many lines opening has put back.
     restored: u64,
+    /// What is told each time space is made available.
+    notice: Notice<F>,
 }
 
-impl<D: Disk> Model for HeapGround<D> {
+impl<D: Disk, F: Notify + Drop> Model for HeapGround<D, F> {
     ghost use Rattle.sdr_station.specs.Grounded.{Grounded, IsGround};
 
     ghost Value = { Grounded D };
@@ -53,6 +61,7 @@ impl<D: Disk> Model for HeapGround<D> {
       heap = s.heap;
       shown = s.shown;
       stopped = s.stopped;
+      idle = s.idle;
       moment = s.moment;
       restored = s.restored;
     } };
@@ -61,12 +70,13 @@ impl<D: Disk> Model for HeapGround<D> {
       heap = s.heap;
       shown = s.shown;
       stopped = s.stopped;
+      idle = s.idle;
       moment = s.moment;
       restored = s.restored;
     }) };
 }
 
-impl<D: Disk> HasGround for HeapGround<D> {
+impl<D: Disk, F: Notify + Drop> HasGround for HeapGround<D, F> {
     ghost use Rattle.std.specs.Prelude.{None, ⊤};
     ghost use Rattle.sdr_lock.specs.Gaps.{no_gaps};
     ghost use Rattle.sdr_station.specs.Grounded as grounded;
@@ -116,11 +126,11 @@ fn of_audit(why: AuditError) -> OpenError
     }
 }
 
-impl<D: Disk> HeapGround<D> {
+impl<D: Disk, F: Notify + Drop> HeapGround<D, F> {
     /// Opens the heap on a disk. Where batches are open, their lines are put back. All memory is taken
     /// here. A crash on the way leaves the same heap as one before, where nothing is pending on the disk
     /// that is handed in, or a recovery of it was stopped. So far only a fresh heap is opened.
-    pub fn open(alloc: Global, disk: D) -> Result<HeapGround<D>, Shut<D>>
+    pub fn open(alloc: Global, disk: D, notice: Notice<F>) -> Result<HeapGround<D, F>, Shut<D>>
         ensures opened { IfOk result (IsOpen D.bytes D.moment D.may_leave disk) }
         ensures why { IfErr result (λ shut.
             ExplainsOpen (D.bytes disk) (D.faults disk) (D.faults shut.disk) shut.why) }
@@ -154,8 +164,10 @@ impl<D: Disk> HeapGround<D> {
                 heap,
                 shown: Page::new(),
                 stopped: false,
+                idle: true,
                 moment,
                 restored,
+                notice,
             }),
             Err(shut) => Err(Shut {
                 why: OpenError::NoMemory,
@@ -170,17 +182,18 @@ impl<D: Disk> HeapGround<D> {
         requires going { self.old.stopped ≡ false }
         requires built { built call.now ≡ true }
         ensures memory { Brings StandsInMemory self.old self.new (Calls None call.now result) }
-        ensures answered { Brings ⟦<HeapGround<D> as HasGround>⟧.stands self.old self.new
+        ensures answered { Brings ⟦<HeapGround<D, F> as HasGround>⟧.stands self.old self.new
             (Calls None call.now result) }
         ensures stopped { self.new.stopped ≡ dooms call.now result }
         ensures gives { Gives result self.new }
         ensures sound { self.new.heap.cells.failed ≡ false }
         ensures restored { self.new.restored ≡ self.old.restored }
-        ensures keeps { KeepsGround ⟦<HeapGround<D> as HasGround>⟧ true self.old self.new }
-        ensures any_moment { LeavesBefore ⟦<HeapGround<D> as HasGround>⟧ self.old self.new }
+        ensures keeps { KeepsGround ⟦<HeapGround<D, F> as HasGround>⟧ true self.old self.new }
+        ensures any_moment { LeavesBefore ⟦<HeapGround<D, F> as HasGround>⟧ self.old self.new }
     {
         self.heap.fresh();
-        match answer(&mut self.heap, call, &mut self.shown) {
+        self.idle = false;
+        match answer(&mut self.heap, call, &self.notice, &mut self.shown) {
             Ok(reply) => reply,
             Err(Stop::Refused(refusal)) => {
                 forget_moves(&mut self.heap, &refusal);
@@ -198,24 +211,27 @@ impl<D: Disk> HeapGround<D> {
         requires going { self.old.stopped ≡ false }
         ensures memory { OnOk result (Brings StandsInMemory self.old self.new Keeps) }
         ensures kept { OnOk result
-            (Brings ⟦<HeapGround<D> as HasGround>⟧.stands self.old self.new Keeps) }
+            (Brings ⟦<HeapGround<D, F> as HasGround>⟧.stands self.old self.new Keeps) }
         ensures going { OnOk result (self.new.stopped ≡ false) }
+        ensures idle { OnOk result (self.new.idle ≡ true) }
         ensures sound { OnOk result (self.new.heap.cells.failed ≡ false) }
         ensures restored { self.new.restored ≡ self.old.restored }
-        ensures fault { OnErr result (MeetsFault ⟦<HeapGround<D> as HasGround>⟧ self.old self.new) }
-        ensures keeps { KeepsGround ⟦<HeapGround<D> as HasGround>⟧ false self.old self.new }
-        ensures any_moment { LeavesEither ⟦<HeapGround<D> as HasGround>⟧ self.old self.new }
+        ensures fault { OnErr result (MeetsFault ⟦<HeapGround<D, F> as HasGround>⟧ self.old self.new) }
+        ensures keeps { KeepsGround ⟦<HeapGround<D, F> as HasGround>⟧ false self.old self.new }
+        ensures any_moment { LeavesEither ⟦<HeapGround<D, F> as HasGround>⟧ self.old self.new }
     {
         match commit(&mut self.heap) {
             Ok(()) => {
                 self.moment = moment_since(self.moment, &mut self.heap);
                 self.shown.clear();
                 self.stopped = false;
+                self.idle = true;
                 Ok(())
             }
             Err(_) => {
                 self.moment = moment_since(self.moment, &mut self.heap);
                 self.stopped = true;
+                self.idle = false;
                 Err(Fault)
             }
         }
@@ -225,31 +241,109 @@ impl<D: Disk> HeapGround<D> {
     pub fn restore(&mut self) -> Result<(), Fault>
         ensures memory { OnOk result (Brings StandsInMemory self.old self.new PutsBack) }
         ensures put_back { OnOk result
-            (Brings ⟦<HeapGround<D> as HasGround>⟧.stands self.old self.new PutsBack) }
+            (Brings ⟦<HeapGround<D, F> as HasGround>⟧.stands self.old self.new PutsBack) }
         ensures going { OnOk result
             (self.old.heap.cells.failed ≡ false → self.new.stopped ≡ false) }
+        ensures idle { OnOk result
+            (self.old.heap.cells.failed ≡ false → self.new.idle ≡ true) }
         ensures sound { OnOk result (self.new.heap.cells.failed ≡ self.old.heap.cells.failed) }
         ensures restored { self.new.restored ≡ self.old.restored }
-        ensures fault { OnErr result (MeetsFault ⟦<HeapGround<D> as HasGround>⟧ self.old self.new) }
-        ensures keeps { KeepsGround ⟦<HeapGround<D> as HasGround>⟧ false self.old self.new }
-        ensures any_moment { LeavesBefore ⟦<HeapGround<D> as HasGround>⟧ self.old self.new }
+        ensures fault { OnErr result (MeetsFault ⟦<HeapGround<D, F> as HasGround>⟧ self.old self.new) }
+        ensures keeps { KeepsGround ⟦<HeapGround<D, F> as HasGround>⟧ false self.old self.new }
+        ensures any_moment { LeavesBefore ⟦<HeapGround<D, F> as HasGround>⟧ self.old self.new }
     {
         match cancel(&mut self.heap) {
             Ok(()) => {
                 self.moment = moment_since(self.moment, &mut self.heap);
                 self.shown.clear();
                 self.stopped = false;
+                self.idle = true;
                 Ok(())
             }
             Err(Stop::DiskFault) => {
                 self.moment = moment_since(self.moment, &mut self.heap);
                 self.stopped = true;
+                self.idle = false;
                 Err(Fault)
             }
             Err(Stop::Failed) => Ok(()),
             Err(Stop::MediaFault) => unreachable!(),
             Err(Stop::Refused(_)) => unreachable!(),
         }
+    }
+
+    // Puts the lines of the open transaction back, which can only be put back from then on, and answers whether
+    // the disk hadn't failed.
+    fn drop_changes(&mut self) -> Result<bool, Fault>
+        ensures memory { OnOk result (Brings StandsInMemory self.old self.new StandsStill) }
+        ensures dropped { OnOk result
+            (Brings ⟦<HeapGround<D, F> as HasGround>⟧.stands self.old self.new StandsStill) }
+        ensures back { IfOk result (λ sound. sound ≡ true
+            → (self.new.heap.cells.failed ≡ false) × IsBefore self.new) }
+        ensures failed { IfOk result (λ sound. sound ≡ false → self.old.heap.cells.failed ≡ true) }
+        ensures fault { OnErr result
+            (MeetsFault ⟦<HeapGround<D, F> as HasGround>⟧ self.old self.new) }
+        ensures restored { self.new.restored ≡ self.old.restored }
+        ensures keeps { KeepsGround ⟦<HeapGround<D, F> as HasGround>⟧ false self.old self.new }
+        ensures any_moment { LeavesBefore ⟦<HeapGround<D, F> as HasGround>⟧ self.old self.new }
+    {
+        match cancel(&mut self.heap) {
+            Ok(()) => {
+                self.moment = moment_since(self.moment, &mut self.heap);
+                self.stopped = true;
+                self.idle = false;
+                Ok(true)
+            }
+            Err(Stop::DiskFault) => {
+                self.moment = moment_since(self.moment, &mut self.heap);
+                self.stopped = true;
+                self.idle = false;
+                Err(Fault)
+            }
+            Err(Stop::Failed) => Ok(false),
+            Err(Stop::MediaFault) => unreachable!(),
+            Err(Stop::Refused(_)) => unreachable!(),
+        }
+    }
+
+    // Whether the ticket is there, and granted, where the heap in memory is that before the open transaction.
+    fn see(&mut self, ticket: u64) -> Option<bool>
+        requires sound { self.old.heap.cells.failed ≡ false }
+        requires before { IsBefore self.old }
+        ensures shown { Brings StandsInMemory self.old self.new (Shows ticket result) }
+        ensures stands { Brings ⟦<HeapGround<D, F> as HasGround>⟧.stands self.old self.new
+            (Shows ticket result) }
+        ensures same { self.new ≡ record self.old { heap = self.new.heap } }
+        ensures quiet { IsQuiet self.old.heap.cells self.new.heap.cells }
+    {
+        match look(&mut self.heap, ticket) {
+            Ok(granted) => granted,
+            Err(_) => unreachable!(),
+        }
+    }
+
+    /// Whether the ticket is there, and granted, before the open transaction. Where a call was made in that, its
+    /// lines are put back first, and it can only be put back from then on.
+    pub fn look(&mut self, ticket: u64) -> Result<Option<bool>, Fault>
+        ensures memory { IfOk result (λ granted.
+            Brings StandsInMemory self.old self.new (Shows ticket granted)) }
+        ensures shown { IfOk result (λ granted.
+            Brings ⟦<HeapGround<D, F> as HasGround>⟧.stands self.old self.new
+            (Shows ticket granted)) }
+        ensures idle { self.old.idle ≡ true → (self.new ≡ record self.old { heap = self.new.heap })
+            × IsQuiet self.old.heap.cells self.new.heap.cells × IsOk result }
+        ensures fault { OnErr result
+            (MeetsFault ⟦<HeapGround<D, F> as HasGround>⟧ self.old self.new) }
+        ensures keeps { KeepsGround ⟦<HeapGround<D, F> as HasGround>⟧ false self.old self.new }
+        ensures any_moment { LeavesBefore ⟦<HeapGround<D, F> as HasGround>⟧ self.old self.new }
+    {
+        if self.idle {
+            return Ok(self.see(ticket));
+        }
+        if self.drop_changes()? {
+            return Ok(self.see(ticket));
+        }
+        Ok(None)
     }
 
     /// The disk. What the open transaction has done is lost.
@@ -261,8 +355,10 @@ impl<D: Disk> HeapGround<D> {
             heap,
             shown: _,
             stopped: _,
+            idle: _,
             moment: _,
             restored: _,
+            notice: _,
         } = self;
         heap.into_cells().into_disk()
     }
@@ -299,7 +395,7 @@ impl<D: Disk> HeapGround<D> {
     }
 }
 
-impl<D: Disk> Serves for HeapGround<D> {
+impl<D: Disk, F: Notify + Drop> Serves for HeapGround<D, F> {
     fn moment(&self) -> u64 {
         self.moment
     }
@@ -307,16 +403,16 @@ impl<D: Disk> Serves for HeapGround<D> {
     // Want of memory comes just where a call was stopped, or where it isn't served yet.
     fn call(&mut self, call: &Call) -> Result<Reply, Halt>
         ensures answered { IfOk result (λ reply.
-            Brings ⟦<HeapGround<D> as HasGround>⟧.stands self.old self.new
+            Brings ⟦<HeapGround<D, F> as HasGround>⟧.stands self.old self.new
             (Calls None call.now reply)) }
         ensures gap { IfOk result (λ reply. HasGapCause (Answer.Reply reply) no_gaps no_gaps) }
         ensures memory { IsErrOf result Halt.Memory → self.new ≡ self.old }
         ensures stopped { IsErrOf result Halt.Memory
             ↔ ((self.old.stopped ≡ true) ⊎ (built call.now ≡ false)) }
         ensures fault { IsErrOf result Halt.Fault
-            → MeetsFault ⟦<HeapGround<D> as HasGround>⟧ self.old self.new }
-        ensures keeps { KeepsGround ⟦<HeapGround<D> as HasGround>⟧ true self.old self.new }
-        ensures any_moment { LeavesBefore ⟦<HeapGround<D> as HasGround>⟧ self.old self.new }
+            → MeetsFault ⟦<HeapGround<D, F> as HasGround>⟧ self.old self.new }
+        ensures keeps { KeepsGround ⟦<HeapGround<D, F> as HasGround>⟧ true self.old self.new }
+        ensures any_moment { LeavesBefore ⟦<HeapGround<D, F> as HasGround>⟧ self.old self.new }
     {
         if self.stopped || !built(call) {
             return Err(Halt::Memory);
@@ -327,13 +423,13 @@ impl<D: Disk> Serves for HeapGround<D> {
     // Want of memory comes just where a call was stopped.
     fn keep(&mut self) -> Result<(), Halt>
         ensures kept { OnOk result
-            (Brings ⟦<HeapGround<D> as HasGround>⟧.stands self.old self.new Keeps) }
+            (Brings ⟦<HeapGround<D, F> as HasGround>⟧.stands self.old self.new Keeps) }
         ensures memory { IsErrOf result Halt.Memory → self.new ≡ self.old }
         ensures stopped { IsErrOf result Halt.Memory ↔ (self.old.stopped ≡ true) }
         ensures fault { IsErrOf result Halt.Fault
-            → MeetsFault ⟦<HeapGround<D> as HasGround>⟧ self.old self.new }
-        ensures keeps { KeepsGround ⟦<HeapGround<D> as HasGround>⟧ false self.old self.new }
-        ensures any_moment { LeavesEither ⟦<HeapGround<D> as HasGround>⟧ self.old self.new }
+            → MeetsFault ⟦<HeapGround<D, F> as HasGround>⟧ self.old self.new }
+        ensures keeps { KeepsGround ⟦<HeapGround<D, F> as HasGround>⟧ false self.old self.new }
+        ensures any_moment { LeavesEither ⟦<HeapGround<D, F> as HasGround>⟧ self.old self.new }
     {
         if self.stopped {
             return Err(Halt::Memory);
@@ -348,7 +444,7 @@ impl<D: Disk> Serves for HeapGround<D> {
         self.restore()
     }
 
-    fn look(&mut self, _ticket: u64) -> Result<Option<bool>, Fault> {
-        Ok(None)
+    fn look(&mut self, ticket: u64) -> Result<Option<bool>, Fault> {
+        HeapGround::look(self, ticket)
     }
 }

@@ -7,11 +7,11 @@ ghost use Rattle.sdr_lock.specs.Crash.{LeavesBefore, LeavesOr, is_kept, keeps_in
 ghost use Rattle.sdr_lock.specs.Nesting.{cancelled, closing, ended, unbegun};
 ghost use Rattle.sdr_log.specs.Calls.{KeepsDisk};
 ghost use Rattle.sdr_log.specs.Logged.{GivesSame};
-ghost use Rattle.sdr_answers.specs.Answering.{built};
+ghost use Rattle.sdr_served.specs.Serving.{built};
 ghost use Rattle.sdr_station.specs.Giving.{Fills, Gives};
 ghost use Rattle.sdr_station.specs.Opening.{ExplainsOpen, IsOpen, LeavesBytes};
 ghost use Rattle.sdr_station.specs.Rooming.{MovesAtMost, TellsRoom};
-ghost use Rattle.sdr_station.specs.Stationed.{Begins, Closes, ClosesBy, HasRisen, LooksAt, SaysOr};
+ghost use Rattle.sdr_station.specs.Stationed.{Begins, Closes, ClosesBy, HasRisen, IsTicketTold, LooksAt, SaysOr, StaysLooked};
 ghost use Rattle.sdr_station.specs.Stationed.{closed_as, disk_under};
 
 use crate::HeapGround;
@@ -23,6 +23,7 @@ use sdr_lock::{Fault, HasGround, Nesting, Serves};
 use sdr_model::{Answer, Call, Close, Event, Reply};
 use std::alloc::Global;
 use std::marker::Model;
+use zco_acct::{Notice, Notify};
 
 /// What an end, a cancel or an exit came to.
 #[derive(Clone, Copy, Debug, PartialEq, Eq)]
@@ -39,8 +40,8 @@ pub enum Closed {
 /// each line that it changed and each block that it took or staged, and neither a copy of the heap nor a
 /// pass over it.
 #[derive(Drop)]
-pub struct Station<D: Disk> {
-    ground: HeapGround<D>,
+pub struct Station<D: Disk, F: Notify + Drop> {
+    ground: HeapGround<D, F>,
     nesting: Nesting,
     /// The disk's moment as it failed.
     failed: Option<u64>,
@@ -61,7 +62,7 @@ pub fn most_moves(call: &Call, size: u64) -> u64
     1
 }
 
-impl<D: Disk> Model for Station<D> {
+impl<D: Disk, F: Notify + Drop> Model for Station<D, F> {
     ghost use Rattle.sdr_station.specs.Stationed.{IsStation, Stationed};
 
     ghost Value = { Stationed D };
@@ -71,9 +72,9 @@ impl<D: Disk> Model for Station<D> {
     ghost invariant = { λ s. IsStation s.ground s.nesting s.failed };
 }
 
-impl<D: Disk> Station<D> {
+impl<D: Disk, F: Notify + Drop> Station<D, F> {
     /// Opens the heap on a disk, as `HeapGround::open` does. No transaction is open, and all memory is taken here.
-    pub fn open(alloc: Global, disk: D) -> Result<Station<D>, Shut<D>>
+    pub fn open(alloc: Global, disk: D, notice: Notice<F>) -> Result<Station<D, F>, Shut<D>>
         ensures opened { IfOk result (λ s. IsOpen D.bytes D.moment D.may_leave disk s.ground) }
         ensures idle { IfOk result (λ s. (s.nesting ≡ unbegun) × (s.failed ≡ None)) }
         ensures why { IfErr result (λ shut.
@@ -86,7 +87,7 @@ impl<D: Disk> Station<D> {
             MayBeOpened x (D.may_leave disk (D.moment disk))
             → AtEach D.moment D.may_leave disk (disk_under result) (GivesSame x)) }
     {
-        match HeapGround::open(alloc, disk) {
+        match HeapGround::open(alloc, disk, notice) {
             Ok(ground) => Ok(Station {
                 ground,
                 nesting: Nesting::none(),
@@ -96,16 +97,29 @@ impl<D: Disk> Station<D> {
         }
     }
 
-    /// Whether a ticket is granted. So far no world has one.
+    /// Whether a ticket is granted, outside a transaction. No line is touched.
     pub fn look(&mut self, ticket: u64) -> Result<bool, Stop>
-        requires { self.old.nesting.depth ≡ 0 }
-        ensures looks { LooksAt ⟦<HeapGround<D> as HasGround>⟧ ticket self.old result }
-        ensures same { self.new ≡ self.old }
+        requires outside { self.old.nesting.depth ≡ 0 }
+        ensures looks { LooksAt ticket self.old result }
+        ensures still { StaysLooked self.old self.new }
     {
         if self.failed.is_some() {
             return Err(Stop::Failed);
         }
-        Err(Stop::Refused(Refusal::BadTicket { ticket }))
+        match self.ground.look(ticket) {
+            Ok(shown) => Self::ticket_told(ticket, shown),
+            Err(Fault) => unreachable!(),
+        }
+    }
+
+    // What is told of a ticket that is shown so.
+    fn ticket_told(ticket: u64, shown: Option<bool>) -> Result<bool, Stop>
+        ensures { IsTicketTold ticket shown result }
+    {
+        match shown {
+            Some(granted) => Ok(granted),
+            None => Err(Stop::Refused(Refusal::BadTicket { ticket })),
+        }
     }
 
     /// The disk. What the open transaction has done is lost.
@@ -147,7 +161,7 @@ impl<D: Disk> Station<D> {
     /// How many moves the call that follows can have at most, which are no more than the heap has room for.
     pub fn room_for(&mut self, call: &Call) -> Result<u64, Stop>
         requires { built call.now ≡ true }
-        ensures room { TellsRoom ⟦<HeapGround<D> as HasGround>⟧ call.now self.old result }
+        ensures room { TellsRoom ⟦<HeapGround<D, F> as HasGround>⟧ call.now self.old result }
         ensures same { self.new ≡ self.old }
     {
         if let Some(_) = self.failed {
@@ -160,10 +174,10 @@ impl<D: Disk> Station<D> {
     pub fn call(&mut self, call: &Call, into: &mut [u8; PAGE]) -> Reply
         requires begun { 0 < self.old.nesting.depth }
         requires built { built call.now ≡ true }
-        ensures says { SaysOr ⟦<HeapGround<D> as HasGround>⟧ call.now result self.old self.new }
+        ensures says { SaysOr ⟦<HeapGround<D, F> as HasGround>⟧ call.now result self.old self.new }
         ensures depth { self.new.nesting.depth ≡ self.old.nesting.depth }
         ensures fills { Fills self.new.ground result into.old into.new }
-        ensures any_moment { LeavesBefore ⟦<HeapGround<D> as HasGround>⟧
+        ensures any_moment { LeavesBefore ⟦<HeapGround<D, F> as HasGround>⟧
             self.old.ground self.new.ground }
     {
         let reply = self.reply(call);
@@ -186,10 +200,10 @@ impl<D: Disk> Station<D> {
     fn reply(&mut self, call: &Call) -> Reply
         requires begun { 0 < self.old.nesting.depth }
         requires built { built call.now ≡ true }
-        ensures says { SaysOr ⟦<HeapGround<D> as HasGround>⟧ call.now result self.old self.new }
+        ensures says { SaysOr ⟦<HeapGround<D, F> as HasGround>⟧ call.now result self.old self.new }
         ensures depth { self.new.nesting.depth ≡ self.old.nesting.depth }
         ensures gives { Gives result self.new.ground }
-        ensures any_moment { LeavesBefore ⟦<HeapGround<D> as HasGround>⟧
+        ensures any_moment { LeavesBefore ⟦<HeapGround<D, F> as HasGround>⟧
             self.old.ground self.new.ground }
     {
         if let Some(moment) = self.failed {
@@ -228,7 +242,7 @@ impl<D: Disk> Station<D> {
     fn keep(&mut self) -> Result<Closed, Stop>
         requires sound { self.old.failed ≡ None }
         requires undoomed { self.old.nesting.doom ≡ None }
-        ensures { Closes ⟦<HeapGround<D> as HasGround>⟧ Close.Ended self.old self.new result }
+        ensures { Closes ⟦<HeapGround<D, F> as HasGround>⟧ Close.Ended self.old self.new result }
     {
         match self.ground.save() {
             Ok(()) => {
@@ -248,7 +262,7 @@ impl<D: Disk> Station<D> {
         requires sound { self.old.failed ≡ None }
         requires told { told ≡ closed_as close }
         requires unkept { is_kept close ≡ false }
-        ensures { Closes ⟦<HeapGround<D> as HasGround>⟧ close self.old self.new result }
+        ensures { Closes ⟦<HeapGround<D, F> as HasGround>⟧ close self.old self.new result }
     {
         match self.ground.restore() {
             Ok(()) => {
@@ -266,7 +280,7 @@ impl<D: Disk> Station<D> {
     // Closes the transaction.
     fn close(&mut self, event: &Event) -> Result<Closed, Stop>
         requires sound { self.old.failed ≡ None }
-        ensures { Closes ⟦<HeapGround<D> as HasGround>⟧ (closing self.old.nesting event.now)
+        ensures { Closes ⟦<HeapGround<D, F> as HasGround>⟧ (closing self.old.nesting event.now)
             self.old self.new result }
     {
         match self.nesting.closing(event) {
@@ -293,10 +307,10 @@ impl<D: Disk> Station<D> {
     /// doomed.
     pub fn end(&mut self) -> Result<Closed, Stop>
         requires begun { 0 < self.old.nesting.depth }
-        ensures closes { ClosesBy ⟦<HeapGround<D> as HasGround>⟧ Event.End ended
+        ensures closes { ClosesBy ⟦<HeapGround<D, F> as HasGround>⟧ Event.End ended
             self.old self.new result }
         ensures any_moment { LeavesOr (keeps_in self.old.nesting Event.End)
-            ⟦<HeapGround<D> as HasGround>⟧ self.old.ground self.new.ground }
+            ⟦<HeapGround<D, F> as HasGround>⟧ self.old.ground self.new.ground }
     {
         if self.failed.is_some() {
             return Err(Stop::Failed);
@@ -310,9 +324,9 @@ impl<D: Disk> Station<D> {
     /// Cancels the transaction. An inner cancel dooms it.
     pub fn cancel(&mut self) -> Result<Closed, Stop>
         requires begun { 0 < self.old.nesting.depth }
-        ensures closes { ClosesBy ⟦<HeapGround<D> as HasGround>⟧ Event.Cancel cancelled
+        ensures closes { ClosesBy ⟦<HeapGround<D, F> as HasGround>⟧ Event.Cancel cancelled
             self.old self.new result }
-        ensures any_moment { LeavesBefore ⟦<HeapGround<D> as HasGround>⟧
+        ensures any_moment { LeavesBefore ⟦<HeapGround<D, F> as HasGround>⟧
             self.old.ground self.new.ground }
     {
         if self.failed.is_some() {
@@ -327,9 +341,9 @@ impl<D: Disk> Station<D> {
     /// Ends the transaction, which was to change nothing.
     pub fn exit(&mut self) -> Result<Closed, Stop>
         requires begun { 0 < self.old.nesting.depth }
-        ensures closes { ClosesBy ⟦<HeapGround<D> as HasGround>⟧ Event.Exit ended
+        ensures closes { ClosesBy ⟦<HeapGround<D, F> as HasGround>⟧ Event.Exit ended
             self.old self.new result }
-        ensures any_moment { LeavesBefore ⟦<HeapGround<D> as HasGround>⟧
+        ensures any_moment { LeavesBefore ⟦<HeapGround<D, F> as HasGround>⟧
             self.old.ground self.new.ground }
     {
         if self.failed.is_some() {

@@ -1,16 +1,18 @@
 // What a heap on an image tells of its calls.
 ghost use Rattle.std.specs.Prelude.{◌≡◌, true};
-ghost use Rattle.sdr_answers.specs.Answering.{built};
+ghost use Rattle.sdr_served.specs.Serving.{built};
 ghost use Rattle.sdr_station.specs.Telling.{BytesAtMost};
 
 use crate::HeapGround;
 use crate::station::most_moves;
-use sdr_answers::{PAGE, built};
+use sdr_answers::PAGE;
 use sdr_base::{Move, NoMemory};
 use sdr_disk::Disk;
 use sdr_lock::{Room, Tells};
 use sdr_model::Call;
+use sdr_served::built;
 use std::alloc::AllocError;
+use zco_acct::Notify;
 
 // How many bytes a call that is served gives at most.
 fn most_bytes(call: &Call) -> usize
@@ -24,7 +26,7 @@ fn most_bytes(call: &Call) -> usize
     }
 }
 
-impl<D: Disk> Tells for HeapGround<D> {
+impl<D: Disk, F: Notify + Drop> Tells for HeapGround<D, F> {
     fn moves(&self) -> &[Move] {
         HeapGround::moves(self)
     }

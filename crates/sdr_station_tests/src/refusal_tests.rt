@@ -9,6 +9,7 @@ use sdr_log::Frame;
 use sdr_model::{Call, Reply};
 use sdr_station::{Closed, Station};
 use std::alloc::Global;
+use zco_acct::Compares;
 
 // A disk of 1,024 heap lines, whose undo log has room for the old bytes of four.
 const SHORT: Frame = Frame {
@@ -156,7 +157,7 @@ const REFUSED: [(Step, Refusal, Closed); 17] = [
 // The first of these rows, each in a transaction of its own, to which a station says something else.
 fn wrong_refusal(
     alloc: Global,
-    station: &mut Station<MemoryDisk>,
+    station: &mut Station<MemoryDisk, Compares>,
     rows: &[(Step, Refusal, Closed)],
 ) -> Option<usize> {
     for (row, (step, refusal, closed)) in rows.iter().enumerate() {

@@ -1,7 +1,7 @@
 // What is asked of a station on a disk in memory, and what it says.
 ghost use Rattle.std.specs.Prelude.{◌≡◌, ◌<◌, true, IfSome};
 ghost use Rattle.sdr_log.specs.Frame.{IsInLimits};
-ghost use Rattle.sdr_answers.specs.Answering.{built};
+ghost use Rattle.sdr_served.specs.Serving.{built};
 
 use sdr_base::{Bytes, Stop};
 use sdr_disk::MemoryDisk;
@@ -10,6 +10,7 @@ use sdr_log::Frame;
 use sdr_model::{Call, Reply};
 use sdr_station::{Closed, Station};
 use std::alloc::Global;
+use zco_acct::{Compares, Notice};
 
 /// A disk of 1,024 heap lines.
 pub const LARGE: Frame = Frame {
@@ -62,12 +63,12 @@ pub fn formatted(alloc: Global, frame: Frame) -> Option<MemoryDisk>
 }
 
 /// A station on such a disk, in which no transaction has begun.
-pub fn opened(alloc: Global, frame: Frame) -> Option<Station<MemoryDisk>>
+pub fn opened(alloc: Global, frame: Frame) -> Option<Station<MemoryDisk, Compares>>
     requires { IsInLimits frame }
     ensures { IfSome result (λ station. station.nesting.depth ≡ 0) }
 {
     let disk = formatted(alloc, frame)?;
-    match Station::open(alloc, disk) {
+    match Station::open(alloc, disk, Notice::new(Compares)) {
         Ok(station) => Some(station),
         Err(_) => None,
     }
@@ -115,7 +116,7 @@ fn thing_call_of(alloc: Global, step: &Step) -> Option<Call>
 }
 
 // What a close says.
-fn close(station: &mut Station<MemoryDisk>, step: &Step) -> Said
+fn close(station: &mut Station<MemoryDisk, Compares>, step: &Step) -> Said
     requires { 0 < station.old.nesting.depth }
 {
     let result = match step {
@@ -130,7 +131,7 @@ fn close(station: &mut Station<MemoryDisk>, step: &Step) -> Said
 }
 
 // What a begin says.
-fn begin(station: &mut Station<MemoryDisk>) -> Said {
+fn begin(station: &mut Station<MemoryDisk, Compares>) -> Said {
     match station.begin() {
         Ok(depth) => Said::Depth(depth),
         Err(stop) => Said::Stopped(stop),
@@ -138,7 +139,11 @@ fn begin(station: &mut Station<MemoryDisk>) -> Said {
 }
 
 /// What a station says to a step. `None`: no transaction has begun, or there is no memory.
-pub fn ask(alloc: Global, station: &mut Station<MemoryDisk>, step: &Step) -> Option<Said> {
+pub fn ask(
+    alloc: Global,
+    station: &mut Station<MemoryDisk, Compares>,
+    step: &Step,
+) -> Option<Said> {
     if let Step::Begin = step {
         return Some(begin(station));
     }
@@ -154,7 +159,7 @@ pub fn ask(alloc: Global, station: &mut Station<MemoryDisk>, step: &Step) -> Opt
 /// The first of these rows to which a station says something else.
 pub fn wrong_step(
     alloc: Global,
-    station: &mut Station<MemoryDisk>,
+    station: &mut Station<MemoryDisk, Compares>,
     rows: &[(Step, Said)],
 ) -> Option<usize> {
     for (row, (step, want)) in rows.iter().enumerate() {

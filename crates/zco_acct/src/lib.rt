@@ -19,6 +19,6 @@ pub use account::{
     first_word, last_word, maxima, maximum, occupancy, occupied, release, set_maximum, set_occupied,
 };
 pub use charging::charge;
-pub use notice::{Notice, Notify, Stored, Tell};
+pub use notice::{Compares, Notice, Notify, Stored, Tell};
 pub use queue::{Found, MOST_TICKETS, Sought, search};
 pub use ticket::{Queued, put_grant, read_ticket};

@@ -3,6 +3,7 @@ ghost use Rattle.std.specs.Prelude.{◌≡◌, Bool};
 ghost use Rattle.sdr_model.specs.Amounts.{are_within};
 
 use sdr_base::Amounts;
+use sdr_model::amounts::are_within;
 
 /// What is told each time space is made available, of what the front waiting ticket asks and of the
 /// room of its account.
@@ -32,6 +33,16 @@ impl<F: Notify> Notice<F> {
         ensures { result ≡ are_within asked.now room.now }
     {
         self.by.told(asked, room)
+    }
+}
+
+/// A callback that only compares.
+#[derive(Clone, Copy)]
+pub struct Compares;
+
+impl Notify for Compares {
+    fn told(&self, asked: &Amounts, room: &Amounts) -> bool {
+        are_within(asked, room)
     }
 }
 

@@ -4,7 +4,7 @@ use Rattle.std.specs.Prelude.{All}
 use Rattle.std.proofs.lemmas.Bool.Decides.{nat_tests}
 use Rattle.std.proofs.lemmas.List.Elements.{All-nil}
 use Rattle.sdr_answers.proofs.RowLemmas.{row_refused, shows, unmoved_answered}
-use Rattle.sdr_answers.specs.Answering.{Aim, IsRefused}
+use Rattle.sdr_answers.specs.Answering.{Aim, Answered, IsRefused, IsServed}
 use Rattle.sdr_audit.specs.Standing.{HeapStandsFor}
 use Rattle.sdr_base.specs.Blocks.{Blocks, with_at}
 use Rattle.sdr_base.specs.Entries.{Changes, Entries, Stands}
@@ -41,11 +41,10 @@ use Rattle.zco_acct.specs.Changes.{MaximumStops, SetsMaximum}
 use Rattle.zco_acct.specs.Kept.{SomeQueue, queue_entries}
 use Rattle.zco_acct.specs.Words.{first_word, last_word, maxima_in, maximum_word, occupied_in}
 use Rattle.zco_granted.proofs.AccountLemmas.{account_becomes, account_words, roots_before, unmarked, world_with}
-use Rattle.zco_granted.proofs.ComingLemmas.{log_full, tickets_kept, untied_answered}
+use Rattle.zco_granted.proofs.ComingLemmas.{log_full, tickets_kept}
 use Rattle.zco_granted.proofs.QueueLemmas.{maxima_are, occupied_is}
 use Rattle.zco_granted.proofs.WordLemmas.{maximum_set}
-use Rattle.zco_granted.specs.Answering.{Answered, KeepsTickets, Serves, grants_of}
-use Rattle.zco_served.specs.Answering.{IsServed}
+use Rattle.zco_granted.specs.Answering.{KeepsTickets, Serves, grants_of}
 
 -- a call on a heap that stands for a world and stays as it is
 module _ (old new : Heap) (w : World) (unmoved : old.moves ≡ []) (s : HeapStandsFor old w) (same : new ≡ old) where
@@ -53,19 +52,17 @@ module _ (old new : Heap) (w : World) (unmoved : old.moves ≡ []) (s : HeapStan
       Answered w (calls.Occupancy acct space) new [] (replies.Value value)
   occupancy_answered acct space value is =
       let told = is ∙ ap (λ (a : Amounts). amount a space) (occupied_is acct s) ∙ amount_by (occupancy w acct) space in
-      untied_answered
-      (unmoved_answered w (record w { shown = [] }) (calls.Occupancy acct space) new [] (replies.Value value)
+      unmoved_answered w (record w { shown = [] }) (calls.Occupancy acct space) new [] (replies.Value value)
       (ap (λ (h : Heap). h.moves) same ∙ unmoved) (refl, refl, ap (λ (n : ℕ). replies.Value n) told) refl
-      (shows old new w [] same s) refl refl refl refl)
+      (shows old new w [] same s) refl refl
 
   pub maximum_answered : (acct : Acct) (space : Space) (value : ℕ) → value ≡ amount (maxima_in old acct) space →
       Answered w (calls.Maximum acct space) new [] (replies.Value value)
   maximum_answered acct space value is =
       let told = is ∙ ap (λ (a : Amounts). amount a space) (maxima_are acct s) in
-      untied_answered
-      (unmoved_answered w (record w { shown = [] }) (calls.Maximum acct space) new [] (replies.Value value)
+      unmoved_answered w (record w { shown = [] }) (calls.Maximum acct space) new [] (replies.Value value)
       (ap (λ (h : Heap). h.moves) same ∙ unmoved) (refl, refl, ap (λ (n : ℕ). replies.Value n) told) refl
-      (shows old new w [] same s) refl refl refl refl)
+      (shows old new w [] same s) refl refl
 
 -- the world with another maximum, before the queue is served
 abbrev pub maxed : World → Acct → Space → ℕ → World

@@ -2,7 +2,7 @@
 use Rattle.std.proofs.Common.{◌≡◌, ◌∙◌, ℕ, List, [], Bool, true, false, inl, refl, sym, ap, subst, if◌then◌else◌}
 use Rattle.std.specs.Prelude.{None, Some}
 use Rattle.sdr_answers.proofs.RowLemmas.{row_refused, shows, unmoved_answered}
-use Rattle.sdr_answers.specs.Answering.{IsRefused}
+use Rattle.sdr_answers.specs.Answering.{Answered, IsRefused, IsServed}
 use Rattle.sdr_audit.specs.Standing.{HeapStandsFor}
 use Rattle.sdr_base.specs.Objects.{Heap}
 use Rattle.sdr_base.specs.declared.account.Acct.{Acct}
@@ -19,11 +19,10 @@ use Rattle.sdr_model.specs.declared.answer.Reply.TheVariants as replies
 use Rattle.sdr_model.specs.declared.call.Call.TheVariants as calls
 use Rattle.zco_acct.specs.Refusals.{unusable}
 use Rattle.zco_acct.specs.declared.queue.Found.{Found}
-use Rattle.zco_granted.proofs.ComingLemmas.{tickets_kept, untied_answered}
+use Rattle.zco_granted.proofs.ComingLemmas.{tickets_kept}
 use Rattle.zco_granted.proofs.FoundLemmas.{located_pending, pending_at, pending_nowhere, pending_or}
 use Rattle.zco_granted.proofs.QueueLemmas.{queue_kept}
-use Rattle.zco_granted.specs.Answering.{Answered, Sees}
-use Rattle.zco_served.specs.Answering.{IsServed}
+use Rattle.zco_granted.specs.Answering.{Sees}
 use Rattle.zco_space.proofs.FindLemmas.{located_is}
 use Rattle.zco_space.specs.Located.{AwardStops, IsAwarded, StandsIn, StandsNowhere}
 
@@ -62,11 +61,10 @@ module _ (old new : Heap) (w : World) (unmoved : old.moves ≡ []) (s : HeapStan
       pending_or w number
       (λ acct t p found.
       let granted = usable_granted number t (sym (ap (unusable number) found) ∙ none) in
-      untied_answered
-      (unmoved_answered w (record w { shown = [] }) (calls.Awarded number) new [] replies.Done still
+      unmoved_answered w (record w { shown = [] }) (calls.Awarded number) new [] replies.Done still
       (on_some _ _ (pending_of w number) (pending_at acct p.found.place t) p.is (on_true _ _ t.granted granted
       (refl, refl, refl)))
-      refl (shows old new w [] same s) refl refl refl refl))
+      refl (shows old new w [] same s) refl refl)
       (λ nowhere found. let no = sym (ap (unusable number) found) ∙ none in absurd cc)
 
   pub awarded_refused : (number : ℕ) (was : List ℕ) (refusal : Refusal) →

@@ -1,4 +1,5 @@
 -- The queues are kept where a heap stands for a world in which calls on accounts and tickets are served.
+use Rattle.sdr_answers.specs.Answering.{IsServed}
 use Rattle.sdr_audit.specs.Standing.{HeapStandsFor}
 use Rattle.sdr_base.specs.Objects.{Heap}
 use Rattle.sdr_base.specs.declared.account.Acct.TheVariants as accts
@@ -6,7 +7,6 @@ use Rattle.sdr_model.specs.World.{World}
 use Rattle.zco_granted.proofs.ComingLemmas.{tickets_kept}
 use Rattle.zco_granted.proofs.QueueLemmas.{queue_kept}
 use Rattle.zco_granted.specs.Answering.{IsGood}
-use Rattle.zco_served.specs.Answering.{IsServed}
 
 pub good_of : (heap : Heap) (w : World) → HeapStandsFor heap w → IsServed w → IsGood heap
 good_of heap w s served = record {

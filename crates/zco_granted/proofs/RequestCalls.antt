@@ -5,7 +5,7 @@ use Rattle.std.specs.List.{AllByRecursion}
 use Rattle.std.specs.Option.{option_map, option_or}
 use Rattle.std.specs.Prelude.{All, Option, None, Some}
 use Rattle.sdr_answers.proofs.RowLemmas.{TakesAim, row_refused, short_refused, took_has}
-use Rattle.sdr_answers.specs.Answering.{IsRefused}
+use Rattle.sdr_answers.specs.Answering.{Answered, IsRefused, IsServed}
 use Rattle.sdr_audit.specs.Standing.{HeapStandsFor, with_taken_marked}
 use Rattle.sdr_base.specs.Blocks.{with_at}
 use Rattle.sdr_base.specs.Entries.{Changes}
@@ -49,8 +49,7 @@ use Rattle.zco_granted.proofs.GrantLemmas.{grants_many, new_awaits}
 use Rattle.zco_granted.proofs.OccupiedLemmas.{left_entered, occupied_same, occupied_with, served_occupied}
 use Rattle.zco_granted.proofs.QueueLemmas.{maxima_are, next_is, occupied_is, queue_kept}
 use Rattle.zco_granted.proofs.WordLemmas.{AccountWords, ends_set, next_set, occupied_set, roots_with, set_occupied}
-use Rattle.zco_granted.specs.Answering.{Answered, grants_of}
-use Rattle.zco_served.specs.Answering.{IsServed}
+use Rattle.zco_granted.specs.Answering.{grants_of}
 use Rattle.zco_space.specs.Requests.{RequestStops, RequestsTicket, number_granted, request_refusal, requested, requests_granted}
 use Rattle.zco_space.specs.Served.{newly_granted, occupied_after, queue_served}
 

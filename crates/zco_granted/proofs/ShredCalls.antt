@@ -4,7 +4,7 @@ use Rattle.std.specs.List.{AllByRecursion}
 use Rattle.std.specs.Option.{option_map_or}
 use Rattle.std.specs.Prelude.{All, Option, None, Some}
 use Rattle.sdr_answers.proofs.RowLemmas.{gave_has, row_refused}
-use Rattle.sdr_answers.specs.Answering.{Aim, IsRefused}
+use Rattle.sdr_answers.specs.Answering.{Aim, Answered, IsRefused, IsServed}
 use Rattle.sdr_audit.specs.Standing.{HeapStandsFor}
 use Rattle.sdr_base.specs.Blocks.{with_at}
 use Rattle.sdr_base.specs.Entries.{Changes}
@@ -47,8 +47,7 @@ use Rattle.zco_granted.proofs.GrantLemmas.{grants_many, left_await}
 use Rattle.zco_granted.proofs.OccupiedLemmas.{occupied_less, occupied_with, served_occupied}
 use Rattle.zco_granted.proofs.QueueLemmas.{maxima_are, occupied_is, queue_kept}
 use Rattle.zco_granted.proofs.WordLemmas.{AccountWords, ends_set, occupied_set, roots_with, set_occupied}
-use Rattle.zco_granted.specs.Answering.{Answered, grants_of}
-use Rattle.zco_served.specs.Answering.{IsServed}
+use Rattle.zco_granted.specs.Answering.{grants_of}
 use Rattle.zco_space.specs.Served.{newly_granted, occupied_after}
 use Rattle.zco_space.specs.Shreds.{ShredStops, ShredsTicket, given_back, located, queue_of, shredded, shreds_granted, without_number}
 

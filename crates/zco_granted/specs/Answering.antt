@@ -1,31 +1,22 @@
--- What a call on accounts and tickets comes to on a heap that stands for a world, whatever that has.
-use Rattle.std.specs.Prelude.{◌≡◌, ◌+◌, ◌*◌, ℕ, Bool, true, false, List, ⊤, All, Option, Result, Ok, Err}
+-- The calls on accounts and tickets, and what they ask for of a heap.
+use Rattle.std.specs.Prelude.{◌≡◌, ◌+◌, ◌*◌, ℕ, Bool, true, false, Option}
 use Rattle.std.specs.Option.{option_map_or}
-use Rattle.sdr_answers.specs.Answering.{IsRefused}
+use Rattle.sdr_answers.specs.Answering.{IsServed}
 use Rattle.sdr_audit.specs.Standing.{HeapStandsFor}
 use Rattle.sdr_base.specs.Objects.{Heap}
 use Rattle.sdr_base.specs.declared.account.Acct.{Acct}
 use Rattle.sdr_base.specs.declared.account.Acct.TheVariants as accts
-use Rattle.sdr_base.specs.declared.stop.Stop.{Stop}
-use Rattle.sdr_base.specs.declared.stop.Stop.TheVariants as stops
-use Rattle.sdr_laws.specs.Fresh.{AreFresh}
 use Rattle.sdr_lock.specs.Demand.{grants_between}
 use Rattle.sdr_lock.specs.Serving.{shown_in}
 use Rattle.sdr_model.specs.AccountSteps.{new_ticket, pending_of, with_maximum, with_request, without_ticket}
 use Rattle.sdr_model.specs.Accounts.{account_of, with_account}
-use Rattle.sdr_model.specs.Blocks.{addresses_of, blocks_of}
-use Rattle.sdr_model.specs.Fields.{FitsFields, IsWord}
+use Rattle.sdr_model.specs.Fields.{FitsFields}
 use Rattle.sdr_model.specs.Queue.{with_served}
-use Rattle.sdr_model.specs.Rows.{ByRow}
-use Rattle.sdr_model.specs.Step.{is_answer}
-use Rattle.sdr_model.specs.Steps.{taken_addresses}
 use Rattle.sdr_model.specs.Valid.{KeepQueues}
 use Rattle.sdr_model.specs.World.{World}
-use Rattle.sdr_model.specs.declared.answer.Reply.{Reply}
 use Rattle.sdr_model.specs.declared.call.Call.{Call}
 use Rattle.sdr_model.specs.declared.call.Call.TheVariants as calls
 use Rattle.zco_acct.specs.Kept.{SomeQueue}
-use Rattle.zco_served.specs.Answering.{IsServed}
 
 -- the queues of both accounts are kept
 pub record IsGood (heap : Heap) : Type 0 where
@@ -80,25 +71,3 @@ pub record Serves (acct : Acct) (old new : Heap) : Type 0 where
 -- Whatever world the heap stands for in which calls are served, this says whether the ticket is there, and granted.
 pub record Sees (ticket : ℕ) (heap : Heap) (granted : Option Bool) : Type 0 where
   pub sees : (w : World) → HeapStandsFor heap w → IsServed w → granted ≡ shown_in w ticket
-
--- A call that had no move before is answered by its row, with the heap's moves, of which each takes a block where none was.
--- The heap stands for the world after it, which shows these bytes.
-pub record Answered (w : World) (call : Call) (new : Heap) (shown : List ℕ) (reply : Reply) : Type 0 where
-  pub after : World
-  pub row : ByRow w (record { moves = new.moves; after = after; reply = reply }) call
-  pub answered : is_answer reply ≡ true
-  pub fresh : AreFresh (addresses_of (blocks_of w)) new.moves
-  pub stands : HeapStandsFor new after
-  pub gave : after.shown ≡ shown
-  pub words : All IsWord (taken_addresses new.moves)
-  pub taken : after.taken ≡ w.taken
-
--- what a call comes to in a world
-abbrev pub ComesIn : World → Call → Heap → Heap → List ℕ → List ℕ → Result Reply Stop → Type 0
-ComesIn w call old new was shown (Ok reply) = Answered w call new shown reply
-ComesIn w call old new was shown (Err (stops.Refused refusal)) = IsRefused w call old new was shown refusal
-ComesIn w call old new was shown (Err stop) = ⊤
-
--- what a call comes to in each world in which it is served and for which the heap stood
-pub record Comes (call : Call) (old new : Heap) (was shown : List ℕ) (result : Result Reply Stop) : Type 0 where
-  pub each : (w : World) → HeapStandsFor old w → IsServed w → ComesIn w call old new was shown result

@@ -1,5 +1,6 @@
 // The calls on accounts, as steps of the machine.
 ghost use Rattle.std.specs.Prelude.{[], ◌≡◌, ◌+◌, ◌*◌, IfErr, OnOk};
+ghost use Rattle.sdr_answers.specs.Answering.{Comes, IsServed};
 ghost use Rattle.sdr_audit.specs.Standing.{HeapStandsFor};
 ghost use Rattle.sdr_base.specs.Moves.{KeepsSome};
 ghost use Rattle.sdr_base.specs.Objects.{OnlyUnmoved};
@@ -9,8 +10,7 @@ ghost use Rattle.sdr_model.specs.Queue.{with_served};
 ghost use Rattle.sdr_model.specs.World.{World};
 ghost use Rattle.sdr_model.specs.declared.call.Call.TheVariants as calls;
 ghost use Rattle.zco_acct.specs.Kept.{SomeQueue};
-ghost use Rattle.zco_granted.specs.Answering.{Comes, KeepsTickets, Serves, call_lines};
-ghost use Rattle.zco_served.specs.Answering.{IsServed};
+ghost use Rattle.zco_granted.specs.Answering.{KeepsTickets, Serves, call_lines};
 
 use sdr_answers::Page;
 use sdr_base::{Acct, Objects, Space, Stop};

@@ -1,12 +1,12 @@
 // The calls on accounts and tickets, each handed to its function.
 ghost use Rattle.std.specs.Prelude.{[], true, ◌≡◌, ◌≤◌};
+ghost use Rattle.sdr_answers.specs.Answering.{Comes, IsServed};
 ghost use Rattle.sdr_audit.specs.Standing.{HeapStandsFor};
 ghost use Rattle.sdr_base.specs.Moves.{KeepsSome};
 ghost use Rattle.sdr_base.specs.Works.{Works};
 ghost use Rattle.sdr_model.specs.Fields.{FitsCall};
 ghost use Rattle.sdr_model.specs.World.{World};
-ghost use Rattle.zco_granted.specs.Answering.{Comes, IsGood, call_lines, is_account_call};
-ghost use Rattle.zco_served.specs.Answering.{IsServed};
+ghost use Rattle.zco_granted.specs.Answering.{IsGood, call_lines, is_account_call};
 
 use crate::accounts::{maximum, occupancy, set_maximum};
 use crate::tickets::{Asking, awarded, request, shred};
@@ -14,6 +14,21 @@ use sdr_answers::Page;
 use sdr_base::{Amounts, Objects, Stop};
 use sdr_model::{Call, Reply};
 use zco_acct::{Notice, Notify};
+
+/// Whether the call is one on accounts or tickets.
+pub fn is_account_call(call: &Call) -> bool
+    ensures { result ≡ is_account_call call.now }
+{
+    matches!(
+        call,
+        Call::Occupancy(_, _)
+            | Call::Maximum(_, _)
+            | Call::SetMaximum(_, _, _)
+            | Call::Request(_, _, _, _, _, _)
+            | Call::Awarded(_)
+            | Call::Shred(_)
+    )
+}
 
 /// Answers a call on accounts or tickets.
 pub fn answer<O: Objects, F: Notify>(

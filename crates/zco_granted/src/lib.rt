@@ -11,5 +11,5 @@ mod answering;
 mod tickets;
 
 pub use accounts::serve;
-pub use answering::answer;
+pub use answering::{answer, is_account_call};
 pub use tickets::look;

@@ -3,7 +3,7 @@ use Rattle.std.proofs.Common.{◌≡◌, ℕ, List, [], refl, ap}
 use Rattle.sdr_answers.proofs.ListLemmas.{IsSmall}
 use Rattle.sdr_answers.proofs.RowLemmas.{looked, misnamed_refused}
 use Rattle.sdr_answers.specs.Answering as answers
-use Rattle.sdr_answers.specs.Answering.{IsRefused}
+use Rattle.sdr_answers.specs.Answering.{Answered, IsRefused, IsServed}
 use Rattle.sdr_audit.specs.Standing.{HeapStandsFor}
 use Rattle.sdr_base.specs.Objects.{Heap, Misses}
 use Rattle.sdr_base.specs.declared.kind.Kind.TheVariants as kinds
@@ -17,22 +17,6 @@ use Rattle.sdr_model.specs.declared.call.Call.{Call}
 use Rattle.sdr_model.specs.declared.call.Call.TheVariants as calls
 use Rattle.zco_ref.specs.Counting.{CountsUses}
 use Rattle.zco_served.proofs.SourceLemmas.{counted_in, no_source, source_is_at}
-use Rattle.zco_served.specs.Answering.{Answered, IsServed}
-
--- a call that leaves the ties of things was answered
-pub untied_answered : {w : World} {call : Call} {new : Heap} {shown : List ℕ} {reply : Reply} →
-    answers.Answered w call new shown reply → Answered w call new shown reply
-untied_answered a = record {
-  after = a.after;
-  row = a.row;
-  answered = a.answered;
-  fresh = a.fresh;
-  stands = a.stands;
-  gave = a.gave;
-  words = a.words;
-  accounts = a.accounts;
-  taken = a.taken;
-}
 
 -- a call on a heap that stands for a world in which it is served
 module _ (old new : Heap) (w : World) (unmoved : old.moves ≡ []) (s : HeapStandsFor old w) (served : IsServed w) (same : new ≡ old) where
@@ -40,10 +24,9 @@ module _ (old new : Heap) (w : World) (unmoved : old.moves ≡ []) (s : HeapStan
       Answered w (calls.Count addr) new [] (replies.Value value)
   count_answered addr value small c =
       let t = source_is_at old w addr s served small c.kind in
-      untied_answered
-      (looked w (calls.Count addr) addr (source_at w addr) (λ x. []) (λ x. replies.Value (uses_of w addr)) t.source old new
+      looked w (calls.Count addr) addr (source_at w addr) (λ x. []) (λ x. replies.Value (uses_of w addr)) t.source old new
       (replies.Value value) (λ o h. h) (ap as_source t.there)
-      (ap (λ (n : ℕ). replies.Value n) (c.uses.tells (counted_in w addr t.source) t.keeps)) refl unmoved same s)
+      (ap (λ (n : ℕ). replies.Value n) (c.uses.tells (counted_in w addr t.source) t.keeps)) refl unmoved same s
 
   pub count_refused : (addr : ℕ) (was : List ℕ) (refusal : Refusal) → Misses (old.blocks addr) addr kinds.Source (stops.Refused refusal) →
       IsRefused w (calls.Count addr) old new was was refusal

@@ -3,7 +3,7 @@ use Rattle.std.proofs.Common.{◌≡◌, ◌∙◌, ℕ, ◌==◌, List, [], ◌
 use Rattle.std.specs.Prelude.{MatchBool}
 use Rattle.sdr_answers.proofs.ListLemmas.{IsSmall}
 use Rattle.sdr_answers.proofs.RowLemmas.{full_refused, gave_back, misnamed_refused, moved_nothing, row_refused}
-use Rattle.sdr_answers.specs.Answering.{IsRefused}
+use Rattle.sdr_answers.specs.Answering.{Answered, IsRefused, IsServed}
 use Rattle.sdr_audit.proofs.ChangeLemmas.{part_changed}
 use Rattle.sdr_audit.proofs.PartLemmas.{thing_changed, thing_gone}
 use Rattle.sdr_audit.specs.Standing.{HeapStandsFor}
@@ -35,7 +35,6 @@ use Rattle.zco_ref.specs.Kept.{KeepsSource, counted_entries}
 use Rattle.zco_served.proofs.GoingCalls.{MayGoAt, aim, flagged_row, free, gone_row, obj_gone, owner_told}
 use Rattle.zco_served.proofs.SourceLemmas.{IsRawOf, counted_in, no_source, source_is_at, source_tied}
 use Rattle.zco_served.proofs.StepLemmas.{answered_later, roots_kept}
-use Rattle.zco_served.specs.Answering.{Answered, IsServed}
 
 -- a call on a heap that stands for a world in which it is served
 module _ (old new : Heap) (w : World) (unmoved : old.moves ≡ []) (s : HeapStandsFor old w) (served : IsServed w) where

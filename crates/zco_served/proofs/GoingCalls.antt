@@ -4,7 +4,7 @@ use Rattle.std.specs.Prelude.{is_some}
 use Rattle.std.proofs.lemmas.Bool.{eq-eqb, ne_eqb}
 use Rattle.sdr_answers.proofs.EntryLemmas.{source_there}
 use Rattle.sdr_answers.proofs.RowLemmas.{HasMoves, gave_back, marks_none}
-use Rattle.sdr_answers.specs.Answering.{Aim}
+use Rattle.sdr_answers.specs.Answering.{Aim, Answered, IsServed}
 use Rattle.sdr_audit.specs.Rows.{medium_of}
 use Rattle.sdr_audit.specs.Standing.{HeapStandsFor, entries_of, other_entries, thing_entries, with_taken_marked}
 use Rattle.sdr_audit.specs.Ties.{Ties, or_null, ties_of}
@@ -41,7 +41,6 @@ use Rattle.zco_served.proofs.RetiedLemmas.{retied}
 use Rattle.zco_served.proofs.SourceLemmas.{counted_in}
 use Rattle.zco_served.proofs.StepLemmas.{IsFree, all_changed, answered_later, fits_later, roots_kept}
 use Rattle.zco_served.proofs.UsesLemmas.{same_counts}
-use Rattle.zco_served.specs.Answering.{Answered, IsServed}
 
 -- a source has taken over a raw object by its medium or by its subject
 pub owner_told : (subject : Subject) → is_some (taken_over subject) ≡ is_owner (medium_of subject)

@@ -1,5 +1,6 @@
 -- What is of the kind of sources or of raw objects is kept where a heap stands for a world in which calls on sources are served.
 use Rattle.std.proofs.Common.{◌≡◌, ◌≢◌, ℕ, Option, Some, None, refl}
+use Rattle.sdr_answers.specs.Answering.{IsServed}
 use Rattle.sdr_answers.proofs.EntryLemmas.{source_there}
 use Rattle.sdr_answers.proofs.ListLemmas.{IsSmall}
 use Rattle.sdr_audit.specs.Standing.{HeapStandsFor}
@@ -9,7 +10,7 @@ use Rattle.sdr_model.specs.World.{World}
 use Rattle.sdr_model.specs.Zco.{source_on}
 use Rattle.zco_ref.specs.Kept.{SomeFew}
 use Rattle.zco_served.proofs.SourceLemmas.{counted_in, named_is_at, source_few, source_is_at, source_tied}
-use Rattle.zco_served.specs.Answering.{IsGood, IsServed}
+use Rattle.zco_served.specs.Answering.{IsGood}
 
 pub good_of : (heap : Heap) (w : World) → HeapStandsFor heap w → IsServed w → IsSmall heap → IsGood heap
 good_of heap w s served small = record {

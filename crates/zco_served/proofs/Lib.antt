@@ -4,9 +4,8 @@ pub mod UsesLemmas
 pub mod SourceLemmas
 pub mod GoodLemmas
 mod StepLemmas
-mod ComingLemmas
 mod MakingCalls
-mod NamingCalls
+pub mod NamingCalls
 mod GoingCalls
 mod DroppingCalls
 mod CountingCalls

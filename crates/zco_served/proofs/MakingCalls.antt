@@ -2,7 +2,7 @@
 use Rattle.std.proofs.Common.{◌≡◌, ◌∙◌, ◌⊎◌, ◌≤◌, ◌<◌, ◌||◌, ℕ, List, [], ◌∷◌, Bool, true, false, inl, inr, nat_lt, length, refl, sym, ap, subst, arith}
 use Rattle.std.proofs.lemmas.Bool.Decides.{nat_tests}
 use Rattle.sdr_answers.proofs.RowLemmas.{row_refused, short_refused, took_one}
-use Rattle.sdr_answers.specs.Answering.{IsRefused}
+use Rattle.sdr_answers.specs.Answering.{Answered, IsRefused, IsServed}
 use Rattle.sdr_audit.proofs.ChangeLemmas.{nothing_at, part_changed}
 use Rattle.sdr_audit.proofs.PartLemmas.{thing_new}
 use Rattle.sdr_audit.specs.Rows.{source_row}
@@ -33,7 +33,6 @@ use Rattle.sdr_model.specs.declared.zco.ZcoSource.{ZcoSource}
 use Rattle.zco_ref.specs.Making.{BulkStops, FileStops, IsNoPath, IsPathLength, IsTooLong, MakesBulk, MakesFile}
 use Rattle.zco_served.proofs.StepLemmas.{IsFree, answered_later, roots_kept}
 use Rattle.zco_served.proofs.UsesLemmas.{none_counted}
-use Rattle.zco_served.specs.Answering.{Answered, IsServed}
 
 -- a source was made at an address
 abbrev pub source_outcome : World → ℕ → ZcoSource → ℕ → Outcome

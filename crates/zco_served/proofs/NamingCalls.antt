@@ -5,7 +5,7 @@ use Rattle.sdr_answers.proofs.EntryLemmas.{source_there}
 use Rattle.sdr_answers.proofs.ListLemmas.{IsSmall}
 use Rattle.sdr_answers.proofs.RawLemmas.{no_raw}
 use Rattle.sdr_answers.proofs.RowLemmas.{HasMoves, misnamed_refused, row_refused, short_refused, took_one}
-use Rattle.sdr_answers.specs.Answering.{IsRefused}
+use Rattle.sdr_answers.specs.Answering.{Answered, IsRefused, IsServed}
 use Rattle.sdr_audit.proofs.ChangeLemmas.{in_use, nothing_at}
 use Rattle.sdr_audit.specs.Rows.{source_row}
 use Rattle.sdr_audit.specs.Standing.{HeapStandsFor, entries_of, other_entries, thing_entries}
@@ -52,7 +52,6 @@ use Rattle.zco_served.proofs.RetiedLemmas.{retied}
 use Rattle.zco_served.proofs.SourceLemmas.{IsNamedAt, counted_in, named_is_at, source_stands}
 use Rattle.zco_served.proofs.StepLemmas.{all_changed, answered_later, fits_later, roots_kept}
 use Rattle.zco_served.proofs.UsesLemmas.{none_counted, same_counts}
-use Rattle.zco_served.specs.Answering.{Answered, IsServed}
 
 -- what is put at a place of a function stands there
 pub put_here : (values : ℕ → ℕ) (place value : ℕ) → with_at values place value place ≡ value
@@ -200,7 +199,7 @@ module _ (old new : Heap) (w : World) (unmoved : old.moves ≡ []) (s : HeapStan
         (record { charge = λ acct space. omega arith; release = λ acct space. refl })) refl)
 
   -- the source that names a raw object, and how many extents name that
-  used_as : (raw count : ℕ) → IsSmall old → IsNamed old.blocks raw count → (addr : ℕ) × (source_on w raw ≡ Some addr) × (count ≡ uses_of w addr)
+  pub used_as : (raw count : ℕ) → IsSmall old → IsNamed old.blocks raw count → (addr : ℕ) × (source_on w raw ≡ Some addr) × (count ≡ uses_of w addr)
   used_as raw count small n =
       let r = named_is_at old w raw s served n.kind in
       by (source_on w raw) refl (n.used (or_null (source_on w raw)) r.bytes r.keeps)

@@ -2,6 +2,7 @@
 use Rattle.std.proofs.Common.{◌≡◌, ℕ, ◌<◌, ◌^◌, List, [], Option, Some, None, refl, ap, ◌∙◌, arith, subst}
 use Rattle.std.specs.Prelude.{IfSome}
 use Rattle.std.proofs.lemmas.Bool.{eq-eqb}
+use Rattle.sdr_answers.specs.Answering.{IsServed}
 use Rattle.sdr_answers.proofs.EntryLemmas.{source_there}
 use Rattle.sdr_answers.proofs.KindLemmas.{own_in_use, thing_is_at}
 use Rattle.sdr_answers.proofs.ListLemmas.{IsSmall}
@@ -29,7 +30,6 @@ use Rattle.sdr_model.specs.declared.zco.ZcoSource.{ZcoSource}
 use Rattle.zco_ref.specs.Kept.{CountedSource, KeepsRaw, KeepsSource, KeepsTied, SomeFew, counted_block}
 use Rattle.zco_served.proofs.NamedLemmas.{named_at}
 use Rattle.zco_served.proofs.UsesLemmas.{counts_small}
-use Rattle.zco_served.specs.Answering.{IsServed}
 
 -- a source of a world with the extents that name it
 abbrev pub counted_in : World → ℕ → ZcoSource → CountedSource

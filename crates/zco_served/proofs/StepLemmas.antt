@@ -1,6 +1,7 @@
 -- How a call on sources is a step.
 use Rattle.std.proofs.Common.{◌≡◌, ℕ, List, [], true, inl, refl, sym, ap, subst, arith, append-nil}
 use Rattle.std.specs.Prelude.{All}
+use Rattle.sdr_answers.specs.Answering.{Answered}
 use Rattle.sdr_audit.proofs.ChangeLemmas.{part_changed}
 use Rattle.sdr_audit.proofs.RootsLemmas.{roots_where}
 use Rattle.sdr_audit.specs.Standing.{HeapStandsFor, entries_of, roots_of, with_taken_marked}
@@ -31,7 +32,6 @@ use Rattle.sdr_model.specs.Whole.{IsWhole}
 use Rattle.sdr_model.specs.World.{World}
 use Rattle.sdr_model.specs.declared.answer.Reply.{Reply}
 use Rattle.sdr_model.specs.declared.call.Call.{Call}
-use Rattle.zco_served.specs.Answering.{Answered}
 
 -- a queue that stays has granted nothing since
 grants_none : (w : World) → KeepQueues w.accounts → (acct : Acct) (space : Space) →
@@ -91,7 +91,6 @@ module _ (w : World) (things : Things) (call : Call) (moves : List Move) (reply 
     stands = stands;
     gave = refl;
     words = subst (λ (ms : List Move). All IsWord (taken_addresses ms)) (sym is) words;
-    accounts = refl;
     taken = refl;
   }
 

@@ -6,4 +6,4 @@
 
 mod sources;
 
-pub use sources::answer;
+pub use sources::{answer, is_source_call};

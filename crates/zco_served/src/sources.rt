@@ -1,11 +1,12 @@
 // The calls on sources, as steps of the machine.
 ghost use Rattle.std.specs.Prelude.{[], length, true, ◌+◌, ◌/◌, ◌≡◌, ◌≤◌};
+ghost use Rattle.sdr_answers.specs.Answering.{Comes};
 ghost use Rattle.sdr_base.specs.Moves.{KeepsSome};
 ghost use Rattle.sdr_base.specs.Works.{Works};
 ghost use Rattle.sdr_model.specs.Fields.{AreBytes, FitsCall, IsWord};
 ghost use Rattle.sdr_model.specs.declared.call.Call.TheVariants as calls;
 ghost use Rattle.zco_ref.specs.Kept.{IsFew, IsRaw, IsTied};
-ghost use Rattle.zco_served.specs.Answering.{Comes, IsGood, call_lines, is_source_call};
+ghost use Rattle.zco_served.specs.Answering.{IsGood, call_lines, is_source_call};
 
 use sdr_answers::Page;
 use sdr_base::{Addr, Objects, Stop};
@@ -83,6 +84,20 @@ fn count<O: Objects>(o: &mut O, source: Addr, page: &mut Page) -> Result<Reply, 
     let value = zco_ref::count(o, source)?;
     page.clear();
     Ok(Reply::Value { value })
+}
+
+/// Whether the call is one on sources.
+pub fn is_source_call(call: &Call) -> bool
+    ensures { result ≡ is_source_call call.now }
+{
+    matches!(
+        call,
+        Call::FileRef(_, _)
+            | Call::BulkRef(_, _)
+            | Call::ObjRef(_)
+            | Call::DestroyRef(_)
+            | Call::Count(_)
+    )
 }
 
 /// Answers a call on sources.

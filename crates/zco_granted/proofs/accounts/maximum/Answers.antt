@@ -1,6 +1,6 @@
 -- A maximum, read.
 use Rattle.zco_granted.proofs.AccountCalls.{maximum_answered}
-use Rattle.zco_granted.proofs.ComingLemmas.{comes_answered}
+use Rattle.sdr_answers.proofs.CallLemmas.{comes_answered}
 use Rattle.sdr_model.specs.declared.answer.Reply.TheVariants as replies
 use Rattle.sdr_model.specs.declared.call.Call.TheVariants as calls
 use Rattle.zco_granted.proofs.accounts.maximum.Goals as goal

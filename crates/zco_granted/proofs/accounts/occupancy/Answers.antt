@@ -1,6 +1,6 @@
 -- What is occupied, read.
 use Rattle.zco_granted.proofs.AccountCalls.{occupancy_answered}
-use Rattle.zco_granted.proofs.ComingLemmas.{comes_answered}
+use Rattle.sdr_answers.proofs.CallLemmas.{comes_answered}
 use Rattle.sdr_model.specs.declared.answer.Reply.TheVariants as replies
 use Rattle.sdr_model.specs.declared.call.Call.TheVariants as calls
 use Rattle.zco_granted.proofs.accounts.occupancy.Goals as goal

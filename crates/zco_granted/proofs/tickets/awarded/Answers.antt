@@ -1,10 +1,10 @@
 -- A ticket is awarded, or it isn't.
 use Rattle.std.proofs.Common.{rules, Err}
+use Rattle.sdr_answers.specs.Answering.{Comes}
 use Rattle.sdr_model.specs.declared.answer.Reply.TheVariants as replies
 use Rattle.sdr_model.specs.declared.call.Call.TheVariants as calls
-use Rattle.zco_granted.proofs.ComingLemmas.{comes_answered, comes_stopped}
+use Rattle.sdr_answers.proofs.CallLemmas.{comes_answered, comes_stopped}
 use Rattle.zco_granted.proofs.AwardCalls.{awarded_answered, awarded_refused}
-use Rattle.zco_granted.specs.Answering.{Comes}
 use Rattle.zco_space.specs.Located.{AwardStops}
 use Rattle.zco_granted.proofs.tickets.awarded.Goals as goal
 

@@ -1,13 +1,14 @@
 -- A ticket is given, or the call is refused.
 use Rattle.std.proofs.Common.{arith, rules, Err}
 use Rattle.std.proofs.lemmas.Result.{err_from_is_err_and}
+use Rattle.sdr_answers.specs.Answering.{Comes}
 use Rattle.sdr_base.proofs.WorksLemmas.{works_more, works_ok}
 use Rattle.sdr_model.specs.Accounts.{tickets_of}
 use Rattle.sdr_model.specs.declared.answer.Reply.TheVariants as replies
-use Rattle.zco_granted.proofs.ComingLemmas.{comes_answered, comes_stopped, tickets_kept}
+use Rattle.sdr_answers.proofs.CallLemmas.{comes_answered, comes_stopped}
+use Rattle.zco_granted.proofs.ComingLemmas.{tickets_kept}
 use Rattle.zco_granted.proofs.QueueLemmas.{queue_kept}
 use Rattle.zco_granted.proofs.RequestCalls.{asks, request_grants, requested_answered, requested_refused}
-use Rattle.zco_granted.specs.Answering.{Comes}
 use Rattle.zco_space.proofs.StopLemmas.{works_stopped}
 use Rattle.zco_space.specs.Requests.{RequestStops}
 use Rattle.zco_granted.proofs.tickets.request.Goals as goal

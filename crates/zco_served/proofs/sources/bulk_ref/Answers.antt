@@ -1,8 +1,8 @@
 -- A source of an item, made or refused.
 use Rattle.std.proofs.Common.{rules, Err}
-use Rattle.zco_served.proofs.ComingLemmas.{comes_answered, comes_stopped}
+use Rattle.sdr_answers.specs.Answering.{Comes}
+use Rattle.sdr_answers.proofs.CallLemmas.{comes_answered, comes_stopped}
 use Rattle.zco_served.proofs.MakingCalls.{bulk_made, bulk_unmade}
-use Rattle.zco_served.specs.Answering.{Comes}
 use Rattle.zco_ref.specs.Making.{BulkStops}
 use Rattle.sdr_model.specs.declared.answer.Reply.TheVariants as replies
 use Rattle.sdr_model.specs.declared.call.Call.TheVariants as calls

@@ -1,9 +1,9 @@
 -- A count, read or refused.
 use Rattle.std.proofs.Common.{rules, Err}
+use Rattle.sdr_answers.specs.Answering.{Comes}
 use Rattle.sdr_answers.proofs.ListLemmas.{IsSmall}
-use Rattle.zco_served.proofs.ComingLemmas.{comes_answered, comes_stopped}
+use Rattle.sdr_answers.proofs.CallLemmas.{comes_answered, comes_stopped}
 use Rattle.zco_served.proofs.CountingCalls.{count_answered, count_refused}
-use Rattle.zco_served.specs.Answering.{Comes}
 use Rattle.sdr_base.specs.Objects.{Misses}
 use Rattle.sdr_base.specs.declared.kind.Kind.TheVariants as kinds
 use Rattle.sdr_model.specs.declared.answer.Reply.TheVariants as replies

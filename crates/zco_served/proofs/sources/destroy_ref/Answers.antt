@@ -1,9 +1,9 @@
 -- A source, destroyed or refused.
 use Rattle.std.proofs.Common.{rules, Err}
+use Rattle.sdr_answers.specs.Answering.{Comes}
 use Rattle.sdr_answers.proofs.ListLemmas.{IsSmall}
-use Rattle.zco_served.proofs.ComingLemmas.{comes_answered, comes_stopped}
+use Rattle.sdr_answers.proofs.CallLemmas.{comes_answered, comes_stopped}
 use Rattle.zco_served.proofs.DroppingCalls.{destroyed, undestroyed}
-use Rattle.zco_served.specs.Answering.{Comes}
 use Rattle.zco_ref.specs.Dropping.{DestroyStops}
 use Rattle.sdr_model.specs.declared.answer.Reply.TheVariants as replies
 use Rattle.sdr_model.specs.declared.call.Call.TheVariants as calls

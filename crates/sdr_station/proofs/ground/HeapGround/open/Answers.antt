@@ -1,4 +1,4 @@
-use Rattle.std.proofs.Common.{◌∙◌, ap, arith, false, sym, subst}
+use Rattle.std.proofs.Common.{◌∙◌, ap, arith, false, sym, subst, true}
 use Rattle.sdr_disk.specs.Moments.{AtEach}
 use Rattle.sdr_heap.specs.Noted.{Held}
 use Rattle.sdr_image.specs.Opened.{Opened}
@@ -40,6 +40,7 @@ returns-in-Ok-new-clause-opened g c =
       heap = sym made i;
       shown = sym c.new-in-Ok-new.ensures i;
       stopped = false;
+      idle = true;
       moment = sym c.now-moment.ensures.moment i;
       restored = sym c.restored-restored.ensures i;
     })
@@ -69,6 +70,7 @@ invariant_of-result g c =
       heap = sym made i;
       shown = sym c.new-in-Ok-new.ensures i;
       stopped = false;
+      idle = true;
       moment = sym c.now-moment.ensures.moment i;
       restored = sym c.restored-restored.ensures i;
     })

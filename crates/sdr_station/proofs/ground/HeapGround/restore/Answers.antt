@@ -24,6 +24,7 @@ returns-in-Ok g c =
       heap = c.self.inside.heap;
       shown = c.self.inside.shown;
       stopped = c.self.inside.stopped;
+      idle = c.self.inside.idle;
       moment = c.self.inside.moment;
       restored = c.self.inside.restored;
     } in
@@ -32,12 +33,13 @@ returns-in-Ok g c =
       heap = at.new.heap;
       shown = c.clear.new.self;
       stopped = false;
+      idle = true;
       moment = at.result;
       restored = c.self.inside.restored;
     } in
     let heap : at.new.heap ≡ (back_ground old disk at.result).heap = at.ensures.same ∙ e.ended in
     let is : new ≡ back_ground old disk at.result =
-    λ i. record { heap = heap i; shown = c.clear.ensures i; stopped = false; moment = at.result; restored = old.restored } in
+    λ i. record { heap = heap i; shown = c.clear.ensures i; stopped = false; idle = true; moment = at.result; restored = old.restored } in
     let at_now = at.ensures.moment ∙ ap (λ (h : Held (Opened D)). max old.moment (m h.cells.disk)) at.ensures.same in
     let sound : old.heap.cells.failed ≡ false = e.cause.explained.0 in
     let closed = closes_back b m f l old disk at.result at_now sound e.disk.tells _ (e.any_moment sound) new is c.self.invariant
@@ -47,6 +49,7 @@ returns-in-Ok g c =
       memory = all.memory;
       put_back = all.brings;
       going = λ _. refl;
+      idle = λ _. refl;
       sound = all.sound ∙ sym (ap (λ (o : Grounded D). o.heap.cells.failed) (sym c.self.view_is) ∙ sound);
       restored = ap (λ (o : Grounded D). o.restored) c.self.view_is;
       fault = tt;
@@ -67,6 +70,7 @@ returns-in-Err-DiskFault-clause-any_moment g c =
       heap = c.self.inside.heap;
       shown = c.self.inside.shown;
       stopped = c.self.inside.stopped;
+      idle = c.self.inside.idle;
       moment = c.self.inside.moment;
       restored = c.self.inside.restored;
     } in
@@ -74,6 +78,7 @@ returns-in-Err-DiskFault-clause-any_moment g c =
       heap = at.new.heap;
       shown = c.self.inside.shown;
       stopped = true;
+      idle = false;
       moment = at.result;
       restored = c.self.inside.restored;
     } in
@@ -97,6 +102,7 @@ invariant_of-self g c =
       heap = c.self.inside.heap;
       shown = c.self.inside.shown;
       stopped = c.self.inside.stopped;
+      idle = c.self.inside.idle;
       moment = c.self.inside.moment;
       restored = c.self.inside.restored;
     } in
@@ -105,12 +111,13 @@ invariant_of-self g c =
       heap = at.new.heap;
       shown = c.clear.new.self;
       stopped = false;
+      idle = true;
       moment = at.result;
       restored = c.self.inside.restored;
     } in
     let heap : at.new.heap ≡ (back_ground old disk at.result).heap = at.ensures.same ∙ e.ended in
     let is : new ≡ back_ground old disk at.result =
-    λ i. record { heap = heap i; shown = c.clear.ensures i; stopped = false; moment = at.result; restored = old.restored } in
+    λ i. record { heap = heap i; shown = c.clear.ensures i; stopped = false; idle = true; moment = at.result; restored = old.restored } in
     let at_now = at.ensures.moment ∙ ap (λ (h : Held (Opened D)). max old.moment (m h.cells.disk)) at.ensures.same in
     let sound : old.heap.cells.failed ≡ false = e.cause.explained.0 in
     let closed = closes_back b m f l old disk at.result at_now sound e.disk.tells _ (e.any_moment sound) new is c.self.invariant

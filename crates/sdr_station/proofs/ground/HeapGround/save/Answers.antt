@@ -22,6 +22,7 @@ returns-in-Ok g c =
       heap = c.self.inside.heap;
       shown = c.self.inside.shown;
       stopped = c.self.inside.stopped;
+      idle = c.self.inside.idle;
       moment = c.self.inside.moment;
       restored = c.self.inside.restored;
     } in
@@ -31,12 +32,13 @@ returns-in-Ok g c =
       heap = at.new.heap;
       shown = c.clear.new.self;
       stopped = false;
+      idle = true;
       moment = at.result;
       restored = c.self.inside.restored;
     } in
     let heap : at.new.heap ≡ (kept_ground old disk at.result).heap = at.ensures.same ∙ e.ended in
     let is : new ≡ kept_ground old disk at.result =
-    λ i. record { heap = heap i; shown = c.clear.ensures i; stopped = false; moment = at.result; restored = old.restored } in
+    λ i. record { heap = heap i; shown = c.clear.ensures i; stopped = false; idle = true; moment = at.result; restored = old.restored } in
     let at_now = at.ensures.moment ∙ ap (λ (h : Held (Opened D)). max old.moment (m h.cells.disk)) at.ensures.same in
     let sound : old.heap.cells.failed ≡ false = e.cause.explained.0 in
     let closed = closes_kept b m f l old disk at.result at_now sound e.disk.tells _ (e.any_moment sound) new is c.self.invariant going
@@ -46,6 +48,7 @@ returns-in-Ok g c =
       memory = all.memory;
       kept = all.brings;
       going = refl;
+      idle = refl;
       sound = all.sound;
       restored = ap (λ (o : Grounded D). o.restored) c.self.view_is;
       fault = tt;
@@ -66,6 +69,7 @@ returns-in-Err-clause-any_moment g c =
       heap = c.self.inside.heap;
       shown = c.self.inside.shown;
       stopped = c.self.inside.stopped;
+      idle = c.self.inside.idle;
       moment = c.self.inside.moment;
       restored = c.self.inside.restored;
     } in
@@ -74,6 +78,7 @@ returns-in-Err-clause-any_moment g c =
       heap = at.new.heap;
       shown = c.self.inside.shown;
       stopped = true;
+      idle = false;
       moment = at.result;
       restored = c.self.inside.restored;
     } in
@@ -97,6 +102,7 @@ invariant_of-self g c =
       heap = c.self.inside.heap;
       shown = c.self.inside.shown;
       stopped = c.self.inside.stopped;
+      idle = c.self.inside.idle;
       moment = c.self.inside.moment;
       restored = c.self.inside.restored;
     } in
@@ -106,12 +112,13 @@ invariant_of-self g c =
       heap = at.new.heap;
       shown = c.clear.new.self;
       stopped = false;
+      idle = true;
       moment = at.result;
       restored = c.self.inside.restored;
     } in
     let heap : at.new.heap ≡ (kept_ground old disk at.result).heap = at.ensures.same ∙ e.ended in
     let is : new ≡ kept_ground old disk at.result =
-    λ i. record { heap = heap i; shown = c.clear.ensures i; stopped = false; moment = at.result; restored = old.restored } in
+    λ i. record { heap = heap i; shown = c.clear.ensures i; stopped = false; idle = true; moment = at.result; restored = old.restored } in
     let at_now = at.ensures.moment ∙ ap (λ (h : Held (Opened D)). max old.moment (m h.cells.disk)) at.ensures.same in
     let sound : old.heap.cells.failed ≡ false = e.cause.explained.0 in
     let closed = closes_kept b m f l old disk at.result at_now sound e.disk.tells _ (e.any_moment sound) new is c.self.invariant going
@@ -131,6 +138,7 @@ returns-in-Err-clause-fault g c =
       heap = at.new.heap;
       shown = c.self.inside.shown;
       stopped = true;
+      idle = false;
       moment = at.result;
       restored = c.self.inside.restored;
     } in

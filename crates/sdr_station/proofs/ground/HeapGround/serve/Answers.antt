@@ -1,8 +1,7 @@
-use Rattle.std.proofs.Common.{◌∙◌, ap, inl, inr, not, subst}
+use Rattle.std.proofs.Common.{◌∙◌, ap, inl, inr, not, subst, true, false}
 use Rattle.sdr_model.specs.declared.answer.Reply.TheVariants as replies
 use Rattle.sdr_station.proofs.CameLemmas.{CameTo, came_answered, came_refused, faults_never, good_before, keeps_before}
-use Rattle.sdr_answers.specs.Answering.{call_lines}
-use Rattle.sdr_station.specs.Grounded.{Grounded, heap_in}
+use Rattle.sdr_station.specs.Grounded.{Grounded}
 use Rattle.sdr_station.proofs.ground.HeapGround.serve.Goals as goal
 
 pub answer-requires-clause-kept : goal.answer-requires-clause-kept
@@ -16,19 +15,19 @@ answer-requires-clause-good g c =
 pub unreachable-requires : goal.unreachable-requires
 unreachable-requires g c =
     faults_never g.D.Disk.moment _ c.self.invariant (ap (λ (o : Grounded g.row.D.Denot). o.stopped) c.self.view_is ∙ c.requires.going) c.fresh.new.self c.fresh.ensures.none
-    g.D.Disk.faults c.answer.new.o (call_lines (heap_in c.fresh.new.self) c.args.call.now) c.in-Err-DiskFault.field-0 c.in-Err-DiskFault.ensures.works
+    g.D.Disk.faults c.args.call.now c.answer.new.o c.in-Err-DiskFault.field-0 c.in-Err-DiskFault.ensures.works
     (inl c.in-Err-DiskFault.field-0-is)
 
 pub unreachable-requires-in-Err-MediaFault : goal.unreachable-requires-in-Err-MediaFault
 unreachable-requires-in-Err-MediaFault g c =
     faults_never g.D.Disk.moment _ c.self.invariant (ap (λ (o : Grounded g.row.D.Denot). o.stopped) c.self.view_is ∙ c.requires.going) c.fresh.new.self c.fresh.ensures.none
-    g.D.Disk.faults c.answer.new.o (call_lines (heap_in c.fresh.new.self) c.args.call.now) c.in-Err-MediaFault.field-0 c.in-Err-MediaFault.ensures.works
+    g.D.Disk.faults c.args.call.now c.answer.new.o c.in-Err-MediaFault.field-0 c.in-Err-MediaFault.ensures.works
     (inr (inl c.in-Err-MediaFault.field-0-is))
 
 pub unreachable-requires-in-Err-Failed : goal.unreachable-requires-in-Err-Failed
 unreachable-requires-in-Err-Failed g c =
     faults_never g.D.Disk.moment _ c.self.invariant (ap (λ (o : Grounded g.row.D.Denot). o.stopped) c.self.view_is ∙ c.requires.going) c.fresh.new.self c.fresh.ensures.none
-    g.D.Disk.faults c.answer.new.o (call_lines (heap_in c.fresh.new.self) c.args.call.now) c.in-Err-Failed.field-0 c.in-Err-Failed.ensures.works
+    g.D.Disk.faults c.args.call.now c.answer.new.o c.in-Err-Failed.field-0 c.in-Err-Failed.ensures.works
     (inr (inr c.in-Err-Failed.field-0-is))
 
 pub returns-in-Ok : goal.returns-in-Ok
@@ -44,6 +43,7 @@ returns-in-Ok g c =
       heap = c.answer.new.o;
       shown = c.answer.new.page;
       stopped = c.self.inside.stopped;
+      idle = false;
       moment = c.self.inside.moment;
       restored = c.self.inside.restored;
     } in
@@ -76,6 +76,7 @@ returns-in-Err-Refused g c =
       heap = c.forget_moves.new.heap;
       shown = c.answer.new.page;
       stopped = not c.is_reading.result;
+      idle = false;
       moment = c.self.inside.moment;
       restored = c.self.inside.restored;
     } in

@@ -36,6 +36,10 @@ invariant_of-self g c =
           let same : c.note.new.self.depth ≡ n.depth = ap (λ (m : Nesting). m.depth) c.note.ensures ∙ noted_depth call reply n in
           let here : n.depth ≡ c.args.self.now.nesting.depth = ap (λ (s : Stationed g.row.D.Denot). s.nesting.depth) c.self.view_is in
           absurd (omega (arith, same, here, zero, c.requires.begun));
+      outside = λ sound zero.
+          let same : c.note.new.self.depth ≡ n.depth = ap (λ (m : Nesting). m.depth) c.note.ensures ∙ noted_depth call reply n in
+          let here : n.depth ≡ c.args.self.now.nesting.depth = ap (λ (s : Stationed g.row.D.Denot). s.nesting.depth) c.self.view_is in
+          absurd (omega (arith, same, here, zero, c.requires.begun));
       sound = λ sound. c.serve-reply.ensures.sound;
     }
 

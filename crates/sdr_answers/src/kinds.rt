@@ -1,22 +1,28 @@
-// Which calls are served, by what they are on.
+// Calls by what they are on.
 ghost use Rattle.std.specs.Prelude.{◌≡◌};
-ghost use Rattle.sdr_answers.specs.Answering.{built, is_raw_call, is_string_call, is_list_call, is_table_call, is_hash_call, is_name_call};
+ghost use Rattle.sdr_answers.specs.Answering.{is_free_call, is_hash_call, is_list_call, is_name_call, is_raw_call, is_string_call, is_table_call};
 
 use sdr_model::Call;
 
-// Whether the call is one on raw objects.
+// Whether the call is one on raw objects that leaves their sources alone.
 pub fn is_raw_call(call: &Call) -> bool
     ensures { result ≡ is_raw_call call.now }
 {
     matches!(
         call,
         Call::Malloc(_)
-            | Call::Free(_)
             | Call::Length(_)
             | Call::Read(_, _, _)
             | Call::Write(_, _, _)
             | Call::Stage(_, _)
     )
+}
+
+// Whether it gives a raw object or a string back, so that it asks for a source.
+pub fn is_free_call(call: &Call) -> bool
+    ensures { result ≡ is_free_call call.now }
+{
+    matches!(call, Call::Free(_))
 }
 
 // Whether it is one on strings.
@@ -95,16 +101,4 @@ pub fn is_name_call(call: &Call) -> bool
         call,
         Call::Catlg(_, _, _) | Call::Find(_) | Call::Uncatlg(_) | Call::Entry(_)
     )
-}
-
-/// Whether the call is served yet.
-pub fn built(call: &Call) -> bool
-    ensures { result ≡ built call.now }
-{
-    is_raw_call(call)
-        || is_string_call(call)
-        || is_list_call(call)
-        || is_table_call(call)
-        || is_hash_call(call)
-        || is_name_call(call)
 }

@@ -1,11 +1,11 @@
 -- A raw object or a string that is given back, as a step.
-use Rattle.std.proofs.Common.{◌≡◌, ◌∙◌, ℕ, List, [], ◌∷◌, inl, inr, Option, Some, None, refl, sym, ap, subst}
+use Rattle.std.proofs.Common.{◌≡◌, ◌∙◌, ℕ, List, [], ◌∷◌, inl, inr, Option, Some, None, refl, sym, ap, arith, subst}
 use Rattle.sdr_audit.specs.Shape.{told_of}
 use Rattle.sdr_audit.specs.Standing.{HeapStandsFor, thing_entries, with_taken_marked}
 use Rattle.sdr_audit.specs.Ties.{IsUntied, ties_of}
 use Rattle.sdr_base.proofs.StandingLemmas.{went}
 use Rattle.sdr_base.specs.Blocks as base
-use Rattle.sdr_base.specs.Blocks.{IsKind, kind_length, with_block}
+use Rattle.sdr_base.specs.Blocks.{IsKind, IsOther, kind_length}
 use Rattle.sdr_base.specs.Entries.{Changes, Stands}
 use Rattle.sdr_base.specs.Kinds.{kind_number}
 use Rattle.sdr_base.specs.Making.{besides}
@@ -16,8 +16,9 @@ use Rattle.sdr_base.specs.declared.moves.Move.TheVariants.{Gave}
 use Rattle.sdr_base.specs.declared.refusal.Refusal.{Refusal}
 use Rattle.sdr_base.specs.declared.refusal.Refusal.TheVariants as refusals
 use Rattle.sdr_base.specs.declared.stop.Stop.TheVariants as stops
+use Rattle.sdr_heap.specs.Raw as heap
 use Rattle.sdr_heap.specs.Raw.{FreeStops, Frees, IsNeither, IsRawOrText}
-use Rattle.sdr_lock.proofs.WorkLemmas.{on_none}
+use Rattle.sdr_lock.proofs.WorkLemmas.{on_none, on_some}
 use Rattle.sdr_model.specs.RawSteps.{FreesThing}
 use Rattle.sdr_model.specs.Rows.{ByRow}
 use Rattle.sdr_model.specs.Steps.{Outcome, without_thing}
@@ -34,7 +35,18 @@ use Rattle.sdr_answers.proofs.KindLemmas.{block_told, no_block}
 use Rattle.sdr_answers.proofs.RawLemmas.{no_raw, raw_is_at}
 use Rattle.sdr_answers.proofs.RowLemmas.{full_refused, gave_back, marks_none, row_refused, thing_went}
 use Rattle.sdr_answers.proofs.TextLemmas.{no_text, text_is_at}
-use Rattle.sdr_answers.specs.Answering.{Answered, IsPlain, IsRefused}
+use Rattle.sdr_answers.specs.Answering.{Answered, IsRefused, IsServed}
+use Rattle.sdr_served.specs.Freeing.{IsFree, NamedStops}
+use Rattle.sdr_answers.proofs.ListLemmas.{IsSmall}
+use Rattle.sdr_base.proofs.LayoutLemmas.{number_at-layout}
+use Rattle.sdr_base.specs.Raws.{raw_block}
+use Rattle.sdr_base.specs.Stored.{number_at}
+use Rattle.sdr_audit.specs.Ties.{or_null}
+use Rattle.sdr_base.specs.declared.stop.Stop.{Stop}
+use Rattle.zco_ref.specs.Kept.{IsRaw}
+use Rattle.zco_ref.specs.Naming.{IsUnnamed, RawStops}
+use Rattle.zco_served.proofs.NamingCalls.{unnamed_at, used_as}
+use Rattle.zco_served.proofs.SourceLemmas.{named_is_at}
 
 -- the thing at an address was given back
 abbrev pub free_outcome : World → ℕ → Outcome
@@ -56,17 +68,24 @@ one_goes heap new addr x is = record {
       subst (λ (b : base.Blocks). Stands b rest) (sym (ap (λ (h : Heap). h.blocks) is)) (went heap.blocks addr x [] rest s);
 }
 
+-- no source of the world names a raw object whose block names none
+unnamed_in : (heap : Heap) (w : World) (addr : ℕ) → heap.moves ≡ [] → HeapStandsFor heap w → IsServed w
+    → IsUnnamed (heap.blocks addr) → source_on w addr ≡ None
+unnamed_in heap w addr unmoved s served u =
+    let r = named_is_at heap w addr s served u.kind in
+    unnamed_at heap heap w unmoved s served addr (u.none (or_null (source_on w addr)) r.bytes r.keeps)
+
 -- a raw object is
-raw_freeable : (heap : Heap) (w : World) (addr : ℕ) → HeapStandsFor heap w → IsWhole w → IsPlain w
-    → IsKind (heap.blocks addr) kinds.Raw → IsFreeable heap w addr
-raw_freeable heap w addr s whole plain kind =
-    let r = raw_is_at heap w addr s whole.valid kind in
+raw_freeable : (heap : Heap) (w : World) (addr : ℕ) → heap.moves ≡ [] → HeapStandsFor heap w → IsServed w
+    → IsFree (heap.blocks addr) → IsKind (heap.blocks addr) kinds.Raw → IsFreeable heap w addr
+raw_freeable heap w addr unmoved s served free kind =
+    let r = raw_is_at heap w addr s served.whole.valid kind in
     record {
       thing = things.Raw r.bytes;
       there = r.there;
       untied = tt;
       row = subst (λ (t : Option Thing). FreesThing w (free_outcome w addr) addr (as_raw t) (as_text t)) (sym r.there)
-          (on_none _ _ (source_on w addr) (plain.unnamed addr)
+          (on_none _ _ (source_on w addr) (unnamed_in heap w addr unmoved s served (free kind))
           (refl, marks_none (without_thing w addr) (Gave addr ∷ []) refl, refl));
       goes = λ new is. one_goes heap new addr _ is;
     }
@@ -85,16 +104,16 @@ text_freeable heap w addr s whole kind =
       goes = λ new is. one_goes heap new addr _ is;
     }
 
-freeable : (heap : Heap) (w : World) (addr : ℕ) → HeapStandsFor heap w → IsWhole w → IsPlain w → IsRawOrText (heap.blocks addr)
-    → IsFreeable heap w addr
-freeable heap w addr s whole plain (inl raw) = raw_freeable heap w addr s whole plain raw
-freeable heap w addr s whole plain (inr text) = text_freeable heap w addr s whole text
+freeable : (heap : Heap) (w : World) (addr : ℕ) → heap.moves ≡ [] → HeapStandsFor heap w → IsServed w
+    → IsFree (heap.blocks addr) → IsRawOrText (heap.blocks addr) → IsFreeable heap w addr
+freeable heap w addr unmoved s served free (inl raw) = raw_freeable heap w addr unmoved s served free raw
+freeable heap w addr unmoved s served free (inr text) = text_freeable heap w addr s served.whole text
 
 -- what goes is given back
 pub free_answered : (addr : ℕ) (old new : Heap) (w : World) → old.moves ≡ [] → Frees addr old new
-    → HeapStandsFor old w → IsWhole w → IsPlain w → Answered w (calls.Free addr) new [] replies.Done
-free_answered addr old new w unmoved frees s whole plain =
-    let f = freeable old w addr s whole plain frees.found in
+    → IsFree (old.blocks addr) → HeapStandsFor old w → IsServed w → Answered w (calls.Free addr) new [] replies.Done
+free_answered addr old new w unmoved frees free s served =
+    let f = freeable old w addr unmoved s served free frees.found in
     thing_went w (calls.Free addr) addr f.thing (Gave addr ∷ []) replies.Done old new f.there f.untied s
     (gave_back w (addr ∷ []) old new unmoved (record { all = ap besides frees.given })) (f.goes new frees.given) f.row refl
 
@@ -115,23 +134,24 @@ neither_row w addr refusal none is =
 
 -- why nothing was given back
 pub free_refused : (addr : ℕ) (old new : Heap) (w : World) (was : List ℕ) (refusal : Refusal) → old.moves ≡ []
-    → HeapStandsFor old w → IsWhole w → IsPlain w → FreeStops (old.blocks addr) addr old new (stops.Refused refusal)
+    → IsFree (old.blocks addr) → HeapStandsFor old w → IsServed w
+    → FreeStops (old.blocks addr) addr old new (stops.Refused refusal)
     → IsRefused w (calls.Free addr) old new was was refusal
-free_refused addr old new w was (refusals.BadAddress bad) unmoved s whole plain m = record {
+free_refused addr old new w was (refusals.BadAddress bad) unmoved free s served m = record {
   step =
-      let none = no_block old w addr s whole.valid m.1 in
+      let none = no_block old w addr s served.whole.valid m.1 in
       let no : (kind : Kind) → ¬ IsKind (old.blocks addr) kind = λ kind is. subst (λ f. IsKind f kind) m.1 is in
       inl (row_refused w (calls.Free addr) new (refusals.BadAddress bad) (ap (λ (h : Heap). h.moves) m.2 ∙ unmoved)
-      (neither_row w addr (refusals.BadAddress bad) (neither_at old w addr s whole.valid (no kinds.Raw) (no kinds.Text))
+      (neither_row w addr (refusals.BadAddress bad) (neither_at old w addr s served.whole.valid (no kinds.Raw) (no kinds.Text))
       (ap (λ a. refusals.BadAddress a) m.0 ∙ sym (ap (refusal_for addr) none))));
   left = λ reads. m.2;
   gave = refl;
 }
-free_refused addr old new w was (refusals.WrongKind bad number) unmoved s whole plain m = record {
+free_refused addr old new w was (refusals.WrongKind bad number) unmoved free s served m = record {
   step =
-      let n = other (old.blocks addr) (block_at w addr) refl (block_told old w addr s whole.valid) m.1 in
+      let n = other (old.blocks addr) (block_at w addr) refl (block_told old w addr s served.whole.valid) m.1 in
       inl (row_refused w (calls.Free addr) new (refusals.WrongKind bad number) (ap (λ (h : Heap). h.moves) m.2 ∙ unmoved)
-      (neither_row w addr (refusals.WrongKind bad number) (neither_at old w addr s whole.valid n.0 n.1) n.2));
+      (neither_row w addr (refusals.WrongKind bad number) (neither_at old w addr s served.whole.valid n.0 n.1) n.2));
   left = λ reads. m.2;
   gave = refl;
 }
@@ -150,12 +170,64 @@ free_refused addr old new w was (refusals.WrongKind bad number) unmoved s whole 
       λ is. n.2 (subst (λ f. IsKind f kinds.Text) here is),
       λ i. refusals.WrongKind (m.0 i) ((n.0 ∙ ap kind_number (ap kind_in same)) i),
     )
-free_refused addr old new w was (refusals.LogFull lines room) unmoved s whole plain m =
-    let f = freeable old w addr s whole plain m.0 in
+free_refused addr old new w was (refusals.LogFull lines room) unmoved free s served m =
+    let f = freeable old w addr unmoved s served free m.0 in
     full_refused w (calls.Free addr) old new was (refusals.LogFull lines room) refl (record {
       to =
           _;
       row = f.row;
       answered = refl;
     }) m.1
-free_refused addr old new w was refusal unmoved s whole plain m = absurd m.1
+free_refused addr old new w was refusal unmoved free s served m = absurd m.1
+
+-- a source names the raw object, and it stays
+pub free_named : (addr : ℕ) (old new : Heap) (w : World) (was : List ℕ) (refusal : Refusal) → old.moves ≡ [] → new ≡ old
+    → IsSmall old → HeapStandsFor old w → IsServed w → NamedStops old.blocks addr (stops.Refused refusal)
+    → IsRefused w (calls.Free addr) old new was was refusal
+free_named addr old new w was (refusals.InUse bad count) unmoved same small s served m =
+    let r = named_is_at old w addr s served m.1.kind in
+    let u = used_as old old w unmoved s served addr count small m.1 in
+    let o : Outcome = record { moves = []; after = w; reply = replies.Refused (refusals.InUse bad count) } in
+    record {
+      step =
+          inl (row_refused w (calls.Free addr) new (refusals.InUse bad count) (ap (λ (h : Heap). h.moves) same ∙ unmoved)
+          (subst (λ (t : Option Thing). FreesThing w o addr (as_raw t) (as_text t)) (sym r.there)
+          (on_some _ _ (source_on w addr) u.0 u.1
+          (refl, refl, λ i. replies.Refused (refusals.InUse (m.0 i) (u.2 i))))));
+      left = λ reads. same;
+      gave = refl;
+    }
+free_named addr old new w was refusal unmoved same small s served m = absurd m
+
+-- a raw object that no source names has 0 for its source word
+pub source_word : (blocks : base.Blocks) (addr : ℕ) → IsRaw blocks addr → IsFree (blocks addr) → heap.IsUnnamed (blocks addr)
+source_word blocks addr raw free =
+    by (blocks addr)
+    (λ kind.
+    let r = raw kind in
+    (r.bytes, r.keeps.block ∙ ap (λ (n : ℕ). Some (raw_block n r.bytes)) ((free kind).none r.named_by r.bytes r.keeps)))
+  where
+    first : (bytes : List ℕ) → number_at 0 (raw_block 0 bytes).bytes ≡ 0
+    first bytes = number_at-layout (0 ∷ []) bytes 0 (omega arith) (omega arith)
+
+    by : (found : Option base.Block) → (IsKind found kinds.Raw → (bytes : List ℕ) × (found ≡ Some (raw_block 0 bytes)))
+        → heap.IsUnnamed found
+    by None raws = tt
+    by (Some block) raws =
+        λ kind.
+        let r = raws kind in
+        let same : raw_block 0 r.0 ≡ block = cc in
+        subst (λ (b : base.Block). number_at 0 b.bytes ≡ 0) same (first r.0)
+
+-- why a raw object that is there is refused: a source names it
+pub named_stops : (blocks : base.Blocks) (addr : ℕ) (stop : Stop) → IsKind (blocks addr) kinds.Raw → RawStops blocks addr stop
+    → NamedStops blocks addr stop
+named_stops blocks addr (stops.Refused (refusals.BadAddress bad)) kind m =
+    absurd (subst (λ (f : Option base.Block). IsKind f kinds.Raw) m.1 kind)
+named_stops blocks addr (stops.Refused (refusals.WrongKind bad number)) kind m = absurd (other (blocks addr) kind m.1)
+  where
+    other : (f : Option base.Block) → IsKind f kinds.Raw → IsOther f kinds.Raw number → ⊥
+    other None kind o = kind
+    other (Some block) kind o = o.1 kind
+named_stops blocks addr (stops.Refused refusal) kind m = m
+named_stops blocks addr stop kind m = m

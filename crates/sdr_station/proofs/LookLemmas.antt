@@ -1,0 +1,193 @@
+-- A look at a ticket on a ground.
+use Rattle.std.proofs.Common.{◌≡◌, ◌∙◌, ◌≤◌, ◌++◌, ◌⊎◌, ℕ, List, [], Bool, true, false, true≢false, Option, None, Result, Ok, Err, refl, sym, ap, subst, length, arith}
+use Rattle.std.proofs.lemmas.List.{append-nil, append_cancel_left}
+use Rattle.sdr_answers.specs.Answering.{IsServed}
+use Rattle.sdr_audit.specs.Standing.{HeapStandsFor}
+use Rattle.sdr_base.proofs.MovesLemmas.{Moves-none}
+use Rattle.sdr_base.specs.KeptHeap.{KeepsRegion}
+use Rattle.sdr_base.specs.Moves.{KeepsSome, MovesPools}
+use Rattle.sdr_base.specs.Objects.{Heap, OnlyFault}
+use Rattle.sdr_base.specs.Pools.{Pools}
+use Rattle.sdr_base.specs.Transaction.{Explains}
+use Rattle.sdr_base.specs.Works.{Looks}
+use Rattle.sdr_base.specs.declared.moves.Move.{Move}
+use Rattle.sdr_base.specs.declared.stop.Stop.{Stop}
+use Rattle.sdr_base.specs.declared.stop.Stop.TheVariants as stops
+use Rattle.sdr_heap.specs.Noted.{Held}
+use Rattle.sdr_image.specs.Opened.{IsQuiet, Opened, transaction_of}
+use Rattle.sdr_lock.specs.Crash.{LeavesBefore}
+use Rattle.sdr_lock.specs.Demand.{most_lines}
+use Rattle.sdr_lock.specs.Ground.{Ground, State}
+use Rattle.sdr_lock.specs.Serving.{Brings, Shows, StandsStill, shown_in}
+use Rattle.sdr_lock.specs.Standing.{Standing}
+use Rattle.sdr_log.specs.Frame.{room_of}
+use Rattle.sdr_log.specs.declared.frame.Frame.{Frame}
+use Rattle.sdr_model.specs.World.{World}
+use Rattle.sdr_station.proofs.ClosingLemmas.{dropped_ground, within_of}
+use Rattle.sdr_station.proofs.GroundLemmas.{heap_ground}
+use Rattle.sdr_station.proofs.ServingLemmas.{image_heap}
+use Rattle.sdr_station.specs.Grounded.{Grounded, HasStood, HoldsWorld, IsBefore, IsGround, Leaves, StandsAtRest, StandsForBoth, StandsInMemory, StandsSome, StandsWithin, heap_in}
+use Rattle.zco_granted.proofs.GoodLemmas.{good_of}
+use Rattle.zco_granted.specs.Answering.{IsGood, Sees}
+
+-- what stands within a transaction holds its world
+within_holds : {D : Type 0} {h : Held (Opened D)} {shown : List ℕ} {s : State} → StandsWithin h shown s → HoldsWorld h s.world
+within_holds w = record { pools = w.pools; keeps = w.keeps; heap = w.heap; whole = w.whole; fits = w.fits }
+
+-- so a ground in whose transaction no call was made holds the world before that
+pub before_idle : {D : Type 0} (moment : D → ℕ) (g : Grounded D) → IsGround moment g → g.idle ≡ true → IsBefore g
+before_idle moment g ground idle = record {
+  some = ground.stands (ground.sound (ground.going idle));
+  holds = λ v at.
+      subst (λ (s : State). HoldsWorld g.heap s.world) (at.idle idle) (within_holds (at.now (ground.going idle)));
+}
+
+-- and so does one whose changes were dropped
+pub before_dropped : {D : Type 0} (moment : D → ℕ) (old : Grounded D) (disk : D) (now : ℕ)
+    → IsGround moment (dropped_ground old disk now) → old.heap.cells.failed ≡ false → IsBefore (dropped_ground old disk now)
+before_dropped moment old disk now ground sound = record {
+  some = ground.stands sound;
+  holds = λ v at.
+      within_holds
+      (within_of (dropped_ground old disk now).heap (length old.heap.marks) v.before refl refl at.size at.before);
+}
+
+-- there is a heap in it
+pub keeps_before_look : {D : Type 0} (g : Grounded D) → IsBefore g → KeepsSome (KeepsRegion g.heap.size g.heap.cells.bytes)
+keeps_before_look g before =
+    let h = before.holds before.some.for before.some.holds in record { pools = h.pools; keeps = h.keeps }
+
+-- and its queues are kept
+pub queues_before_look : {D : Type 0} (g : Grounded D) → IsBefore g → IsGood (heap_in g.heap)
+queues_before_look g before =
+    let h = before.holds before.some.for before.some.holds in
+    good_of (heap_in g.heap) before.some.for.before.world h.heap (record { whole = h.whole; fits = h.fits })
+
+-- A look that read the heap of a ground.
+module _ {D T : Type 0} (faults : D → ℕ) (old : Grounded D) (heap : Held (Opened D)) (result : Result T Stop)
+    (looks : Looks (image_heap faults) old.heap heap result) where
+  -- the disk is quiet
+  pub looked_quiet : IsQuiet old.heap.cells heap.cells × (heap.size ≡ old.heap.size)
+  looked_quiet = looks.quiet old.heap (record { disk = refl; frame = refl; begun = refl; failed = refl }, refl)
+
+  -- the heap stands still within its transaction
+  still_within : {shown : List ℕ} {s : State} → StandsWithin old.heap shown s → StandsWithin heap shown s
+  still_within {shown} {s} w =
+      let q = looked_quiet in
+      let moves = looks.moved old.heap
+      (Moves-none (KeepsRegion old.heap.size old.heap.cells.bytes) (KeepsRegion old.heap.size old.heap.cells.bytes)
+      old.heap.moves (λ P k. k)) in
+      let none : moves.more ≡ [] =
+      append_cancel_left old.heap.moves moves.more []
+      (sym moves.moves ∙ ap (λ (h : Heap). h.moves) looks.same ∙ sym (append-nil old.heap.moves)) in
+      let lead = moves.lead w.pools w.keeps in
+      let same : lead.after ≡ w.pools = subst (λ (ms : List Move). MovesPools w.pools ms lead.after) none lead.fit in
+      record {
+        pools = w.pools;
+        base = w.base ∙ ap (λ (f : Frame). Ground.OnHeap (room_of f) w.pools) (sym q.0.frame);
+        keeps = subst (λ (P : Pools). KeepsRegion heap.size heap.cells.bytes P) same lead.keeps;
+        heap = subst (λ (h : Heap). HeapStandsFor h s.world) (sym looks.same) w.heap;
+        whole = w.whole;
+        fits = w.fits;
+        next = w.next;
+        gave = w.gave;
+        lines = subst (λ (lines : List ℕ). length lines ≤ most_lines s.demand) (sym looks.touched) w.lines;
+      }
+
+  -- the ground stands for what it did
+  pub looked_still : (v : Standing) → StandsInMemory old v → StandsInMemory (record old { heap = heap }) v
+  looked_still v at =
+      let q = looked_quiet in
+      record {
+        sound = q.0.failed ∙ at.sound;
+        size = ap (λ (bytes : List ℕ). length bytes) q.0.begun ∙ at.size ∙ sym q.1;
+        before =
+            subst (λ (f : Frame). StandsAtRest (room_of f) heap.cells.begun v.before) (sym q.0.frame)
+            (subst (λ (bytes : List ℕ). StandsAtRest (room_of old.heap.cells.frame) bytes v.before) (sym q.0.begun) at.before);
+        taken = at.taken;
+        gave = at.gave;
+        stood = subst (λ (n : ℕ). HasStood n v.now.world) (sym q.1) at.stood;
+        now = λ going. still_within (at.now going);
+        idle = at.idle;
+        moves = at.moves ∙ sym (ap (λ (h : Heap). h.moves) looks.same);
+      }
+
+  -- a ticket that was seen so is shown
+  pub shows_seen : (ticket : ℕ) (granted : Option Bool) → IsBefore old → Sees ticket (heap_in old.heap) granted
+      → Brings StandsInMemory old (record old { heap = heap }) (Shows ticket granted)
+  shows_seen ticket granted before sees = record {
+    each = λ v at.
+        let h = before.holds v at in
+        record {
+          for = v;
+          holds = looked_still v at;
+          tells = record {
+            shown = sees.sees v.before.world h.heap (record { whole = h.whole; fits = h.fits });
+            still = record { before = refl; now = refl };
+          };
+        };
+  }
+
+  -- which is still one
+  pub looked_ground : (moment : D → ℕ) → IsGround moment old → IsGround moment (record old { heap = heap })
+  looked_ground moment ground = record {
+    seen = let same = ap moment looked_quiet.0.disk in omega (arith, same, ground.seen);
+    sound = λ going. looked_quiet.0.failed ∙ ground.sound going;
+    going = ground.going;
+    stands = λ sound.
+        let some = ground.stands (sym looked_quiet.0.failed ∙ sound) in
+        record { for = some.for; holds = looked_still some.for some.holds };
+  }
+
+-- no look meets a disk fault where the disk hadn't failed
+pub looks_never : {D T : Type 0} (faults : D → ℕ) (old : Grounded D) (heap : Held (Opened D)) (stop : Stop)
+    → Looks {T = T} (image_heap faults) old.heap heap (Err stop) → old.heap.cells.failed ≡ false → OnlyFault stop → ⊥
+looks_never faults old heap (stops.Refused refusal) looks sound fault = fault
+looks_never faults old heap stops.DiskFault looks sound fault =
+    true≢false (sym looks.cause.explained.1 ∙ (looked_quiet faults old heap _ looks).0.failed ∙ sound)
+looks_never faults old heap stops.MediaFault looks sound fault = fault
+looks_never faults old heap stops.Failed looks sound fault = true≢false (sym looks.cause.explained.0 ∙ sound)
+
+-- what stands still is shown as what follows is
+pub shows_later : {D : Type 0} {S : Grounded D → Standing → Type 0} (old mid new : Grounded D) (ticket : ℕ) (granted : Option Bool)
+    → Brings S old mid StandsStill → Brings S mid new (Shows ticket granted) → Brings S old new (Shows ticket granted)
+shows_later old mid new ticket granted first second = record {
+  each = λ v at.
+      let s = first.each v at in
+      let t = second.each s.for s.holds in
+      record {
+        for = t.for;
+        holds = t.holds;
+        tells = record {
+          shown = t.tells.shown ∙ ap (λ (b : State). shown_in b.world ticket) s.tells.before;
+          still = record {
+            before = t.tells.still.before ∙ s.tells.before;
+            now = t.tells.still.now ∙ s.tells.now;
+          };
+        };
+      };
+}
+
+-- a ground whose disk has failed stands for nothing, and so anything is shown
+pub shows_failed : {D : Type 0} (told : D → Option (List ℕ)) (moment : D → ℕ) (may_leave : D → ℕ → List ℕ → Type 0)
+    (old new : Grounded D) (ticket : ℕ) → old.heap.cells.failed ≡ true
+    → Brings (λ g v. StandsForBoth told moment may_leave g v) old new (Shows ticket None)
+shows_failed told moment may_leave old new ticket failed = record {
+  each = λ v at. absurd (true≢false (sym failed ∙ at.memory.sound));
+}
+
+-- a crash leaves what it did where the disk and the moment stay
+pub leaves_later : {D : Type 0} (told : D → Option (List ℕ)) (moment faults : D → ℕ) (may_leave : D → ℕ → List ℕ → Type 0)
+    (old mid new : Grounded D) → new.heap.cells.disk ≡ mid.heap.cells.disk → new.moment ≡ mid.moment
+    → LeavesBefore (heap_ground told moment faults may_leave) old mid
+    → LeavesBefore (heap_ground told moment faults may_leave) old new
+leaves_later {D} told moment faults may_leave old mid new disk same leaves = record {
+  each = λ v at.
+      let e = leaves.each v at in
+      record {
+        later = omega (arith, e.later, same);
+        each = λ m image ge le l.
+            e.each m image ge (omega (arith, le, same)) (subst (λ (d : D). Leaves told may_leave d m image) disk l);
+        past = λ m image le l. e.past m image le (subst (λ (d : D). Leaves told may_leave d m image) disk l);
+      };
+}

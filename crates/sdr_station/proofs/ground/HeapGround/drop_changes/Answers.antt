@@ -1,0 +1,129 @@
+use Rattle.std.specs.Prelude.{max}
+use Rattle.std.proofs.Common.{◌≡◌, ◌∙◌, true, true≢false, ap, Err, false, refl, sym, subst}
+use Rattle.sdr_base.specs.Transaction.{Explains}
+use Rattle.sdr_base.specs.declared.stop.Stop.{Stop}
+use Rattle.sdr_heap.specs.Noted.{Held}
+use Rattle.sdr_image.specs.Opened.{Opened, Rests, transaction_of}
+use Rattle.sdr_lock.specs.Crash.{LeavesBefore}
+use Rattle.sdr_lock.specs.Serving.{StandsStill}
+use Rattle.sdr_station.proofs.ClosingLemmas.{ClosesTo, closes_dropped, dropped_ground, leaves_back}
+use Rattle.sdr_station.proofs.GroundLemmas.{heap_ground}
+use Rattle.sdr_station.proofs.LookLemmas.{before_dropped}
+use Rattle.sdr_station.specs.Grounded.{Grounded, IsBefore, IsGround}
+use Rattle.sdr_station.proofs.ground.HeapGround.drop_changes.Goals as goal
+
+pub returns-in-Ok : goal.returns-in-Ok
+returns-in-Ok g c =
+    let D = g.row.D.Denot in
+    let b = g.D.Disk.bytes in
+    let m = g.D.Disk.moment in
+    let l = g.D.Disk.may_leave in
+    let f = g.D.Disk.faults in
+    let at = c.moment_since-self-inside in
+    let e = c.in-Ok.ensures in
+    let old : Grounded D = record {
+      heap = c.self.inside.heap;
+      shown = c.self.inside.shown;
+      stopped = c.self.inside.stopped;
+      idle = c.self.inside.idle;
+      moment = c.self.inside.moment;
+      restored = c.self.inside.restored;
+    } in
+    let disk = c.cancel.new.heap.cells.disk in
+    let new : Grounded D = record {
+      heap = at.new.heap;
+      shown = c.self.inside.shown;
+      stopped = true;
+      idle = false;
+      moment = at.result;
+      restored = c.self.inside.restored;
+    } in
+    let heap : at.new.heap ≡ (dropped_ground old disk at.result).heap = at.ensures.same ∙ e.ended in
+    let is : new ≡ dropped_ground old disk at.result =
+    λ i. record { heap = heap i; shown = old.shown; stopped = true; idle = false; moment = at.result; restored = old.restored } in
+    let at_now = at.ensures.moment ∙ ap (λ (h : Held (Opened D)). max old.moment (m h.cells.disk)) at.ensures.same in
+    let sound : old.heap.cells.failed ≡ false = e.cause.explained.0 in
+    let closed = closes_dropped b m f l old disk at.result at_now sound e.disk.tells _ (e.any_moment sound) new is c.self.invariant
+    e.cause.later (λ rests. subst (λ (h : Held (Opened D)). Rests b m l h.cells) e.ended (e.rests rests)) (λ image p. p) in
+    let all : ClosesTo b m f l false StandsStill c.args.self.now new = subst (λ (o : Grounded D). ClosesTo b m f l false StandsStill o new) c.self.view_is closed in
+    record {
+      memory = all.memory;
+      dropped = all.brings;
+      back = λ was. (
+        all.sound,
+        subst (λ (n : Grounded D). IsBefore n) (sym is)
+            (before_dropped m old disk at.result (subst (λ (n : Grounded D). IsGround m n) is closed.is_ground) sound),
+      );
+      failed = λ was. absurd (true≢false was);
+      fault = tt;
+      restored = ap (λ (o : Grounded D). o.restored) c.self.view_is;
+      keeps = all.keeps;
+      any_moment = all.any_moment;
+    }
+
+pub returns-in-Err-DiskFault-clause-any_moment : goal.returns-in-Err-DiskFault-clause-any_moment
+returns-in-Err-DiskFault-clause-any_moment g c =
+    let D = g.row.D.Denot in
+    let b = g.D.Disk.bytes in
+    let m = g.D.Disk.moment in
+    let l = g.D.Disk.may_leave in
+    let f = g.D.Disk.faults in
+    let at = c.moment_since-self-inside-in-Err-DiskFault in
+    let e = c.in-Err-DiskFault.ensures in
+    let old : Grounded D = record {
+      heap = c.self.inside.heap;
+      shown = c.self.inside.shown;
+      stopped = c.self.inside.stopped;
+      idle = c.self.inside.idle;
+      moment = c.self.inside.moment;
+      restored = c.self.inside.restored;
+    } in
+    let new : Grounded D = record {
+      heap = at.new.heap;
+      shown = c.self.inside.shown;
+      stopped = true;
+      idle = false;
+      moment = at.result;
+      restored = c.self.inside.restored;
+    } in
+    let disk = c.cancel.new.heap.cells.disk in
+    let at_now = at.ensures.moment ∙ ap (λ (h : Held (Opened D)). max old.moment (m h.cells.disk)) at.ensures.same in
+    let sound : old.heap.cells.failed ≡ false = (subst (λ (s : Stop). Explains {T = Unit {0}} (transaction_of f old.heap.cells) (transaction_of f c.cancel.new.heap.cells) (Err s)) c.in-Err-DiskFault.field-0-is e.cause.explained).0 in
+    subst (λ (o : Grounded D). LeavesBefore (heap_ground b m f l) o new) c.self.view_is
+    (leaves_back b m f l old disk at.result at_now sound e.disk.tells _ (e.any_moment sound) new
+    (ap (λ (h : Held (Opened D)). h.cells.disk) at.ensures.same) refl (λ image p. p))
+
+pub invariant_of-self : goal.invariant_of-self
+invariant_of-self g c =
+    let D = g.row.D.Denot in
+    let b = g.D.Disk.bytes in
+    let m = g.D.Disk.moment in
+    let l = g.D.Disk.may_leave in
+    let f = g.D.Disk.faults in
+    let at = c.moment_since-self-inside in
+    let e = c.in-Ok.ensures in
+    let old : Grounded D = record {
+      heap = c.self.inside.heap;
+      shown = c.self.inside.shown;
+      stopped = c.self.inside.stopped;
+      idle = c.self.inside.idle;
+      moment = c.self.inside.moment;
+      restored = c.self.inside.restored;
+    } in
+    let disk = c.cancel.new.heap.cells.disk in
+    let new : Grounded D = record {
+      heap = at.new.heap;
+      shown = c.self.inside.shown;
+      stopped = true;
+      idle = false;
+      moment = at.result;
+      restored = c.self.inside.restored;
+    } in
+    let heap : at.new.heap ≡ (dropped_ground old disk at.result).heap = at.ensures.same ∙ e.ended in
+    let is : new ≡ dropped_ground old disk at.result =
+    λ i. record { heap = heap i; shown = old.shown; stopped = true; idle = false; moment = at.result; restored = old.restored } in
+    let at_now = at.ensures.moment ∙ ap (λ (h : Held (Opened D)). max old.moment (m h.cells.disk)) at.ensures.same in
+    let sound : old.heap.cells.failed ≡ false = e.cause.explained.0 in
+    let closed = closes_dropped b m f l old disk at.result at_now sound e.disk.tells _ (e.any_moment sound) new is c.self.invariant
+    e.cause.later (λ rests. subst (λ (h : Held (Opened D)). Rests b m l h.cells) e.ended (e.rests rests)) (λ image p. p) in
+    closed.is_ground

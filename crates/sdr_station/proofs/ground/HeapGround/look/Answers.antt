@@ -1,0 +1,46 @@
+-- A ticket is seen in the world before the transaction, once changes that were made in it are dropped.
+use Rattle.std.proofs.Common.{◌≡◌, ◌∙◌, None, refl, sym, ap, subst}
+use Rattle.sdr_lock.specs.Serving.{Brings, Shows}
+use Rattle.sdr_station.proofs.ClosingLemmas.{brings_failed}
+use Rattle.sdr_station.proofs.GroundLemmas.{heap_ground}
+use Rattle.sdr_station.proofs.LookLemmas.{before_idle, leaves_later, shows_failed, shows_later}
+use Rattle.sdr_station.proofs.ServingLemmas.{leaves_quiet}
+use Rattle.sdr_station.specs.Grounded.{Grounded, IsBefore, StandsForBoth, StandsInMemory}
+use Rattle.sdr_station.proofs.ground.HeapGround.look.Goals as goal
+
+pub see-requires-clause-before : goal.see-requires-clause-before
+see-requires-clause-before g c =
+    subst (λ (o : Grounded g.row.D.Denot). IsBefore o) c.self.view_is
+    (before_idle g.D.Disk.moment _ c.self.invariant c.if-self.true)
+
+pub returns-then-self-clause-any_moment : goal.returns-then-self-clause-any_moment
+returns-then-self-clause-any_moment g c =
+    leaves_quiet g.D.Disk.bytes g.D.Disk.moment g.D.Disk.faults g.D.Disk.may_leave c.args.self.now c.see.new.self
+    c.see.ensures.quiet.disk (ap (λ (o : Grounded g.row.D.Denot). o.moment) c.see.ensures.same)
+
+pub returns-then-branch-clause-memory : goal.returns-then-branch-clause-memory
+returns-then-branch-clause-memory g c =
+    shows_later {S = StandsInMemory} c.args.self.now c.drop_changes.new.self c.see-then-branch.new.self c.args.ticket
+    c.see-then-branch.result c.in_ok-drop_changes.ensures.memory c.see-then-branch.ensures.shown
+
+pub returns-then-branch-clause-shown : goal.returns-then-branch-clause-shown
+returns-then-branch-clause-shown g c =
+    shows_later {S = λ g' v. StandsForBoth g.D.Disk.bytes g.D.Disk.moment g.D.Disk.may_leave g' v} c.args.self.now
+    c.drop_changes.new.self c.see-then-branch.new.self c.args.ticket c.see-then-branch.result
+    c.in_ok-drop_changes.ensures.dropped c.see-then-branch.ensures.stands
+
+pub returns-then-branch-clause-any_moment : goal.returns-then-branch-clause-any_moment
+returns-then-branch-clause-any_moment g c =
+    leaves_later g.D.Disk.bytes g.D.Disk.moment g.D.Disk.faults g.D.Disk.may_leave c.args.self.now c.drop_changes.new.self
+    c.see-then-branch.new.self c.see-then-branch.ensures.quiet.disk
+    (ap (λ (o : Grounded g.row.D.Denot). o.moment) c.see-then-branch.ensures.same) c.drop_changes.ensures.any_moment
+
+pub returns-clause-memory : goal.returns-clause-memory
+returns-clause-memory g c =
+    brings_failed {P = Shows c.args.ticket None} c.args.self.now c.drop_changes.new.self
+    (c.in_ok-drop_changes.ensures.failed c.if-branch.false)
+
+pub returns-clause-shown : goal.returns-clause-shown
+returns-clause-shown g c =
+    shows_failed g.D.Disk.bytes g.D.Disk.moment g.D.Disk.may_leave c.args.self.now c.drop_changes.new.self c.args.ticket
+    (c.in_ok-drop_changes.ensures.failed c.if-branch.false)
