@@ -31,7 +31,8 @@ use Rattle.sdr_model.specs.declared.things.Thing.{Thing}
 use Rattle.sdr_model.specs.declared.things.Thing.TheVariants as things
 use Rattle.sdr_model.specs.declared.zco.Capsule.{Capsule}
 use Rattle.sdr_model.specs.declared.zco.ZcoObject.{ZcoObject}
-use Rattle.sdr_audit.specs.Rows.{bucket_row, capsule_row, element_row, extent_row, hash_row, item_row, name_row, object_row, ticket_row}
+use Rattle.sdr_audit.specs.Rows.{bucket_row, capsule_row, element_row, extent_row, hash_row, item_row, name_row, object_row}
+use Rattle.sdr_model.specs.TicketRows.{ticket_row}
 use Rattle.sdr_audit.specs.Standing.{entries_of, queue_entries, roots_of}
 use Rattle.sdr_owner.proofs.LayoutLemmas.{elements_fit, extents_fit, headers_fit, items_fit, names_fit, tickets_fit, trailers_fit, word_laid}
 use Rattle.sdr_owner.proofs.LinkingLemmas.{linked_goes}

@@ -26,7 +26,8 @@ use Rattle.sdr_model.specs.Valid.{IsValid}
 use Rattle.sdr_model.specs.World.{World, thing_at}
 use Rattle.sdr_model.specs.declared.things.Thing.{Thing}
 use Rattle.sdr_model.specs.declared.things.Thing.TheVariants as things
-use Rattle.sdr_audit.specs.Rows.{bucket_row, capsule_row, element_row, extent_row, hash_row, name_row, object_row, ticket_row}
+use Rattle.sdr_audit.specs.Rows.{bucket_row, capsule_row, element_row, extent_row, hash_row, name_row, object_row}
+use Rattle.sdr_model.specs.TicketRows.{ticket_row}
 use Rattle.sdr_audit.specs.Standing.{entries_of, other_entries, queue_entries, thing_entries}
 use Rattle.sdr_audit.specs.Ties.{ties_of}
 use Rattle.sdr_owner.proofs.OwnersLemmas.{owners_more}

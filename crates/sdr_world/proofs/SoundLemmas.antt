@@ -39,7 +39,8 @@ use Rattle.sdr_model.specs.declared.zco.Capsule.{Capsule}
 use Rattle.sdr_model.specs.declared.zco.Subject.{Subject}
 use Rattle.sdr_model.specs.declared.zco.Subject.TheVariants as subjects
 use Rattle.sdr_model.specs.declared.zco.ZcoSource.{ZcoSource}
-use Rattle.sdr_audit.specs.Rows.{bucket_row, capsule_row, element_row, extent_row, hash_row, item_row, name_row, object_row, source_row, table_row, ticket_row}
+use Rattle.sdr_audit.specs.Rows.{bucket_row, capsule_row, element_row, extent_row, hash_row, item_row, name_row, object_row, source_row, table_row}
+use Rattle.sdr_model.specs.TicketRows.{ticket_row}
 use Rattle.sdr_audit.specs.Standing.{StandsForWhole, entries_of, other_entries, queue_entries, thing_entries}
 use Rattle.sdr_audit.specs.Ties.{ties_of}
 use Rattle.sdr_region.proofs.HeapBitsLemmas.{bits_right}

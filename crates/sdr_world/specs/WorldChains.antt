@@ -10,7 +10,8 @@ use Rattle.sdr_model.specs.Accounts.{tickets_of}
 use Rattle.sdr_model.specs.World.{World, thing_at}
 use Rattle.sdr_model.specs.declared.things.Thing.{Thing}
 use Rattle.sdr_model.specs.declared.things.Thing.TheVariants as things
-use Rattle.sdr_audit.specs.Rows.{bucket_row, capsule_row, element_row, extent_row, name_row, ticket_row}
+use Rattle.sdr_audit.specs.Rows.{bucket_row, capsule_row, element_row, extent_row, name_row}
+use Rattle.sdr_model.specs.TicketRows.{ticket_row}
 use Rattle.sdr_owner.specs.Chains.{Chain}
 use Rattle.sdr_owner.specs.declared.owner.Owner.{Owner}
 use Rattle.sdr_owner.specs.declared.owner.Owner.TheVariants as owners
