@@ -7,6 +7,7 @@ use sdr_model::Reply;
 use sdr_station::{Closed, OpenError, Station};
 use std::alloc::Global;
 use std::ops::Range;
+use zco_acct::{Compares, Notice};
 
 // A raw object is made, and nothing fails.
 const MADE: [(Step, Said); 4] = [
@@ -38,7 +39,7 @@ fn wrong_at(
     rows: &[(Step, Said)],
 ) -> Option<Result<Option<usize>, OpenError>> {
     let disk = failing(alloc, call)?;
-    match Station::open(alloc, disk) {
+    match Station::open(alloc, disk, Notice::new(Compares)) {
         Ok(mut station) => Some(Ok(wrong_step(alloc, &mut station, rows))),
         Err(shut) => Some(Err(shut.why)),
     }
@@ -62,7 +63,7 @@ fn wrong_fault(
 // The calls of an opening fail, then the ten of an end, and behind those none.
 fn faults(alloc: Global) -> Option<([Option<u64>; 2], Result<Option<usize>, OpenError>)> {
     let disk = failing(alloc, 0)?;
-    let Ok(station) = Station::open(alloc, disk) else {
+    let Ok(station) = Station::open(alloc, disk, Notice::new(Compares)) else {
         return None;
     };
     let first = station.into_disk().calls().checked_add(1)?;
@@ -128,7 +129,11 @@ fn ended(alloc: Global) -> Option<((Option<usize>, u64), u64)> {
     }
     let disk = station.into_disk();
     let image = disk.image_at(begun.checked_add(11)?, Torn::New).ok()?;
-    match Station::open(alloc, MemoryDisk::new(image, Vec::new(alloc))) {
+    match Station::open(
+        alloc,
+        MemoryDisk::new(image, Vec::new(alloc)),
+        Notice::new(Compares),
+    ) {
         Ok(back) => Some((wrong_call(&disk, begun)?, back.restored())),
         Err(_) => None,
     }

@@ -46,8 +46,8 @@ An example: a disk of 81984 bytes has 256 lines of log and 1024 of heap.
     $ echo '1: begin' | sdrtool heap.disk replay
     1 1 lock 1
 
-So far a heap is taken only as it was formatted, and the calls on objects,
-accounts and tickets aren't served: replay refuses the first such line.
+So far a heap is taken only as it was formatted, and the calls on objects
+aren't served: replay refuses the first such line.
 ";
 
 /// Prints a text, and gives the status.
