@@ -1,0 +1,4 @@
+mod KeptLemmas
+mod ChainLemmas
+mod PlaceLemmas
+mod WalkLemmas
