@@ -2,3 +2,5 @@ mod KeptLemmas
 mod ChainLemmas
 mod PlaceLemmas
 mod WalkLemmas
+mod SumLemmas
+mod PartsLemmas

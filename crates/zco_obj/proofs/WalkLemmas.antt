@@ -77,11 +77,21 @@ sees_extent source length next s l n = record {
   next = λ m e k. next_extent_is k n;
 }
 
+pub extent_short : {found : Option Block} {length : ℕ} → SomeExtent found → HasWord found 2 length → length ≤ 2 ^ 40
+extent_short {found} {length} s h = let e = length_is s.keeps h in let i = s.keeps.fits.inside in omega (arith, e, i)
+
 -- one is there
 pub record HasFirst {X : Type 0} (left : List X) : Type 0 where
   pub one : X
   pub behind : List X
   pub is : left ≡ one ∷ behind
+
+-- one is at the cursor, and these follow
+pub record AtCursor {X : Type 0} (P : X → Type 0) (addr : X → ℕ) (block : ℕ → ℕ → X → Block) (here : Option Block) : Type 0 where
+  pub one : X
+  pub behind : List X
+  pub found : here ≡ Some (block 0 (first_of addr 0 behind) one)
+  pub fits : All P (one ∷ behind)
 
 pub has_first : {X : Type 0} (addr : X → ℕ) (left : List X) → first_of addr 0 left ≢ 0 → HasFirst left
 has_first addr [] n = absurd (n refl)
@@ -182,17 +192,113 @@ module _ {X : Type 0} (P : X → Type 0) (addr : X → ℕ) (block : ℕ → ℕ
   }
 
   -- the cursor is at one that is there
-  pub at_one : {blocks : Blocks} {first cursor i total : ℕ} (f : X → ℕ) {xs : List X} → (c : ChainAt P addr block blocks first xs) →
+  pub at_one : {blocks : Blocks} {first cursor i total : ℕ} (f : X → ℕ) {xs : List X} → ChainAt P addr block blocks first xs →
       Sums P addr block f blocks first cursor i total → cursor ≢ 0 → ((p n : ℕ) (x : X) → block p n x ≡ block 0 n x) →
-      (Q : X → ℕ → Type 0) →
-      ((x : X) (behind : List X) → blocks cursor ≡ Some (block 0 (first_of addr 0 behind) x) → All P (x ∷ behind) → Q x (first_of addr 0 behind)) →
-      (x : X) × (n : ℕ) × Q x n
-  at_one {blocks} {cursor = cursor} f {xs} c s nz any Q q =
+      AtCursor P addr block (blocks cursor)
+  at_one {blocks} {cursor = cursor} f {xs} c s nz any =
       let w = (s.sums xs c).walk in
       let h = has_first addr w.left (λ z. nz (w.at_cursor ∙ z)) in
       let whole : xs ≡ w.passed ++ (h.one ∷ h.behind) = w.whole ∙ ap (λ (l : List X). w.passed ++ l) h.is in
       let here : cursor ≡ addr h.one = w.at_cursor ∙ ap (first_of addr 0) h.is in
       let n = first_of addr 0 h.behind in
-      (h.one, (n, q h.one h.behind
-      (ap blocks here ∙ one_found c w.passed h.one h.behind whole ∙ ap (λ b. Some b) (any (last_of addr 0 w.passed) n h.one))
-      (fits_left c w.passed (h.one ∷ h.behind) whole)))
+      record {
+        one = h.one;
+        behind = h.behind;
+        found = ap blocks here ∙ one_found c w.passed h.one h.behind whole ∙ ap (λ b. Some b) (any (last_of addr 0 w.passed) n h.one);
+        fits = fits_left c w.passed (h.one ∷ h.behind) whole;
+      }
+
+-- a header or trailer, or an extent, is there
+pub capsule_at : {found : Option Block} → AtCursor CapsuleFits capsule_addr capsule_block found → SomeCapsule found
+capsule_at a = record {
+  next = first_of capsule_addr 0 a.behind;
+  capsule = a.one;
+  keeps = record {
+    block = a.found;
+    fits = All-head CapsuleFits a.one a.behind a.fits;
+    small = first_capsule a.behind (All-tail CapsuleFits a.one a.behind a.fits);
+  };
+}
+
+pub extent_at : {found : Option Block} → AtCursor ExtentFits extent_addr extent_block found → SomeExtent found
+extent_at a = record {
+  next = first_of extent_addr 0 a.behind;
+  extent = a.one;
+  keeps = record {
+    block = a.found;
+    fits = All-head ExtentFits a.one a.behind a.fits;
+    small = first_extent a.behind (All-tail ExtentFits a.one a.behind a.fits);
+  };
+}
+
+-- the chain is walked from its first one
+pub one_starts : {blocks : Blocks} {first : ℕ} → first ≢ 0 → WalksOne blocks first 0 first 0
+one_starts nz = record {
+  walks = λ rows c.
+      let h = has_first capsule_addr rows (λ z. nz (c.at_first ∙ z)) in
+      record {
+        passed = [];
+        capsule = h.one;
+        behind = h.behind;
+        whole = h.is;
+        counted = refl;
+        at_previous = refl;
+        at_cursor = c.at_first ∙ ap (first_of capsule_addr 0) h.is;
+      };
+}
+
+module _ {blocks : Blocks} {first previous cursor i : ℕ} (w : WalksOne blocks first previous cursor i) where
+  pub one_keeps : {rows : List CapsuleRow} (c : CapsulesAt blocks first rows) →
+      KeepsCapsule (blocks cursor) (first_of capsule_addr 0 (w.walks rows c).behind) (w.walks rows c).capsule
+  one_keeps {rows} c =
+      let a = w.walks rows c in
+      let fits = fits_left CapsuleFits capsule_addr capsule_block c a.passed (a.capsule ∷ a.behind) a.whole in
+      record {
+        block = ap blocks a.at_cursor ∙ one_found CapsuleFits capsule_addr capsule_block c a.passed a.capsule a.behind a.whole;
+        fits = All-head CapsuleFits a.capsule a.behind fits;
+        small = first_capsule a.behind (All-tail CapsuleFits a.capsule a.behind fits);
+      }
+
+  pub one_on : {next : ℕ} → next ≢ 0 → HasWord (blocks cursor) 0 next → WalksOne blocks first cursor next (i + 1)
+  one_on {next} nz h = record {
+    walks = λ rows c.
+        let a = w.walks rows c in
+        let e : next ≡ first_of capsule_addr 0 a.behind = next_capsule_is (one_keeps c) h in
+        let f = has_first capsule_addr a.behind (λ z. nz (e ∙ z)) in
+        record {
+          passed = a.passed ++ (a.capsule ∷ []);
+          capsule = f.one;
+          behind = f.behind;
+          whole = a.whole ∙ ap (λ (l : List CapsuleRow). a.passed ++ (a.capsule ∷ l)) f.is
+              ∙ sym (append_assoc a.passed (a.capsule ∷ []) (f.one ∷ f.behind));
+          counted = let l = length-append a.passed (a.capsule ∷ []) in let k = a.counted in omega (arith, l, k);
+          at_previous = a.at_cursor ∙ sym (last-append capsule_addr capsule_block 0 a.passed (a.capsule ∷ []));
+          at_cursor = e ∙ ap (first_of capsule_addr 0) f.is;
+        };
+  }
+
+  pub one_last : {next : ℕ} → HasWord (blocks cursor) 0 next → next ≡ 0 →
+      FindsLast blocks first (record { previous = previous; addr = cursor })
+  one_last {next} h z = record {
+    finds = λ rows c.
+        let a = w.walks rows c in
+        let e : next ≡ first_of capsule_addr 0 a.behind = next_capsule_is (one_keeps c) h in
+        let none = none_at_zero CapsuleFits capsule_addr capsule_block c (a.passed ++ (a.capsule ∷ [])) a.behind
+        (a.whole ∙ sym (append_assoc a.passed (a.capsule ∷ []) a.behind)) e z in
+        record {
+          before = a.passed;
+          capsule = a.capsule;
+          whole = a.whole ∙ ap (λ (l : List CapsuleRow). a.passed ++ (a.capsule ∷ l)) none;
+          at_previous = a.at_previous;
+          at_addr = a.at_cursor;
+        };
+  }
+
+  pub one_most : i ≡ 4194304 → FindsLast blocks first (record { previous = previous; addr = cursor })
+  one_most all = record {
+    finds = λ rows c.
+        let a = w.walks rows c in
+        let l = length-append a.passed (a.capsule ∷ a.behind) in
+        let e = ap (length {A = CapsuleRow}) a.whole in let k = a.counted in let few = c.few in
+        absurd (omega (arith, l, e, k, few, all));
+  }

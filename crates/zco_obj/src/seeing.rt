@@ -3,12 +3,13 @@ ghost use Rattle.std.specs.Prelude.{◌≡◌, ◌≢◌, ◌≤◌, IfErr, IfOk
 ghost use Rattle.sdr_base.specs.Moves.{KeepsSome};
 ghost use Rattle.sdr_base.specs.Objects.{OnlyFault};
 ghost use Rattle.sdr_base.specs.Works.{Looks};
+ghost use Rattle.sdr_model.specs.Limits.{longest_source};
 ghost use Rattle.zco_obj.specs.Walks.{FindsLast, SeesCapsule, SeesExtent, SomeCapsule, SomeCapsules, SomeExtent};
 
 use crate::charging::LONGEST_CAPSULE;
 use crate::capsule::TEXT_FROM;
 use sdr_base::layout::{capsule as capsule_words, extent as extent_words};
-use sdr_base::{Addr, Objects, Stop, word};
+use sdr_base::{Addr, Objects, Stop, check_failed, word};
 
 /// More parts than an object may have.
 pub const TOO_MANY_PARTS: u64 = 4_194_304;
@@ -57,6 +58,7 @@ pub fn see_extent<O: Objects>(o: &mut O, extent: Addr) -> Result<SeenExtent, Sto
     requires kept { KeepsSome (O.keeps o.old) }
     requires extent { SomeExtent ((O.heap o.old).blocks extent) }
     ensures seen { IfOk result (SeesExtent ((O.heap o.old).blocks extent)) }
+    ensures short { IfOk result (λ seen. seen.length ≤ longest_source) }
     ensures refused { IfErr result OnlyFault }
     ensures looks { Looks O.HasHeap o.old o.new result }
 {
@@ -80,6 +82,7 @@ pub fn find_last<O: Objects>(o: &mut O, first: Addr) -> Result<Last, Stop>
     ensures refused { IfErr result OnlyFault }
     ensures looks { Looks O.HasHeap o.old o.new result }
 {
+    check_failed(o)?;
     let mut previous = 0;
     let mut addr = first;
     for i in 0..TOO_MANY_PARTS {

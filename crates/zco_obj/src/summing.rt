@@ -11,7 +11,7 @@ ghost use Rattle.zco_obj.specs.Walks.{SomeCapsules, SomeExtents, TellsCapsules, 
 
 use crate::seeing::{TOO_MANY_PARTS, see_capsule, see_extent};
 use sdr_base::layout::object as words;
-use sdr_base::{Addr, Kind, Objects, Stop, expect_kind, word};
+use sdr_base::{Addr, Kind, Objects, Stop, check_failed, expect_kind, word};
 
 /// How many bytes an object has on the wire: headers, extents and trailers. It is linear in their
 /// number.
@@ -53,6 +53,7 @@ fn capsules_length<O: Objects>(o: &mut O, first: Addr) -> Result<u64, Stop>
     ensures refused { IfErr result OnlyFault }
     ensures looks { Looks O.HasHeap o.old o.new result }
 {
+    check_failed(o)?;
     let mut total = 0;
     let mut addr = first;
     for i in 0..TOO_MANY_PARTS {
@@ -75,6 +76,7 @@ pub fn extents_length<O: Objects>(o: &mut O, first: Addr) -> Result<u64, Stop>
     ensures refused { IfErr result OnlyFault }
     ensures looks { Looks O.HasHeap o.old o.new result }
 {
+    check_failed(o)?;
     let mut total = 0;
     let mut addr = first;
     for i in 0..TOO_MANY_PARTS {
