@@ -4,3 +4,9 @@ mod PlaceLemmas
 mod WalkLemmas
 mod SumLemmas
 mod PartsLemmas
+mod CauseLemmas
+mod ChargeLemmas
+mod CapsuleLemmas
+mod MadeLemmas
+mod DiscardLemmas
+pub mod OccupancyLaws

@@ -231,6 +231,18 @@ extent_at a = record {
   };
 }
 
+-- one in a chain is there
+pub capsule_spot : {blocks : Blocks} {first : ℕ} {rows : List CapsuleRow} → CapsulesAt blocks first rows →
+    (before : List CapsuleRow) (c : CapsuleRow) (behind : List CapsuleRow) → rows ≡ before ++ (c ∷ behind) →
+    KeepsCapsule (blocks c.addr) (first_of capsule_addr 0 behind) c
+capsule_spot a before c behind w =
+    let fits = fits_left CapsuleFits capsule_addr capsule_block a before (c ∷ behind) w in
+    record {
+      block = one_found CapsuleFits capsule_addr capsule_block a before c behind w;
+      fits = All-head CapsuleFits c behind fits;
+      small = first_capsule behind (All-tail CapsuleFits c behind fits);
+    }
+
 -- the chain is walked from its first one
 pub one_starts : {blocks : Blocks} {first : ℕ} → first ≢ 0 → WalksOne blocks first 0 first 0
 one_starts nz = record {
