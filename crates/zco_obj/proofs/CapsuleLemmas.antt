@@ -34,15 +34,16 @@ uncharged_stops object number text old new (Refused (refusals.BadAddress bad)) q
 uncharged_stops object number text old new (Refused (refusals.WrongKind bad kind)) q k f s = absurd (object_cause number text q s.0)
 uncharged_stops object number text old new (Refused (refusals.BadLength bad most)) q k f s = absurd (object_cause number text q s.0)
 uncharged_stops object number text old new (Refused (refusals.NoBlock missing)) q k f s = absurd (object_cause number text q s.0)
-uncharged_stops object number text old new (Refused (refusals.LogFull lines room)) q k f s =
-    (record { kind = k; fits = f; allows = s.0 },
-    record {
-      addr = 0;
-      made = [];
-      first = record { rest = Took (8 + length text) 0 ∷ []; whole = refl };
-      moves = s.1.moves ∙ sym (append-nil old.moves);
-      spare = let e = s.1.spare in omega (arith, e);
-    })
+uncharged_stops object number text old new (Refused (refusals.LogFull lines room)) q k f s = (
+  record { kind = k; fits = f; allows = s.0 },
+  record {
+    addr = 0;
+    made = [];
+    first = record { rest = Took (8 + length text) 0 ∷ []; whole = refl };
+    moves = s.1.moves ∙ sym (append-nil old.moves);
+    spare = let e = s.1.spare in omega (arith, e);
+  },
+)
 uncharged_stops object number text old new (Refused refusal) q k f s =
     (record { kind = k; fits = f; refuses = s.0 }, s.1)
 uncharged_stops object number text old new DiskFault q k f s = s

@@ -59,18 +59,22 @@ charges_object {object} {number} {acct} {amounts} {old} {new} t c = record {
 pub charge_stops : (object number : ℕ) (acct : Acct) (amounts : Amounts) (old new : Heap) (stop : Stop) →
     Tells old.blocks object (λ row. row.account) acct → ChargeStops acct number amounts old new stop →
     ObjectChargeStops object number amounts old new stop
-charge_stops object number acct amounts old new (Refused (refusals.LogFull lines room)) t s =
-    (record {
-      allows = λ row tickets k.
-          let q = subst (λ (a : Acct). KeepsQueue old a tickets) (sym (t.tells row (object_of k))) (queue_of k) in
-          subst (λ (a : Acct). refusal_in old a number amounts tickets ≡ None) (t.tells row (object_of k)) (s.0.none tickets q);
-    }, s.1)
-charge_stops object number acct amounts old new (Refused refusal) t s =
-    (record {
-      refuses = λ row tickets k.
-          let q = subst (λ (a : Acct). KeepsQueue old a tickets) (sym (t.tells row (object_of k))) (queue_of k) in
-          subst (λ (a : Acct). refusal_in old a number amounts tickets ≡ Some refusal) (t.tells row (object_of k)) (s.0.some tickets q);
-    }, s.1)
+charge_stops object number acct amounts old new (Refused (refusals.LogFull lines room)) t s = (
+  record {
+    allows = λ row tickets k.
+        let q = subst (λ (a : Acct). KeepsQueue old a tickets) (sym (t.tells row (object_of k))) (queue_of k) in
+        subst (λ (a : Acct). refusal_in old a number amounts tickets ≡ None) (t.tells row (object_of k)) (s.0.none tickets q);
+  },
+  s.1,
+)
+charge_stops object number acct amounts old new (Refused refusal) t s = (
+  record {
+    refuses = λ row tickets k.
+        let q = subst (λ (a : Acct). KeepsQueue old a tickets) (sym (t.tells row (object_of k))) (queue_of k) in
+        subst (λ (a : Acct). refusal_in old a number amounts tickets ≡ Some refusal) (t.tells row (object_of k)) (s.0.some tickets q);
+  },
+  s.1,
+)
 charge_stops object number acct amounts old new DiskFault t s = s
 charge_stops object number acct amounts old new MediaFault t s = s
 charge_stops object number acct amounts old new Failed t s = s

@@ -49,15 +49,16 @@ creates {acct} {number} {addr} {old} {mid} {new} account q e c t =
 pub uncharged : (acct : Acct) (number : ℕ) (old new : Heap) (stop : Stop) → SomeQueue old acct →
     ChargeStops acct number object_amounts old new stop → CreateStops acct number old new stop
 uncharged acct number old new (Refused (refusals.NoBlock missing)) q s = absurd (queue_cause number object_amounts q s.0)
-uncharged acct number old new (Refused (refusals.LogFull lines room)) q s =
-    (s.0,
-    record {
-      addr = 0;
-      made = [];
-      first = record { rest = Took 72 0 ∷ []; whole = refl };
-      moves = s.1.moves ∙ sym (append-nil old.moves);
-      spare = let e = s.1.spare in omega (arith, e);
-    })
+uncharged acct number old new (Refused (refusals.LogFull lines room)) q s = (
+  s.0,
+  record {
+    addr = 0;
+    made = [];
+    first = record { rest = Took 72 0 ∷ []; whole = refl };
+    moves = s.1.moves ∙ sym (append-nil old.moves);
+    spare = let e = s.1.spare in omega (arith, e);
+  },
+)
 uncharged acct number old new (Refused refusal) q s = s
 uncharged acct number old new DiskFault q s = s
 uncharged acct number old new MediaFault q s = s

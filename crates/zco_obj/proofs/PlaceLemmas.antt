@@ -185,8 +185,11 @@ module _ {side : Side} {object prev next addr : ℕ} {text : List ℕ} {old mid 
           subst (λ (es : Entries). Stands new.blocks
           ((object, ends_block side row (first_of capsule_addr addr before) (if next == 0 then addr else L)) ∷ es))
           (joined addr next text before behind R g.at_next) one in
-          let three : Stands new.blocks ((object, ends_block side row (first_of capsule_addr addr before)
-          (last_of capsule_addr 0 (before ++ (c ∷ behind)))) ∷ (chain 0 0 (before ++ (c ∷ behind)) ++ R)) =
+          let three : Stands new.blocks ((
+            object,
+            ends_block side row (first_of capsule_addr addr before)
+                (last_of capsule_addr 0 (before ++ (c ∷ behind))),
+          ) ∷ (chain 0 0 (before ++ (c ∷ behind)) ++ R)) =
           subst (λ (n : ℕ). Stands new.blocks
           ((object, ends_block side row (first_of capsule_addr addr before) n) ∷ (chain 0 0 (before ++ (c ∷ behind)) ++ R)))
           (last_after next addr text before behind none g.at_next) two in
@@ -306,8 +309,11 @@ module _ {side : Side} {object prev next : ℕ} {old : Heap} where
             ∷ (chain 0 0 (before ++ behind) ++ R)) =
             subst (λ (es : Entries). Stands new.blocks ((object, ends_block side row (first_of capsule_addr next before) L) ∷ es))
             (rejoined next c.addr before behind R p.at_next) here in
-            let three : Stands new.blocks ((object, ends_block side row (first_of capsule_addr next before)
-            (last_of capsule_addr 0 (before ++ behind))) ∷ (chain 0 0 (before ++ behind) ++ R)) =
+            let three : Stands new.blocks ((
+              object,
+              ends_block side row (first_of capsule_addr next before)
+                  (last_of capsule_addr 0 (before ++ behind)),
+            ) ∷ (chain 0 0 (before ++ behind) ++ R)) =
             subst (λ (n : ℕ). Stands new.blocks
             ((object, ends_block side row (first_of capsule_addr next before) n) ∷ (chain 0 0 (before ++ behind) ++ R)))
             (last_without next prev c before behind none p.at_next p.at_previous) two in

@@ -37,7 +37,6 @@ pub capsule_length : {found : Option Block} {next : ℕ} {c : CapsuleRow} (kind 
 capsule_length {found} {next} {c} kind all k e =
     ap bytes_of e ∙ ap (λ (o : Option Block). bytes_of (kind_length o)) k.block ∙ length-layout (next ∷ []) c.text
 
-
 module _ {found : Option Block} {next : ℕ} {e : ExtentRow} (k : KeepsExtent found next e) where
   pub extent_reaches : (end : ℕ) → end ≤ 32 → Reaches found end
   extent_reaches end le = reaches found kinds.Extent (e.source ∷ e.offset ∷ e.length ∷ next ∷ []) [] end k.block le

@@ -61,12 +61,7 @@ pub fn append_trailer<O: Objects>(
 }
 
 // Charges an object's account for a header or trailer of this text.
-fn charge_capsule<O: Objects>(
-    o: &mut O,
-    object: Addr,
-    ticket: u64,
-    text: &[u8],
-) -> Result<(), Stop>
+fn charge_capsule<O: Objects>(o: &mut O, object: Addr, ticket: u64, text: &[u8]) -> Result<(), Stop>
     requires kept { KeepsSome (O.keeps o.old) }
     requires object { IsWithQueue (O.heap o.old) object }
     ensures charged { OnOk result
@@ -77,7 +72,12 @@ fn charge_capsule<O: Objects>(
 {
     expect_kind(o, object, Kind::Object)?;
     check_text(text.len() as u64)?;
-    charge_object(o, object, ticket, &heap_amounts(capsule_bytes(text.len() as u64)))
+    charge_object(
+        o,
+        object,
+        ticket,
+        &heap_amounts(capsule_bytes(text.len() as u64)),
+    )
 }
 
 // Refuses a text of no byte or of too many.

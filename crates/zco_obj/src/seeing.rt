@@ -6,8 +6,8 @@ ghost use Rattle.sdr_base.specs.Works.{Looks};
 ghost use Rattle.sdr_model.specs.Limits.{longest_source};
 ghost use Rattle.zco_obj.specs.Walks.{FindsLast, SeesCapsule, SeesExtent, SomeCapsule, SomeCapsules, SomeExtent};
 
-use crate::charging::LONGEST_CAPSULE;
 use crate::capsule::TEXT_FROM;
+use crate::charging::LONGEST_CAPSULE;
 use sdr_base::layout::{capsule as capsule_words, extent as extent_words};
 use sdr_base::{Addr, Objects, Stop, check_failed, word};
 

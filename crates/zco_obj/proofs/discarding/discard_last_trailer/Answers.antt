@@ -11,10 +11,11 @@ word-requires-clause-inside g c =
     rw c.expect_kind.ensures.looks.same (object_reaches (c.requires.object c.in_ok-expect_kind.ensures.found).keeps 48 (omega arith))
 
 pub returns-then-first-eq0-clause-refused : goal.returns-then-first-eq0-clause-refused
-returns-then-first-eq0-clause-refused g c =
-    (no_trailer {heap = g.O.HasHeap.heap c.args.o.now} c.in_ok-expect_kind.ensures.found
-    (rw c.expect_kind.ensures.looks.same at c.in_ok-first.ensures.given) c.if-first-eq0.true,
-    c.word.ensures.looks.same ∙ c.expect_kind.ensures.looks.same)
+returns-then-first-eq0-clause-refused g c = (
+  no_trailer {heap = g.O.HasHeap.heap c.args.o.now} c.in_ok-expect_kind.ensures.found
+      (rw c.expect_kind.ensures.looks.same at c.in_ok-first.ensures.given) c.if-first-eq0.true,
+  c.word.ensures.looks.same ∙ c.expect_kind.ensures.looks.same,
+)
 
 pub find_last-requires-clause-chain : goal.find_last-requires-clause-chain
 find_last-requires-clause-chain g c =

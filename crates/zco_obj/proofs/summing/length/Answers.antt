@@ -30,8 +30,13 @@ capsules_length-requires-clause-chain g c =
 pub extents_length-requires-clause-chain : goal.extents_length-requires-clause-chain
 extents_length-requires-clause-chain g c =
     let k = (c.requires.object c.in_ok-expect_kind.ensures.found).keeps in
-    rw (c.capsules_length.ensures.looks.same, c.word-3.ensures.looks.same, c.word-2.ensures.looks.same, c.word.ensures.looks.same,
-    c.expect_kind.ensures.looks.same)
+    rw (
+      c.capsules_length.ensures.looks.same,
+      c.word-3.ensures.looks.same,
+      c.word-2.ensures.looks.same,
+      c.word.ensures.looks.same,
+      c.expect_kind.ensures.looks.same,
+    )
     (record {
       rows = _;
       is = extents_from k (rw (c.word.ensures.looks.same, c.expect_kind.ensures.looks.same) at c.in_ok-first_extent.ensures.given);
@@ -40,8 +45,14 @@ extents_length-requires-clause-chain g c =
 pub capsules_length-requires-2-clause-chain : goal.capsules_length-requires-2-clause-chain
 capsules_length-requires-2-clause-chain g c =
     let k = (c.requires.object c.in_ok-expect_kind.ensures.found).keeps in
-    rw (c.extents_length.ensures.looks.same, c.capsules_length.ensures.looks.same, c.word-3.ensures.looks.same,
-    c.word-2.ensures.looks.same, c.word.ensures.looks.same, c.expect_kind.ensures.looks.same)
+    rw (
+      c.extents_length.ensures.looks.same,
+      c.capsules_length.ensures.looks.same,
+      c.word-3.ensures.looks.same,
+      c.word-2.ensures.looks.same,
+      c.word.ensures.looks.same,
+      c.expect_kind.ensures.looks.same,
+    )
     (record {
       rows = _;
       is = trailers_from k (rw (c.word-2.ensures.looks.same, c.word.ensures.looks.same, c.expect_kind.ensures.looks.same)
@@ -57,7 +68,18 @@ returns-clause-told g c =
     at c.in_ok-first_trailer.ensures.given)
     (rw (c.word-3.ensures.looks.same, c.word-2.ensures.looks.same, c.word.ensures.looks.same, c.expect_kind.ensures.looks.same)
     at c.in_ok-headers.ensures.told)
-    (rw (c.capsules_length.ensures.looks.same, c.word-3.ensures.looks.same, c.word-2.ensures.looks.same, c.word.ensures.looks.same,
-    c.expect_kind.ensures.looks.same) at c.in_ok-extents.ensures.told)
-    (rw (c.extents_length.ensures.looks.same, c.capsules_length.ensures.looks.same, c.word-3.ensures.looks.same,
-    c.word-2.ensures.looks.same, c.word.ensures.looks.same, c.expect_kind.ensures.looks.same) at c.in_ok-trailers.ensures.told)
+    (rw (
+      c.capsules_length.ensures.looks.same,
+      c.word-3.ensures.looks.same,
+      c.word-2.ensures.looks.same,
+      c.word.ensures.looks.same,
+      c.expect_kind.ensures.looks.same,
+    ) at c.in_ok-extents.ensures.told)
+    (rw (
+      c.extents_length.ensures.looks.same,
+      c.capsules_length.ensures.looks.same,
+      c.word-3.ensures.looks.same,
+      c.word-2.ensures.looks.same,
+      c.word.ensures.looks.same,
+      c.expect_kind.ensures.looks.same,
+    ) at c.in_ok-trailers.ensures.told)
