@@ -1,10 +1,8 @@
 -- A header or trailer comes after its charge, or it doesn't.
-use Rattle.std.proofs.Common.{◌≡◌, ◌≢◌, ◌≤◌, ◌+◌, ℕ, List, [], ◌∷◌, ◌++◌, length, refl, sym, ap, ◌∙◌, arith, subst, append-nil}
-use Rattle.sdr_base.specs.Blocks.{Blocks, IsKind}
-use Rattle.sdr_base.specs.Linked.{first_of, last_of}
+use Rattle.std.proofs.Common.{◌≤◌, ◌+◌, ℕ, List, [], ◌∷◌, length, refl, sym, ◌∙◌, arith, append-nil}
+use Rattle.sdr_base.specs.Blocks.{IsKind}
 use Rattle.sdr_base.specs.Objects.{Heap, OnlyShort}
 use Rattle.sdr_base.specs.Words.{HasWord}
-use Rattle.sdr_base.specs.ZcoObjects.{CapsuleRow, ObjectRow, capsule_addr}
 use Rattle.sdr_base.specs.declared.kind.Kind.TheVariants as kinds
 use Rattle.sdr_base.specs.declared.moves.Move.TheVariants.{Took}
 use Rattle.sdr_base.specs.declared.refusal.Refusal.{Refusal}
@@ -13,8 +11,8 @@ use Rattle.sdr_base.specs.declared.stop.Stop.{Stop}
 use Rattle.sdr_base.specs.declared.stop.Stop.TheVariants.{Refused, DiskFault, MediaFault, Failed}
 use Rattle.zco_obj.specs.Amounts.{capsule_amounts}
 use Rattle.zco_obj.specs.Capsules.{AddsCapsule, CapsuleAllowed, CapsuleStops, ChargesCapsule, IsCapsuleLength, with_header, with_trailer}
-use Rattle.zco_obj.specs.Chains.{InsertsCapsule, IsGap, SomeGap}
-use Rattle.zco_obj.specs.Charging.{LacksRoom, ObjectAllows, ObjectChargeStops, ObjectRefuses}
+use Rattle.zco_obj.specs.Chains.{InsertsCapsule, SomeGap}
+use Rattle.zco_obj.specs.Charging.{LacksRoom, ObjectChargeStops, ObjectRefuses}
 use Rattle.zco_obj.specs.Kept.{SomeWithQueue}
 use Rattle.zco_obj.specs.declared.linking.Side.TheVariants as sides
 use Rattle.zco_obj.proofs.CauseLemmas.{IsCause, is_cause}

@@ -1,5 +1,5 @@
 -- A charge is refused for one of four causes, and for no other.
-use Rattle.std.proofs.Common.{◌≡◌, ℕ, List, Bool, true, false, cond, sym, subst}
+use Rattle.std.proofs.Common.{◌≡◌, ℕ, List, true, false, subst}
 use Rattle.std.specs.Prelude.{◌==◌, Option, None, Some, find, if◌then◌else◌}
 use Rattle.std.specs.Option.{option_map, option_or}
 use Rattle.sdr_base.specs.Objects.{Heap}

@@ -1,17 +1,15 @@
 -- An account is charged, and then a thing is changed.
-use Rattle.std.proofs.Common.{◌≡◌, ◌≢◌, ◌+◌, ◌-◌, ◌*◌, ◌≤◌, ◌<◌, ◌^◌, ℕ, List, [], ◌∷◌, ◌++◌, length, Bool, true, false, cond, eqb, refl, sym, ap, ◌∙◌, arith, subst, append_assoc}
-use Rattle.std.specs.Prelude.{◌==◌, Option, None, Some, if◌then◌else◌}
-use Rattle.sdr_base.specs.Blocks.{Blocks}
-use Rattle.sdr_base.specs.Entries.{Changes, Entries, Stands, at, times}
-use Rattle.sdr_base.specs.Linked.{first_of, linked}
-use Rattle.sdr_base.specs.Making.{Made, besides, with_moves}
+use Rattle.std.proofs.Common.{◌≡◌, ◌≢◌, ◌+◌, ◌-◌, ◌<◌, ◌^◌, ℕ, List, [], ◌∷◌, ◌++◌, length, true, false, cond, eqb, refl, sym, ap, ◌∙◌, arith, subst, append_assoc}
+use Rattle.std.specs.Prelude.{◌==◌, None, Some, if◌then◌else◌}
+use Rattle.sdr_base.specs.Entries.{Changes, Entries, Stands, times}
+use Rattle.sdr_base.specs.Linked.{linked}
+use Rattle.sdr_base.specs.Making.{Made, with_moves}
 use Rattle.sdr_base.specs.Objects.{Heap, OnlyShort}
 use Rattle.sdr_base.specs.ZcoObjects.{ObjectRow, object_entries}
 use Rattle.sdr_base.specs.declared.account.Acct.{Acct}
 use Rattle.sdr_base.specs.declared.account.Amounts.{Amounts}
 use Rattle.sdr_base.specs.declared.moves.Move.{Move}
 use Rattle.sdr_base.specs.declared.moves.Move.TheVariants.{Short}
-use Rattle.sdr_base.specs.declared.refusal.Refusal.{Refusal}
 use Rattle.sdr_base.specs.declared.refusal.Refusal.TheVariants as refusals
 use Rattle.sdr_base.specs.declared.stop.Stop.{Stop}
 use Rattle.sdr_base.specs.declared.stop.Stop.TheVariants.{Refused, DiskFault, MediaFault, Failed}
@@ -20,8 +18,7 @@ use Rattle.sdr_model.specs.Amounts.{minus}
 use Rattle.sdr_model.specs.declared.accounts.Ticket.{Ticket}
 use Rattle.zco_acct.specs.Charges.{ChargesAccount, ChargeStops, charged, with_used}
 use Rattle.zco_acct.specs.Kept.{KeepsQueue, SomeQueue, block_of, queue_entries, queued_block}
-use Rattle.zco_acct.specs.Words.{occupied_in, with_occupied}
-use Rattle.zco_obj.specs.Charging.{ChargesObject, IsFree, LacksRoom, ObjectAllows, ObjectChargeStops, ObjectRefuses, Pays, occupied_then, refusal_in}
+use Rattle.zco_obj.specs.Charging.{ChargesObject, IsFree, LacksRoom, ObjectChargeStops, Pays, refusal_in}
 use Rattle.zco_obj.specs.Kept.{KeepsObject, KeepsWithQueue, SomeObject, SomeWithQueue}
 use Rattle.zco_obj.specs.Reading.{Tells}
 

@@ -1,12 +1,12 @@
 -- A header or trailer goes, and what it charged.
-use Rattle.std.proofs.Common.{◌≡◌, ◌≢◌, ◌+◌, ◌-◌, ◌≤◌, ℕ, List, [], ◌∷◌, ◌++◌, length, drop, take, refl, sym, ap, ◌∙◌, arith, subst, append-nil, length-append}
-use Rattle.std.specs.Prelude.{None, Option, Some, slice_get}
+use Rattle.std.proofs.Common.{◌≡◌, ◌≢◌, ◌-◌, ℕ, List, [], ◌∷◌, ◌++◌, length, drop, take, refl, sym, ap, ◌∙◌, arith, subst, append-nil, length-append}
+use Rattle.std.specs.Prelude.{Option, Some, slice_get}
 use Rattle.std.proofs.lemmas.Option.{slice_get-get_or}
 use Rattle.std.proofs.Math.Seq.{get_or-append_seam, take-append_seam}
 use Rattle.sdr_base.specs.Blocks.{Blocks, IsKind}
 use Rattle.sdr_base.specs.Entries.{Stands}
-use Rattle.sdr_base.specs.Linked.{first_of, last_of}
-use Rattle.sdr_base.specs.Making.{Made, besides, with_moves}
+use Rattle.sdr_base.specs.Linked.{first_of}
+use Rattle.sdr_base.specs.Making.{besides, with_moves}
 use Rattle.sdr_base.specs.Objects.{Heap, OnlyUnmoved}
 use Rattle.sdr_base.specs.Words.{HasWord}
 use Rattle.sdr_base.specs.ZcoObjects.{CapsuleRow, ObjectRow, capsule_addr, capsule_block, object_entries}
@@ -28,7 +28,7 @@ use Rattle.zco_obj.specs.Chains.{IsSpot, RemovesCapsule, SomeSpot, capsules, wit
 use Rattle.zco_obj.specs.Discards.{Discarded, DiscardsCapsule, DiscardsOne, DiscardsSpot, DiscardStops, GaveOne, LacksCapsule, SpotStops, first_header, last_trailer, without_header, without_trailer}
 use Rattle.zco_obj.specs.Kept.{CapsuleFits, KeepsObject, SomeObject}
 use Rattle.zco_obj.specs.Reading.{Tells}
-use Rattle.zco_obj.specs.Walks.{CapsulesAt, FindsLast, KeepsCapsule, SeesCapsule, SomeCapsule, SomeCapsules}
+use Rattle.zco_obj.specs.Walks.{FindsLast, KeepsCapsule, SeesCapsule, SomeCapsule, SomeCapsules}
 use Rattle.zco_obj.specs.declared.linking.Side.{Side}
 use Rattle.zco_obj.specs.declared.linking.Side.TheVariants as sides
 use Rattle.zco_obj.specs.declared.seeing.Last.{Last}

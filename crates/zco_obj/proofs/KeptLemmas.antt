@@ -1,9 +1,9 @@
 -- What the words of an object's block say.
-use Rattle.std.proofs.Common.{◌≡◌, ◌≢◌, ◌+◌, ◌*◌, ◌≤◌, ◌<◌, ◌^◌, ℕ, zero, suc, List, [], ◌∷◌, ◌++◌, length, get_or, Option, Some, None, refl, sym, ap, ◌∙◌, arith, subst}
-use Rattle.std.specs.Prelude.{All, sum_by}
+use Rattle.std.proofs.Common.{◌≡◌, ◌≢◌, ◌*◌, ◌≤◌, ◌<◌, ◌^◌, ℕ, zero, suc, List, [], ◌∷◌, length, get_or, Some, refl, sym, ◌∙◌, arith}
+use Rattle.std.specs.Prelude.{All}
 use Rattle.std.proofs.lemmas.List.Elements.{All-head, All-tail}
 use Rattle.std.proofs.lemmas.List.Sums.{sum_by-cons}
-use Rattle.sdr_base.specs.Blocks.{Block, Blocks, Reaches}
+use Rattle.sdr_base.specs.Blocks.{Blocks, Reaches}
 use Rattle.sdr_base.specs.Linked.{first_of, last_of}
 use Rattle.sdr_base.specs.Words.{HasWord}
 use Rattle.sdr_base.specs.ZcoObjects.{CapsuleRow, ExtentRow, ObjectRow, account_number, capsule_addr, extent_addr, object_block}
@@ -12,7 +12,7 @@ use Rattle.sdr_base.specs.declared.account.Acct.TheVariants as accts
 use Rattle.sdr_base.specs.declared.kind.Kind.TheVariants as kinds
 use Rattle.sdr_base.proofs.StandingLemmas.{found}
 use Rattle.sdr_base.proofs.WritingLemmas.{reaches, word_is}
-use Rattle.zco_obj.specs.Kept.{CapsuleFits, ExtentFits, KeepsObject, ObjectFits, capsules_length, extents_length}
+use Rattle.zco_obj.specs.Kept.{CapsuleFits, ExtentFits, KeepsObject, ObjectFits, extents_length}
 use Rattle.zco_obj.specs.Reading.{Tells}
 
 -- the words of an object's block

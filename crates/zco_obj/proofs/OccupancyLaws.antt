@@ -1,7 +1,7 @@
 -- What is occupied is the sum of what objects charge and of what is left of grants, before and after each change. The laws
 -- hold whatever an object, an extent, and a header or trailer charge.
-use Rattle.std.proofs.Common.{◌≡◌, ◌+◌, ◌-◌, ◌≤◌, ℕ, List, [], ◌∷◌, ◌++◌, length, drop, take, Bool, true, false, cond, Some, None, refl, sym, ap, ◌∙◌, arith, subst}
-use Rattle.std.specs.Prelude.{◌==◌, Option, find, sum_by, if◌then◌else◌}
+use Rattle.std.proofs.Common.{◌≡◌, ◌+◌, ◌-◌, ℕ, List, [], ◌∷◌, ◌++◌, true, false, cond, Some, None, refl, ap, arith}
+use Rattle.std.specs.Prelude.{◌==◌, find, sum_by, if◌then◌else◌}
 use Rattle.std.proofs.lemmas.List.Sums.{sum_by-cons, sum_by_push}
 use Rattle.sdr_base.specs.Objects.{Heap}
 use Rattle.sdr_base.specs.ZcoObjects.{CapsuleRow, ExtentRow, ObjectRow}
@@ -13,7 +13,7 @@ use Rattle.sdr_model.specs.Amounts.{amount, minus}
 use Rattle.sdr_model.specs.Charges.{left_in}
 use Rattle.sdr_model.specs.declared.accounts.Ticket.{Ticket}
 use Rattle.zco_acct.specs.Charges.{charged, with_used}
-use Rattle.zco_acct.specs.Refusals.{named_ticket, ticket_left, uncovered_by}
+use Rattle.zco_acct.specs.Refusals.{named_ticket, ticket_left}
 use Rattle.zco_acct.specs.Walks.{has_number}
 use Rattle.zco_acct.specs.Words.{occupied_in}
 use Rattle.zco_obj.specs.Amounts.{charge_of}

@@ -1,17 +1,17 @@
 -- The chains of an object that is kept.
-use Rattle.std.proofs.Common.{◌≡◌, ◌+◌, ◌<◌, ◌^◌, ℕ, List, [], ◌∷◌, ◌++◌, length, Some, refl, sym, ap, ◌∙◌, arith, subst, append_assoc}
+use Rattle.std.proofs.Common.{◌≡◌, ◌+◌, ◌<◌, ◌^◌, ℕ, [], ◌∷◌, ◌++◌, length, ◌∙◌, arith, subst, append_assoc}
 use Rattle.std.specs.Prelude.{All}
 use Rattle.sdr_base.specs.Blocks.{Blocks, IsKind}
 use Rattle.sdr_base.specs.Entries.{Entries, Stands}
 use Rattle.sdr_base.specs.Linked.{first_of, last_of}
 use Rattle.sdr_base.specs.Words.{HasWord}
-use Rattle.sdr_base.specs.ZcoObjects.{CapsuleRow, ObjectRow, capsule_addr, capsule_entries, extent_addr, extent_entries, object_block}
+use Rattle.sdr_base.specs.ZcoObjects.{ObjectRow, capsule_addr, capsule_entries, extent_addr, extent_entries, object_block}
 use Rattle.sdr_base.specs.declared.kind.Kind.TheVariants as kinds
 use Rattle.sdr_base.proofs.StandingLemmas.{moved}
 use Rattle.zco_obj.specs.Chains.{capsules, ends_block}
 use Rattle.zco_obj.specs.Kept.{CapsuleFits, KeepsObject}
 use Rattle.zco_obj.specs.Reading.{TellsObject, wire_length}
-use Rattle.zco_obj.specs.Walks.{CapsulesAt, ExtentsAt, SomeCapsules, SomeExtents, TellsCapsules, TellsExtents}
+use Rattle.zco_obj.specs.Walks.{CapsulesAt, ExtentsAt, TellsCapsules, TellsExtents}
 use Rattle.zco_obj.specs.declared.linking.Side.{Side}
 use Rattle.zco_obj.specs.declared.linking.Side.TheVariants as sides
 use Rattle.zco_obj.proofs.ChainLemmas.{around, opened}

@@ -1,20 +1,19 @@
 -- A header or trailer comes between two others, or goes from there.
-use Rattle.std.proofs.Common.{◌≡◌, ◌≢◌, ◌+◌, ◌-◌, ◌<◌, ◌^◌, ℕ, List, [], ◌∷◌, ◌++◌, length, Some, None, refl, sym, ap, ◌∙◌, arith, subst, append_assoc}
-use Rattle.std.specs.Prelude.{◌==◌, Option, if◌then◌else◌}
+use Rattle.std.proofs.Common.{◌≡◌, ◌≢◌, ◌+◌, ◌-◌, ℕ, List, [], ◌∷◌, ◌++◌, length, None, refl, sym, ap, ◌∙◌, arith, subst, append_assoc}
+use Rattle.std.specs.Prelude.{◌==◌, if◌then◌else◌}
 use Rattle.std.proofs.lemmas.Bool.{ne_eqb}
 use Rattle.sdr_base.specs.Blocks.{Blocks, Reaches, with_block}
-use Rattle.sdr_base.specs.Entries.{Changes, Entries, Stands}
+use Rattle.sdr_base.specs.Entries.{Entries, Stands}
 use Rattle.sdr_base.specs.Linked.{first_of, last_of, linked}
 use Rattle.sdr_base.specs.Making.{Made, besides, with_moves}
-use Rattle.sdr_base.specs.Objects.{Heap, OnlyShort, OnlyUnmoved, with_given}
+use Rattle.sdr_base.specs.Objects.{Heap, with_given}
 use Rattle.sdr_base.specs.Parts.{overwrite}
 use Rattle.sdr_base.specs.Words.{layout}
 use Rattle.sdr_base.specs.ZcoObjects.{CapsuleRow, ObjectRow, capsule_addr, capsule_block, object_entries}
 use Rattle.sdr_base.specs.declared.kind.Kind.TheVariants as kinds
 use Rattle.sdr_base.specs.declared.moves.Move.TheVariants.{Gave, Took}
-use Rattle.sdr_base.specs.declared.stop.Stop.{Stop}
 use Rattle.sdr_base.proofs.ChainLemmas.{linked-around}
-use Rattle.sdr_base.proofs.HeapLemmas.{given_blocks, heap_blocks}
+use Rattle.sdr_base.proofs.HeapLemmas.{given_blocks}
 use Rattle.sdr_base.proofs.LayoutLemmas.{layout-append, length-layout}
 use Rattle.sdr_base.proofs.LinkedLemmas.{first-append, last-append, linked-append}
 use Rattle.sdr_base.proofs.StandingLemmas.{came, found, nonzero, went}

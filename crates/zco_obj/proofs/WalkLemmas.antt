@@ -1,22 +1,22 @@
 -- Chains that are walked.
-use Rattle.std.proofs.Common.{◌≡◌, ◌≢◌, ◌+◌, ◌*◌, ◌-◌, ◌≤◌, ◌<◌, ◌^◌, ℕ, List, [], ◌∷◌, ◌++◌, length, Option, Some, None, refl, sym, ap, ◌∙◌, arith, subst, append_assoc, append-nil, length-append}
+use Rattle.std.proofs.Common.{◌≡◌, ◌≢◌, ◌+◌, ◌-◌, ◌≤◌, ◌<◌, ◌^◌, ℕ, List, [], ◌∷◌, ◌++◌, length, Option, Some, None, refl, sym, ap, ◌∙◌, arith, subst, append_assoc, append-nil, length-append}
 use Rattle.std.specs.Prelude.{All, sum_by}
 use Rattle.std.proofs.lemmas.List.Elements.{All-head, All-tail}
 use Rattle.std.proofs.lemmas.List.Sums.{sum_by_push}
 use Rattle.sdr_base.specs.Blocks.{Block, Blocks, Reaches, kind_length}
 use Rattle.sdr_base.specs.Entries.{Entries, Stands}
 use Rattle.sdr_base.specs.Linked.{first_of, last_of, linked}
-use Rattle.sdr_base.specs.Words.{HasWord, layout}
-use Rattle.sdr_base.specs.ZcoObjects.{CapsuleRow, ExtentRow, ObjectRow, capsule_addr, capsule_block, capsule_entries, extent_addr, extent_block, extent_entries, object_entries, object_block}
+use Rattle.sdr_base.specs.Words.{HasWord}
+use Rattle.sdr_base.specs.ZcoObjects.{CapsuleRow, ExtentRow, capsule_addr, capsule_block, extent_addr, extent_block}
 use Rattle.sdr_base.specs.declared.kind.Kind.{Kind}
 use Rattle.sdr_base.specs.declared.kind.Kind.TheVariants as kinds
 use Rattle.sdr_base.proofs.ChainLemmas.{linked_found}
 use Rattle.sdr_base.proofs.LayoutLemmas.{length-layout}
 use Rattle.sdr_base.proofs.LinkedLemmas.{last-append}
-use Rattle.sdr_base.proofs.StandingLemmas.{at-nowhere, moved}
+use Rattle.sdr_base.proofs.StandingLemmas.{at-nowhere}
 use Rattle.sdr_base.proofs.WritingLemmas.{reaches, word_is}
-use Rattle.zco_obj.specs.Kept.{CapsuleFits, ExtentFits, KeepsObject}
-use Rattle.zco_obj.specs.Walks.{AtOne, CapsulesAt, ChainAt, ExtentsAt, FindsLast, IsLast, KeepsCapsule, KeepsExtent, Passed, SeesCapsule, SeesExtent, SomeCapsule, SomeExtent, Summed, Sums, TellsSum, WalksOne}
+use Rattle.zco_obj.specs.Kept.{CapsuleFits, ExtentFits}
+use Rattle.zco_obj.specs.Walks.{CapsulesAt, ChainAt, FindsLast, KeepsCapsule, KeepsExtent, SeesCapsule, SeesExtent, SomeCapsule, SomeExtent, Sums, TellsSum, WalksOne}
 use Rattle.zco_obj.proofs.KeptLemmas.{first_capsule, first_extent}
 
 -- what the blocks of a header or trailer and of an extent say

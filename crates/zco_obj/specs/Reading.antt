@@ -1,9 +1,7 @@
 -- What is told of an object.
-use Rattle.std.specs.Prelude.{◌≡◌, ◌+◌, ℕ, Option}
-use Rattle.sdr_base.specs.Blocks.{Block, Blocks, IsKind}
-use Rattle.sdr_base.specs.Linked.{first_of}
-use Rattle.sdr_base.specs.ZcoObjects.{CapsuleRow, ObjectRow, capsule_block, capsule_addr}
-use Rattle.sdr_base.specs.declared.account.Acct.{Acct}
+use Rattle.std.specs.Prelude.{◌≡◌, ◌+◌, ℕ}
+use Rattle.sdr_base.specs.Blocks.{Blocks, IsKind}
+use Rattle.sdr_base.specs.ZcoObjects.{ObjectRow}
 use Rattle.sdr_base.specs.declared.kind.Kind.TheVariants as kinds
 use Rattle.zco_obj.specs.Kept.{KeepsObject, capsules_length, extents_length}
 

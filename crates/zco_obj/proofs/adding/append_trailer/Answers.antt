@@ -1,5 +1,5 @@
 -- The account is charged, and then the trailer comes.
-use Rattle.std.proofs.Common.{arith, rules}
+use Rattle.std.proofs.Common.{arith}
 use Rattle.std.proofs.lemmas.Result.{err_from_is_err_and}
 use Rattle.zco_obj.proofs.CapsuleLemmas.{adds_trailer, trailer_gap, roomless_stops, spare_after}
 use Rattle.zco_obj.proofs.ChargeLemmas.{still_kept}

@@ -1,5 +1,5 @@
 -- The first header is read, and goes.
-use Rattle.std.proofs.Common.{arith, refl, ◌∙◌}
+use Rattle.std.proofs.Common.{arith, ◌∙◌}
 use Rattle.std.proofs.lemmas.Result.{IfErr-weaker, on_ok_weaker}
 use Rattle.zco_obj.specs.Discards.{DiscardStops, first_header}
 use Rattle.zco_obj.proofs.DiscardLemmas.{discards_header, first_gone, first_there, header_picked, no_header, picked_stops}

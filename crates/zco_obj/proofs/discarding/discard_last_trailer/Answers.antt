@@ -1,5 +1,5 @@
 -- The last trailer is found and read, and goes.
-use Rattle.std.proofs.Common.{arith, refl, ◌∙◌}
+use Rattle.std.proofs.Common.{arith, ◌∙◌}
 use Rattle.std.proofs.lemmas.Result.{IfErr-weaker, on_ok_weaker}
 use Rattle.zco_obj.specs.Discards.{DiscardStops, last_trailer}
 use Rattle.zco_obj.proofs.DiscardLemmas.{discards_trailer, last_gone, last_there, no_trailer, picked_stops, trailer_picked, trailers_there}

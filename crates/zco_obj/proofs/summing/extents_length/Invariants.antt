@@ -1,6 +1,6 @@
 -- So many were passed, whose bytes are summed, and nothing was written.
 use Rattle.std.proofs.Common.{ℕ, ◌*◌, ◌≤◌}
-use Rattle.std.specs.Prelude.{Ok, length}
+use Rattle.std.specs.Prelude.{Ok}
 use Rattle.sdr_base.specs.Works.{Looks}
 use Rattle.sdr_base.specs.ZcoObjects.{extent_addr, extent_block}
 use Rattle.zco_obj.specs.Kept.{ExtentFits}
