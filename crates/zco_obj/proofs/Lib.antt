@@ -10,3 +10,4 @@ mod CapsuleLemmas
 mod MadeLemmas
 mod DiscardLemmas
 pub mod OccupancyLaws
+mod ExtentLemmas

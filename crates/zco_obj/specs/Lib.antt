@@ -7,3 +7,4 @@ pub mod Making
 pub mod Chains
 pub mod Capsules
 pub mod Discards
+pub mod Extents
