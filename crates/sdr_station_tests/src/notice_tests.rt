@@ -50,7 +50,7 @@ fn called(alloc: Global) -> Option<[u64; 3]> {
             Reply::Ticket { granted, .. } if granted == *wanted => {}
             _ => return None,
         }
-        seen[place] = calls.get() - before;
+        seen[place] = calls.get().checked_sub(before)?;
     }
     Some(seen)
 }
