@@ -11,8 +11,6 @@
 #[cfg(test)]
 mod fault_tests;
 #[cfg(test)]
-mod notice_tests;
-#[cfg(test)]
 mod refusal_tests;
 #[cfg(test)]
 mod steps;
