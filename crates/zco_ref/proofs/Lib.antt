@@ -1,9 +1,9 @@
-mod KeptLemmas
-mod SeenLemmas
-mod MadeLemmas
-mod NamedLemmas
-mod CountedLemmas
-mod GoneLemmas
-mod DetachLemmas
-mod DestroyLemmas
-mod RowsOfSources
+pub mod KeptLemmas
+pub mod SeenLemmas
+pub mod MadeLemmas
+pub mod NamedLemmas
+pub mod CountedLemmas
+pub mod GoneLemmas
+pub mod DetachLemmas
+pub mod DestroyLemmas
+pub mod RowsOfSources

@@ -36,7 +36,7 @@ pub bulk_made : {addr : ℕ} {old new : Heap} (item bytes : ℕ) → bytes ≤ 1
 bulk_made item bytes short t = record { short = short; makes = source_made (plain_row media.Bulk item bytes) t }
 
 -- bytes in front, and others behind them to the end
-filled : (front behind x : List ℕ) → length x ≡ length front + length behind →
+pub filled : (front behind x : List ℕ) → length x ≡ length front + length behind →
     overwrite (length front) behind (overwrite 0 front x) ≡ front ++ behind
 filled front behind x long =
     let rest = drop (0 + length front) x in

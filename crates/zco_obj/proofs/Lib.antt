@@ -1,0 +1,12 @@
+mod KeptLemmas
+mod ChainLemmas
+mod PlaceLemmas
+mod WalkLemmas
+mod SumLemmas
+mod PartsLemmas
+mod CauseLemmas
+mod ChargeLemmas
+mod CapsuleLemmas
+mod MadeLemmas
+mod DiscardLemmas
+pub mod OccupancyLaws

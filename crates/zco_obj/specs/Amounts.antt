@@ -1,0 +1,24 @@
+-- What an object and its parts charge an account.
+use Rattle.std.specs.Prelude.{ℕ, ◌+◌, List, length, sum_by}
+use Rattle.sdr_base.specs.ZcoObjects.{CapsuleRow, ExtentRow, ObjectRow}
+use Rattle.sdr_base.specs.declared.account.Amounts.{Amounts}
+use Rattle.sdr_base.specs.declared.kind.Space.TheVariants as spaces
+use Rattle.sdr_model.specs.Amounts.{amounts_by, in_space}
+use Rattle.sdr_model.specs.Charges.{capsule_bytes, object_bytes}
+
+-- so many bytes of heap space
+abbrev pub heap_amounts : ℕ → Amounts
+heap_amounts bytes = amounts_by (in_space spaces.Heap bytes)
+
+-- what an object charges for itself
+abbrev pub object_amounts : Amounts
+object_amounts = heap_amounts object_bytes
+
+-- what a header or trailer of this text charges
+abbrev pub capsule_amounts : List ℕ → Amounts
+capsule_amounts text = heap_amounts (capsule_bytes (length text))
+
+-- what an object charges of a space, where itself, an extent, and a header or trailer charge so much
+abbrev pub charge_of : ℕ → (ExtentRow → ℕ) → (CapsuleRow → ℕ) → ObjectRow → ℕ
+charge_of own extent capsule row =
+    own + sum_by extent row.extents + sum_by capsule row.headers + sum_by capsule row.trailers

@@ -1,0 +1,9 @@
+pub mod Kept
+pub mod Amounts
+pub mod Walks
+pub mod Reading
+pub mod Charging
+pub mod Making
+pub mod Chains
+pub mod Capsules
+pub mod Discards

@@ -1,0 +1,53 @@
+// What is charged to an object's account.
+ghost use Rattle.std.specs.Prelude.{◌≡◌, ◌≤◌, IfErr, OnOk};
+ghost use Rattle.sdr_base.specs.Moves.{KeepsSome};
+ghost use Rattle.sdr_base.specs.Works.{Works};
+ghost use Rattle.sdr_model.specs.Charges.{capsule_bytes};
+ghost use Rattle.zco_obj.specs.Amounts.{heap_amounts};
+ghost use Rattle.zco_obj.specs.Charging.{ChargesObject, ObjectChargeStops};
+ghost use Rattle.zco_obj.specs.Kept.{SomeWithQueue};
+
+use crate::object::account;
+use sdr_base::{Addr, Amounts, Objects, Stop};
+use zco_acct::charge;
+
+/// The most bytes of a header or trailer, which has one at least.
+pub const LONGEST_CAPSULE: u64 = 1024;
+
+// So many bytes of heap space.
+pub fn heap_amounts(bytes: u64) -> Amounts
+    ensures { result ≡ heap_amounts bytes }
+{
+    Amounts {
+        file: 0,
+        bulk: 0,
+        heap: bytes,
+    }
+}
+
+// What a header or trailer of so many bytes charges of heap space: its words, with the link.
+pub fn capsule_bytes(bytes: u64) -> u64
+    requires short { bytes ≤ LONGEST_CAPSULE }
+    ensures { result ≡ capsule_bytes bytes }
+{
+    8 * ((15 + bytes) / 8)
+}
+
+// Charges the account of an object.
+pub fn charge_object<O: Objects>(
+    o: &mut O,
+    object: Addr,
+    ticket: u64,
+    amounts: &Amounts,
+) -> Result<(), Stop>
+    requires kept { KeepsSome (O.keeps o.old) }
+    requires object { SomeWithQueue (O.heap o.old) object }
+    ensures charged { OnOk result
+        (ChargesObject object ticket amounts.now (O.heap o.old) (O.heap o.new)) }
+    ensures refused { IfErr result
+        (ObjectChargeStops object ticket amounts.now (O.heap o.old) (O.heap o.new)) }
+    ensures works { Works O.HasHeap 5 o.old o.new result }
+{
+    let acct = account(o, object)?;
+    charge(o, acct, ticket, amounts)
+}

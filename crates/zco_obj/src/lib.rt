@@ -1,0 +1,23 @@
+//! Zero-copy objects: headers, extents of sources, and trailers, each in a block of its own.
+//!
+//! 1. An object's block has its account, both ends of its three chains, and its part. Each header,
+//!    extent and trailer has the address of the next one of its chain.
+//! 2. A call that adds to an object charges its account first: all checks are made before anything
+//!    changes. A call that takes from it gives the account back what that charged.
+//! 3. A header or trailer comes and goes between two others, each of which may be the end of its
+//!    chain.
+#![tactic(auto)]
+
+mod adding;
+mod capsule;
+mod charging;
+mod discarding;
+mod linking;
+mod object;
+mod seeing;
+mod summing;
+
+pub use adding::{append_trailer, prepend_header};
+pub use discarding::{discard_first_header, discard_last_trailer};
+pub use object::create;
+pub use summing::{length, source_length};

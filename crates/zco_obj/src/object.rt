@@ -1,0 +1,60 @@
+// An object's own block.
+ghost use Rattle.std.specs.Prelude.{◌≡◌, ◌≤◌, IfOk, IfErr};
+ghost use Rattle.sdr_base.specs.Moves.{KeepsSome};
+ghost use Rattle.sdr_base.specs.Objects.{OnlyFault};
+ghost use Rattle.sdr_base.specs.Works.{Looks, Works};
+ghost use Rattle.sdr_base.specs.ZcoObjects.{account_number};
+ghost use Rattle.zco_acct.specs.Kept.{SomeQueue};
+ghost use Rattle.zco_obj.specs.Kept.{SomeObject};
+ghost use Rattle.zco_obj.specs.Making.{CreatesObject, CreateStops};
+ghost use Rattle.zco_obj.specs.Reading.{Tells};
+
+use crate::charging::heap_amounts;
+use sdr_base::layout::object as words;
+use sdr_base::{Acct, Addr, Kind, Objects, Stop, take_words, word};
+use zco_acct::charge;
+
+/// What an object charges of heap space for itself, in bytes.
+pub const OBJECT_BYTES: u64 = 72;
+
+/// Makes an object with nothing in it in an account, and charges the account for it. What is left
+/// of the grant of the ticket of this number covers what it can; 0 is no ticket.
+pub fn create<O: Objects>(o: &mut O, acct: Acct, ticket: u64) -> Result<Addr, Stop>
+    requires kept { KeepsSome (O.keeps o.old) }
+    requires spare { 1 ≤ (O.heap o.old).spare }
+    requires queue { SomeQueue (O.heap o.old) acct }
+    ensures made { IfOk result (λ object.
+        CreatesObject acct ticket object (O.heap o.old) (O.heap o.new)) }
+    ensures refused { IfErr result (CreateStops acct ticket (O.heap o.old) (O.heap o.new)) }
+    ensures works { Works O.HasHeap 34 o.old o.new result }
+{
+    charge(o, acct, ticket, &heap_amounts(OBJECT_BYTES))?;
+    let number = account_number(acct);
+    take_words(o, Kind::Object, &[number, 0, 0, 0, 0, 0, 0, 0, 0])
+}
+
+// The number of an account in an object's words.
+fn account_number(acct: Acct) -> u64
+    ensures { result ≡ account_number acct }
+{
+    match acct {
+        Acct::Inbound => 0,
+        Acct::Outbound => 1,
+    }
+}
+
+// The account of an object.
+pub fn account<O: Objects>(o: &mut O, object: Addr) -> Result<Acct, Stop>
+    requires kept { KeepsSome (O.keeps o.old) }
+    requires object { SomeObject (O.heap o.old).blocks object }
+    ensures told { IfOk result (Tells (O.heap o.old).blocks object (λ row. row.account)) }
+    ensures refused { IfErr result OnlyFault }
+    ensures looks { Looks O.HasHeap o.old o.new result }
+{
+    let number = word(o, object, words::ACCOUNT)?;
+    if number == 0 {
+        Ok(Acct::Inbound)
+    } else {
+        Ok(Acct::Outbound)
+    }
+}
