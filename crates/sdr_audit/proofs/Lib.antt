@@ -8,4 +8,3 @@ pub mod RootsLemmas
 pub mod ShapeLemmas
 pub mod ThingShapes
 pub mod TiesLemmas
-pub mod CheckLemmas

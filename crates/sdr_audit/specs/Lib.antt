@@ -1,4 +1,3 @@
-pub mod Checking
 pub mod Example
 pub mod Rows
 pub mod Shape

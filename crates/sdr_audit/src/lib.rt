@@ -17,22 +17,17 @@
 //!    (`transactions_begin_and_end`).
 //! 7. A small world, byte by byte (`bundle_is_kept_so`), and where the control words stand
 //!    (`control_words_stand_so`).
-//! 8. `check` tells whether a world stands for the bytes of a heap. So far it knows those of a fresh heap alone, and finds any
-//!    other damaged by the first byte that differs.
 #![tactic(auto)]
 
 mod blocks;
 mod changes;
-mod checking;
 mod example;
 mod fresh;
-mod fresh_control;
 mod parts;
 mod rest;
 
 pub use blocks::no_block_leaks;
 pub use changes::{a_part_changes, a_thing_changes, a_thing_comes, a_thing_goes};
-pub use checking::{AuditError, Why, check};
 pub use example::{bundle_is_kept_so, control_words_stand_so};
 pub use fresh::fresh_heap_stands;
 pub use parts::{

@@ -1,8 +1,8 @@
 -- What `replay` answers: by status, what was read, run and printed, and what is left of the disk.
 use Rattle.std.specs.Prelude.{◌≡◌, ◌≤◌, ℕ, Bool, List, [], ◌++◌, ◌⊎◌, Option, None, Some, IsOk, IsErr, Ok, codes, decimal, true, false}
 use Rattle.std.specs.Io.KnownBytes.{Appends, IsAtEnd}
-use Rattle.sdr_audit.specs.declared.checking.Why.{Why}
-use Rattle.sdr_audit.specs.declared.checking.Why.TheVariants as whys
+use Rattle.sdr_check.specs.declared.checking.Why.{Why}
+use Rattle.sdr_check.specs.declared.checking.Why.TheVariants as whys
 use Rattle.sdr_base.specs.Causes.{Rose}
 use Rattle.sdr_base.specs.FreshHeap.{fresh_heap}
 use Rattle.sdr_base.specs.Written.{AppendsPart}

@@ -12,7 +12,7 @@ use crate::last_line::last_line;
 use crate::status::{
     DAMAGED, DISK_FAULT, DONE, NO_MEMORY, NOT_FORMATTED, OUTPUT_FAULT, REFUSED_LINE,
 };
-use sdr_audit::Why;
+use sdr_check::Why;
 use sdr_base::{Sink, Source};
 use sdr_disk::Disk;
 use sdr_model::{Journal, Step};

@@ -2,10 +2,10 @@
 use Rattle.std.proofs.Common.{◌≡◌, ◌∙◌, ◌≤◌, ◌*◌, ℕ, List, [], false, true, Option, Some, refl, sym, ap, subst, length}
 use Rattle.std.specs.Prelude.{replicate}
 use Rattle.sdr_audit.proofs.FreshLemmas.{fresh_stands_whole}
-use Rattle.sdr_audit.specs.Checking.{IsFresh}
+use Rattle.sdr_check.specs.Checking.{IsFresh}
 use Rattle.sdr_audit.specs.Standing.{StandsForWhole}
-use Rattle.sdr_audit.specs.declared.checking.AuditError.{AuditError}
-use Rattle.sdr_audit.specs.declared.checking.AuditError.TheVariants as audits
+use Rattle.sdr_check.specs.declared.checking.AuditError.{AuditError}
+use Rattle.sdr_check.specs.declared.checking.AuditError.TheVariants as audits
 use Rattle.sdr_base.proofs.FreshHeapLemmas.{length-fresh_heap}
 use Rattle.sdr_base.specs.FreshHeap.{fresh_heap}
 use Rattle.sdr_base.specs.Pools.{fresh_pools}

@@ -1,9 +1,9 @@
 -- When a heap is opened.
 use Rattle.std.specs.Prelude.{◌≡◌, ◌≤◌, ◌*◌, ◌/◌, ℕ, List, [], false, true, length, ⊤, Option, None, Some, Result, Ok, Err}
-use Rattle.sdr_audit.specs.Checking.{DiffersFirst}
-use Rattle.sdr_audit.specs.declared.checking.AuditError.{AuditError}
-use Rattle.sdr_audit.specs.declared.checking.AuditError.TheVariants as audits
-use Rattle.sdr_audit.specs.declared.checking.Why.TheVariants as whys
+use Rattle.sdr_check.specs.Checking.{DiffersFirst}
+use Rattle.sdr_check.specs.declared.checking.AuditError.{AuditError}
+use Rattle.sdr_check.specs.declared.checking.AuditError.TheVariants as audits
+use Rattle.sdr_check.specs.declared.checking.Why.TheVariants as whys
 use Rattle.sdr_base.specs.Causes.{Rose}
 use Rattle.sdr_base.specs.FreshHeap.{fresh_heap}
 use Rattle.sdr_base.specs.Pools.{fresh_pools}

@@ -1,5 +1,5 @@
 // Why a heap isn't opened.
-use sdr_audit::Why;
+use sdr_check::Why;
 
 /// Why a heap isn't opened.
 #[derive(Clone, Copy, Debug, PartialEq, Eq)]

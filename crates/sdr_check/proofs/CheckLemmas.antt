@@ -9,7 +9,7 @@ use Rattle.sdr_base.proofs.PartsLemmas.{get_or-part}
 use Rattle.sdr_base.specs.FreshHeap.{fresh_control, fresh_heap}
 use Rattle.sdr_base.specs.Parts.{part}
 use Rattle.sdr_base.specs.Cells.{IsRegionSize}
-use Rattle.sdr_audit.specs.Checking.{AgreeBelow, DiffersFirst, IsFresh}
+use Rattle.sdr_check.specs.Checking.{AgreeBelow, DiffersFirst, IsFresh}
 
 -- a line of the control words is the fresh heap's
 pub control_bytes : (lines line i : ℕ) → 32 ≤ lines → line < 16 → i < 64 →

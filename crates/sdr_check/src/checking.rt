@@ -3,7 +3,7 @@ ghost use Rattle.std.specs.Prelude.{◌≡◌, ◌≢◌, ◌≤◌, ◌<◌, �
 ghost use Rattle.sdr_base.specs.FreshHeap.{fresh_heap};
 ghost use Rattle.sdr_base.specs.Parts.{part};
 ghost use Rattle.sdr_base.specs.declared.line.TheConstants.{LEAST_LINES};
-ghost use Rattle.sdr_audit.specs.Checking.{AgreeBelow, DiffersFirst, HasAuditCause, HasStop, IsDamaged, IsFresh};
+ghost use Rattle.sdr_check.specs.Checking.{AgreeBelow, DiffersFirst, HasAuditCause, HasStop, IsDamaged, IsFresh};
 
 use crate::fresh_control::fresh_control;
 use sdr_base::{Cells, LINE, MOST_LINES, Stop};

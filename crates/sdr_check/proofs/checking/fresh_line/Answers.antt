@@ -1,7 +1,7 @@
 use Rattle.std.proofs.Common.{◌∙◌, ◌*◌, ap, get_or, List, ℕ, arith}
 use Rattle.sdr_base.specs.Parts.{part}
-use Rattle.sdr_audit.proofs.CheckLemmas.{control_bytes, zero_bytes}
-use Rattle.sdr_audit.proofs.checking.fresh_line.Goals as goal
+use Rattle.sdr_check.proofs.CheckLemmas.{control_bytes, zero_bytes}
+use Rattle.sdr_check.proofs.checking.fresh_line.Goals as goal
 
 pub returns-then-line-lt16 : goal.returns-then-line-lt16
 returns-then-line-lt16 c i within =

@@ -5,9 +5,9 @@ use Rattle.sdr_base.specs.Transaction.{HasReason, Transaction}
 use Rattle.sdr_base.specs.declared.line.TheConstants.{LEAST_LINES, LINE, MOST_LINES}
 use Rattle.sdr_base.specs.declared.stop.Stop.{Stop}
 use Rattle.sdr_base.specs.declared.stop.Stop.TheVariants as stops
-use Rattle.sdr_audit.specs.declared.checking.AuditError.{AuditError}
-use Rattle.sdr_audit.specs.declared.checking.AuditError.TheVariants as errors
-use Rattle.sdr_audit.specs.declared.checking.Why.TheVariants as whys
+use Rattle.sdr_check.specs.declared.checking.AuditError.{AuditError}
+use Rattle.sdr_check.specs.declared.checking.AuditError.TheVariants as errors
+use Rattle.sdr_check.specs.declared.checking.Why.TheVariants as whys
 
 -- the bytes are those of a fresh heap of as many lines as are allowed
 pub record IsFresh (bytes : List ℕ) : Type 0 where

@@ -1,7 +1,7 @@
 use Rattle.std.proofs.Common.{◌≡◌, ◌∙◌, ◌<◌, ◌*◌, length, ap, refl, arith, List, ℕ}
 use Rattle.sdr_base.proofs.PartsLemmas.{length-part}
-use Rattle.sdr_audit.proofs.CheckLemmas.{line_agrees, line_differs}
-use Rattle.sdr_audit.proofs.checking.check_line.Goals as goal
+use Rattle.sdr_check.proofs.CheckLemmas.{line_agrees, line_differs}
+use Rattle.sdr_check.proofs.checking.check_line.Goals as goal
 
 pub returns-in-None-clause-same : goal.returns-in-None-clause-same
 returns-in-None-clause-same g c =

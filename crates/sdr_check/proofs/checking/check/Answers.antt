@@ -1,6 +1,6 @@
 use Rattle.std.proofs.Common.{arith}
-use Rattle.sdr_audit.proofs.CheckLemmas.{all_agree}
-use Rattle.sdr_audit.proofs.checking.check.Goals as goal
+use Rattle.sdr_check.proofs.CheckLemmas.{all_agree}
+use Rattle.sdr_check.proofs.checking.check.Goals as goal
 
 pub returns-clause-fresh : goal.returns-clause-fresh
 returns-clause-fresh g c =
