@@ -51,7 +51,8 @@ module _ (bytes : List ℕ) (w : World) (P : Pools) (s : StandsForWhole bytes w 
 
   -- how many extents of an account's objects name a source of the world
   count_is : (addr : ℕ) (account : Acct) → count_of w addr account ≡ heaps.count_of heap words account addr
-  count_is addr account = ap (λ (v : World). count_of v addr account) (sym (world_is bytes w P s are)) ∙ count_same heap words audit addr account
+  count_is addr account =
+      ap (λ (v : World). count_of v addr account) (sym (world_is bytes w P s are)) ∙ count_same heap words audit addr account
 
   count_fits : (addr : ℕ) (account : Acct) → count_of w addr account < 2 ^ 64
   count_fits addr account =
@@ -71,9 +72,11 @@ module _ (bytes : List ℕ) (w : World) (P : Pools) (s : StandsForWhole bytes w 
       source_word bytes w P s addr source is (fits_thing bytes w P s addr (things.Source source) is).1 3 (omega arith)
       (count_fits addr accts.Outbound)
 
-  tells : (addr : ℕ) (source : ZcoSource) → thing_at w addr ≡ Some (things.Source source) → (account : Acct) → tells_count heap words account addr ≡ true
+  tells : (addr : ℕ) (source : ZcoSource) → thing_at w addr ≡ Some (things.Source source) → (account : Acct) →
+      tells_count heap words account addr ≡ true
   tells addr source is account =
-      eq-eqb (word_of (heap.blocks addr) (count_field account)) (heaps.count_of heap words account addr) (count_told addr source is account ∙ count_is addr account)
+      eq-eqb (word_of (heap.blocks addr) (count_field account)) (heaps.count_of heap words account addr)
+      (count_told addr source is account ∙ count_is addr account)
 
   -- each source tells both counts
   pub counts_kept : (addr : ℕ) → keeps_counts heap words addr ≡ true

@@ -67,7 +67,8 @@ module _ (w : World) where
   other addr block off on = let d : false ≡ true = sym off ∙ on in cc
 
   -- nor is one of a chain of others
-  others : {X : Type 0} (addr : X → ℕ) (block : ℕ → ℕ → X → Block) → ((before next : ℕ) (x : X) → is_kind kinds.Extent (Some (block before next x)) ≡ false) →
+  others : {X : Type 0} (addr : X → ℕ) (block : ℕ → ℕ → X → Block) →
+      ((before next : ℕ) (x : X) → is_kind kinds.Extent (Some (block before next x)) ≡ false) →
       (xs : List X) → All IsFine (linked addr block 0 0 xs)
   others {X} addr block off xs =
       All-linked IsFine addr block (λ x. Unit {0}) (λ before next x u. other (addr x) (block before next x) (off before next x)) 0 0 xs
@@ -91,11 +92,14 @@ module _ (w : World) where
   extents_fine : (es : List Extent) → All IsGood es → All IsFine (extent_entries (map extent_row es))
   extents_fine es good =
       All-linked IsFine extent_addr extent_block IsGoodRow
-      (λ before next row g on. record { extent = g.extent; before = before; next = next; is = ap (extent_block before next) g.is; good = g.good }) 0 0
+      (λ before next row g on.
+      record { extent = g.extent; before = before; next = next; is = ap (extent_block before next) g.is; good = g.good }) 0 0
       (map extent_row es)
-      (All-map IsGoodRow extent_row es (All-weaker IsGood (λ e. IsGoodRow (extent_row e)) (λ e g. record { extent = e; is = refl; good = g }) es good))
+      (All-map IsGoodRow extent_row es
+      (All-weaker IsGood (λ e. IsGoodRow (extent_row e)) (λ e g. record { extent = e; is = refl; good = g }) es good))
 
-  all_good : (es : List Extent) → All FitsExtent es → All (λ (e : Extent). 1 ≤ e.length) es → All (λ (e : Extent). LiesInside e (source_at w e.source)) es →
+  all_good : (es : List Extent) → All FitsExtent es → All (λ (e : Extent). 1 ≤ e.length) es →
+      All (λ (e : Extent). LiesInside e (source_at w e.source)) es →
       All IsGood es
   all_good [] fits some inside = All-nil IsGood
   all_good (e ∷ es) fits some inside =
@@ -113,20 +117,24 @@ module _ (w : World) where
 
   -- all blocks of a whole world are fine
   module _ (whole : IsWhole w) (fields : FitsFields w) where
-    inner_fine : (addr : ℕ) (thing : Thing) → IsValidThing thing → FitsThing thing → AreInside w thing → All IsFine (inner_entries addr thing)
+    inner_fine : (addr : ℕ) (thing : Thing) → IsValidThing thing → FitsThing thing → AreInside w thing →
+        All IsFine (inner_entries addr thing)
     inner_fine addr (things.Raw bytes) valid fits inside = All-nil IsFine
     inner_fine addr (things.Text text) valid fits inside = All-nil IsFine
-    inner_fine addr (things.List list) valid fits inside = others addr_of (element_block addr) (λ before next row. refl) (map element_row list.elements)
+    inner_fine addr (things.List list) valid fits inside =
+        others addr_of (element_block addr) (λ before next row. refl) (map element_row list.elements)
     inner_fine addr (things.Table table) valid fits inside = All-nil IsFine
     inner_fine addr (things.Hash hash) valid fits inside =
         All-whole IsFine bucket_entries (hash_row hash).buckets
-        (All-every (λ (items : List HashItem). All IsFine (bucket_entries items)) (λ items. others item_addr item_block (λ before next row. refl) items) (hash_row hash).buckets)
+        (All-every (λ (items : List HashItem). All IsFine (bucket_entries items))
+        (λ items. others item_addr item_block (λ before next row. refl) items) (hash_row hash).buckets)
     inner_fine addr (things.Source source) valid fits inside = All-nil IsFine
     inner_fine addr (things.Object z) valid fits inside =
         let headers = capsule_entries (map capsule_row z.headers) in
         let extents = extent_entries (map extent_row z.extents) in
         All-append IsFine (headers ++ extents) (capsule_entries (map capsule_row z.trailers))
-        (All-append IsFine headers extents (capsules_fine z.headers) (extents_fine z.extents (all_good z.extents fits.extents valid.extents inside)))
+        (All-append IsFine headers extents (capsules_fine z.headers)
+        (extents_fine z.extents (all_good z.extents fits.extents valid.extents inside)))
         (capsules_fine z.trailers)
 
     thing_fine : (addr : ℕ) (thing : Thing) → thing_at w addr ≡ Some thing → All IsFine (thing_entries (ties_of w) addr thing)
@@ -139,7 +147,8 @@ module _ (w : World) where
         (subst (λ (o : Option Thing). IfSome o (AreInside w)) is (whole.fits.inside addr))))
 
     queue_fine : (account : Acct) → All IsFine (queue_entries w.accounts account)
-    queue_fine account = others ticket_addr (ticket_block account) (λ before next row. refl) (map ticket_row (tickets_of w.accounts account))
+    queue_fine account =
+        others ticket_addr (ticket_block account) (λ before next row. refl) (map ticket_row (tickets_of w.accounts account))
 
     pub all_fine : All IsFine (entries_of w)
     all_fine =
@@ -158,12 +167,15 @@ module _ (bytes : List ℕ) (w : World) (P : Pools) (s : StandsForWhole bytes w 
   heap = view_in bytes
 
   -- the extent at an address, if its block is one's
-  extent_there : (addr : ℕ) → is_kind kinds.Extent (heap.blocks addr) ≡ true → (block : Block) × (heap.blocks addr ≡ Some block) × IsExtent w block
+  extent_there : (addr : ℕ) → is_kind kinds.Extent (heap.blocks addr) ≡ true →
+      (block : Block) × (heap.blocks addr ≡ Some block) × IsExtent w block
   extent_there addr on = by (heap.blocks addr) refl on
     where
-      by : (o : Option Block) → heap.blocks addr ≡ o → is_kind kinds.Extent o ≡ true → (block : Block) × (heap.blocks addr ≡ Some block) × IsExtent w block
+      by : (o : Option Block) → heap.blocks addr ≡ o → is_kind kinds.Extent o ≡ true →
+          (block : Block) × (heap.blocks addr ≡ Some block) × IsExtent w block
       by None is on = let d : false ≡ true = on in cc
-      by (Some block) is on = (block, is, found_at (IsFine w) (entries_of w) (all_fine w s.whole s.fits) addr block (sym (s.stands.blocks.same addr) ∙ is) on)
+      by (Some block) is on =
+          (block, is, found_at (IsFine w) (entries_of w) (all_fine w s.whole s.fits) addr block (sym (s.stands.blocks.same addr) ∙ is) on)
 
   -- what its words tell
   record Tells (addr : ℕ) : Type 0 where
@@ -182,9 +194,15 @@ module _ (bytes : List ℕ) (w : World) (P : Pools) (s : StandsForWhole bytes w 
       record {
         extent = e;
         good = x.good;
-        source = ap (λ (b : Option Block). word_of b 0) own ∙ word_laid kinds.Extent (e.source ∷ e.offset ∷ e.length ∷ x.next ∷ []) [] 0 (omega arith) x.good.fits.source;
-        offset = ap (λ (b : Option Block). word_of b 1) own ∙ word_laid kinds.Extent (e.source ∷ e.offset ∷ e.length ∷ x.next ∷ []) [] 1 (omega arith) x.good.fits.offset;
-        count = ap (λ (b : Option Block). word_of b 2) own ∙ word_laid kinds.Extent (e.source ∷ e.offset ∷ e.length ∷ x.next ∷ []) [] 2 (omega arith) x.good.fits.length;
+        source =
+            ap (λ (b : Option Block). word_of b 0) own
+            ∙ word_laid kinds.Extent (e.source ∷ e.offset ∷ e.length ∷ x.next ∷ []) [] 0 (omega arith) x.good.fits.source;
+        offset =
+            ap (λ (b : Option Block). word_of b 1) own
+            ∙ word_laid kinds.Extent (e.source ∷ e.offset ∷ e.length ∷ x.next ∷ []) [] 1 (omega arith) x.good.fits.offset;
+        count =
+            ap (λ (b : Option Block). word_of b 2) own
+            ∙ word_laid kinds.Extent (e.source ∷ e.offset ∷ e.length ∷ x.next ∷ []) [] 2 (omega arith) x.good.fits.length;
       }
 
   pub bytes_had : (addr : ℕ) → has_bytes heap addr ≡ true
@@ -204,7 +222,8 @@ module _ (bytes : List ℕ) (w : World) (P : Pools) (s : StandsForWhole bytes w 
       let within : e.offset + e.length ≤ there.0.length = subst (λ (o : Option Thing). LiesInside e (as_source o)) there.1 t.good.inside in
       let fits = (fits_thing bytes w P s e.source (things.Source there.0) there.1).1 in
       let whole =
-      ap (λ (n : ℕ). word_of (heap.blocks n) 5) t.source ∙ source_word bytes w P s e.source there.0 there.1 fits 5 (omega arith) fits.length in
+      ap (λ (n : ℕ). word_of (heap.blocks n) 5) t.source
+      ∙ source_word bytes w P s e.source there.0 there.1 fits 5 (omega arith) fits.length in
       let offset = t.offset in
       let count = t.count in
       le-leb (word_of (heap.blocks addr) 1 + word_of (heap.blocks addr) 2) (word_of (heap.blocks (word_of (heap.blocks addr) 0)) 5)

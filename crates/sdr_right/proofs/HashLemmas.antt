@@ -34,10 +34,12 @@ use Rattle.sdr_right.proofs.StandLemmas.{inner_stand, own_stands}
 use Rattle.sdr_world.proofs.StandLemmas.{All-part}
 
 -- keys by rising buckets
-rise : (n : ℕ) (es : List HashEntry) → IsNonDecreasingBy (bucket_of n) (map (λ (e : HashEntry). e.key) es) → Rise (λ (e : HashEntry). bucket_of n e.key) es
+rise : (n : ℕ) (es : List HashEntry) → IsNonDecreasingBy (bucket_of n) (map (λ (e : HashEntry). e.key) es) →
+    Rise (λ (e : HashEntry). bucket_of n e.key) es
 rise n [] sorted = tt
 rise n (e ∷ es) sorted = (
-  each_of (λ (e : HashEntry). e.key) (λ k. bucket_of n e.key ≤ bucket_of n k) es (λ j d l. sorted 0 (suc j) d (omega arith) (omega (arith, l))),
+  each_of (λ (e : HashEntry). e.key) (λ k. bucket_of n e.key ≤ bucket_of n k) es
+      (λ j d l. sorted 0 (suc j) d (omega arith) (omega (arith, l))),
   rise n es (λ i j d le l. sorted (suc i) (suc j) d (omega (arith, le)) (omega (arith, l))),
 )
 
@@ -46,7 +48,8 @@ below n some [] = tt
 below n some (e ∷ es) = (omega (arith, some), below n some es)
 
 -- what two functions give alike at each of so many numbers, they give of all
-flat_alike : {X : Type 0} (f g : ℕ → List X) (n : ℕ) → ((k : ℕ) → k < n → f k ≡ g k) → flat_map f (range_with_len 0 n) ≡ flat_map g (range_with_len 0 n)
+flat_alike : {X : Type 0} (f g : ℕ → List X) (n : ℕ) → ((k : ℕ) → k < n → f k ≡ g k) →
+    flat_map f (range_with_len 0 n) ≡ flat_map g (range_with_len 0 n)
 flat_alike {X} f g n alike =
     let id : List X → List X = λ l. l in
     sym (flat_map-map id f (range_with_len 0 n)) ∙ ap (flat_map id) (map_alike f g 0 n (λ k low less. alike k (omega (arith, less))))
@@ -68,7 +71,8 @@ module _ (bytes : List ℕ) (w : World) (P : Pools) (s : StandsForWhole bytes w 
       ∙ word_laid kinds.List (list.user ∷ length rows ∷ first_of addr_of 0 rows ∷ last_of addr_of 0 rows ∷ []) [] 0 (omega arith) small in
       let elements =
       ap (map (element_told heap)) (list_members bytes w P s addr list is)
-      ∙ told_rows heap addr_of (element_block addr) element_row (element_told heap) FitsElement (element_back heap addr) 0 0 list.elements fits
+      ∙ told_rows heap addr_of (element_block addr) element_row (element_told heap) FitsElement (element_back heap addr) 0 0
+      list.elements fits
       (inner_stand heap w s.stands.blocks addr (things.List list) is) in
       λ i. record { user = user i; elements = elements i }
 
@@ -89,7 +93,8 @@ module _ (bytes : List ℕ) (w : World) (P : Pools) (s : StandsForWhole bytes w 
     length-buckets = length-map-range_with_len (bucket_row hash) 0 hash.buckets
 
     -- what is told of a bucket are the entries of it
-    pub bucket_is : (k : ℕ) → k < hash.buckets → bucket_told heap words addr k ≡ group (λ (e : HashEntry). bucket_of hash.buckets e.key) k hash.entries
+    pub bucket_is : (k : ℕ) → k < hash.buckets →
+        bucket_told heap words addr k ≡ group (λ (e : HashEntry). bucket_of hash.buckets e.key) k hash.entries
     bucket_is k less =
         let mine : List HashEntry = filter (λ (e : HashEntry). bucket_of hash.buckets e.key == k) hash.entries in
         let each = All-part (StandsAt heap) bucket_entries buckets (inner_stand heap w s.stands.blocks addr (things.Hash hash) is) in
@@ -111,7 +116,9 @@ module _ (bytes : List ℕ) (w : World) (P : Pools) (s : StandsForWhole bytes w 
         let many = hash_word 1 (omega arith) (omega (arith, count, few)) ∙ count in
         let entries =
         ap (λ (n : ℕ). flat_map (bucket_told heap words addr) (range_with_len 0 n)) many
-        ∙ flat_alike (bucket_told heap words addr) (λ k. group (λ (e : HashEntry). bucket_of hash.buckets e.key) k hash.entries) hash.buckets bucket_is
-        ∙ regrouped (λ (e : HashEntry). bucket_of hash.buckets e.key) hash.buckets hash.entries (rise hash.buckets hash.entries valid.by_bucket)
+        ∙ flat_alike (bucket_told heap words addr)
+        (λ k. group (λ (e : HashEntry). bucket_of hash.buckets e.key) k hash.entries) hash.buckets bucket_is
+        ∙ regrouped (λ (e : HashEntry). bucket_of hash.buckets e.key) hash.buckets hash.entries
+        (rise hash.buckets hash.entries valid.by_bucket)
         (below hash.buckets valid.buckets.0 hash.entries) in
         λ i. record { key_length = key i; buckets = many i; entries = entries i }

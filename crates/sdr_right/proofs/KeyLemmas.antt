@@ -136,10 +136,12 @@ module _ (bytes : List ℕ) (w : World) (P : Pools) (s : StandsForWhole bytes w 
       let most = few_words in
       let word =
       ap (λ (b : Option Block). word_of b 1) (own_stands heap w s.stands.blocks addr (things.List list) there)
-      ∙ word_laid kinds.List (list.user ∷ length rows ∷ first_of addr_of 0 rows ∷ last_of addr_of 0 rows ∷ []) [] 1 (omega arith) (omega (arith, many, few, most)) in
+      ∙ word_laid kinds.List (list.user ∷ length rows ∷ first_of addr_of 0 rows ∷ last_of addr_of 0 rows ∷ []) [] 1 (omega arith)
+      (omega (arith, many, few, most)) in
       eq-eqb (word_of (heap.blocks addr) 1) (length (members heap words (owners.List addr))) (word ∙ many))
 
-  module _ (addr : ℕ) (hash : Hash) (is : thing_at w addr ≡ Some (things.Hash hash)) (fits : All FitsEntry hash.entries) (valid : IsValidHash hash) where
+  module _ (addr : ℕ) (hash : Hash) (is : thing_at w addr ≡ Some (things.Hash hash)) (fits : All FitsEntry hash.entries)
+      (valid : IsValidHash hash) where
     count_is : bucket_count heap addr ≡ hash.buckets
     count_is =
         let own = ap length_of (own_stands heap w s.stands.blocks addr (things.Hash hash) is) in
@@ -164,7 +166,8 @@ module _ (bytes : List ℕ) (w : World) (P : Pools) (s : StandsForWhole bytes w 
         let most = valid.key_length.1 in
         let key = hash_word bytes w P s addr hash is fits 0 (omega arith) (omega (arith, most)) in
         let fitting : List ℕ → Bool = λ key. length key == word_of (heap.blocks addr) 0 && bucket_of (bucket_count heap addr) key == k in
-        and_from (list_all (fits_bucket heap addr k) (bucket heap words addr k)) (is_none (first_repeated heap texts.Key (bucket heap words addr k)))
+        and_from (list_all (fits_bucket heap addr k) (bucket heap words addr k))
+        (is_none (first_repeated heap texts.Key (bucket heap words addr k)))
         (sym (list_all-map fitting (text_at heap texts.Key) (bucket heap words addr k)) ∙ ap (list_all fitting) (keys_are k less)
         ∙ keys_pass fitting (in_bucket k) (λ (e : HashEntry). length e.key ≡ hash.key_length)
         (λ e on long.
@@ -174,7 +177,8 @@ module _ (bytes : List ℕ) (w : World) (P : Pools) (s : StandsForWhole bytes w 
         (All-unmap (λ key. length key ≡ hash.key_length) (λ (e : HashEntry). e.key) hash.entries valid.keys))
         (ap is_none
         (from_distinct heap texts.Key (bucket heap words addr k)
-        (subst AreDistinct (sym (keys_are k less)) (distinct_kept (pointwise nat_eq) (λ (e : HashEntry). e.key) (in_bucket k) hash.entries valid.distinct_keys))))
+        (subst AreDistinct (sym (keys_are k less))
+        (distinct_kept (pointwise nat_eq) (λ (e : HashEntry). e.key) (in_bucket k) hash.entries valid.distinct_keys))))
 
     -- the count of its entries
     entries_are : word_of (heap.blocks addr) 2 ≡ entry_count heap words addr
@@ -183,7 +187,8 @@ module _ (bytes : List ℕ) (w : World) (P : Pools) (s : StandsForWhole bytes w 
         let sum : sum_by length (map (bucket_row hash) (range_with_len 0 hash.buckets)) ≡ sum_by held (range_with_len 0 hash.buckets) =
         sum_by-map length (bucket_row hash) (range_with_len 0 hash.buckets)
         ∙ sum_range (λ k. length (bucket_row hash k)) held hash.buckets
-        (λ k less. sym (ap (λ (l : List ℕ). length l) (bucket_members bytes w P s addr hash is k less) ∙ length-map (bucket_row hash k) item_addr)) in
+        (λ k less.
+        sym (ap (λ (l : List ℕ). length l) (bucket_members bytes w P s addr hash is k less) ∙ length-map (bucket_row hash k) item_addr)) in
         let most =
         sum_by-le held words (range_with_len 0 hash.buckets)
         (All-every (λ k. held k ≤ words) (λ k. few_members (owners.Bucket addr (3 + k))) (range_with_len 0 hash.buckets)) in
@@ -194,7 +199,8 @@ module _ (bytes : List ℕ) (w : World) (P : Pools) (s : StandsForWhole bytes w 
         hash_word bytes w P s addr hash is fits 2 (omega arith) (omega (arith, sum, most, all))
         ∙ sum ∙ ap (λ (n : ℕ). sum_by held (range_with_len 0 n)) (sym count_is)
 
-    entries_kept : (list_all (keeps_bucket heap words addr) (buckets heap addr) && word_of (heap.blocks addr) 2 == entry_count heap words addr) ≡ true
+    entries_kept :
+        (list_all (keeps_bucket heap words addr) (buckets heap addr) && word_of (heap.blocks addr) 2 == entry_count heap words addr) ≡ true
     entries_kept =
         and_from (list_all (keeps_bucket heap words addr) (buckets heap addr)) (word_of (heap.blocks addr) 2 == entry_count heap words addr)
         (ap (λ (n : ℕ). list_all (keeps_bucket heap words addr) (range_with_len 0 n)) count_is
@@ -207,7 +213,8 @@ module _ (bytes : List ℕ) (w : World) (P : Pools) (s : StandsForWhole bytes w 
       where_so (is_kind kinds.Hash (heap.blocks addr)) _ (λ is.
       let there = thing_there bytes w P s are kinds.Hash addr is in
       let hash : Hash = hash_told heap words addr in
-      entries_kept addr hash there (fits_thing bytes w P s addr (things.Hash hash) there).1 (valid_thing bytes w P s addr (things.Hash hash) there))
+      entries_kept addr hash there (fits_thing bytes w P s addr (things.Hash hash) there).1
+      (valid_thing bytes w P s addr (things.Hash hash) there))
 
   rules_kept : (rule : Rule) (addr : ℕ) → keeps heap words rule addr ≡ true
   rules_kept which.Length addr = lengths_told addr
@@ -218,5 +225,7 @@ module _ (bytes : List ℕ) (w : World) (P : Pools) (s : StandsForWhole bytes w 
   keyed_right = record {
     kept = rules_kept;
     names =
-        subst AreDistinct (sym (names_told heap (catalogue heap words) ∙ ap (map (λ (n : Name). n.name)) (names_are bytes w P s))) s.whole.valid.distinct_names;
+        subst AreDistinct
+        (sym (names_told heap (catalogue heap words) ∙ ap (map (λ (n : Name). n.name)) (names_are bytes w P s)))
+        s.whole.valid.distinct_names;
   }

@@ -69,26 +69,31 @@ module _ (bytes : List ℕ) (w : World) (P : Pools) (s : StandsForWhole bytes w 
   pub name_members : members heap words owners.Catalogue ≡ map name_addr (map name_row w.names)
   name_members = All-head HasRow owners.Catalogue (owners.Queue accts.Inbound ∷ owners.Queue accts.Outbound ∷ []) roots_are
 
-  pub ticket_members : (account : Acct) → members heap words (owners.Queue account) ≡ map ticket_addr (map ticket_row (tickets_of w.accounts account))
+  pub ticket_members : (account : Acct) →
+      members heap words (owners.Queue account) ≡ map ticket_addr (map ticket_row (tickets_of w.accounts account))
   ticket_members accts.Inbound = All-head HasRow (owners.Queue accts.Inbound) (owners.Queue accts.Outbound ∷ []) queues_are
   ticket_members accts.Outbound =
-      All-head HasRow (owners.Queue accts.Outbound) [] (All-tail HasRow (owners.Queue accts.Inbound) (owners.Queue accts.Outbound ∷ []) queues_are)
+      All-head HasRow (owners.Queue accts.Outbound) []
+      (All-tail HasRow (owners.Queue accts.Inbound) (owners.Queue accts.Outbound ∷ []) queues_are)
 
   -- so do those of the owners of a thing
   thing_members : (addr : ℕ) (thing : Thing) → thing_at w addr ≡ Some thing → All HasRow (owners_in addr (Some thing))
   thing_members addr thing is =
-      thing_owners bytes w P region s HasRow members_are addr thing (own_block (ties_of w) addr thing) is (own_stands heap w s.stands.blocks addr thing is)
+      thing_owners bytes w P region s HasRow members_are addr thing (own_block (ties_of w) addr thing) is
+      (own_stands heap w s.stands.blocks addr thing is)
 
   pub list_members : (addr : ℕ) (list : SdrList) → thing_at w addr ≡ Some (things.List list) →
       members heap words (owners.List addr) ≡ map addr_of (map element_row list.elements)
   list_members addr list is =
-      All-head HasRow (owners.List addr) [] (thing_members addr (things.List list) is) ∙ ap (λ (o : Option Thing). map addr_of (elements_of o)) is
+      All-head HasRow (owners.List addr) [] (thing_members addr (things.List list) is)
+      ∙ ap (λ (o : Option Thing). map addr_of (elements_of o)) is
 
   pub bucket_members : (addr : ℕ) (hash : Hash) → thing_at w addr ≡ Some (things.Hash hash) → (k : ℕ) → k < hash.buckets →
       members heap words (owners.Bucket addr (3 + k)) ≡ map item_addr (bucket_row hash k)
   bucket_members addr hash is k less =
       let back : 3 + k - 3 ≡ k = omega arith in
-      all_in_map HasRow (λ number. owners.Bucket addr (3 + number)) ((24 + 8 * hash.buckets) / 8 - 3) 0 k (omega arith) (omega (arith, less))
+      all_in_map HasRow (λ number. owners.Bucket addr (3 + number)) ((24 + 8 * hash.buckets) / 8 - 3) 0 k (omega arith)
+      (omega (arith, less))
       (thing_members addr (things.Hash hash) is)
       ∙ ap (λ (o : Option Thing). map item_addr (items_of (3 + k - 3) o)) is ∙ ap (λ (n : ℕ). map item_addr (bucket_row hash n)) back
 

@@ -88,7 +88,8 @@ module _ (bytes : List ℕ) (w : World) (P : Pools) (s : StandsForWhole bytes w 
   module _ (addr : ℕ) (source : ZcoSource) (is : thing_at w addr ≡ Some (things.Source source)) (fits : FitsSource source) where
     abbrev source_words : List ℕ
     source_words =
-        medium_number (medium_of source.subject) ∷ flag_word source.flagged ∷ (ties_of w).counts addr accts.Inbound ∷ (ties_of w).counts addr accts.Outbound
+        medium_number (medium_of source.subject) ∷ flag_word source.flagged ∷ (ties_of w).counts addr accts.Inbound
+        ∷ (ties_of w).counts addr accts.Outbound
         ∷ subject_number source.subject ∷ source.length ∷ []
 
     -- a word of its block
@@ -109,9 +110,11 @@ module _ (bytes : List ℕ) (w : World) (P : Pools) (s : StandsForWhole bytes w 
         let flag = ap (λ (n : ℕ). n == 1) (source_word 1 (omega arith) (flag_small source.flagged)) ∙ flag_told source.flagged in
         λ i. record { subject = subject i; length = count i; flagged = flag i }
 
-  capsules_are : (cs : List Capsule) → StandIn heap (capsule_entries (map capsule_row cs)) → map (capsule_told heap) (map capsule_addr (map capsule_row cs)) ≡ cs
+  capsules_are : (cs : List Capsule) → StandIn heap (capsule_entries (map capsule_row cs)) →
+      map (capsule_told heap) (map capsule_addr (map capsule_row cs)) ≡ cs
   capsules_are cs stand =
-      told_rows heap capsule_addr capsule_block capsule_row (capsule_told heap) (λ c. Unit {0}) (λ before next c fit there. capsule_back heap before next c there) 0 0 cs
+      told_rows heap capsule_addr capsule_block capsule_row (capsule_told heap) (λ c. Unit {0})
+      (λ before next c fit there. capsule_back heap before next c there) 0 0 cs
       (All-every (λ c. Unit {0}) (λ c. tt) cs) stand
 
   module _ (addr : ℕ) (z : ZcoObject) (is : thing_at w addr ≡ Some (things.Object z)) where
@@ -137,22 +140,26 @@ module _ (bytes : List ℕ) (w : World) (P : Pools) (s : StandsForWhole bytes w 
         let most = (region bytes w P s).most in
         omega (arith, sum, count, many, lines, most)
       where
-        each : (es : List Extent) → All (λ (e : Extent). LiesInside e (source_at w e.source)) es → All (λ (e : Extent). e.length ≤ 2 ^ 40) es
+        each : (es : List Extent) → All (λ (e : Extent). LiesInside e (source_at w e.source)) es →
+            All (λ (e : Extent). e.length ≤ 2 ^ 40) es
         each [] inside = All-nil (λ (e : Extent). e.length ≤ 2 ^ 40)
         each (e ∷ es) inside =
             All-cons (λ (e : Extent). e.length ≤ 2 ^ 40) e es
-            (inside_few e (thing_at w e.source) (s.whole.valid.things e.source) (All-head (λ (e : Extent). LiesInside e (source_at w e.source)) e es inside))
+            (inside_few e (thing_at w e.source) (s.whole.valid.things e.source)
+            (All-head (λ (e : Extent). LiesInside e (source_at w e.source)) e es inside))
             (each es (All-tail (λ (e : Extent). LiesInside e (source_at w e.source)) e es inside))
 
     abbrev object_words : List ℕ
     object_words =
         account_number z.account ∷ first_of extent_addr 0 extents ∷ last_of extent_addr 0 extents ∷ first_of capsule_addr 0 headers
-        ∷ last_of capsule_addr 0 headers ∷ first_of capsule_addr 0 trailers ∷ last_of capsule_addr 0 trailers ∷ z.part.offset ∷ z.part.length ∷ []
+        ∷ last_of capsule_addr 0 headers ∷ first_of capsule_addr 0 trailers ∷ last_of capsule_addr 0 trailers ∷ z.part.offset
+        ∷ z.part.length ∷ []
 
     -- a word of its block
     pub object_word : (n : ℕ) → n < 9 → get_or object_words n 0 < 2 ^ 64 → word_of (heap.blocks addr) n ≡ get_or object_words n 0
     object_word n less small =
-        ap (λ (b : Option Block). word_of b n) (own_stands heap w s.stands.blocks addr (things.Object z) is) ∙ word_laid kinds.Object object_words [] n less small
+        ap (λ (b : Option Block). word_of b n) (own_stands heap w s.stands.blocks addr (things.Object z) is)
+        ∙ word_laid kinds.Object object_words [] n less small
 
     inside_stand : StandIn heap (inner_entries addr (things.Object z))
     inside_stand = inner_stand heap w s.stands.blocks addr (things.Object z) is

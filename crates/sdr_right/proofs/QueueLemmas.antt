@@ -49,7 +49,8 @@ module _ (bytes : List ℕ) (w : World) (P : Pools) (s : StandsForWhole bytes w 
   room_is : (account : Acct) → room heap account ≡ rooms w account
   room_is account = λ i. minus (maxima_are bytes w P s account i) (occupied_are bytes w P s account i)
 
-  queue_is : (account : Acct) → All (λ n. n < w.accounts.next) (numbers_of (tickets_of w.accounts account)) → IsValidAccount (account_of w.accounts account) →
+  queue_is : (account : Acct) → All (λ n. n < w.accounts.next) (numbers_of (tickets_of w.accounts account)) →
+      IsValidAccount (account_of w.accounts account) →
       IsQueue heap account (tickets heap words account)
   queue_is account below valid =
       subst (IsQueue heap account) (sym (tickets_are bytes w P s account))
@@ -58,7 +59,8 @@ module _ (bytes : List ℕ) (w : World) (P : Pools) (s : StandsForWhole bytes w 
         order = valid.order;
         left = All-weaker IsValidTicket (λ t. is_left_rightly t ≡ true) left_rightly (tickets_of w.accounts account) valid.tickets;
         barred =
-            subst (λ (r : Amounts). IfSome (front_waiting (tickets_of w.accounts account)) (λ t. are_within t.asked r ≡ false)) (sym (room_is account))
+            subst (λ (r : Amounts). IfSome (front_waiting (tickets_of w.accounts account)) (λ t. are_within t.asked r ≡ false))
+            (sym (room_is account))
             (s.whole.barred account);
       })
 
@@ -79,14 +81,17 @@ module _ (bytes : List ℕ) (w : World) (P : Pools) (s : StandsForWhole bytes w 
       record {
         inbound = record {
           distinct =
-              subst (λ (ts : List Ticket). IsDistinct nat_eq (numbers_of ts)) (sym in_same) (distinct_left nat_eq (numbers_of inbound) (numbers_of outbound) distinct);
+              subst (λ (ts : List Ticket). IsDistinct nat_eq (numbers_of ts)) (sym in_same)
+              (distinct_left nat_eq (numbers_of inbound) (numbers_of outbound) distinct);
           queue =
-              queue_is accts.Inbound (All-left (λ n. n < w.accounts.next) (numbers_of inbound) (numbers_of outbound) below) s.whole.queues.inbound;
+              queue_is accts.Inbound
+              (All-left (λ n. n < w.accounts.next) (numbers_of inbound) (numbers_of outbound) below) s.whole.queues.inbound;
         };
         outbound = record {
           distinct =
               subst (IsDistinct nat_eq) (λ i. numbers_of (sym in_same i) ++ numbers_of (sym out_same i)) distinct;
           queue =
-              queue_is accts.Outbound (All-right (λ n. n < w.accounts.next) (numbers_of inbound) (numbers_of outbound) below) s.whole.queues.outbound;
+              queue_is accts.Outbound
+              (All-right (λ n. n < w.accounts.next) (numbers_of inbound) (numbers_of outbound) below) s.whole.queues.outbound;
         };
       }

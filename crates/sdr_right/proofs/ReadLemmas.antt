@@ -81,41 +81,54 @@ pub name_back : (name : List ℕ) → name_in (name_bytes name) ≡ name
 name_back name = take-append_seam name (replicate (31 - length name) 0)
 
 module _ (heap : View) where
-  pub element_back : (list before next : ℕ) (e : Element) → FitsElement e → heap.blocks e.block ≡ Some (element_block list before next (element_row e)) →
+  pub element_back : (list before next : ℕ) (e : Element) → FitsElement e →
+      heap.blocks e.block ≡ Some (element_block list before next (element_row e)) →
       element_told heap e.block ≡ e
   element_back list before next e fits is =
       let datum = ap (λ b. word_of b 3) is ∙ word_laid kinds.Element (list ∷ before ∷ next ∷ e.datum ∷ []) [] 3 (omega arith) fits.datum in
       λ i. record { block = e.block; datum = datum i }
 
-  pub entry_back : (before next : ℕ) (e : HashEntry) → FitsEntry e → heap.blocks e.block ≡ Some (item_block before next (item_row e)) → entry_told heap e.block ≡ e
+  pub entry_back : (before next : ℕ) (e : HashEntry) → FitsEntry e → heap.blocks e.block ≡ Some (item_block before next (item_row e)) →
+      entry_told heap e.block ≡ e
   entry_back before next e fits is =
       let value = ap (λ b. word_of b 1) is ∙ word_laid kinds.HashEntry (next ∷ e.value ∷ []) e.key 1 (omega arith) fits.value in
       let key = ap (λ b. behind_words b 2) is ∙ behind_laid kinds.HashEntry (next ∷ e.value ∷ []) e.key 2 refl in
       λ i. record { block = e.block; key = key i; value = value i }
 
-  pub name_told_back : (before next : ℕ) (n : Name) → FitsName n → heap.blocks n.block ≡ Some (name_block before next (name_row n)) → name_told heap n.block ≡ n
+  pub name_told_back : (before next : ℕ) (n : Name) → FitsName n → heap.blocks n.block ≡ Some (name_block before next (name_row n)) →
+      name_told heap n.block ≡ n
   name_told_back before next n fits is =
       let few = fits.kind in
-      let kind = ap (λ b. word_of b 1) is ∙ word_laid kinds.Name (next ∷ n.kind ∷ n.object ∷ []) (name_bytes n.name) 1 (omega arith) (omega (arith, few)) in
-      let object = ap (λ b. word_of b 2) is ∙ word_laid kinds.Name (next ∷ n.kind ∷ n.object ∷ []) (name_bytes n.name) 2 (omega arith) fits.object in
+      let kind =
+      ap (λ b. word_of b 1) is ∙ word_laid kinds.Name (next ∷ n.kind ∷ n.object ∷ []) (name_bytes n.name) 1 (omega arith)
+      (omega (arith, few)) in
+      let object =
+      ap (λ b. word_of b 2) is ∙ word_laid kinds.Name (next ∷ n.kind ∷ n.object ∷ []) (name_bytes n.name) 2 (omega arith) fits.object in
       let name =
-      ap (λ b. name_in (behind_words b 3)) is ∙ ap name_in (behind_laid kinds.Name (next ∷ n.kind ∷ n.object ∷ []) (name_bytes n.name) 3 refl)
+      ap (λ b. name_in (behind_words b 3)) is
+      ∙ ap name_in (behind_laid kinds.Name (next ∷ n.kind ∷ n.object ∷ []) (name_bytes n.name) 3 refl)
       ∙ name_back n.name in
       λ i. record { block = n.block; name = name i; kind = kind i; object = object i }
 
-  pub capsule_back : (before next : ℕ) (c : Capsule) → heap.blocks c.block ≡ Some (capsule_block before next (capsule_row c)) → capsule_told heap c.block ≡ c
+  pub capsule_back : (before next : ℕ) (c : Capsule) → heap.blocks c.block ≡ Some (capsule_block before next (capsule_row c)) →
+      capsule_told heap c.block ≡ c
   capsule_back before next c is =
       let text = ap (λ b. behind_words b 1) is ∙ behind_laid kinds.Capsule (next ∷ []) c.text 1 refl in
       λ i. record { block = c.block; text = text i }
 
-  pub extent_back : (before next : ℕ) (e : Extent) → FitsExtent e → heap.blocks e.block ≡ Some (extent_block before next (extent_row e)) → extent_told heap e.block ≡ e
+  pub extent_back : (before next : ℕ) (e : Extent) → FitsExtent e → heap.blocks e.block ≡ Some (extent_block before next (extent_row e)) →
+      extent_told heap e.block ≡ e
   extent_back before next e fits is =
-      let source = ap (λ b. word_of b 0) is ∙ word_laid kinds.Extent (e.source ∷ e.offset ∷ e.length ∷ next ∷ []) [] 0 (omega arith) fits.source in
-      let offset = ap (λ b. word_of b 1) is ∙ word_laid kinds.Extent (e.source ∷ e.offset ∷ e.length ∷ next ∷ []) [] 1 (omega arith) fits.offset in
-      let count = ap (λ b. word_of b 2) is ∙ word_laid kinds.Extent (e.source ∷ e.offset ∷ e.length ∷ next ∷ []) [] 2 (omega arith) fits.length in
+      let source =
+      ap (λ b. word_of b 0) is ∙ word_laid kinds.Extent (e.source ∷ e.offset ∷ e.length ∷ next ∷ []) [] 0 (omega arith) fits.source in
+      let offset =
+      ap (λ b. word_of b 1) is ∙ word_laid kinds.Extent (e.source ∷ e.offset ∷ e.length ∷ next ∷ []) [] 1 (omega arith) fits.offset in
+      let count =
+      ap (λ b. word_of b 2) is ∙ word_laid kinds.Extent (e.source ∷ e.offset ∷ e.length ∷ next ∷ []) [] 2 (omega arith) fits.length in
       λ i. record { block = e.block; source = source i; offset = offset i; length = count i }
 
-  pub ticket_back : (account : Acct) (before next : ℕ) (t : Ticket) → FitsWords t → heap.blocks t.block ≡ Some (ticket_block account before next (ticket_row t)) →
+  pub ticket_back : (account : Acct) (before next : ℕ) (t : Ticket) → FitsWords t →
+      heap.blocks t.block ≡ Some (ticket_block account before next (ticket_row t)) →
       ticket_at heap t.block ≡ t
   ticket_back account before next t fits is = λ i. record {
     block = t.block;
@@ -123,9 +136,17 @@ module _ (heap : View) where
     coarse = word 2 (omega arith) fits.coarse i;
     fine = word 3 (omega arith) fits.fine i;
     asked =
-        record { file = word 4 (omega arith) fits.asked_file i; bulk = word 5 (omega arith) fits.asked_bulk i; heap = word 6 (omega arith) fits.asked_heap i };
+        record {
+          file = word 4 (omega arith) fits.asked_file i;
+          bulk = word 5 (omega arith) fits.asked_bulk i;
+          heap = word 6 (omega arith) fits.asked_heap i;
+        };
     left =
-        record { file = word 7 (omega arith) fits.left_file i; bulk = word 8 (omega arith) fits.left_bulk i; heap = word 9 (omega arith) fits.left_heap i };
+        record {
+          file = word 7 (omega arith) fits.left_file i;
+          bulk = word 8 (omega arith) fits.left_bulk i;
+          heap = word 9 (omega arith) fits.left_heap i;
+        };
     granted = (ap (λ (n : ℕ). n == 1) (word 10 (omega arith) (flag_small t.granted)) ∙ flag_told t.granted) i;
   }
     where

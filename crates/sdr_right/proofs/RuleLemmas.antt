@@ -39,7 +39,8 @@ use Rattle.sdr_right.proofs.ThingLemmas.{fits_thing, valid_thing}
 use Rattle.sdr_world.proofs.WorldLemmas.{raw_is}
 
 -- a subject of a raw object has that
-raw_subject : (w : World) (medium number : ℕ) (path : List ℕ) (n : ℕ) → (medium == 3 || medium == 4) ≡ true → HasSubject w n (subject_by medium number path) →
+raw_subject : (w : World) (medium number : ℕ) (path : List ℕ) (n : ℕ) → (medium == 3 || medium == 4) ≡ true →
+    HasSubject w n (subject_by medium number path) →
     HasBytes n (as_raw (thing_at w number))
 raw_subject w medium number path n on has =
     elim (or_cases (medium == 3) (medium == 4) on) [
@@ -85,12 +86,18 @@ module _ (bytes : List ℕ) (w : World) (P : Pools) (s : StandsForWhole bytes w 
   raw_lengths : (addr : ℕ) → has_raw_length heap addr ≡ true
   raw_lengths addr =
       where_so (names_raw (heap.blocks addr)) _ (λ on.
-      let p = and_parts (is_kind kinds.Source (heap.blocks addr)) (word_of (heap.blocks addr) 0 == 3 || word_of (heap.blocks addr) 0 == 4) on in
+      let p =
+      and_parts (is_kind kinds.Source (heap.blocks addr)) (word_of (heap.blocks addr) 0 == 3 || word_of (heap.blocks addr) 0 == 4) on in
       let there = source_there addr p.0 in
-      let has = subst (λ (o : Option Thing). IfSome (as_source o) (λ source. HasSubject w source.length source.subject)) there (s.whole.fits.subjects addr) in
-      let held = raw_subject w (word_of (heap.blocks addr) 0) (word_of (heap.blocks addr) 4) (behind_words (heap.blocks addr) 6) (word_of (heap.blocks addr) 5) p.1 has in
+      let has =
+      subst (λ (o : Option Thing). IfSome (as_source o) (λ source. HasSubject w source.length source.subject)) there
+      (s.whole.fits.subjects addr) in
+      let held =
+      raw_subject w (word_of (heap.blocks addr) 0) (word_of (heap.blocks addr) 4) (behind_words (heap.blocks addr) 6)
+      (word_of (heap.blocks addr) 5) p.1 has in
       let raw = raw_is (word_of (heap.blocks addr) 5) (thing_at w (word_of (heap.blocks addr) 4)) held in
-      let long : length raw.0 ≡ word_of (heap.blocks addr) 5 = subst (λ (o : Option Thing). HasBytes (word_of (heap.blocks addr) 5) (as_raw o)) raw.1 held in
+      let long : length raw.0 ≡ word_of (heap.blocks addr) 5 =
+      subst (λ (o : Option Thing). HasBytes (word_of (heap.blocks addr) 5) (as_raw o)) raw.1 held in
       let own = ap length_of (own_stands heap w s.stands.blocks (word_of (heap.blocks addr) 4) (things.Raw raw.0) raw.1) in
       let laid = length-layout ((ties_of w).named_by (word_of (heap.blocks addr) 4) ∷ []) raw.0 in
       eq-eqb (word_of (heap.blocks addr) 5) (length_of (heap.blocks (word_of (heap.blocks addr) 4)) - 8) (omega (arith, long, own, laid)))
@@ -102,7 +109,8 @@ module _ (bytes : List ℕ) (w : World) (P : Pools) (s : StandsForWhole bytes w 
       let there = thing_there bytes w P s are kinds.Object addr is in
       let part = (valid_thing bytes w P s addr (things.Object (object_told heap words addr)) there).part in
       let sum = sum_by-map (λ (e : Extent). e.length) (extent_told heap) (members heap words (owners.Extents addr)) in
-      le-leb (word_of (heap.blocks addr) 7 + word_of (heap.blocks addr) 8) (sum_by (extent_length heap) (members heap words (owners.Extents addr)))
+      le-leb (word_of (heap.blocks addr) 7 + word_of (heap.blocks addr) 8)
+      (sum_by (extent_length heap) (members heap words (owners.Extents addr)))
       (omega (arith, part, sum)))
 
   -- the flag of a source
@@ -142,7 +150,8 @@ module _ (bytes : List ℕ) (w : World) (P : Pools) (s : StandsForWhole bytes w 
   -- and has one
   sources_used : (addr : ℕ) → is_used heap addr ≡ true
   sources_used addr =
-      or_assoc (not (is_flagged heap addr || has_taken heap addr)) (not (word_of (heap.blocks addr) 2 == 0)) (not (word_of (heap.blocks addr) 3 == 0))
+      or_assoc (not (is_flagged heap addr || has_taken heap addr)) (not (word_of (heap.blocks addr) 2 == 0))
+      (not (word_of (heap.blocks addr) 3 == 0))
       ∙ where_so (is_flagged heap addr || has_taken heap addr) _ (λ on.
       let p = passing addr on in
       let there = source_there addr p.kind in
@@ -161,7 +170,8 @@ module _ (bytes : List ℕ) (w : World) (P : Pools) (s : StandsForWhole bytes w 
       (valid_thing bytes w P s addr (things.Source (source addr)) there).unflagged
       (taken (word_of (heap.blocks addr) 0) (word_of (heap.blocks addr) 4) (behind_words (heap.blocks addr) 6) p.1) in
       let null = flag_is addr p.0 ∙ ap flag_word off in
-      ap (λ (n : ℕ). not (is_kind kinds.Source (heap.blocks addr) && not (n == 0))) null ∙ never_both (is_kind kinds.Source (heap.blocks addr)))
+      ap (λ (n : ℕ). not (is_kind kinds.Source (heap.blocks addr) && not (n == 0))) null
+      ∙ never_both (is_kind kinds.Source (heap.blocks addr)))
 
   -- each block keeps each rule
   pub rules_kept : (rule : Rule) (addr : ℕ) → keeps heap words rule addr ≡ true

@@ -31,7 +31,8 @@ own_block ties addr (things.List list) =
     let rows = map element_row list.elements in list_block list.user (length rows) (first_of addr_of 0 rows) (last_of addr_of 0 rows)
 own_block ties addr (things.Table table) = table_block (table_row table)
 own_block ties addr (things.Hash hash) = hash_block (hash_row hash)
-own_block ties addr (things.Source source) = source_block (ties.counts addr accts.Inbound) (ties.counts addr accts.Outbound) (source_row source)
+own_block ties addr (things.Source source) =
+    source_block (ties.counts addr accts.Inbound) (ties.counts addr accts.Outbound) (source_row source)
 own_block ties addr (things.Object z) = object_block (object_row z)
 
 -- the blocks inside of it
@@ -43,7 +44,8 @@ inner_entries addr (things.Object z) =
 inner_entries addr thing = []
 
 -- a thing's blocks are both
-pub parts : (ties : Ties) (addr : ℕ) (thing : Thing) → thing_entries ties addr thing ≡ (addr, own_block ties addr thing) ∷ inner_entries addr thing
+pub parts : (ties : Ties) (addr : ℕ) (thing : Thing) →
+    thing_entries ties addr thing ≡ (addr, own_block ties addr thing) ∷ inner_entries addr thing
 parts ties addr (things.Raw bytes) = refl
 parts ties addr (things.Text text) = refl
 parts ties addr (things.List list) = refl
@@ -52,7 +54,8 @@ parts ties addr (things.Hash hash) = refl
 parts ties addr (things.Source source) = refl
 parts ties addr (things.Object z) = refl
 
-module _ (heap : View) (w : World) (stands : Stands heap.blocks (entries_of w)) (addr : ℕ) (thing : Thing) (is : thing_at w addr ≡ Some thing) where
+module _ (heap : View) (w : World) (stands : Stands heap.blocks (entries_of w)) (addr : ℕ) (thing : Thing)
+    (is : thing_at w addr ≡ Some thing) where
   all_stand : StandIn heap ((addr, own_block (ties_of w) addr thing) ∷ inner_entries addr thing)
   all_stand = subst (StandIn heap) (parts (ties_of w) addr thing) (thing_stands heap w stands addr thing is)
 

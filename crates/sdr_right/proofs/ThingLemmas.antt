@@ -45,7 +45,8 @@ inner_none kinds.Capsule heap words addr inner = refl
 inner_none kinds.Ticket heap words addr inner = refl
 
 -- nor of a block that is told as a loose one
-loose_none : (heap : View) (words addr : ℕ) (o : Option base.Block) (loose : Option Block) → base.kind_length o ≡ told_of loose → IsLoose loose →
+loose_none : (heap : View) (words addr : ℕ) (o : Option base.Block) (loose : Option Block) → base.kind_length o ≡ told_of loose →
+    IsLoose loose →
     thing_by o heap words addr ≡ None
 loose_none heap words addr None loose same is = refl
 loose_none heap words addr (Some block) None same is = absurd (none-some (block.kind, length block.bytes) (sym same))
@@ -66,11 +67,14 @@ module _ (bytes : List ℕ) (w : World) (P : Pools) (s : StandsForWhole bytes w 
   pub fits_thing : (addr : ℕ) (thing : Thing) → thing_at w addr ≡ Some thing → IsWord addr × FitsThing thing
   fits_thing addr thing is = subst (λ (o : Option Thing). IfSome o (λ thing. IsWord addr × FitsThing thing)) is (s.fits.things addr)
 
-  table_is : (addr : ℕ) (table : Table) → thing_at w addr ≡ Some (things.Table table) → IsWord table.user → IsValidTable table → table_told (heap.blocks addr) ≡ table
+  table_is : (addr : ℕ) (table : Table) → thing_at w addr ≡ Some (things.Table table) → IsWord table.user → IsValidTable table →
+      table_told (heap.blocks addr) ≡ table
   table_is addr table is small valid =
       let size = valid.size in
       let rows = valid.rows in
-      let bytes = ap (λ (b : Option base.Block). behind_words b 3) own ∙ behind_laid kinds.Table (table.user ∷ table.size ∷ table.rows ∷ []) table.bytes 3 refl in
+      let bytes =
+      ap (λ (b : Option base.Block). behind_words b 3) own
+      ∙ behind_laid kinds.Table (table.user ∷ table.size ∷ table.rows ∷ []) table.bytes 3 refl in
       λ i. record {
         user = word 0 (omega arith) small i;
         rows = word 2 (omega arith) (omega (arith, rows)) i;
@@ -83,23 +87,29 @@ module _ (bytes : List ℕ) (w : World) (P : Pools) (s : StandsForWhole bytes w 
 
       word : (n : ℕ) → n < 3 → get_or (table.user ∷ table.size ∷ table.rows ∷ []) n 0 < 2 ^ 64 →
           word_of (heap.blocks addr) n ≡ get_or (table.user ∷ table.size ∷ table.rows ∷ []) n 0
-      word n less few = ap (λ (b : Option base.Block). word_of b n) own ∙ word_laid kinds.Table (table.user ∷ table.size ∷ table.rows ∷ []) table.bytes n less few
+      word n less few =
+          ap (λ (b : Option base.Block). word_of b n) own
+          ∙ word_laid kinds.Table (table.user ∷ table.size ∷ table.rows ∷ []) table.bytes n less few
 
   -- of the own block of a thing the thing is told
-  told_own : (addr : ℕ) (thing : Thing) → thing_at w addr ≡ Some thing → thing_of_kind (own_block (ties_of w) addr thing).kind heap words addr ≡ Some thing
+  told_own : (addr : ℕ) (thing : Thing) → thing_at w addr ≡ Some thing →
+      thing_of_kind (own_block (ties_of w) addr thing).kind heap words addr ≡ Some thing
   told_own addr (things.Raw text) is =
       ap (λ (l : List ℕ). Some (things.Raw l))
       (ap (λ (b : Option base.Block). behind_words b 1) (own_stands heap w s.stands.blocks addr (things.Raw text) is)
       ∙ behind_laid kinds.Raw ((ties_of w).named_by addr ∷ []) text 1 refl)
   told_own addr (things.Text text) is =
-      ap (λ (b : Option base.Block). Some (things.Text (drop 1 (bytes_of b)))) (own_stands heap w s.stands.blocks addr (things.Text text) is)
+      ap (λ (b : Option base.Block). Some (things.Text (drop 1 (bytes_of b))))
+      (own_stands heap w s.stands.blocks addr (things.Text text) is)
   told_own addr (things.List list) is =
       let fits = (fits_thing addr (things.List list) is).1 in
       ap (λ l. Some (things.List l)) (list_is bytes w P s addr list is fits.0 fits.1)
   told_own addr (things.Table table) is =
-      ap (λ t. Some (things.Table t)) (table_is addr table is (fits_thing addr (things.Table table) is).1.0 (valid_thing addr (things.Table table) is))
+      ap (λ t. Some (things.Table t))
+      (table_is addr table is (fits_thing addr (things.Table table) is).1.0 (valid_thing addr (things.Table table) is))
   told_own addr (things.Hash hash) is =
-      ap (λ h. Some (things.Hash h)) (hash_is bytes w P s addr hash is (fits_thing addr (things.Hash hash) is).1 (valid_thing addr (things.Hash hash) is))
+      ap (λ h. Some (things.Hash h))
+      (hash_is bytes w P s addr hash is (fits_thing addr (things.Hash hash) is).1 (valid_thing addr (things.Hash hash) is))
   told_own addr (things.Source source) is =
       ap (λ x. Some (things.Source x)) (source_told_is bytes w P s addr source is (fits_thing addr (things.Source source) is).1)
   told_own addr (things.Object z) is =
@@ -118,4 +128,5 @@ module _ (bytes : List ℕ) (w : World) (P : Pools) (s : StandsForWhole bytes w 
           (others_loose w addr)
           ∙ sym is
       by (Some thing) is =
-          ap (λ (b : Option base.Block). thing_by b heap words addr) (own_stands heap w s.stands.blocks addr thing is) ∙ told_own addr thing is ∙ sym is
+          ap (λ (b : Option base.Block). thing_by b heap words addr) (own_stands heap w s.stands.blocks addr thing is)
+          ∙ told_own addr thing is ∙ sym is

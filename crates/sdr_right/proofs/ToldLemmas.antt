@@ -52,22 +52,26 @@ module _ (bytes : List ℕ) (w : World) (P : Pools) (s : StandsForWhole bytes w 
 
   pub heap_audited : AreBytes bytes → IsAudited heap words
   heap_audited are =
-      audited bytes (region bytes w P s) (record { small = P.small; large = P.large; sound = world_sound bytes w P s are }) are (world_owned bytes w P (region bytes w P s) s)
+      audited bytes (region bytes w P s) (record { small = P.small; large = P.large; sound = world_sound bytes w P s are }) are
+      (world_owned bytes w P (region bytes w P s) s)
 
   -- the catalogue that is told
   pub names_are : map (name_told heap) (members heap words owners.Catalogue) ≡ w.names
   names_are =
       ap (map (name_told heap)) (name_members bytes w P s)
       ∙ told_rows heap name_addr name_block name_row (name_told heap) FitsName (name_told_back heap) 0 0 w.names s.fits.names
-      (All-left (StandsAt heap) (catalogue_entries (map name_row w.names)) (queue_entries w.accounts accts.Inbound ++ queue_entries w.accounts accts.Outbound)
+      (All-left (StandsAt heap) (catalogue_entries (map name_row w.names))
+      (queue_entries w.accounts accts.Inbound ++ queue_entries w.accounts accts.Outbound)
       (others_stand heap w s.stands.blocks))
 
   -- the numbers of a valid ticket fit their words
   few_ticket : (t : Ticket) → IsValidTicket t → FitsTicket t → t.number < w.accounts.next → FitsWords t
   few_ticket t valid fits below =
-      let asked = and_parts (nat_le t.asked.file most_amount && nat_le t.asked.bulk most_amount) (nat_le t.asked.heap most_amount) valid.asked in
+      let asked =
+      and_parts (nat_le t.asked.file most_amount && nat_le t.asked.bulk most_amount) (nat_le t.asked.heap most_amount) valid.asked in
       let two = and_parts (nat_le t.asked.file most_amount) (nat_le t.asked.bulk most_amount) asked.0 in
-      let left = and_parts (nat_le t.left.file t.asked.file && nat_le t.left.bulk t.asked.bulk) (nat_le t.left.heap t.asked.heap) valid.left in
+      let left =
+      and_parts (nat_le t.left.file t.asked.file && nat_le t.left.bulk t.asked.bulk) (nat_le t.left.heap t.asked.heap) valid.left in
       let first = and_parts (nat_le t.left.file t.asked.file) (nat_le t.left.bulk t.asked.bulk) left.0 in
       let next = s.whole.queues.next in
       let coarse = fits.coarse in
@@ -87,28 +91,35 @@ module _ (bytes : List ℕ) (w : World) (P : Pools) (s : StandsForWhole bytes w 
         left_heap = within_small t.left.heap t.asked.heap left.1 space;
       }
 
-  few_tickets : (ts : List Ticket) → All IsValidTicket ts → All FitsTicket ts → All (λ (t : Ticket). t.number < w.accounts.next) ts → All FitsWords ts
+  few_tickets : (ts : List Ticket) → All IsValidTicket ts → All FitsTicket ts → All (λ (t : Ticket). t.number < w.accounts.next) ts →
+      All FitsWords ts
   few_tickets [] valid fits below = All-nil FitsWords
   few_tickets (t ∷ ts) valid fits below =
       All-cons FitsWords t ts
-      (few_ticket t (All-head IsValidTicket t ts valid) (All-head FitsTicket t ts fits) (All-head (λ (t : Ticket). t.number < w.accounts.next) t ts below))
-      (few_tickets ts (All-tail IsValidTicket t ts valid) (All-tail FitsTicket t ts fits) (All-tail (λ (t : Ticket). t.number < w.accounts.next) t ts below))
+      (few_ticket t (All-head IsValidTicket t ts valid) (All-head FitsTicket t ts fits)
+      (All-head (λ (t : Ticket). t.number < w.accounts.next) t ts below))
+      (few_tickets ts (All-tail IsValidTicket t ts valid) (All-tail FitsTicket t ts fits)
+      (All-tail (λ (t : Ticket). t.number < w.accounts.next) t ts below))
 
   -- the tickets that are told
   queue_are : (account : Acct) → All FitsWords (tickets_of w.accounts account) → StandIn heap (queue_entries w.accounts account) →
       tickets heap words account ≡ tickets_of w.accounts account
   queue_are account fits stand =
       ap (map (ticket_at heap)) (ticket_members bytes w P s account)
-      ∙ told_rows heap ticket_addr (ticket_block account) ticket_row (ticket_at heap) FitsWords (ticket_back heap account) 0 0 (tickets_of w.accounts account) fits
+      ∙ told_rows heap ticket_addr (ticket_block account) ticket_row (ticket_at heap) FitsWords (ticket_back heap account) 0 0
+      (tickets_of w.accounts account) fits
       stand
 
   queues_stand : StandIn heap (queue_entries w.accounts accts.Inbound ++ queue_entries w.accounts accts.Outbound)
   queues_stand =
-      All-right (StandsAt heap) (catalogue_entries (map name_row w.names)) (queue_entries w.accounts accts.Inbound ++ queue_entries w.accounts accts.Outbound)
+      All-right (StandsAt heap) (catalogue_entries (map name_row w.names))
+      (queue_entries w.accounts accts.Inbound ++ queue_entries w.accounts accts.Outbound)
       (others_stand heap w s.stands.blocks)
 
   below : All (λ (t : Ticket). t.number < w.accounts.next) (w.accounts.inbound.tickets ++ w.accounts.outbound.tickets)
-  below = All-unmap (λ n. n < w.accounts.next) (λ (t : Ticket). t.number) (w.accounts.inbound.tickets ++ w.accounts.outbound.tickets) s.whole.queues.below
+  below =
+      All-unmap (λ n. n < w.accounts.next) (λ (t : Ticket). t.number)
+      (w.accounts.inbound.tickets ++ w.accounts.outbound.tickets) s.whole.queues.below
 
   pub tickets_are : (account : Acct) → tickets heap words account ≡ tickets_of w.accounts account
   tickets_are accts.Inbound =

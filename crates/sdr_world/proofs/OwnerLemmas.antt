@@ -127,7 +127,9 @@ owned_or addr None b loose = loose_plain addr b loose
 owned_or addr (Some x) b loose = refl
 
 -- the chains of the block at an address are those of the thing there
-pub owned_are : (heap : View) (w : World) → Stands heap.blocks (entries_of w) → IsValid w → (addr : ℕ) → owned_at heap addr ≡ owners_in addr (thing_at w addr)
+pub owned_are : (heap : View) (w : World) → Stands heap.blocks (entries_of w) → IsValid w → (addr : ℕ) →
+    owned_at heap addr ≡ owners_in addr (thing_at w addr)
 owned_are heap w stands valid addr =
-    ap (λ (o : Option (Kind × ℕ)). option_map_or (λ (told : Kind × ℕ). owned_by addr told.0 told.1) o []) (block_told heap w stands valid addr)
+    ap (λ (o : Option (Kind × ℕ)). option_map_or (λ (told : Kind × ℕ). owned_by addr told.0 told.1) o [])
+    (block_told heap w stands valid addr)
     ∙ owned_or addr (option_map (own_block addr) (thing_at w addr)) (loose_at w addr) (others_loose w addr)

@@ -40,7 +40,8 @@ module _ (bytes : List ℕ) (w : World) (P : Pools) (region : IsRegionSize (leng
     chains = map (chain_of w) (owners_of heap words);
     owners_are = map-map (λ (chain : Chain). chain.owner) (chain_of w) (owners_of heap words) ∙ map-id (owners_of heap words);
     right =
-        All-map (IsChain heap) (chain_of w) (owners_of heap words) (owners_right heap w s.stands.blocks s.stands.roots s.fits s.whole.valid words);
+        All-map (IsChain heap) (chain_of w) (owners_of heap words)
+        (owners_right heap w s.stands.blocks s.stands.roots s.fits s.whole.valid words);
     reached_are = flat_map-map (λ (chain : Chain). chain.addrs) (chain_of w) (owners_of heap words);
     once = chains_once heap w s.stands.blocks s.whole.valid words;
   }
@@ -49,7 +50,8 @@ module _ (bytes : List ℕ) (w : World) (P : Pools) (region : IsRegionSize (leng
   of_words = flat_map (λ word. owned_at heap (8 * word)) (range_with_len 0 words)
 
   -- what holds of all owners holds of those of a thing
-  pub thing_owners : (Q : Owner → Type 0) → All Q (owners_of heap words) → (addr : ℕ) (thing : Thing) (block : Block) → thing_at w addr ≡ Some thing →
+  pub thing_owners : (Q : Owner → Type 0) → All Q (owners_of heap words) → (addr : ℕ) (thing : Thing) (block : Block) →
+      thing_at w addr ≡ Some thing →
       heap.blocks addr ≡ Some block → All Q (owners_in addr (Some thing))
   thing_owners Q all addr thing block there is =
       let p = is_part bytes addr block is in
@@ -59,7 +61,9 @@ module _ (bytes : List ℕ) (w : World) (P : Pools) (region : IsRegionSize (leng
       let within : addr / 8 < words = omega (arith, whole, inside, lines) in
       let long = length-range_with_len 0 words in
       let each = All-part Q (λ word. owned_at heap (8 * word)) (range_with_len 0 words) (All-right Q root_owners of_words all) in
-      let here = All-get_or (λ word. All Q (owned_at heap (8 * word))) (range_with_len 0 words) (addr / 8) 0 (omega (arith, long, within)) each in
+      let here =
+      All-get_or (λ word. All Q (owned_at heap (8 * word))) (range_with_len 0 words) (addr / 8) 0 (omega (arith, long, within)) each in
       let at : 8 * get_or (range_with_len 0 words) (addr / 8) 0 ≡ addr =
-      ap (λ (n : ℕ). 8 * n) (get_or-range_with_len 0 words (addr / 8) 0 within) ∙ (let e : 8 * (0 + addr / 8) ≡ addr = omega (arith, whole) in e) in
+      ap (λ (n : ℕ). 8 * n) (get_or-range_with_len 0 words (addr / 8) 0 within)
+      ∙ (let e : 8 * (0 + addr / 8) ≡ addr = omega (arith, whole) in e) in
       subst (All Q) (ap (owned_at heap) at ∙ owned_are heap w s.stands.blocks s.whole.valid addr ∙ ap (owners_in addr) there) here
