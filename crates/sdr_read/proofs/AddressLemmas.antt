@@ -1,9 +1,9 @@
 -- The blocks of a told world begin at addresses of which none is 0, and none stands there twice.
-use Rattle.std.proofs.Common.{◌≡◌, ◌≤◌, ◌<◌, ◌+◌, ◌-◌, ◌*◌, ◌==◌, ◌&&◌, ◌^◌, ℕ, zero, suc, Bool, List, [], ◌∷◌, ◌++◌, cond, not, true, false, length, get_or, take, drop, map, nat_eq, arith, ap, ◌∙◌, refl, sym, subst, append_assoc, eqb-true, length-take}
-use Rattle.std.specs.Prelude.{Contains, count_by, IfSome, Option, None, Some, nat_lt}
+use Rattle.std.proofs.Common.{◌≡◌, ◌≤◌, ◌+◌, ◌==◌, ◌&&◌, ◌^◌, ℕ, List, [], ◌∷◌, ◌++◌, cond, not, true, length, get_or, take, drop, map, nat_eq, arith, ap, ◌∙◌, refl, sym, subst, append_assoc, eqb-true, length-take}
+use Rattle.std.specs.Prelude.{count_by, IfSome, Option, nat_lt}
 use Rattle.std.specs.Cmp.{nat_eq_equiv}
 use Rattle.std.specs.FinMap as finite
-use Rattle.std.specs.List.{All, AllByRecursion, IsDistinct, flat_map, list_all}
+use Rattle.std.specs.List.{All, AllByRecursion, flat_map, list_all}
 use Rattle.std.proofs.lemmas.Bool.{and_parts}
 use Rattle.std.proofs.lemmas.List.{get_or-drop, get_or-take, length-drop, map-append}
 use Rattle.std.proofs.lemmas.List.Elements.{All-head, All-map, All-tail}
@@ -21,12 +21,11 @@ use Rattle.sdr_base.specs.declared.kind.Kind.TheVariants as kinds
 use Rattle.sdr_count.specs.Counted.{IsCounted}
 use Rattle.sdr_keys.specs.Members.{members}
 use Rattle.sdr_laws.proofs.DistinctLemmas.{count_by-cons, from_once, not_contained}
-use Rattle.sdr_model.specs.Accounts.{ticket_block, ticket_blocks}
+use Rattle.sdr_model.specs.Accounts.{ticket_blocks}
 use Rattle.sdr_model.specs.Blocks.{addresses_of, blocks_of, thing_blocks}
 use Rattle.sdr_model.specs.Limits.{is_no_name}
 use Rattle.sdr_model.specs.Things.{name_block}
 use Rattle.sdr_model.specs.Valid.{IsBetween, IsValid, IsValidThing, names_of}
-use Rattle.sdr_model.specs.World.{thing_at}
 use Rattle.sdr_model.specs.declared.name.Name.{Name}
 use Rattle.sdr_model.specs.declared.things.Block.{Block}
 use Rattle.sdr_model.specs.declared.things.Thing.{Thing}
@@ -38,11 +37,11 @@ use Rattle.sdr_read.proofs.ChainLemmas.{count_turned}
 use Rattle.sdr_read.proofs.OccupiedLemmas.{all_so, goes_members}
 use Rattle.sdr_read.proofs.OwnLemmas.{IsAudited, layout_of, own_of}
 use Rattle.sdr_read.proofs.PartLemmas.{names_chain}
-use Rattle.sdr_read.proofs.RowLemmas.{all_row, row}
+use Rattle.sdr_read.proofs.RowLemmas.{all_row}
 use Rattle.sdr_read.proofs.StandLemmas.{entries_stand, none_at_null, once}
 use Rattle.sdr_read.proofs.TiesLemmas.{thing_is, things_are}
 use Rattle.sdr_read.proofs.ValidLemmas.{between_so, thing_valid}
-use Rattle.sdr_read.specs.Fitting.{AreFitting}
+use Rattle.sdr_read.proofs.Fitting.{AreFitting}
 use Rattle.sdr_read.specs.Told.{name_told, thing_told, world_told}
 use Rattle.sdr_region.specs.Content.{field}
 

@@ -1,8 +1,8 @@
 -- What the layouts of blocks say of their bytes.
-use Rattle.std.proofs.Common.{◌≡◌, ◌≤◌, ◌<◌, ◌+◌, ◌-◌, ◌*◌, ◌/◌, ◌==◌, ◌&&◌, ◌||◌, ◌^◌, ℕ, Bool, List, [], ◌∷◌, cond, not, true, false, length, get_or, take, drop, arith, ap, ◌∙◌, refl, sym, subst}
-use Rattle.std.specs.Prelude.{All, Option, None, Some, nat_le, nat_lt}
+use Rattle.std.proofs.Common.{◌≡◌, ◌≤◌, ◌<◌, ◌+◌, ◌*◌, ◌/◌, ◌==◌, ◌&&◌, ◌^◌, ℕ, Bool, List, [], ◌∷◌, cond, not, true, false, length, get_or, take, drop, arith, ap, ◌∙◌, refl, sym, subst}
+use Rattle.std.specs.Prelude.{All, Option, Some, nat_lt}
 use Rattle.std.specs.List.{list_all}
-use Rattle.std.proofs.lemmas.Bool.{and_parts, eqb-true, leb-true, lt-ltb, ltb-true, or_parts}
+use Rattle.std.proofs.lemmas.Bool.{and_parts, eqb-true, leb-true, lt-ltb, or_parts}
 use Rattle.std.proofs.lemmas.List.{drop-drop, get_or-drop, get_or-take, length-drop, take_all}
 use Rattle.std.proofs.lemmas.List.Elements.{All-cons, All-nil}
 use Rattle.sdr_base.proofs.StoredLemmas.{big_from-same}
