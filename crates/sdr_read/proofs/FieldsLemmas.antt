@@ -1,8 +1,8 @@
 -- The numbers of the world that a heap tells fit the fields of blocks.
-use Rattle.std.proofs.Common.{◌≡◌, ◌≤◌, ◌<◌, ◌+◌, ◌*◌, ◌/◌, ◌==◌, ◌&&◌, ◌^◌, ℕ, suc, List, cond, not, true, length, get_or, take, drop, map, arith, refl, sym, subst, inl, inr}
+use Rattle.std.proofs.Common.{◌≡◌, ◌≤◌, ◌<◌, ◌+◌, ◌*◌, ◌/◌, ◌==◌, ◌^◌, ℕ, suc, List, cond, true, length, get_or, drop, map, arith, refl, sym, subst, inl, inr}
 use Rattle.std.specs.Prelude.{IfSome, Option, None, Some, nat_lt}
-use Rattle.std.specs.List.{All, list_all}
-use Rattle.std.proofs.lemmas.Bool.{and_parts, cases_lt, cond_both, eqb-true, ltb-true}
+use Rattle.std.specs.List.{All}
+use Rattle.std.proofs.lemmas.Bool.{cases_lt, cond_both}
 use Rattle.std.proofs.lemmas.List.{get_or_past}
 use Rattle.std.proofs.lemmas.List.Elements.{All-drop, All-get_or, All-map, All-nil, All-take}
 use Rattle.sdr_base.specs.Blocks.{Block}
@@ -14,8 +14,8 @@ use Rattle.sdr_base.specs.declared.kind.Kind.TheVariants as kinds
 use Rattle.sdr_count.specs.Queues.{ticket_at, tickets}
 use Rattle.sdr_keys.specs.Members.{members}
 use Rattle.sdr_model.specs.Fields.{FitsCapsule, FitsElement, FitsEntry, FitsExtent, FitsFields, FitsName, FitsSubject, FitsThing, FitsTicket, IsWord}
-use Rattle.sdr_model.specs.Limits.{is_no_name}
 use Rattle.sdr_model.specs.declared.things.Thing.{Thing}
+use Rattle.sdr_model.specs.declared.zco.Subject.{Subject}
 use Rattle.sdr_model.specs.declared.zco.Subject.TheVariants as subjects
 use Rattle.sdr_owner.specs.Chains.{first_of, is_member}
 use Rattle.sdr_owner.specs.Owned.{AreBytes}
@@ -26,7 +26,7 @@ use Rattle.sdr_owner.specs.declared.owner.Owner.TheVariants as owners
 use Rattle.sdr_read.proofs.BucketLemmas.{all_groups}
 use Rattle.sdr_read.proofs.ChainLemmas.{IsTold}
 use Rattle.sdr_read.proofs.HashLemmas.{bucket_chain}
-use Rattle.sdr_read.proofs.LayoutLemmas.{word_told}
+use Rattle.sdr_read.proofs.LayoutLemmas.{is_name_so, word_told}
 use Rattle.sdr_read.proofs.LinkLemmas.{extent_chain, header_chain, list_chain, trailer_chain}
 use Rattle.sdr_read.proofs.OccupiedLemmas.{all_so, goes_members}
 use Rattle.sdr_read.proofs.OwnLemmas.{IsAudited, layout_of, own_of}
@@ -35,7 +35,6 @@ use Rattle.sdr_read.proofs.QueueLemmas.{is_ticket_so}
 use Rattle.sdr_read.proofs.SourceLemmas.{subject_by}
 use Rattle.sdr_read.proofs.TiesLemmas.{thing_cases, thing_is}
 use Rattle.sdr_read.specs.Told.{bucket_told, capsule_told, element_told, entry_told, extent_told, name_told, thing_of_kind, thing_told, world_told}
-use Rattle.sdr_region.specs.Content.{field}
 
 -- eight bytes make a word
 number_small : (place : ℕ) (bytes : List ℕ) → AreBytes bytes → number_at place bytes < 2 ^ 64
@@ -62,12 +61,12 @@ number_small place bytes are =
 -- a subject fits, where a path is of bytes and the number of any other a word
 subject_fits : (medium number : ℕ) (path : List ℕ) → IsWord number → AreBytes path → FitsSubject (subject_by medium number path)
 subject_fits medium number path word are =
-    cond_both (medium == 1) (subjects.File path) (cond (medium == 2) (subjects.Bulk number) (cond (medium == 3) (subjects.Heap number) (subjects.Obj number))) FitsSubject
-    (λ file. are)
-    (λ other.
-    cond_both (medium == 2) (subjects.Bulk number) (cond (medium == 3) (subjects.Heap number) (subjects.Obj number)) FitsSubject
-    (λ bulk. word)
-    (λ other. cond_both (medium == 3) (subjects.Heap number) (subjects.Obj number) FitsSubject (λ heap. word) (λ obj. word)))
+    let raw : Subject = cond (medium == 3) (subjects.Heap number) (subjects.Obj number) in
+    let item : Subject = cond (medium == 2) (subjects.Bulk number) raw in
+    let raw_fits : FitsSubject raw =
+    cond_both (medium == 3) (subjects.Heap number) (subjects.Obj number) FitsSubject (λ heap. word) (λ obj. word) in
+    let item_fits : FitsSubject item = cond_both (medium == 2) (subjects.Bulk number) raw FitsSubject (λ bulk. word) (λ other. raw_fits) in
+    cond_both (medium == 1) (subjects.File path) item FitsSubject (λ file. are) (λ other. item_fits)
 
 module _ (heap : View) (words : ℕ) (a : IsAudited heap words) (few : 8 * words ≤ 2 ^ 64) where
   -- the bytes of a block are bytes
@@ -88,7 +87,8 @@ module _ (heap : View) (words : ℕ) (a : IsAudited heap words) (few : 8 * words
       by_block : (o : Option Block) → heap.blocks addr ≡ o → IsWord (word_of o n)
       by_block None at = omega arith
       by_block (Some block) at =
-          cond_both (nat_lt n (length block.bytes / 8)) (number_at (8 * n) block.bytes) 0 IsWord (λ within. number_small (8 * n) block.bytes (a.bytes addr block at)) (λ past. omega arith)
+          cond_both (nat_lt n (length block.bytes / 8)) (number_at (8 * n) block.bytes) 0 IsWord
+          (λ within. number_small (8 * n) block.bytes (a.bytes addr block at)) (λ past. omega arith)
 
   -- so is the address of a block
   at_word : (kind : Kind) (addr : ℕ) → is_kind kind (heap.blocks addr) ≡ true → IsWord addr
@@ -114,15 +114,24 @@ module _ (heap : View) (words : ℕ) (a : IsAudited heap words) (few : 8 * words
   capsule_fits addr is = record { block = at_word kinds.Capsule addr is; text = behind addr 1 }
 
   extent_fits : (addr : ℕ) → is_kind kinds.Extent (heap.blocks addr) ≡ true → FitsExtent (extent_told heap addr)
-  extent_fits addr is = record { block = at_word kinds.Extent addr is; source = is_word addr 0; offset = is_word addr 1; length = is_word addr 2 }
+  extent_fits addr is = record {
+    block = at_word kinds.Extent addr is;
+    source = is_word addr 0;
+    offset = is_word addr 1;
+    length = is_word addr 2;
+  }
 
   entry_fits : (addr : ℕ) → is_kind kinds.HashEntry (heap.blocks addr) ≡ true → FitsEntry (entry_told heap addr)
   entry_fits addr is = record { block = at_word kinds.HashEntry addr is; key = behind addr 2; value = is_word addr 1 }
 
-  thing_fits : (addr : ℕ) → IfSome (thing_told heap words addr) (λ thing. IsWord addr × FitsThing thing)
-  thing_fits addr = thing_cases heap words (λ (o : Option Thing). IfSome o (λ thing. IsWord addr × FitsThing thing)) addr (λ at. tt) by_kind
+  -- a thing at an address, if there is one, fits, and so does the address
+  abbrev Fits : ℕ → Option Thing → Type 0
+  Fits addr o = IfSome o (λ thing. IsWord addr × FitsThing thing)
+
+  thing_fits : (addr : ℕ) → Fits addr (thing_told heap words addr)
+  thing_fits addr = thing_cases heap words (Fits addr) addr (λ at. tt) by_kind
     where
-      by_kind : (kind : Kind) → is_kind kind (heap.blocks addr) ≡ true → IfSome (thing_of_kind kind heap words addr) (λ thing. IsWord addr × FitsThing thing)
+      by_kind : (kind : Kind) → is_kind kind (heap.blocks addr) ≡ true → Fits addr (thing_of_kind kind heap words addr)
       by_kind kinds.Raw is = (at_word kinds.Raw addr is, behind addr 1)
       by_kind kinds.Text is = (at_word kinds.Text addr is, All-drop (λ byte. byte < 2 ^ 8) 1 (bytes_of (heap.blocks addr)) (are_bytes addr))
       by_kind kinds.List is = (
@@ -135,14 +144,17 @@ module _ (heap : View) (words : ℕ) (a : IsAudited heap words) (few : 8 * words
         at_word kinds.Hash addr is,
         all_groups FitsEntry (bucket_told heap words addr) 0 (word_of (heap.blocks addr) 1)
             (λ k low less.
-            all_told FitsEntry (entry_told heap) (owners.Bucket addr (3 + k)) (bucket_chain heap words a addr is k (omega (arith, less))) entry_fits),
+            let chain = bucket_chain heap words a addr is k (omega (arith, less)) in
+            all_told FitsEntry (entry_told heap) (owners.Bucket addr (3 + k)) chain entry_fits),
       )
       by_kind kinds.HashEntry is = tt
       by_kind kinds.Name is = tt
       by_kind kinds.Source is = (
         at_word kinds.Source addr is,
         record {
-          subject = subject_fits (word_of (heap.blocks addr) 0) (word_of (heap.blocks addr) 4) (behind_words (heap.blocks addr) 6) (is_word addr 4) (behind addr 6);
+          subject =
+              subject_fits (word_of (heap.blocks addr) 0) (word_of (heap.blocks addr) 4) (behind_words (heap.blocks addr) 6)
+              (is_word addr 4) (behind addr 6);
           length = is_word addr 5;
         },
       )
@@ -162,12 +174,9 @@ module _ (heap : View) (words : ℕ) (a : IsAudited heap words) (few : 8 * words
   kind_small : (addr : ℕ) → is_kind kinds.Name (heap.blocks addr) ≡ true → word_of (heap.blocks addr) 1 < 2 ^ 32
   kind_small addr is =
       let b = own_of heap words a kinds.Name addr is in
-      let first : List ℕ = take 96 b.own.bytes in
-      let outer = and_parts (length b.own.bytes == 56 && nat_lt (field first 1) (2 ^ 32) && not (is_no_name (get_or first 24 0))) (list_all (λ byte. byte == 0) (drop (25 + get_or first 24 0) first)) (layout_of heap words a kinds.Name addr b) in
-      let inner = and_parts (length b.own.bytes == 56 && nat_lt (field first 1) (2 ^ 32)) (not (is_no_name (get_or first 24 0))) outer.0 in
-      let both = and_parts (length b.own.bytes == 56) (nat_lt (field first 1) (2 ^ 32)) inner.0 in
-      let long = eqb-true (length b.own.bytes) 56 both.0 in
-      let small = ltb-true (field first 1) (2 ^ 32) both.1 in
+      let l = is_name_so b.own.bytes (layout_of heap words a kinds.Name addr b) in
+      let long = l.long in
+      let small = l.small in
       let told = word_told (heap.blocks addr) b.own 1 b.is (omega (arith, long)) (omega arith) in
       omega (arith, small, told)
 
@@ -199,7 +208,7 @@ module _ (heap : View) (words : ℕ) (a : IsAudited heap words) (few : 8 * words
   pub fields_fit : FitsFields (world_told heap words)
   fields_fit = record {
     things = λ addr.
-        subst (λ (o : Option Thing). IfSome o (λ thing. IsWord addr × FitsThing thing)) (sym (thing_is heap words a addr)) (thing_fits addr);
+        subst (Fits addr) (sym (thing_is heap words a addr)) (thing_fits addr);
     names = all_told FitsName (name_told heap) owners.Catalogue (names_chain heap words a) name_fits;
     inbound = tickets_fit accts.Inbound;
     outbound = tickets_fit accts.Outbound;

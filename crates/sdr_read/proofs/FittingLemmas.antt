@@ -1,5 +1,5 @@
 -- What the blocks of a heap tell of one another is right where an audit of its owners, lists, hashes, names and counts passes.
-use Rattle.std.proofs.Common.{◌≡◌, ◌≤◌, ◌<◌, ◌+◌, ◌-◌, ◌/◌, ◌==◌, ◌&&◌, ◌||◌, ℕ, Bool, List, not, true, false, length, get_or, take, drop, map, nat_eq, sum_by, arith, ap, ◌∙◌, refl, sym, subst, inl, inr, eqb-true}
+use Rattle.std.proofs.Common.{◌≡◌, ◌≤◌, ◌<◌, ◌+◌, ◌-◌, ◌/◌, ◌==◌, ◌||◌, ℕ, Bool, List, not, true, false, length, get_or, take, drop, map, nat_eq, sum_by, arith, ap, ◌∙◌, refl, sym, subst, inl, inr, eqb-true}
 use Rattle.std.specs.Prelude.{is_none, Option, None, Some, nat_le, slice_index_or}
 use Rattle.std.specs.Cmp.Lexicographic.{bytes_decides, pointwise}
 use Rattle.std.specs.List.{All, list_all, range_with_len}
@@ -73,9 +73,11 @@ module _ (heap : View) (words : ℕ) (a : IsAudited heap words) (c : IsCounted h
   names_so : AreDistinct (names_of (world_told heap words))
   names_so =
       let ms : List ℕ = members heap words owners.Catalogue in
-      subst AreDistinct ((λ i. map (λ (n : ℕ). name_read heap n i) ms) ∙ sym (map-map (λ (n : Name). n.name) (name_told heap) ms)) c.keyed.names
+      subst AreDistinct ((λ i. map (λ (n : ℕ). name_read heap n i) ms) ∙ sym (map-map (λ (n : Name). n.name) (name_told heap) ms))
+      c.keyed.names
 
-  lists_so : (addr : ℕ) → is_kind kinds.List (heap.blocks addr) ≡ true → word_of (heap.blocks addr) 1 ≡ length (members heap words (owners.List addr))
+  lists_so : (addr : ℕ) → is_kind kinds.List (heap.blocks addr) ≡ true →
+      word_of (heap.blocks addr) 1 ≡ length (members heap words (owners.List addr))
   lists_so addr is =
       eqb-true (word_of (heap.blocks addr) 1) (length (members heap words (owners.List addr)))
       (unless heap words a (is_kind kinds.List (heap.blocks addr)) _ (c.keyed.kept keys.Length addr) is)
@@ -88,14 +90,18 @@ module _ (heap : View) (words : ℕ) (a : IsAudited heap words) (c : IsCounted h
         let whole = whole_hash heap words a addr is in
         ap (λ (o : Option Block). length_of o / 8 - 3) b.is ∙ omega (arith, whole)
 
-    kept : (list_all (keeps_bucket heap words addr) (buckets heap addr) && word_of (heap.blocks addr) 2 == entry_count heap words addr) ≡ true
-    kept = unless heap words a (is_kind kinds.Hash (heap.blocks addr)) _ (c.keyed.kept keys.Entries addr) is
+    kept :
+        (list_all (keeps_bucket heap words addr) (buckets heap addr) ≡ true)
+        × ((word_of (heap.blocks addr) 2 == entry_count heap words addr) ≡ true)
+    kept =
+        and_parts (list_all (keeps_bucket heap words addr) (buckets heap addr)) _
+        (unless heap words a (is_kind kinds.Hash (heap.blocks addr)) _ (c.keyed.kept keys.Entries addr) is)
 
     -- what a bucket keeps
     kept_bucket : (k : ℕ) → k < word_of (heap.blocks addr) 1 → keeps_bucket heap words addr k ≡ true
     kept_bucket k less =
         let n = many in
-        passes_at (keeps_bucket heap words addr) (bucket_count heap addr) k (and_parts (list_all (keeps_bucket heap words addr) (buckets heap addr)) _ kept).0 (omega (arith, n, less))
+        passes_at (keeps_bucket heap words addr) (bucket_count heap addr) k kept.0 (omega (arith, n, less))
 
     kept_entries : (k : ℕ) → k < word_of (heap.blocks addr) 1 → All (λ e. fits_bucket heap addr k e ≡ true) (bucket heap words addr k)
     kept_entries k less =
@@ -110,15 +116,18 @@ module _ (heap : View) (words : ℕ) (a : IsAudited heap words) (c : IsCounted h
         (λ i d inside.
         let at : ℕ = slice_index_or (bucket heap words addr k) i d in
         let fits = and_parts (length (text_at heap texts.Key at) == word_of (heap.blocks addr) 0) _ (kept_entries k less i d inside) in
-        (λ j. bucket_of (sym many j) (sym (key_read heap at) j)) ∙ eqb-true (bucket_of (bucket_count heap addr) (text_at heap texts.Key at)) k fits.1)
+        (λ j. bucket_of (sym many j) (sym (key_read heap at) j))
+        ∙ eqb-true (bucket_of (bucket_count heap addr) (text_at heap texts.Key at)) k fits.1)
 
-    lengths_right : (k : ℕ) → k < word_of (heap.blocks addr) 1 → All (λ e. length e.key ≡ word_of (heap.blocks addr) 0) (bucket_told heap words addr k)
+    lengths_right : (k : ℕ) → k < word_of (heap.blocks addr) 1 →
+        All (λ e. length e.key ≡ word_of (heap.blocks addr) 0) (bucket_told heap words addr k)
     lengths_right k less =
         All-map (λ (e : HashEntry). length e.key ≡ word_of (heap.blocks addr) 0) (entry_told heap) (bucket heap words addr k)
         (λ i d inside.
         let at : ℕ = slice_index_or (bucket heap words addr k) i d in
         let fits = and_parts (length (text_at heap texts.Key at) == word_of (heap.blocks addr) 0) _ (kept_entries k less i d inside) in
-        ap (λ (l : List ℕ). length l) (sym (key_read heap at)) ∙ eqb-true (length (text_at heap texts.Key at)) (word_of (heap.blocks addr) 0) fits.0)
+        ap (λ (l : List ℕ). length l) (sym (key_read heap at))
+        ∙ eqb-true (length (text_at heap texts.Key at)) (word_of (heap.blocks addr) 0) fits.0)
 
     keys_apart : (k : ℕ) → k < word_of (heap.blocks addr) 1 → AreDistinct (map (λ e. e.key) (bucket_told heap words addr k))
     keys_apart k less =
@@ -130,7 +139,7 @@ module _ (heap : View) (words : ℕ) (a : IsAudited heap words) (c : IsCounted h
     count_right : word_of (heap.blocks addr) 2 ≡ length (hash_told heap words addr).entries
     count_right =
         let n : ℕ = word_of (heap.blocks addr) 1 in
-        eqb-true (word_of (heap.blocks addr) 2) (entry_count heap words addr) (and_parts (list_all (keeps_bucket heap words addr) (buckets heap addr)) _ kept).1
+        eqb-true (word_of (heap.blocks addr) 2) (entry_count heap words addr) kept.1
         ∙ ap (λ (n : ℕ). sum_by (λ (k : ℕ). length (bucket heap words addr k)) (range_with_len 0 n)) many
         ∙ (λ i. sum_by (λ (k : ℕ). sym (length-map (bucket heap words addr k) (entry_told heap)) i) (range_with_len 0 n))
         ∙ sym (length-flat_map (bucket_told heap words addr) (range_with_len 0 n))
@@ -171,13 +180,17 @@ module _ (heap : View) (words : ℕ) (a : IsAudited heap words) (c : IsCounted h
 
     some_use : (is_flagged heap addr || has_taken heap addr) ≡ true → 1 ≤ word_of (heap.blocks addr) 2 + word_of (heap.blocks addr) 3
     some_use passing = elim (or_cases (not (word_of (heap.blocks addr) 2 == 0)) (not (word_of (heap.blocks addr) 3 == 0)) holds) [
-      | inl inbound ↦ let some = eqb-false (word_of (heap.blocks addr) 2) 0 (not-true (word_of (heap.blocks addr) 2 == 0) inbound) in omega (arith, some)
-      | inr outbound ↦ let some = eqb-false (word_of (heap.blocks addr) 3) 0 (not-true (word_of (heap.blocks addr) 3 == 0) outbound) in omega (arith, some)
+      | inl inbound ↦ let some = nonzero (word_of (heap.blocks addr) 2) inbound in omega (arith, some)
+      | inr outbound ↦ let some = nonzero (word_of (heap.blocks addr) 3) outbound in omega (arith, some)
     ]
       where
+        nonzero : (n : ℕ) → not (n == 0) ≡ true → 1 ≤ n
+        nonzero n some = let other = eqb-false n 0 (not-true (n == 0) some) in omega (arith, other)
+
         holds : (not (word_of (heap.blocks addr) 2 == 0) || not (word_of (heap.blocks addr) 3 == 0)) ≡ true
         holds =
-            sym (ap (λ (t : Bool). not t || not (word_of (heap.blocks addr) 2 == 0) || not (word_of (heap.blocks addr) 3 == 0)) passing) ∙ c.kept counts.Used addr
+            sym (ap (λ (t : Bool). not t || not (word_of (heap.blocks addr) 2 == 0) || not (word_of (heap.blocks addr) 3 == 0)) passing)
+            ∙ c.kept counts.Used addr
 
     source_right : IsRightSource heap addr
     source_right = record {
@@ -193,16 +206,22 @@ module _ (heap : View) (words : ℕ) (a : IsAudited heap words) (c : IsCounted h
       length_of (heap.blocks (word_of (heap.blocks addr) 4)) ≡ 8 + word_of (heap.blocks addr) 5
   raw_long addr names =
       let raw : ℕ = word_of (heap.blocks addr) 4 in
-      let there : is_kind kinds.Raw (heap.blocks raw) ≡ true = unless heap words a (names_raw (heap.blocks addr)) _ (a.owned.kept.1.0 addr) names in
+      let there : is_kind kinds.Raw (heap.blocks raw) ≡ true =
+      unless heap words a (names_raw (heap.blocks addr)) _ (a.owned.kept.1.0 addr) names in
       let b = own_of heap words a kinds.Raw raw there in
       let long = ap (λ (o : Option Block). length_of o) b.is in
-      let least = leb-true 8 (length b.own.bytes) (and_parts (nat_le 8 (length b.own.bytes)) _ (layout_of heap words a kinds.Raw raw b)).0 in
-      let told = eqb-true (word_of (heap.blocks addr) 5) (length_of (heap.blocks raw) - 8) (unless heap words a (names_raw (heap.blocks addr)) _ (c.kept counts.RawLength addr) names) in
+      let layout = and_parts (nat_le 8 (length b.own.bytes)) _ (layout_of heap words a kinds.Raw raw b) in
+      let least = leb-true 8 (length b.own.bytes) layout.0 in
+      let told =
+      eqb-true (word_of (heap.blocks addr) 5) (length_of (heap.blocks raw) - 8)
+      (unless heap words a (names_raw (heap.blocks addr)) _ (c.kept counts.RawLength addr) names) in
       omega (arith, long, least, told)
 
   extent_right : (addr : ℕ) → is_kind kinds.Extent (heap.blocks addr) ≡ true → IsRightExtent heap addr
   extent_right addr is = record {
-    some = leb-true 1 (word_of (heap.blocks addr) 2) (unless heap words a (is_kind kinds.Extent (heap.blocks addr)) _ (c.kept counts.Bytes addr) is);
+    some =
+        leb-true 1 (word_of (heap.blocks addr) 2)
+        (unless heap words a (is_kind kinds.Extent (heap.blocks addr)) _ (c.kept counts.Bytes addr) is);
     inside =
         leb-true (word_of (heap.blocks addr) 1 + word_of (heap.blocks addr) 2) (word_of (heap.blocks (word_of (heap.blocks addr) 0)) 5)
         (unless heap words a (is_kind kinds.Extent (heap.blocks addr)) _ (c.kept counts.Inside addr) is);

@@ -62,13 +62,13 @@ module _ {E K : Type 0} (h : E → K) (g : K → ℕ) where
             none_later k x ys here (All-tail (λ y. k + 1 ≤ g y) y ys above),
           )
 
-      none_both : (x : K) (xs rest : List E) → AllByRecursion (λ y. eq x y ≡ false) (map h xs) → AllByRecursion (λ y. eq x y ≡ false) (map h rest) →
-          AllByRecursion (λ y. eq x y ≡ false) (map h (xs ++ rest))
+      none_both : (x : K) (xs rest : List E) → AllByRecursion (λ y. eq x y ≡ false) (map h xs) →
+          AllByRecursion (λ y. eq x y ≡ false) (map h rest) → AllByRecursion (λ y. eq x y ≡ false) (map h (xs ++ rest))
       none_both x [] rest here later = later
       none_both x (e ∷ es) rest (off, here) later = (off, none_both x es rest here later)
 
-      front_distinct : (k : ℕ) (xs rest : List E) → All (λ e. g (h e) ≡ k) xs → All (λ y. k + 1 ≤ g y) (map h rest) → IsDistinct eq (map h xs) →
-          IsDistinct eq (map h rest) → IsDistinct eq (map h (xs ++ rest))
+      front_distinct : (k : ℕ) (xs rest : List E) → All (λ e. g (h e) ≡ k) xs → All (λ y. k + 1 ≤ g y) (map h rest) →
+          IsDistinct eq (map h xs) → IsDistinct eq (map h rest) → IsDistinct eq (map h (xs ++ rest))
       unfolding IsDistinct
       front_distinct k [] rest all above here later = later
       front_distinct k (x ∷ xs) rest all above (off, here) later = (
@@ -83,6 +83,6 @@ module _ {E K : Type 0} (h : E → K) (g : K → ℕ) where
       rows_distinct a zero grouped distinct = tt
       rows_distinct a (suc n) grouped distinct =
           let later = λ (k : ℕ) (low : a + 1 ≤ k) (high : k < a + 1 + n). grouped k (omega (arith, low)) (omega (arith, high)) in
-          front_distinct a (group a) (flat_map group (range_with_len (a + 1) n)) (grouped a (omega arith) (omega arith)) (rows_above (a + 1) n later)
-          (distinct a (omega arith) (omega arith))
+          front_distinct a (group a) (flat_map group (range_with_len (a + 1) n)) (grouped a (omega arith) (omega arith))
+          (rows_above (a + 1) n later) (distinct a (omega arith) (omega arith))
           (rows_distinct (a + 1) n later (λ k low high. distinct k (omega (arith, low)) (omega (arith, high))))
