@@ -3,4 +3,4 @@
 
 mod telling;
 
-pub use telling::{counted_heaps_stand_for_worlds, passing_heaps_tell_whole_worlds};
+pub use telling::{counted_heaps_stand_for_worlds, passing_regions_stand_for_worlds};
