@@ -1,1 +1,3 @@
+pub mod CensusLemmas
 pub mod CheckLemmas
+pub mod LawLemmas
