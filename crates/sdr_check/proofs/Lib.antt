@@ -1,1 +1,4 @@
+pub mod CensusLemmas
 pub mod CheckLemmas
+pub mod LawLemmas
+pub mod StandLemmas

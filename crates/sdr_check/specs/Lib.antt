@@ -1,1 +1,3 @@
-pub mod Checking
+pub mod Errors
+pub mod Census
+pub mod Checked

@@ -1,131 +1,72 @@
-// Whether a world stands for the bytes of a heap.
-ghost use Rattle.std.specs.Prelude.{◌≡◌, ◌≢◌, ◌≤◌, ◌<◌, ◌+◌, ◌*◌, ◌/◌, ℕ, length, get_or, replicate, IfErr, IfSome, OnOk, None};
-ghost use Rattle.sdr_base.specs.FreshHeap.{fresh_heap};
-ghost use Rattle.sdr_base.specs.Parts.{part};
-ghost use Rattle.sdr_base.specs.declared.line.TheConstants.{LEAST_LINES};
-ghost use Rattle.sdr_check.specs.Checking.{AgreeBelow, DiffersFirst, HasAuditCause, HasStop, IsDamaged, IsFresh};
+// The audit of a heap region.
+ghost use Rattle.std.specs.Prelude.{◌≡◌, ◌*◌, ℕ, false, get_or, length, IfErr, IfOk, OnOk};
+ghost use Rattle.sdr_base.specs.Cells.{IsRegionSize};
+ghost use Rattle.sdr_base.specs.Transaction.{HasReason, TouchesNone};
+ghost use Rattle.sdr_base.specs.declared.line.TheConstants.{WORD};
+ghost use Rattle.sdr_check.specs.Census.{IsCensus};
+ghost use Rattle.sdr_check.specs.Checked.{IsNoFault, IsRight, OnlyReads, TellsFirst};
+ghost use Rattle.sdr_count.specs.Checked.{IsRightRegion};
+ghost use Rattle.sdr_region.specs.Region.{IsSoundRegion};
+ghost use Rattle.sdr_owner.specs.Owned.{AreBytes};
+ghost use Rattle.sdr_read.specs.Standing.{StandsAsTold};
 
-use crate::fresh_control::fresh_control;
-use sdr_base::{Cells, LINE, MOST_LINES, Stop};
+use crate::census::Census;
+use crate::error::AuditError;
+use crate::structure::check_structure;
+use sdr_base::{Cells, Stop, WORD};
+use sdr_count::check_copy;
+use sdr_region::Spot;
+use std::alloc::Global;
 
-/// What an audit found wrong.
-#[derive(Clone, Copy, Debug, PartialEq, Eq)]
-pub enum Why {
-    /// The control words.
-    Control,
-}
-
-/// Why an audit found no world.
-#[derive(Clone, Copy, Debug, PartialEq, Eq)]
-pub enum AuditError {
-    /// The bytes stand for no world, by what is wrong at a place in the heap region.
-    Damaged { place: u64, why: Why },
-    /// The disk failed.
-    DiskFault,
-    /// It had failed before.
-    Failed,
-}
-
-// A line of control words.
-fn control_line(control: &[u8], line: u64) -> [u8; 64]
-    requires length { length control.now ≡ 1024 }
-    requires below { line < 16 }
-    ensures { result ≡ part (LINE * line) LINE control.now }
-{
-    let mut bytes = [0; 64];
-    let place = (LINE * line) as usize;
-    bytes.copy_from_slice(&control[place..place + 64]);
-    bytes
-}
-
-// A line of zeros.
-fn zero_line() -> [u8; 64]
-    ensures { result ≡ replicate 64 0 }
-{
-    [0; 64]
-}
-
-// A line of the fresh heap of so many lines.
-fn fresh_line(lines: u64, line: u64) -> [u8; 64]
-    requires least { LEAST_LINES ≤ lines }
-    requires most { lines ≤ MOST_LINES }
-    ensures { (i : ℕ) → i < 64 → get_or result i 0 ≡ get_or (fresh_heap lines) (LINE * line + i) 0 }
-{
-    if line < 16 {
-        control_line(&fresh_control(lines), line)
-    } else {
-        zero_line()
-    }
-}
-
-// The place of the first byte in which two lines differ.
-fn first_other(found: &[u8], want: &[u8]) -> Option<usize>
-    requires { length found.now ≡ length want.now }
-    ensures same { result ≡ None → AgreeBelow (length found.now) found.now want.now }
-    ensures other { IfSome result (λ place. DiffersFirst place found.now want.now) }
-{
-    for place in 0..found.len() {
-        if found[place] != want[place] {
-            return Some(place);
-        }
-    }
-    None
-}
-
-impl AuditError {
-    // What the cells answered.
-    fn of(stop: Stop) -> AuditError
-        ensures { HasStop result stop }
-    {
-        match stop {
-            Stop::DiskFault => AuditError::DiskFault,
-            _ => AuditError::Failed,
-        }
-    }
-}
-
-// Checks that a line is the fresh heap's.
-fn check_line<C: Cells>(c: &mut C, lines: u64, line: u64) -> Result<(), AuditError>
-    requires size { length (C.bytes c.old) ≡ LINE * lines }
-    requires least { LEAST_LINES ≤ lines }
-    requires most { lines ≤ MOST_LINES }
-    requires below { line < lines }
-    requires same { AgreeBelow (LINE * line) (C.bytes c.old) (fresh_heap lines) }
-    ensures same { OnOk result (AgreeBelow (LINE * (line + 1)) (C.bytes c.old) (fresh_heap lines)) }
-    ensures damaged { IfErr result (IsDamaged lines (C.bytes c.old)) }
-    ensures bytes { C.bytes c.new ≡ C.bytes c.old }
-    ensures cause { HasAuditCause (C.transaction c.old) (C.transaction c.new) result }
-    ensures touched { (C.transaction c.new).touched ≡ (C.transaction c.old).touched }
-    ensures quiet { (begin : _) → C.quiet begin c.old → C.quiet begin c.new }
-{
-    let mut found = [0; 64];
-    if let Err(stop) = c.read(LINE * line, &mut found) {
-        return Err(AuditError::of(stop));
-    }
-    let want = fresh_line(lines, line);
-    match first_other(&found, &want) {
-        None => Ok(()),
-        Some(place) => Err(AuditError::Damaged {
-            place: LINE * line + place as u64,
-            why: Why::Control,
-        }),
-    }
-}
-
-/// Checks that a world stands for the bytes of a heap. So far only the fresh heap's are known to: other bytes are
-/// damaged, by the first one that differs.
-pub fn check<C: Cells>(c: &mut C) -> Result<(), AuditError>
-    ensures fresh { OnOk result (IsFresh (C.bytes c.old)) }
-    ensures damaged { IfErr result (IsDamaged (length (C.bytes c.old) / LINE) (C.bytes c.old)) }
-    ensures bytes { C.bytes c.new ≡ C.bytes c.old }
-    ensures cause { HasAuditCause (C.transaction c.old) (C.transaction c.new) result }
-    ensures touched { (C.transaction c.new).touched ≡ (C.transaction c.old).touched }
+// Reads a region. What was read are bytes, and so the region's are.
+fn read_copy<C: Cells>(c: &mut C, heap: &mut [u8]) -> Result<(), Stop>
+    requires room { length heap.old ≡ length (C.bytes c.old) }
+    ensures copied { OnOk result (heap.new ≡ C.bytes c.old) }
+    ensures bytes { OnOk result (AreBytes (C.bytes c.old)) }
+    ensures same { C.bytes c.new ≡ C.bytes c.old }
+    ensures room { TouchesNone (C.transaction c.old) (C.transaction c.new) result }
+    ensures cause { HasReason (C.transaction c.old) (C.transaction c.new) result }
     ensures quiet { C.quiet c.old c.new }
 {
-    let lines = c.size() / LINE;
-    check_line(c, lines, 0)?;
-    for line in 1..lines {
-        check_line(c, lines, line)?;
-    }
+    c.read(0, heap)
+}
+
+// Checks owners, counts and queues of a region in memory, whose structure is sound, with nothing marked before.
+fn check_things(alloc: Global, heap: &[u8], marks: &mut [bool]) -> Result<(), AuditError>
+    requires region { IsRegionSize (length heap.now) }
+    requires sound { IsSoundRegion heap.now }
+    requires long { length marks.old * WORD ≡ length heap.now }
+    requires clear { (word : ℕ) → get_or marks.old word false ≡ false }
+    ensures right { OnOk result (IsRightRegion heap.now) }
+    ensures damaged { IfErr result (TellsFirst heap.now) }
+    ensures reason { IfErr result IsNoFault }
+{
+    check_copy(alloc, heap, marks)??;
     Ok(())
+}
+
+/// Checks a heap region, and takes a census of its blocks: its structure, who owns each block, what blocks and control words count, and
+/// the queues of tickets, in this order. What is wrong first is told by its place, which is that of a byte of the start bits, a control
+/// word's or a block's in bytes, or a block's address, and by the check that found it.
+///
+/// It reads alone. Memory is taken for a copy of the region and two bytes for each of its words before anything is read, and then what
+/// the checks of counts and queues take. It is linear in the region, but for keys, names and the numbers of tickets, which are put into
+/// hash sets.
+pub fn check<C: Cells>(alloc: Global, c: &mut C) -> Result<Census, AuditError>
+    ensures right { OnOk result (IsRight (C.bytes c.old)) }
+    ensures census { IfOk result (IsCensus (C.bytes c.old)) }
+    ensures stands { OnOk result (StandsAsTold (C.bytes c.old)) }
+    ensures damaged { IfErr result (TellsFirst (C.bytes c.old)) }
+    ensures none { IfErr result (IsNoWorld (C.bytes c.old)) }
+    ensures reads { OnlyReads C.bytes C.transaction C.quiet c.old c.new result }
+{
+    let size = c.size();
+    let words = (size / WORD) as usize;
+    let mut heap = vec![in alloc; 0u8; size as usize]?;
+    let mut spots = vec![in alloc; Spot::Nothing; words]?;
+    let mut marks = vec![in alloc; false; words]?;
+    read_copy(c, &mut heap)?;
+    let census = check_structure(c, &mut spots)?;
+    check_things(alloc, &heap, &mut marks)?;
+    Ok(census)
 }

@@ -21,3 +21,5 @@ pub mod ValidLemmas
 pub mod AddressLemmas
 pub mod FitLemmas
 pub mod QueueLemmas
+pub mod ToldWalkLemmas
+pub mod ToldPoolsLemmas

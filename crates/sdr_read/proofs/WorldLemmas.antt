@@ -1,6 +1,9 @@
 -- A region that passes the steps of the audit stands for the world that it tells.
-use Rattle.std.proofs.Common.{◌/◌, ℕ, List, length, arith, refl}
+use Rattle.std.proofs.Common.{◌/◌, ℕ, List, length, arith, refl, subst}
+use Rattle.sdr_audit.specs.Standing.{StandsFor}
 use Rattle.sdr_base.specs.Cells.{IsRegionSize}
+use Rattle.sdr_base.specs.KeptHeap.{KeepsHeap}
+use Rattle.sdr_base.specs.Pools.{Pools}
 use Rattle.sdr_count.specs.Checked.{IsRightRegion}
 use Rattle.sdr_model.specs.Fields.{FitsFields}
 use Rattle.sdr_model.specs.Whole.{IsWhole}
@@ -16,8 +19,10 @@ use Rattle.sdr_read.proofs.QueueLemmas.{next_least, queues_barred, queues_kept}
 use Rattle.sdr_read.proofs.RegionLemmas.{audited, kept}
 use Rattle.sdr_read.proofs.RootLemmas.{roots_same}
 use Rattle.sdr_read.proofs.StandLemmas.{blocks_stand}
-use Rattle.sdr_read.specs.Standing.{IsCounted, StandsSomehow, StandsWhole}
+use Rattle.sdr_read.proofs.ToldPoolsLemmas.{pools_are}
+use Rattle.sdr_read.specs.Standing.{IsCounted, StandsAsTold}
 use Rattle.sdr_read.specs.Told.{world_of}
+use Rattle.sdr_read.specs.ToldPools.{pools_of}
 use Rattle.sdr_region.specs.Region.{IsSoundRegion}
 
 module _ (bytes : List ℕ) (c : IsCounted bytes) where
@@ -28,19 +33,16 @@ module _ (bytes : List ℕ) (c : IsCounted bytes) where
   heap_fitting : AreFitting (view_in bytes) (length bytes / 8)
   heap_fitting = fits_so (view_in bytes) (length bytes / 8) heap_audited c.counted
 
-  pub stands_so : StandsSomehow bytes (world_of bytes)
+  pub stands_so : StandsFor bytes (world_of bytes) (pools_of bytes)
   stands_so =
       let k = kept bytes c.region c.sound in
       record {
-        pools = k.pools;
-        stands = record {
-          heap = k.keeps;
-          blocks = blocks_stand (view_in bytes) (length bytes / 8) heap_audited heap_fitting c.counted;
-          roots = roots_same bytes c.sound.sound.control heap_audited c.counted;
-          marks = refl;
-          shown = refl;
-          taken = refl;
-        };
+        heap = subst (λ (P : Pools). KeepsHeap bytes P) (pools_are bytes k.pools k.keeps) k.keeps;
+        blocks = blocks_stand (view_in bytes) (length bytes / 8) heap_audited heap_fitting c.counted;
+        roots = roots_same bytes c.sound.sound.control heap_audited c.counted;
+        marks = refl;
+        shown = refl;
+        taken = refl;
       }
 
   -- the numbers of its world fit the fields of blocks
@@ -64,16 +66,12 @@ whole_so bytes c right =
 
 -- The region stands for it.
 pub stands_whole : (bytes : List ℕ) → IsRegionSize (length bytes) → AreBytes bytes → IsSoundRegion bytes → IsRightRegion bytes →
-    StandsWhole bytes (world_of bytes)
+    StandsAsTold bytes
 stands_whole bytes region are sound right =
     let c : IsCounted bytes = record { region = region; bytes_are = are; sound = sound; owned = right.owned; counted = right.counted } in
-    let s = stands_so bytes c in
     record {
-      pools = s.pools;
-      stands = record {
-        stands = s.stands;
-        whole = whole_so bytes c right;
-        fits = fields_so bytes c;
-        next = next_least bytes sound.sound.control (heap_audited bytes c) right.queued;
-      };
+      stands = stands_so bytes c;
+      whole = whole_so bytes c right;
+      fits = fields_so bytes c;
+      next = next_least bytes sound.sound.control (heap_audited bytes c) right.queued;
     }

@@ -1,0 +1,20 @@
+-- A region that passes each check isn't wrong by any.
+use Rattle.std.proofs.Common.{ℕ, List}
+use Rattle.sdr_check.specs.Checked.{IsRight, IsWrongFirst}
+use Rattle.sdr_check.specs.declared.error.Why.{Why}
+use Rattle.sdr_check.specs.declared.error.Why.TheVariants as whys
+use Rattle.sdr_count.proofs.LawLemmas.{right_not_wrong as things_not_wrong}
+use Rattle.sdr_count.specs.declared.error.Why.TheVariants as things
+use Rattle.sdr_region.proofs.ExactLemmas.{sound_or_wrong}
+use Rattle.sdr_region.specs.declared.error.Why.TheVariants as parts
+
+module _ (bytes : List ℕ) where
+  pub right_not_wrong : (why : Why) (place : ℕ) → IsRight bytes → IsWrongFirst bytes why place → ⊥
+  right_not_wrong whys.Control place right w = sound_or_wrong bytes right.sound parts.Control place w
+  right_not_wrong whys.Block place right w = sound_or_wrong bytes right.sound parts.Block place w
+  right_not_wrong whys.Bits place right w = sound_or_wrong bytes right.sound parts.Bits place w
+  right_not_wrong whys.Free place right w = sound_or_wrong bytes right.sound parts.Free place w
+  right_not_wrong whys.Content place right w = sound_or_wrong bytes right.sound parts.Content place w
+  right_not_wrong whys.Owner place right w = things_not_wrong bytes things.Owner place right.things w.wrong
+  right_not_wrong whys.Count place right w = things_not_wrong bytes things.Count place right.things w.wrong
+  right_not_wrong whys.Queue place right w = things_not_wrong bytes things.Queue place right.things w.wrong

@@ -1,0 +1,44 @@
+-- How what the checks find wrong is told by the whole audit.
+use Rattle.std.specs.Prelude.{◌≡◌}
+use Rattle.sdr_base.specs.declared.stop.Stop.{Stop}
+use Rattle.sdr_base.specs.declared.stop.Stop.TheVariants as stops
+use Rattle.sdr_check.specs.declared.error.AuditError.{AuditError}
+use Rattle.sdr_check.specs.declared.error.AuditError.TheVariants as errors
+use Rattle.sdr_check.specs.declared.error.Why.{Why}
+use Rattle.sdr_check.specs.declared.error.Why.TheVariants as whys
+use Rattle.sdr_count.specs.declared.audit.Damage.{Damage}
+use Rattle.sdr_count.specs.declared.error.Why.{Why as ThingWhy}
+use Rattle.sdr_count.specs.declared.error.Why.TheVariants as things
+use Rattle.sdr_region.specs.declared.error.AuditError.{AuditError as StructureError}
+use Rattle.sdr_region.specs.declared.error.AuditError.TheVariants as breaks
+use Rattle.sdr_region.specs.declared.error.Why.{Why as StructureWhy}
+use Rattle.sdr_region.specs.declared.error.Why.TheVariants as parts
+
+-- the error tells why the cells stopped
+abbrev pub HasStop : AuditError → Stop → Type 0
+HasStop error stops.DiskFault = error ≡ errors.DiskFault
+HasStop error stop = error ≡ errors.Failed
+
+-- the check of a region's structure
+abbrev pub structure_check : StructureWhy → Why
+structure_check parts.Control = whys.Control
+structure_check parts.Block = whys.Block
+structure_check parts.Bits = whys.Bits
+structure_check parts.Free = whys.Free
+structure_check parts.Content = whys.Content
+
+-- the check of owners, counts and queues
+abbrev pub thing_check : ThingWhy → Why
+thing_check things.Owner = whys.Owner
+thing_check things.Count = whys.Count
+thing_check things.Queue = whys.Queue
+
+-- why the audit of the structure came to no good end
+abbrev pub structure_error : StructureError → AuditError
+structure_error (breaks.Damaged place why) = errors.Damaged place (structure_check why)
+structure_error breaks.DiskFault = errors.DiskFault
+structure_error breaks.Failed = errors.Failed
+
+-- what is wrong with owners, counts or queues
+abbrev pub thing_error : Damage → AuditError
+thing_error damage = errors.Damaged damage.place (thing_check damage.why)
