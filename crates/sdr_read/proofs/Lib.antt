@@ -18,3 +18,6 @@ pub mod ValidLemmas
 pub mod AddressLemmas
 pub mod FitLemmas
 pub mod QueueLemmas
+pub mod MadeLemmas
+pub mod PutLemmas
+pub mod RowsLemmas

@@ -1,6 +1,12 @@
-//! The world that the bytes of a heap region tell. Each law is the contract of a function that does nothing.
+//! The world that the bytes of a heap region tell: what a heap that passes the audit stands for, and the world made of it in memory.
+//! Each law is the contract of a function that does nothing.
 #![tactic(auto)]
 
+mod accounts;
+mod blocks;
+mod names;
 mod telling;
+mod things;
+mod zco;
 
 pub use telling::{counted_heaps_stand_for_worlds, passing_heaps_tell_whole_worlds};
