@@ -1,3 +1,4 @@
 pub mod CensusLemmas
 pub mod CheckLemmas
 pub mod LawLemmas
+pub mod StandLemmas

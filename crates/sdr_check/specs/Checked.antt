@@ -1,5 +1,7 @@
 -- When a heap region passes the audit, where it is wrong first, and what an audit leaves.
 use Rattle.std.specs.Prelude.{◌≡◌, ◌≤◌, ℕ, List, ⊤, Result, Ok, Err}
+use Rattle.sdr_audit.specs.Standing.{StandsForWhole}
+use Rattle.sdr_base.specs.Pools.{Pools}
 use Rattle.sdr_base.specs.Transaction.{HasReason, Transaction}
 use Rattle.sdr_base.specs.declared.stop.Stop.TheVariants as stops
 use Rattle.sdr_check.specs.declared.error.AuditError.{AuditError}
@@ -9,6 +11,7 @@ use Rattle.sdr_check.specs.declared.error.Why.TheVariants as whys
 use Rattle.sdr_count.specs.Checked as count
 use Rattle.sdr_count.specs.declared.error.Why.{Why as ThingWhy}
 use Rattle.sdr_count.specs.declared.error.Why.TheVariants as things
+use Rattle.sdr_model.specs.World.{World}
 use Rattle.sdr_owner.specs.Owned.{AreBytes}
 use Rattle.sdr_region.specs.Region as region
 use Rattle.sdr_region.specs.declared.error.Why.TheVariants as parts
@@ -45,6 +48,11 @@ abbrev pub IsNoFault : AuditError → Type 0
 IsNoFault errors.DiskFault = ⊥
 IsNoFault errors.Failed = ⊥
 IsNoFault error = ⊤
+
+-- for a region in which damage was found no world stands
+abbrev pub IsNoWorld : List ℕ → AuditError → Type 0
+IsNoWorld bytes (errors.Damaged place why) = (w : World) (P : Pools) → StandsForWhole bytes w P → ⊥
+IsNoWorld bytes error = ⊤
 
 -- nothing has failed that had not before
 pub record HasStayed (old new : Transaction) : Type 0 where

@@ -8,6 +8,7 @@ ghost use Rattle.sdr_check.specs.Checked.{IsNoFault, IsRight, OnlyReads, TellsFi
 ghost use Rattle.sdr_count.specs.Checked.{IsRightRegion};
 ghost use Rattle.sdr_region.specs.Region.{IsSoundRegion};
 ghost use Rattle.sdr_owner.specs.Owned.{AreBytes};
+ghost use Rattle.sdr_read.specs.Standing.{StandsAsTold};
 
 use crate::census::Census;
 use crate::error::AuditError;
@@ -54,7 +55,9 @@ fn check_things(alloc: Global, heap: &[u8], marks: &mut [bool]) -> Result<(), Au
 pub fn check<C: Cells>(alloc: Global, c: &mut C) -> Result<Census, AuditError>
     ensures right { OnOk result (IsRight (C.bytes c.old)) }
     ensures census { IfOk result (IsCensus (C.bytes c.old)) }
+    ensures stands { OnOk result (StandsAsTold (C.bytes c.old)) }
     ensures damaged { IfErr result (TellsFirst (C.bytes c.old)) }
+    ensures none { IfErr result (IsNoWorld (C.bytes c.old)) }
     ensures reads { OnlyReads C.bytes C.transaction C.quiet c.old c.new result }
 {
     let size = c.size();

@@ -1,10 +1,9 @@
 -- The blocks of a told world begin at addresses of which none is 0, and none stands there twice.
-use Rattle.std.proofs.Common.{◌≡◌, ◌≤◌, ◌<◌, ◌+◌, ◌-◌, ◌*◌, ◌==◌, ◌&&◌, ◌^◌, ℕ, zero, suc, Bool, List, [], ◌∷◌, ◌++◌, cond, not, true, false, length, get_or, take, drop, map, nat_eq, arith, ap, ◌∙◌, refl, sym, subst, append_assoc, eqb-true, length-take}
-use Rattle.std.specs.Prelude.{Contains, count_by, IfSome, Option, None, Some, nat_lt}
+use Rattle.std.proofs.Common.{◌≡◌, ◌≤◌, ◌+◌, ◌==◌, ℕ, List, [], ◌∷◌, ◌++◌, cond, true, length, get_or, take, drop, map, nat_eq, arith, ap, ◌∙◌, refl, sym, subst, append_assoc, length-take}
+use Rattle.std.specs.Prelude.{count_by, IfSome, Option}
 use Rattle.std.specs.Cmp.{nat_eq_equiv}
 use Rattle.std.specs.FinMap as finite
-use Rattle.std.specs.List.{All, AllByRecursion, IsDistinct, flat_map, list_all}
-use Rattle.std.proofs.lemmas.Bool.{and_parts}
+use Rattle.std.specs.List.{All, AllByRecursion, flat_map}
 use Rattle.std.proofs.lemmas.List.{get_or-drop, get_or-take, length-drop, map-append}
 use Rattle.std.proofs.lemmas.List.Elements.{All-head, All-map, All-tail}
 use Rattle.std.proofs.lemmas.Simd.{map-map}
@@ -21,12 +20,10 @@ use Rattle.sdr_base.specs.declared.kind.Kind.TheVariants as kinds
 use Rattle.sdr_count.specs.Counted.{IsCounted}
 use Rattle.sdr_keys.specs.Members.{members}
 use Rattle.sdr_laws.proofs.DistinctLemmas.{count_by-cons, from_once, not_contained}
-use Rattle.sdr_model.specs.Accounts.{ticket_block, ticket_blocks}
+use Rattle.sdr_model.specs.Accounts.{ticket_blocks}
 use Rattle.sdr_model.specs.Blocks.{addresses_of, blocks_of, thing_blocks}
-use Rattle.sdr_model.specs.Limits.{is_no_name}
 use Rattle.sdr_model.specs.Things.{name_block}
 use Rattle.sdr_model.specs.Valid.{IsBetween, IsValid, IsValidThing, names_of}
-use Rattle.sdr_model.specs.World.{thing_at}
 use Rattle.sdr_model.specs.declared.name.Name.{Name}
 use Rattle.sdr_model.specs.declared.things.Block.{Block}
 use Rattle.sdr_model.specs.declared.things.Thing.{Thing}
@@ -36,15 +33,15 @@ use Rattle.sdr_owner.specs.View.{View, is_kind}
 use Rattle.sdr_owner.specs.declared.owner.Owner.TheVariants as owners
 use Rattle.sdr_read.proofs.ChainLemmas.{count_turned}
 use Rattle.sdr_read.proofs.OccupiedLemmas.{all_so, goes_members}
+use Rattle.sdr_read.proofs.LayoutLemmas.{is_name_so}
 use Rattle.sdr_read.proofs.OwnLemmas.{IsAudited, layout_of, own_of}
 use Rattle.sdr_read.proofs.PartLemmas.{names_chain}
-use Rattle.sdr_read.proofs.RowLemmas.{all_row, row}
+use Rattle.sdr_read.proofs.RowLemmas.{all_row}
 use Rattle.sdr_read.proofs.StandLemmas.{entries_stand, none_at_null, once}
 use Rattle.sdr_read.proofs.TiesLemmas.{thing_is, things_are}
 use Rattle.sdr_read.proofs.ValidLemmas.{between_so, thing_valid}
-use Rattle.sdr_read.specs.Fitting.{AreFitting}
+use Rattle.sdr_read.proofs.Fitting.{AreFitting}
 use Rattle.sdr_read.specs.Told.{name_told, thing_told, world_told}
-use Rattle.sdr_region.specs.Content.{field}
 
 -- how often an address is listed is how often it stands among the addresses
 times-addresses : (q : ℕ) (es : Entries) → times q es ≡ count_by (nat_eq q) (map (λ e. e.0) es)
@@ -62,11 +59,9 @@ module _ (heap : View) (words : ℕ) (a : IsAudited heap words) where
   name_valid addr is =
       let b = own_of heap words a kinds.Name addr is in
       let first : List ℕ = take 96 b.own.bytes in
-      let l = layout_of heap words a kinds.Name addr b in
-      let outer = and_parts (length b.own.bytes == 56 && nat_lt (field first 1) (2 ^ 32) && not (is_no_name (get_or first 24 0))) (list_all (λ byte. byte == 0) (drop (25 + get_or first 24 0) first)) l in
-      let inner = and_parts (length b.own.bytes == 56 && nat_lt (field first 1) (2 ^ 32)) (not (is_no_name (get_or first 24 0))) outer.0 in
-      let count = eqb-true (length b.own.bytes) 56 (and_parts (length b.own.bytes == 56) _ inner.0).0 in
-      let between = between_so 1 31 (get_or first 24 0) inner.1 in
+      let l = is_name_so b.own.bytes (layout_of heap words a kinds.Name addr b) in
+      let count = l.long in
+      let between = between_so 1 31 (get_or first 24 0) l.named in
       let least = between.0 in
       let most = between.1 in
       let mark : get_or (drop 24 b.own.bytes) 0 0 ≡ get_or first 24 0 = get_or-drop 24 b.own.bytes 0 0 ∙ sym (get_or-take 96 b.own.bytes 24 0 (omega arith)) in

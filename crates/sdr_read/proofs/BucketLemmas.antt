@@ -1,15 +1,23 @@
 -- Rows of groups by rising number.
-use Rattle.std.proofs.Common.{◌≡◌, ◌≤◌, ◌<◌, ◌+◌, ◌*◌, ◌==◌, ℕ, zero, suc, Bool, List, [], ◌∷◌, ◌++◌, cond, true, false, length, map, sum_by, arith, ap, ◌∙◌, refl, sym, inl, inr, eqb-true}
+use Rattle.std.proofs.Common.{◌≡◌, ◌≤◌, ◌<◌, ◌+◌, ◌==◌, ℕ, zero, suc, Bool, List, [], ◌∷◌, ◌++◌, cond, map, arith, ap, ◌∙◌, refl, sym, inl, inr}
 use Rattle.std.specs.Prelude.{filter}
 use Rattle.std.specs.List.{All, flat_map, range_with_len}
 use Rattle.std.proofs.lemmas.Bool.{cases_eq, eq-eqb, ne_eqb}
-use Rattle.std.proofs.lemmas.List.Elements.{All-head, All-tail, filter-append}
+use Rattle.std.proofs.lemmas.List.Elements.{All-append, All-head, All-nil, All-tail, filter-append}
 
 -- what two functions give alike at each of so many numbers, they give of all
 pub map_alike : {X : Type 0} (f g : ℕ → X) (a n : ℕ) → ((k : ℕ) → a ≤ k → k < a + n → f k ≡ g k) → map f (range_with_len a n) ≡ map g (range_with_len a n)
 map_alike f g a zero alike = refl
 map_alike f g a (suc n) alike =
     (λ i. alike a (omega arith) (omega arith) i ∷ map_alike f g (a + 1) n (λ k low high. alike k (omega (arith, low)) (omega (arith, high))) i)
+
+-- what holds of each of so many groups holds of all
+pub all_groups : {X : Type 0} (P : X → Type 0) (group : ℕ → List X) (a n : ℕ) → ((k : ℕ) → a ≤ k → k < a + n → All P (group k)) →
+    All P (flat_map group (range_with_len a n))
+all_groups P group a zero holds = All-nil P
+all_groups P group a (suc n) holds =
+    All-append P (group a) (flat_map group (range_with_len (a + 1) n)) (holds a (omega arith) (omega arith))
+    (all_groups P group (a + 1) n (λ k low high. holds k (omega (arith, low)) (omega (arith, high))))
 
 module _ {X : Type 0} (g : X → ℕ) where
   -- elements of one group are all that passes the test for it

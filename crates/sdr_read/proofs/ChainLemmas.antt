@@ -1,9 +1,9 @@
 -- The chains of a heap whose blocks have their owners are those that are followed.
-use Rattle.std.proofs.Common.{◌≡◌, ◌≢◌, ◌≤◌, ◌<◌, ◌+◌, ◌*◌, ◌==◌, ◌||◌, ℕ, zero, suc, Bool, List, [], ◌∷◌, ◌++◌, true, false, length, map, nat_eq, arith, ap, ◌∙◌, refl, sym, subst, inl, inr, eqb-true}
+use Rattle.std.proofs.Common.{◌≡◌, ◌≤◌, ◌<◌, ◌+◌, ◌*◌, ◌==◌, ◌||◌, ℕ, zero, suc, Bool, List, [], ◌∷◌, ◌++◌, true, false, length, map, nat_eq, arith, ap, ◌∙◌, refl, sym, subst, inl, inr}
 use Rattle.std.specs.Prelude.{count_by, Option, None, Some}
 use Rattle.std.specs.Cmp.{nat_eq_equiv}
-use Rattle.std.specs.List.{All, IsDistinct, flat_map, list_any, range_with_len}
-use Rattle.std.proofs.lemmas.Bool.{cases_Bool, cases_eq, eq-eqb, ne_eqb, or_left, or_right}
+use Rattle.std.specs.List.{All, flat_map, list_any, range_with_len}
+use Rattle.std.proofs.lemmas.Bool.{cases_eq, eq-eqb, ne_eqb, or_left, or_right}
 use Rattle.std.proofs.lemmas.List.Elements.{All-cons, All-head, All-nil, All-tail}
 use Rattle.std.proofs.lemmas.List.FromFn.{length-map-range_with_len}
 use Rattle.std.proofs.lemmas.Map.Made.{length-le_from_is_member}
@@ -12,7 +12,7 @@ use Rattle.sdr_keys.proofs.MembersLemmas.{followed-end, followed-next}
 use Rattle.sdr_keys.specs.Places.{places}
 use Rattle.sdr_keys.specs.Members.{followed, members}
 use Rattle.sdr_laws.proofs.DistinctLemmas.{from_once}
-use Rattle.sdr_owner.specs.Chains.{AreOnce, Chain, ChainsReach, Goes, IsChain, addrs_of, first_of, is_member, next_of}
+use Rattle.sdr_owner.specs.Chains.{AreOnce, Chain, ChainsReach, Goes, IsChain, addrs_of, first_of, next_of}
 use Rattle.sdr_base.specs.Blocks.{Block}
 use Rattle.sdr_base.specs.declared.kind.Kind.{Kind}
 use Rattle.sdr_owner.specs.Owners.{kind_in, owned_at, owners_of, root_owners}

@@ -1,12 +1,10 @@
 -- The sources, raw objects and extents of a told world fit each other.
-use Rattle.std.proofs.Common.{◌≡◌, ◌≤◌, ◌<◌, ◌+◌, ◌-◌, ◌*◌, ◌==◌, ◌&&◌, ◌||◌, ◌⊎◌, ℕ, zero, suc, Bool, List, cond, not, true, false, length, drop, map, arith, ap, ◌∙◌, refl, sym, subst, inl, inr, eqb-true}
+use Rattle.std.proofs.Common.{◌≡◌, ◌≤◌, ◌==◌, ◌||◌, ◌⊎◌, ℕ, zero, suc, Bool, List, true, false, drop, arith, ap, ◌∙◌, refl, sym, subst, inl, inr, eqb-true}
 use Rattle.std.specs.Prelude.{IfSome, Option, None, Some, is_some}
-use Rattle.std.specs.List.{All}
 use Rattle.std.specs.Option.{option_map_or}
-use Rattle.std.proofs.lemmas.Bool.{and_from, cases_Bool, cases_eq, eq-eqb, ne_eqb, or_left, or_right}
+use Rattle.std.proofs.lemmas.Bool.{and_from, cases_Bool}
 use Rattle.std.proofs.lemmas.List.Elements.{All-map}
 use Rattle.sdr_base.specs.Blocks.{Block}
-use Rattle.sdr_base.specs.declared.account.Acct.TheVariants as accts
 use Rattle.sdr_base.specs.declared.kind.Kind.{Kind}
 use Rattle.sdr_base.specs.declared.kind.Kind.TheVariants as kinds
 use Rattle.sdr_count.specs.Counted.{IsCounted}
@@ -15,10 +13,7 @@ use Rattle.sdr_model.specs.Valid.{AreInside, FitTogether, HasBytes, HasSubject, 
 use Rattle.sdr_model.specs.World.{as_raw, thing_at}
 use Rattle.sdr_model.specs.Zco.{as_source, names_raw, source_at, taken_over}
 use Rattle.sdr_model.specs.declared.things.Thing.{Thing}
-use Rattle.sdr_model.specs.declared.things.Thing.TheVariants as things
 use Rattle.sdr_model.specs.declared.zco.Extent.{Extent}
-use Rattle.sdr_model.specs.declared.zco.Subject.{Subject}
-use Rattle.sdr_model.specs.declared.zco.Subject.TheVariants as subjects
 use Rattle.sdr_model.specs.declared.zco.ZcoSource.{ZcoSource}
 use Rattle.sdr_owner.specs.Chains.{first_of, is_member}
 use Rattle.sdr_owner.specs.Reading.{behind_words, bytes_of}
@@ -31,8 +26,8 @@ use Rattle.sdr_read.proofs.OwnLemmas.{IsAudited, own_of}
 use Rattle.sdr_read.proofs.SourceLemmas.{source_of, source_word, subject_by}
 use Rattle.sdr_read.proofs.TiesLemmas.{inbound_same, outbound_same, raw_same, source_named, thing_cases, thing_is, unless}
 use Rattle.sdr_read.proofs.ValidLemmas.{owned_medium}
-use Rattle.sdr_read.specs.Fitting.{AreFitting}
-use Rattle.sdr_read.specs.Told.{extent_told, object_told, source_told, thing_by, thing_of_kind, thing_told, world_told}
+use Rattle.sdr_read.proofs.Fitting.{AreFitting}
+use Rattle.sdr_read.specs.Told.{extent_told, source_told, thing_by, thing_of_kind, thing_told, world_told}
 
 module _ (heap : View) (words : ℕ) (a : IsAudited heap words) where
   -- the raw object of a subject, by the number of its medium

@@ -1,7 +1,7 @@
 -- The blocks of a hash are those of what is read of it.
-use Rattle.std.proofs.Common.{◌≡◌, ◌≤◌, ◌<◌, ◌+◌, ◌-◌, ◌*◌, ◌/◌, ◌==◌, ◌&&◌, ℕ, zero, suc, Bool, List, [], ◌∷◌, ◌++◌, true, false, length, map, take, sum_by, arith, ap, ◌∙◌, refl, sym, subst, eqb-true}
-use Rattle.std.specs.Prelude.{Option, None, Some, nat_le}
-use Rattle.std.specs.List.{All, flat_map, range_with_len}
+use Rattle.std.proofs.Common.{◌≡◌, ◌≤◌, ◌<◌, ◌+◌, ◌-◌, ◌*◌, ◌/◌, ◌==◌, ℕ, zero, suc, List, ◌∷◌, true, length, map, take, sum_by, arith, ap, ◌∙◌, refl, sym, subst, eqb-true}
+use Rattle.std.specs.Prelude.{Some, nat_le}
+use Rattle.std.specs.List.{flat_map, range_with_len}
 use Rattle.std.proofs.lemmas.Bool.{and_parts, leb-true}
 use Rattle.std.proofs.lemmas.List.{length-map}
 use Rattle.std.proofs.lemmas.List.Concat.{length-flat_map}
@@ -9,7 +9,6 @@ use Rattle.std.proofs.lemmas.List.Elements.{All-append, All-cons, All-nil}
 use Rattle.std.proofs.lemmas.List.FromFn.{length-map-range_with_len}
 use Rattle.std.proofs.lemmas.Simd.{map-map}
 use Rattle.sdr_audit.specs.Rows.{bucket_row, hash_row, item_row}
-use Rattle.sdr_base.specs.Blocks.{Block}
 use Rattle.sdr_base.specs.Hashes.{HashItem, HashRow, bucket_entries, hash_block, hash_entries, item_addr, item_block}
 use Rattle.sdr_base.specs.Linked.{first_of}
 use Rattle.sdr_base.specs.Words.{layout}
@@ -30,7 +29,7 @@ use Rattle.sdr_read.proofs.ChainLemmas.{IsTold, all_in_map}
 use Rattle.sdr_read.proofs.LayoutLemmas.{HasLayout, word_told}
 use Rattle.sdr_read.proofs.LinkLemmas.{block_told}
 use Rattle.sdr_read.proofs.OwnLemmas.{IsAudited, layout_of, nonzero, own_of, readable}
-use Rattle.sdr_read.specs.Fitting.{IsRightHash}
+use Rattle.sdr_read.proofs.Fitting.{IsRightHash}
 use Rattle.sdr_read.specs.Told.{bucket_told, entry_told, hash_told}
 use Rattle.sdr_region.specs.Content.{field, has_key}
 
@@ -74,7 +73,7 @@ module _ (heap : View) (words : ℕ) (a : IsAudited heap words) (addr : ℕ) (is
   whole_hash = let w = hash_layout.whole in let e = buckets_told in omega (arith, w, e)
 
   -- the chain of a bucket
-  bucket_chain : (k : ℕ) → k < word_of (heap.blocks addr) 1 → IsTold heap words (owners.Bucket addr (3 + k))
+  pub bucket_chain : (k : ℕ) → k < word_of (heap.blocks addr) 1 → IsTold heap words (owners.Bucket addr (3 + k))
   bucket_chain k less =
       let whole = whole_hash in
       all_in_map (IsTold heap words) (λ (number : ℕ). owners.Bucket addr (3 + number)) (length own_hash.own.bytes / 8 - 3) 0 k (omega arith)

@@ -1,6 +1,6 @@
 -- What the layouts of blocks say of their bytes.
-use Rattle.std.proofs.Common.{◌≡◌, ◌≤◌, ◌<◌, ◌+◌, ◌-◌, ◌*◌, ◌/◌, ◌==◌, ◌&&◌, ◌||◌, ◌^◌, ℕ, Bool, List, [], ◌∷◌, cond, not, true, false, length, get_or, take, drop, arith, ap, ◌∙◌, refl, sym, subst}
-use Rattle.std.specs.Prelude.{All, Option, None, Some, nat_le, nat_lt}
+use Rattle.std.proofs.Common.{◌≡◌, ◌≤◌, ◌<◌, ◌+◌, ◌*◌, ◌/◌, ◌==◌, ◌^◌, ℕ, Bool, List, [], ◌∷◌, cond, not, true, false, length, get_or, take, drop, arith, ap, ◌∙◌, refl, sym, subst}
+use Rattle.std.specs.Prelude.{All, Option, Some, nat_lt}
 use Rattle.std.specs.List.{list_all}
 use Rattle.std.proofs.lemmas.Bool.{and_parts, eqb-true, leb-true, lt-ltb, ltb-true, or_parts}
 use Rattle.std.proofs.lemmas.List.{drop-drop, get_or-drop, get_or-take, length-drop, take_all}
@@ -58,6 +58,26 @@ name_short n is =
     by : (b : Bool) → nat_lt 31 n ≡ b → nat_lt 31 n ≡ false → n ≤ 31
     by b is off = grind (arith, off)
 
+-- what the layout of a name asks of its first bytes, and of its length
+pub record IsName (count : ℕ) (first : List ℕ) : Type 0 where
+  pub long : count ≡ 56
+  pub small : field first 1 < 2 ^ 32
+  pub named : not (is_no_name (get_or first 24 0)) ≡ true
+  pub zeros : list_all (λ byte. byte == 0) (drop (25 + get_or first 24 0) first) ≡ true
+
+pub is_name_so : (bytes : List ℕ) → HasLayout kinds.Name bytes → IsName (length bytes) (take 96 bytes)
+is_name_so bytes l =
+    let first : List ℕ = take 96 bytes in
+    let p = and_parts _ (list_all (λ byte. byte == 0) (drop (25 + get_or first 24 0) first)) l in
+    let q = and_parts _ (not (is_no_name (get_or first 24 0))) p.0 in
+    let r = and_parts (length bytes == 56) (nat_lt (field first 1) (2 ^ 32)) q.0 in
+    record {
+      long = eqb-true (length bytes) 56 r.0;
+      small = ltb-true (field first 1) (2 ^ 32) r.1;
+      named = q.1;
+      zeros = p.1;
+    }
+
 -- a block with what its kind's layout asks has its kind's form
 pub form_of : (kind : Kind) (bytes : List ℕ) → HasLayout kind bytes → HasForm kind bytes
 form_of kinds.Raw bytes l = tt
@@ -69,12 +89,11 @@ form_of kinds.Hash bytes l = tt
 form_of kinds.HashEntry bytes l = leb-true 16 (length bytes) (and_parts _ _ l).0
 form_of kinds.Name bytes l =
     let first : List ℕ = take 96 bytes in
-    let outer = and_parts (length bytes == 56 && nat_lt (field first 1) (2 ^ 32) && not (is_no_name (get_or first 24 0))) _ l in
-    let inner = and_parts (length bytes == 56 && nat_lt (field first 1) (2 ^ 32)) _ outer.0 in
-    let count = eqb-true (length bytes) 56 (and_parts (length bytes == 56) _ inner.0).0 in
+    let named = is_name_so bytes l in
+    let count = named.long in
     let whole : first ≡ bytes = take_all 96 bytes (omega (arith, count)) in
     let mark : get_or (drop 24 bytes) 0 0 ≡ get_or first 24 0 = get_or-drop 24 bytes 0 0 ∙ ap (λ (b : List ℕ). get_or b 24 0) (sym whole) in
-    let short = name_short (get_or first 24 0) inner.1 in
+    let short = name_short (get_or first 24 0) named.named in
     let cut : drop (1 + get_or (drop 24 bytes) 0 0) (drop 24 bytes) ≡ drop (25 + get_or first 24 0) first =
     ap (λ (n : ℕ). drop (1 + n) (drop 24 bytes)) mark
     ∙ drop-drop (1 + get_or first 24 0) 24 bytes
@@ -83,7 +102,7 @@ form_of kinds.Name bytes l =
     record {
       count = length-drop 24 bytes ∙ omega (arith, count);
       short = omega (arith, mark, short);
-      zeros = subst (All (λ byte. byte ≡ 0)) (sym cut) (zeros_all (drop (25 + get_or first 24 0) first) outer.1);
+      zeros = subst (All (λ byte. byte ≡ 0)) (sym cut) (zeros_all (drop (25 + get_or first 24 0) first) named.zeros);
     }
 form_of kinds.Source bytes l = tt
 form_of kinds.Object bytes l = tt

@@ -2,6 +2,7 @@ pub mod ChainLemmas
 pub mod RowLemmas
 pub mod LayoutLemmas
 pub mod OwnLemmas
+pub mod Fitting
 pub mod SourceLemmas
 pub mod LinkLemmas
 pub mod BucketLemmas
@@ -12,12 +13,16 @@ pub mod StandLemmas
 pub mod OccupiedLemmas
 pub mod RegionLemmas
 pub mod RootLemmas
+pub mod FittingLemmas
+pub mod FieldsLemmas
 pub mod WorldLemmas
 pub mod RiseLemmas
 pub mod ValidLemmas
 pub mod AddressLemmas
 pub mod FitLemmas
 pub mod QueueLemmas
+pub mod ToldWalkLemmas
+pub mod ToldPoolsLemmas
 pub mod MadeLemmas
 pub mod PutLemmas
 pub mod RowsLemmas

@@ -1,33 +1,30 @@
 -- The chains of lists and objects are those of what is read of them.
-use Rattle.std.proofs.Common.{◌≡◌, ◌≢◌, ◌≤◌, ◌<◌, ◌+◌, ◌*◌, ◌==◌, ℕ, zero, suc, Bool, List, [], ◌∷◌, ◌++◌, true, false, length, map, take, arith, ap, ◌∙◌, refl, sym, subst, eqb-true}
-use Rattle.std.specs.Prelude.{Option, None, Some}
+use Rattle.std.proofs.Common.{◌≡◌, ◌≤◌, ◌==◌, ℕ, zero, suc, List, [], ◌∷◌, ◌++◌, true, length, map, take, arith, ap, ◌∙◌, refl, sym, subst, eqb-true}
+use Rattle.std.specs.Prelude.{Option, Some}
 use Rattle.std.specs.List.{All}
 use Rattle.std.specs.Option.{option_map_or}
 use Rattle.std.proofs.lemmas.Bool.{and_parts, leb-true}
 use Rattle.std.proofs.lemmas.List.{length-map}
-use Rattle.std.proofs.lemmas.List.Elements.{All-append, All-cons, All-head, All-nil, All-tail}
+use Rattle.std.proofs.lemmas.List.Elements.{All-append, All-cons, All-head, All-tail}
 use Rattle.std.proofs.lemmas.Simd.{map-map}
 use Rattle.sdr_audit.specs.Rows.{capsule_row, element_row, extent_row, list_row, object_row}
 use Rattle.sdr_base.specs.Blocks.{Block, kind_length}
-use Rattle.sdr_base.specs.Entries.{Entries}
 use Rattle.sdr_base.specs.Linked.{first_of, last_of, linked}
 use Rattle.sdr_base.specs.Lists.{ListElement, addr_of, element_block, list_block, list_entries}
 use Rattle.sdr_base.specs.Words.{layout}
-use Rattle.sdr_base.specs.ZcoObjects.{CapsuleRow, ExtentRow, account_number, ObjectRow, capsule_addr, capsule_block, capsule_entries, extent_addr, extent_block, extent_entries, object_block, object_entries}
+use Rattle.sdr_base.specs.ZcoObjects.{account_number, ObjectRow, capsule_addr, capsule_block, capsule_entries, extent_addr, extent_block, extent_entries, object_block, object_entries}
 use Rattle.sdr_base.specs.declared.kind.Kind.{Kind}
 use Rattle.sdr_base.specs.declared.kind.Kind.TheVariants as kinds
 use Rattle.sdr_keys.specs.Members.{members}
 use Rattle.sdr_owner.proofs.LinkingLemmas.{goes_linked}
 use Rattle.sdr_owner.proofs.ReadingLemmas.{IsOf, elements_back, extents_back, headers_back, laid, none_behind, trailers_back}
-use Rattle.sdr_owner.specs.Chains as chains
 use Rattle.sdr_owner.specs.Linking.{AreRows, StandIn, StandsAt}
-use Rattle.sdr_owner.specs.Owners.{owned_at, owned_by, owners_of}
+use Rattle.sdr_owner.specs.Owners.{owned_by, owners_of}
 use Rattle.sdr_owner.specs.Reading.{capsule_read, element_read, extent_read}
 use Rattle.sdr_owner.specs.View.{View, is_kind, word_of}
-use Rattle.sdr_owner.specs.declared.owner.Owner.{Owner}
 use Rattle.sdr_owner.specs.declared.owner.Owner.TheVariants as owners
 use Rattle.sdr_read.proofs.ChainLemmas.{IsTold, each_told, owned_told}
-use Rattle.sdr_read.proofs.LayoutLemmas.{HasLayout, word_told}
+use Rattle.sdr_read.proofs.LayoutLemmas.{word_told}
 use Rattle.sdr_read.proofs.OwnLemmas.{IsAudited, layout_of, nonzero, own_of, readable}
 use Rattle.sdr_read.specs.Told.{account_told, capsule_told, element_told, extent_told, list_told, object_told}
 use Rattle.sdr_region.specs.Content.{field}
@@ -47,7 +44,7 @@ module _ (heap : View) (words : ℕ) (a : IsAudited heap words) where
 
   -- the list at an address
   module _ (addr : ℕ) (is : is_kind kinds.List (heap.blocks addr) ≡ true) where
-    list_chain : IsTold heap words (owners.List addr)
+    pub list_chain : IsTold heap words (owners.List addr)
     list_chain = All-head (IsTold heap words) (owners.List addr) [] (block_told kinds.List addr (own_of heap words a kinds.List addr is))
 
     element_rows : AreRows heap addr_of (element_block addr) 0 (word_of (heap.blocks addr) 2) (map (element_read heap) (members heap words (owners.List addr))) list_chain.last

@@ -1,5 +1,5 @@
 -- What is occupied in the world that a heap tells is what is occupied in the heap.
-use Rattle.std.proofs.Common.{◌≡◌, ◌≤◌, ◌<◌, ◌+◌, ◌-◌, ◌*◌, ◌/◌, ◌==◌, ◌&&◌, ◌||◌, ℕ, zero, suc, Bool, List, [], ◌∷◌, cond, not, true, false, length, drop, map, sum_by, arith, ap, ◌∙◌, refl, sym, subst, eqb-true}
+use Rattle.std.proofs.Common.{◌≡◌, ◌≤◌, ◌+◌, ◌-◌, ◌==◌, ◌&&◌, ◌||◌, ℕ, zero, suc, Bool, List, [], ◌∷◌, cond, not, true, false, length, map, sum_by, arith, ap, ◌∙◌, refl, sym, eqb-true}
 use Rattle.std.specs.Prelude.{Option, None, Some}
 use Rattle.std.specs.FinMap as finite
 use Rattle.std.specs.List.{All}
@@ -24,14 +24,12 @@ use Rattle.sdr_count.specs.Queues.{ticket_at}
 use Rattle.sdr_model.proofs.SumLemmas.{sum_by-map}
 use Rattle.sdr_model.specs.Accounts.{tickets_of}
 use Rattle.sdr_model.specs.Amounts.{amount, in_space}
-use Rattle.sdr_model.specs.Charges.{bytes_charge, capsule_bytes, capsule_charge, extent_charge, left_in, object_bytes, object_charge, occupancy, space_in, thing_charge}
+use Rattle.sdr_model.specs.Charges.{bytes_charge, capsule_bytes, capsule_charge, extent_charge, left_in, object_bytes, occupancy, space_in, thing_charge}
 use Rattle.sdr_model.specs.Zco as model
 use Rattle.sdr_model.specs.declared.accounts.Ticket.{Ticket}
 use Rattle.sdr_model.specs.declared.things.Thing.{Thing}
-use Rattle.sdr_model.specs.declared.zco.Capsule.{Capsule}
-use Rattle.sdr_model.specs.declared.zco.Extent.{Extent}
 use Rattle.sdr_owner.specs.Chains.{Goes, first_of, is_member, next_of}
-use Rattle.sdr_owner.specs.Reading.{behind_words, bytes_of}
+use Rattle.sdr_owner.specs.Reading.{behind_words}
 use Rattle.sdr_owner.specs.Rules.{IsKept}
 use Rattle.sdr_owner.specs.View.{View, is_kind, length_of, word_of}
 use Rattle.sdr_owner.specs.declared.owner.Owner.{Owner}

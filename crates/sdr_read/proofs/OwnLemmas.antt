@@ -1,8 +1,8 @@
 -- The own block of each thing is that of what is read of it.
-use Rattle.std.proofs.Common.{◌≡◌, ◌≢◌, ◌≤◌, ◌<◌, ◌+◌, ◌*◌, ◌==◌, ◌&&◌, ℕ, Bool, List, [], ◌∷◌, cond, true, false, length, get_or, take, drop, arith, ap, ◌∙◌, refl, sym, subst}
+use Rattle.std.proofs.Common.{◌≡◌, ◌≢◌, ◌≤◌, ◌+◌, ◌==◌, ◌&&◌, ℕ, List, [], ◌∷◌, true, length, get_or, take, drop, arith, ap, ◌∙◌, sym, subst}
 use Rattle.std.specs.Prelude.{Option, None, Some, nat_le}
 use Rattle.std.proofs.lemmas.Bool.{and_parts, eqb-true, leb-true}
-use Rattle.std.proofs.lemmas.List.{get_or-take, length-drop}
+use Rattle.std.proofs.lemmas.List.{get_or-take}
 use Rattle.std.proofs.lemmas.Option.{none-some}
 use Rattle.sdr_base.specs.Blocks.{Block}
 use Rattle.sdr_base.specs.Raws.{raw_block}
@@ -11,7 +11,7 @@ use Rattle.sdr_base.specs.Tables.{table_block}
 use Rattle.sdr_base.specs.declared.kind.Kind.{Kind}
 use Rattle.sdr_base.specs.declared.kind.Kind.TheVariants as kinds
 use Rattle.sdr_audit.specs.Rows.{table_row}
-use Rattle.sdr_owner.proofs.ReadingLemmas.{IsOf, block_is, laid, none_behind}
+use Rattle.sdr_owner.proofs.ReadingLemmas.{IsOf, block_is, laid}
 use Rattle.sdr_owner.specs.Owned.{AreBytes, IsOwned}
 use Rattle.sdr_owner.specs.Reading.{IsReadable, bytes_of}
 use Rattle.sdr_owner.specs.View.{View, is_kind, word_of}

@@ -1,5 +1,5 @@
 -- The blocks of each thing that a heap tells stand in it, and at which addresses.
-use Rattle.std.proofs.Common.{◌≡◌, ◌≢◌, ◌≤◌, ◌<◌, ◌+◌, ◌-◌, ◌*◌, ◌/◌, ◌==◌, ℕ, zero, suc, Bool, List, [], ◌∷◌, ◌++◌, cond, true, false, length, drop, map, arith, ap, ◌∙◌, refl, sym, subst}
+use Rattle.std.proofs.Common.{◌≡◌, ◌+◌, ◌-◌, ◌*◌, ◌/◌, ◌==◌, ℕ, zero, suc, List, [], ◌∷◌, ◌++◌, cond, true, length, drop, map, arith, ap, ◌∙◌, refl, sym, subst}
 use Rattle.std.specs.Prelude.{count_by, IfSome, Option, None, Some}
 use Rattle.std.specs.List.{All, flat_map, range_with_len}
 use Rattle.std.specs.Option.{option_map_or}
@@ -7,7 +7,7 @@ use Rattle.std.proofs.lemmas.List.{append-nil}
 use Rattle.std.proofs.lemmas.List.Elements.{All-cons, All-head, All-nil, All-tail}
 use Rattle.std.proofs.lemmas.Option.{none-some}
 use Rattle.std.proofs.lemmas.Simd.{map-map}
-use Rattle.sdr_audit.specs.Rows.{capsule_row, element_row, extent_row, hash_row, list_row, name_row, object_row, source_row}
+use Rattle.sdr_audit.specs.Rows.{capsule_row, element_row, extent_row, hash_row, name_row, object_row, source_row}
 use Rattle.sdr_audit.specs.Standing.{queue_entries, thing_entries}
 use Rattle.sdr_audit.specs.Ties.{ties_of}
 use Rattle.sdr_base.proofs.PoolsLemmas.{count_by-append}
@@ -21,7 +21,6 @@ use Rattle.sdr_base.specs.Lists.{ListElement, addr_of, element_block, list_block
 use Rattle.sdr_base.specs.Raws.{raw_block}
 use Rattle.sdr_base.specs.Sources.{source_block}
 use Rattle.sdr_base.specs.Strings.{string_block}
-use Rattle.sdr_base.specs.Tables.{table_block}
 use Rattle.sdr_base.specs.Tickets.{ticket_addr, ticket_block, ticket_entries}
 use Rattle.sdr_base.specs.ZcoObjects.{CapsuleRow, ExtentRow, capsule_addr, capsule_block, capsule_entries, extent_addr, extent_block, extent_entries, object_block}
 use Rattle.sdr_base.specs.declared.account.Acct.{Acct}
@@ -36,22 +35,21 @@ use Rattle.sdr_model.specs.Accounts.{tickets_of}
 use Rattle.sdr_model.specs.TicketRows.{ticket_row}
 use Rattle.sdr_model.specs.declared.things.Thing.{Thing}
 use Rattle.sdr_owner.proofs.LinkingLemmas.{goes_linked}
-use Rattle.sdr_owner.proofs.ReadingLemmas.{IsOf, names_back, tickets_back}
+use Rattle.sdr_owner.proofs.ReadingLemmas.{names_back, tickets_back}
 use Rattle.sdr_owner.specs.Chains as chains
 use Rattle.sdr_owner.specs.Linking.{AreRows, StandIn, StandsAt}
-use Rattle.sdr_owner.specs.Owners.{owned_at, owned_by, owners_of, root_owners}
+use Rattle.sdr_owner.specs.Owners.{owned_at, owned_by, root_owners}
 use Rattle.sdr_owner.specs.Reading.{bytes_of, item_read, name_read, ticket_read}
 use Rattle.sdr_owner.specs.View.{View, is_kind, word_of}
-use Rattle.sdr_owner.specs.declared.owner.Owner.{Owner}
 use Rattle.sdr_owner.specs.declared.owner.Owner.TheVariants as owners
 use Rattle.sdr_read.proofs.ChainLemmas.{IsTold, all_left}
-use Rattle.sdr_read.proofs.HashLemmas.{buckets_same, hash_stands, own_hash, rows, whole_hash}
+use Rattle.sdr_read.proofs.HashLemmas.{buckets_same, hash_stands, own_hash, whole_hash}
 use Rattle.sdr_read.proofs.LinkLemmas.{all_told, list_stands, object_stands}
 use Rattle.sdr_read.proofs.OwnLemmas.{IsAudited, nonzero, own_of, raw_own, readable, table_own, text_own}
 use Rattle.sdr_read.proofs.SourceLemmas.{source_own}
 use Rattle.sdr_read.proofs.TiesLemmas.{inbound_same, named_same, outbound_same, thing_cases}
-use Rattle.sdr_read.specs.Fitting.{AreFitting}
-use Rattle.sdr_read.specs.Told.{capsule_told, element_told, entry_told, extent_told, hash_told, list_told, name_told, object_told, source_told, table_told, thing_of_kind, thing_told, world_told}
+use Rattle.sdr_read.proofs.Fitting.{AreFitting}
+use Rattle.sdr_read.specs.Told.{capsule_told, element_told, extent_told, hash_told, name_told, object_told, source_told, thing_of_kind, thing_told, world_told}
 
 -- the addresses of what is made of addresses are these
 addrs_back : {A B : Type 0} (told : ℕ → A) (row : A → B) (addr : B → ℕ) → ((n : ℕ) → addr (row (told n)) ≡ n) → (ns : List ℕ) → map addr (map row (map told ns)) ≡ ns

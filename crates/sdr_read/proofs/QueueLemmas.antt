@@ -1,5 +1,5 @@
 -- The queues of a told world keep their law.
-use Rattle.std.proofs.Common.{◌≡◌, ◌≤◌, ◌<◌, ◌+◌, ◌-◌, ◌*◌, ◌/◌, ◌==◌, ◌&&◌, ◌||◌, ◌^◌, ℕ, Bool, List, [], ◌∷◌, ◌++◌, true, false, length, map, nat_eq, take, arith, ap, ◌∙◌, refl, sym, subst, eqb-true}
+use Rattle.std.proofs.Common.{◌≡◌, ◌≤◌, ◌<◌, ◌*◌, ◌/◌, ◌==◌, ◌&&◌, ◌||◌, ℕ, Bool, List, true, false, length, nat_eq, take, arith, ap, ◌∙◌, refl, sym, subst, eqb-true}
 use Rattle.std.specs.Prelude.{All, IfSome, nat_le, nat_lt}
 use Rattle.std.specs.List.{IsDistinct, slice_index_or}
 use Rattle.std.proofs.lemmas.Bool.{and_from, and_parts, le-leb, leb-true}
@@ -16,11 +16,11 @@ use Rattle.sdr_count.specs.Counted.{IsCounted}
 use Rattle.sdr_keys.specs.Members.{members}
 use Rattle.sdr_count.specs.Queues as queues
 use Rattle.sdr_count.specs.Queues.{AreLawful, IsLawful, amounts_in, is_left_rightly, room, ticket_at, tickets}
-use Rattle.sdr_model.specs.Accounts.{most_amount, tickets_of}
+use Rattle.sdr_model.specs.Accounts.{most_amount}
 use Rattle.sdr_model.specs.Amounts.{amounts_by, are_within, is_nothing, minus, no_amounts}
-use Rattle.sdr_model.specs.Charges.{occupancies, rooms}
+use Rattle.sdr_model.specs.Charges.{rooms}
 use Rattle.sdr_model.specs.Queue.{front_waiting}
-use Rattle.sdr_model.specs.Valid.{IsBarred, IsValidAccount, IsValidTicket, KeepQueues, numbers_of}
+use Rattle.sdr_model.specs.Valid.{IsBarred, IsValidAccount, IsValidTicket, KeepQueues}
 use Rattle.sdr_model.specs.declared.accounts.Ticket.{Ticket}
 use Rattle.sdr_owner.specs.Chains.{first_of, is_member}
 use Rattle.sdr_owner.specs.View.{View, is_kind, view_in, word_of}
@@ -30,7 +30,7 @@ use Rattle.sdr_read.proofs.OccupiedLemmas.{all_so, goes_members, occupancy_told}
 use Rattle.sdr_read.proofs.OwnLemmas.{IsAudited, layout_of, own_of}
 use Rattle.sdr_read.proofs.PartLemmas.{queue_chain}
 use Rattle.sdr_read.proofs.RootLemmas.{root_is}
-use Rattle.sdr_read.specs.Told.{account_in, world_of, world_told}
+use Rattle.sdr_read.specs.Told.{account_in, world_of}
 use Rattle.sdr_region.specs.Content.{field, is_flag}
 use Rattle.sdr_region.specs.Control.{ControlIsRight, may_be}
 

@@ -1,8 +1,9 @@
--- Rows of groups by rising number rise.
-use Rattle.std.proofs.Common.{◌≡◌, ◌≤◌, ◌<◌, ◌+◌, ℕ, zero, suc, List, [], ◌∷◌, ◌++◌, length, map, arith, refl, sym}
-use Rattle.std.specs.List.{All, flat_map, range_with_len}
+-- Rows of groups by rising number rise, and nothing is there twice where nothing is twice in a group.
+use Rattle.std.proofs.Common.{◌≡◌, ◌≤◌, ◌<◌, ◌+◌, ℕ, zero, suc, Bool, List, [], ◌∷◌, ◌++◌, false, true, length, map, arith}
+use Rattle.std.specs.List.{All, AllByRecursion, IsDistinct, flat_map, range_with_len}
 use Rattle.std.specs.List.Sorted.{IsNonDecreasingBy}
-use Rattle.std.proofs.lemmas.List.Elements.{All-append, All-cons, All-head, All-nil, All-tail}
+use Rattle.std.proofs.lemmas.Bool.{false_from_ne_true}
+use Rattle.std.proofs.lemmas.List.Elements.{All-cons, All-head, All-nil, All-tail}
 
 module _ {E K : Type 0} (h : E → K) (g : K → ℕ) where
   rise_nil : IsNonDecreasingBy g []
@@ -49,3 +50,39 @@ module _ {E K : Type 0} (h : E → K) (g : K → ℕ) where
         front_rise a (group a) (flat_map group (range_with_len (a + 1) n)) (grouped a (omega arith) (omega arith))
         (weaker a (a + 1) (map h (flat_map group (range_with_len (a + 1) n))) (omega arith) (rows_above (a + 1) n rest))
         (rows_rise (a + 1) n rest)
+
+    -- where keys that a test takes for the same are in one group
+    module _ (eq : K → K → Bool) (same : (x y : K) → eq x y ≡ true → g x ≡ g y) where
+      -- a key of a group is that of none in later ones
+      none_later : (k : ℕ) (x : K) (ys : List K) → g x ≡ k → All (λ y. k + 1 ≤ g y) ys → AllByRecursion (λ y. eq x y ≡ false) ys
+      none_later k x [] here above = tt
+      none_later k x (y ∷ ys) here above =
+          let later = All-head (λ y. k + 1 ≤ g y) y ys above in (
+            false_from_ne_true (eq x y) (λ is. let e = same x y is in absurd (omega (arith, e, here, later))),
+            none_later k x ys here (All-tail (λ y. k + 1 ≤ g y) y ys above),
+          )
+
+      none_both : (x : K) (xs rest : List E) → AllByRecursion (λ y. eq x y ≡ false) (map h xs) →
+          AllByRecursion (λ y. eq x y ≡ false) (map h rest) → AllByRecursion (λ y. eq x y ≡ false) (map h (xs ++ rest))
+      none_both x [] rest here later = later
+      none_both x (e ∷ es) rest (off, here) later = (off, none_both x es rest here later)
+
+      front_distinct : (k : ℕ) (xs rest : List E) → All (λ e. g (h e) ≡ k) xs → All (λ y. k + 1 ≤ g y) (map h rest) →
+          IsDistinct eq (map h xs) → IsDistinct eq (map h rest) → IsDistinct eq (map h (xs ++ rest))
+      unfolding IsDistinct
+      front_distinct k [] rest all above here later = later
+      front_distinct k (x ∷ xs) rest all above (off, here) later = (
+        none_both (h x) xs rest off (none_later k (h x) (map h rest) (All-head (λ e. g (h e) ≡ k) x xs all) above),
+        front_distinct k xs rest (All-tail (λ e. g (h e) ≡ k) x xs all) above here later,
+      )
+
+      -- keys that are distinct in each group are so in all
+      pub rows_distinct : (a n : ℕ) → ((k : ℕ) → a ≤ k → k < a + n → All (λ e. g (h e) ≡ k) (group k)) →
+          ((k : ℕ) → a ≤ k → k < a + n → IsDistinct eq (map h (group k))) → IsDistinct eq (map h (flat_map group (range_with_len a n)))
+      unfolding IsDistinct
+      rows_distinct a zero grouped distinct = tt
+      rows_distinct a (suc n) grouped distinct =
+          let later = λ (k : ℕ) (low : a + 1 ≤ k) (high : k < a + 1 + n). grouped k (omega (arith, low)) (omega (arith, high)) in
+          front_distinct a (group a) (flat_map group (range_with_len (a + 1) n)) (grouped a (omega arith) (omega arith))
+          (rows_above (a + 1) n later) (distinct a (omega arith) (omega arith))
+          (rows_distinct (a + 1) n later (λ k low high. distinct k (omega (arith, low)) (omega (arith, high))))

@@ -1,5 +1,5 @@
 -- The control words are those of the world that a heap tells.
-use Rattle.std.proofs.Common.{◌≡◌, ◌≤◌, ◌<◌, ◌+◌, ◌-◌, ◌*◌, ◌/◌, ◌==◌, ◌&&◌, ℕ, Bool, List, [], ◌∷◌, cond, true, false, length, get_or, map, arith, ap, ◌∙◌, refl, sym, inl, inr, eqb-true}
+use Rattle.std.proofs.Common.{◌≡◌, ◌≤◌, ◌<◌, ◌-◌, ◌*◌, ◌/◌, ◌==◌, ◌&&◌, ℕ, Bool, List, [], ◌∷◌, true, false, length, get_or, map, arith, ap, ◌∙◌, refl, sym, inl, inr, eqb-true}
 use Rattle.std.specs.Prelude.{nat_le, nat_lt}
 use Rattle.std.specs.List.{range_with_len}
 use Rattle.std.proofs.lemmas.Bool.{cases_lt, cond-false, cond-true, le-ltb, lt-leb, lt-ltb}
@@ -13,13 +13,11 @@ use Rattle.sdr_base.specs.Linked.{first_of, last_of}
 use Rattle.sdr_base.specs.Roots.{root_words, roots_by}
 use Rattle.sdr_base.specs.Stored.{number_at}
 use Rattle.sdr_base.specs.Tickets.{ticket_addr}
-use Rattle.sdr_base.specs.declared.account.Acct.{Acct}
 use Rattle.sdr_base.specs.declared.account.Acct.TheVariants as accts
 use Rattle.sdr_base.specs.declared.kind.Space.TheVariants as spaces
 use Rattle.sdr_count.specs.Counted.{IsCounted}
 use Rattle.sdr_model.specs.Accounts.{tickets_of}
 use Rattle.sdr_model.specs.TicketRows.{ticket_row}
-use Rattle.sdr_model.specs.World.{World}
 use Rattle.sdr_owner.specs.View.{view_in}
 use Rattle.sdr_read.proofs.OccupiedLemmas.{occupancy_told}
 use Rattle.sdr_read.proofs.OwnLemmas.{IsAudited}

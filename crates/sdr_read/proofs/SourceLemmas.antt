@@ -1,12 +1,10 @@
 -- The block of a source is that of what is read of it.
-use Rattle.std.proofs.Common.{◌≡◌, ◌≤◌, ◌<◌, ◌+◌, ◌-◌, ◌*◌, ◌==◌, ◌&&◌, ℕ, zero, suc, Bool, List, [], ◌∷◌, cond, not, true, false, length, take, arith, ap, ◌∙◌, refl, sym}
-use Rattle.std.specs.Prelude.{Option, None, Some, nat_le}
+use Rattle.std.proofs.Common.{◌≡◌, ◌≤◌, ◌+◌, ◌-◌, ◌*◌, ◌==◌, ◌&&◌, ℕ, zero, suc, Bool, List, [], ◌∷◌, cond, not, true, length, take, arith, ap, ◌∙◌, refl, sym}
+use Rattle.std.specs.Prelude.{Some, nat_le}
 use Rattle.std.proofs.lemmas.Bool.{and_parts, eq-eqb, eqb-true, leb-true, ne_eqb}
 use Rattle.sdr_audit.specs.Rows.{medium_of, path_of, source_row, subject_number}
-use Rattle.sdr_base.specs.Blocks.{Block}
 use Rattle.sdr_base.specs.Sources.{medium_number, source_block}
 use Rattle.sdr_base.specs.Words.{layout}
-use Rattle.sdr_base.specs.declared.kind.Kind.{Kind}
 use Rattle.sdr_base.specs.declared.kind.Kind.TheVariants as kinds
 use Rattle.sdr_model.specs.Limits.{is_no_path, longest_source}
 use Rattle.sdr_model.specs.declared.zco.Subject.{Subject}

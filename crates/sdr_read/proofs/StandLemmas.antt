@@ -1,16 +1,16 @@
 -- The blocks in use are those of the world that a heap tells.
-use Rattle.std.proofs.Common.{◌≡◌, ◌≢◌, ◌≤◌, ◌<◌, ◌+◌, ◌*◌, ◌==◌, ◌||◌, ◌⊎◌, ℕ, zero, suc, Bool, List, [], ◌∷◌, ◌++◌, cond, not, true, false, length, map, arith, ap, ◌∙◌, refl, sym, subst, inl, inr, eqb-true}
+use Rattle.std.proofs.Common.{◌≡◌, ◌≤◌, ◌+◌, ◌*◌, ◌==◌, ◌||◌, ◌⊎◌, ℕ, zero, suc, Bool, List, [], ◌∷◌, ◌++◌, cond, not, true, map, arith, ap, ◌∙◌, refl, sym, subst, inl, inr}
 use Rattle.std.specs.Prelude.{count_by, IfSome, Option, None, Some}
 use Rattle.std.specs.FinMap as finite
 use Rattle.std.specs.List.{All, flat_map, range_with_len}
-use Rattle.std.proofs.lemmas.Bool.{cases_Bool, cases_eq, eq-eqb, ne_eqb, or_left, or_right}
+use Rattle.std.proofs.lemmas.Bool.{cases_eq, eq-eqb, ne_eqb, or_left, or_right}
 use Rattle.std.proofs.lemmas.Grind.{flat_map-append}
 use Rattle.std.proofs.lemmas.List.Elements.{All-append, All-cons, All-head, All-nil, All-tail}
 use Rattle.std.proofs.lemmas.Option.{none-some}
 use Rattle.sdr_audit.specs.Rows.{name_row}
 use Rattle.sdr_audit.specs.Standing.{entries_of, other_entries, queue_entries, thing_entries}
 use Rattle.sdr_audit.specs.Ties.{ties_of}
-use Rattle.sdr_base.proofs.PoolsLemmas.{count_by-append, count_by-no, count_by-yes}
+use Rattle.sdr_base.proofs.PoolsLemmas.{count_by-append, count_by-no}
 use Rattle.sdr_base.proofs.StandingLemmas.{at-nowhere, times-append}
 use Rattle.sdr_base.specs.Blocks.{Block}
 use Rattle.sdr_base.specs.Catalogue.{catalogue_entries}
@@ -21,13 +21,12 @@ use Rattle.sdr_base.specs.declared.kind.Kind.{Kind}
 use Rattle.sdr_base.specs.declared.kind.Kind.TheVariants as kinds
 use Rattle.sdr_count.specs.Counted.{IsCounted}
 use Rattle.sdr_keys.specs.Members.{members}
-use Rattle.sdr_laws.proofs.DistinctLemmas.{count_by-cons}
 use Rattle.sdr_model.specs.declared.things.Thing.{Thing}
 use Rattle.sdr_owner.proofs.MarksLemmas.{counted}
 use Rattle.sdr_owner.proofs.ReadingLemmas.{same_kind}
 use Rattle.sdr_owner.specs.Chains.{Goes, first_of, is_among, next_of}
 use Rattle.sdr_owner.specs.Linking.{StandIn, StandsAt}
-use Rattle.sdr_owner.specs.Owners.{kind_in, owned_at, owners_of, root_owners}
+use Rattle.sdr_owner.specs.Owners.{kind_in, owned_at, owners_of}
 use Rattle.sdr_owner.specs.Rules as rules
 use Rattle.sdr_owner.specs.Rules.{IsKept}
 use Rattle.sdr_owner.specs.View.{View, is_kind}
@@ -39,8 +38,8 @@ use Rattle.sdr_read.proofs.LinkLemmas.{all_told}
 use Rattle.sdr_read.proofs.OwnLemmas.{IsAudited}
 use Rattle.sdr_read.proofs.PartLemmas.{inner, names_stand, none_inside, queues_stand, thing_stands, times-names, times-queues, times-thing}
 use Rattle.sdr_read.proofs.RowLemmas.{all_row, own, own_none, own_one, row, times_row}
-use Rattle.sdr_read.proofs.TiesLemmas.{thing_cases, thing_place, things_are}
-use Rattle.sdr_read.specs.Fitting.{AreFitting}
+use Rattle.sdr_read.proofs.TiesLemmas.{thing_place, things_are}
+use Rattle.sdr_read.proofs.Fitting.{AreFitting}
 use Rattle.sdr_read.specs.Told.{thing_by, thing_of_kind, thing_told, world_told}
 
 -- blocks that stand are found where they are listed

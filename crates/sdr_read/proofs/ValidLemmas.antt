@@ -1,18 +1,18 @@
 -- Each thing that a heap tells keeps its limits.
-use Rattle.std.proofs.Common.{◌≡◌, ◌≢◌, ◌≤◌, ◌<◌, ◌+◌, ◌-◌, ◌*◌, ◌/◌, ◌==◌, ◌&&◌, ◌||◌, ◌^◌, ◌⊎◌, ℕ, zero, suc, Bool, List, [], ◌∷◌, cond, not, true, false, length, get_or, take, drop, map, arith, ap, ◌∙◌, refl, sym, subst, inl, inr, eqb-true}
-use Rattle.std.specs.Prelude.{IfSome, Option, None, Some, is_some, nat_le, nat_lt}
+use Rattle.std.proofs.Common.{◌≡◌, ◌≤◌, ◌+◌, ◌-◌, ◌*◌, ◌==◌, ◌&&◌, ◌||◌, ℕ, Bool, List, cond, not, true, false, length, get_or, take, drop, map, arith, ap, ◌∙◌, refl, sym, subst, inl, inr, eqb-true}
+use Rattle.std.specs.Prelude.{IfSome, Option, is_some, nat_le, nat_lt}
 use Rattle.std.specs.List.{All}
-use Rattle.std.proofs.lemmas.Bool.{and_parts, cases_Bool, eq-eqb, leb-true, ne_eqb, or_parts}
-use Rattle.std.proofs.lemmas.List.{get_or-take, length-drop}
+use Rattle.std.proofs.lemmas.Bool.{and_parts, cases_Bool, leb-true, or_parts}
+use Rattle.std.proofs.lemmas.List.{length-drop}
 use Rattle.std.proofs.lemmas.List.Elements.{All-map}
 use Rattle.sdr_base.specs.Blocks.{Block}
 use Rattle.sdr_base.specs.declared.kind.Kind.{Kind}
 use Rattle.sdr_base.specs.declared.kind.Kind.TheVariants as kinds
 use Rattle.sdr_keys.specs.Members.{members}
 use Rattle.sdr_model.specs.HashSteps.{bucket_of}
-use Rattle.sdr_model.specs.Limits.{is_no_capsule, is_no_path, longest_key, longest_raw, longest_string, most_buckets}
-use Rattle.sdr_model.specs.Valid.{IsBetween, IsValidCapsule, IsValidObject, IsValidSource, IsValidSubject, IsValidTable, IsValidThing}
-use Rattle.sdr_model.specs.Zco.{owned_raw, taken_over}
+use Rattle.sdr_model.specs.Limits.{is_no_capsule, longest_key, longest_raw, longest_string}
+use Rattle.sdr_model.specs.Valid.{IsBetween, IsValidCapsule, IsValidSubject, IsValidTable, IsValidThing}
+use Rattle.sdr_model.specs.Zco.{taken_over}
 use Rattle.sdr_model.specs.declared.things.HashEntry.{HashEntry}
 use Rattle.sdr_model.specs.declared.zco.Subject.{Subject}
 use Rattle.sdr_model.specs.declared.zco.Subject.TheVariants as subjects
@@ -25,15 +25,15 @@ use Rattle.sdr_owner.specs.declared.owner.Owner.TheVariants as owners
 use Rattle.sdr_owner.proofs.ReadingLemmas.{IsOf}
 use Rattle.sdr_read.proofs.ChainLemmas.{IsTold}
 use Rattle.sdr_read.proofs.HashLemmas.{hash_layout, own_hash}
-use Rattle.sdr_read.proofs.LayoutLemmas.{HasLayout, word_told}
+use Rattle.sdr_read.proofs.LayoutLemmas.{word_told}
 use Rattle.sdr_read.proofs.LinkLemmas.{extent_chain, header_chain, trailer_chain}
 use Rattle.sdr_read.proofs.OccupiedLemmas.{all_so, goes_members}
 use Rattle.sdr_read.proofs.OwnLemmas.{IsAudited, layout_of, own_of}
 use Rattle.sdr_read.proofs.RiseLemmas.{rows_rise}
 use Rattle.sdr_read.proofs.SourceLemmas.{source_of, source_word, subject_by}
 use Rattle.sdr_read.proofs.TiesLemmas.{thing_cases}
-use Rattle.sdr_read.specs.Fitting.{AreFitting}
-use Rattle.sdr_read.specs.Told.{bucket_told, capsule_told, extent_told, hash_told, object_told, source_told, table_told, thing_of_kind, thing_told}
+use Rattle.sdr_read.proofs.Fitting.{AreFitting}
+use Rattle.sdr_read.specs.Told.{bucket_told, capsule_told, extent_told, table_told, thing_of_kind, thing_told}
 use Rattle.sdr_region.specs.Content.{field}
 
 -- a length of which a test doesn't say that it is less or more

@@ -1,4 +1,4 @@
 pub mod Told
-pub mod Fitting
 pub mod Standing
+pub mod ToldPools
 pub mod Made

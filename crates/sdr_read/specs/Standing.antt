@@ -1,38 +1,22 @@
 -- When a heap region passes all steps of the audit, and what it stands for then.
-use Rattle.std.specs.Prelude.{◌/◌, ℕ, List, length}
-use Rattle.sdr_audit.specs.Standing.{StandsFor, StandsForWhole}
+use Rattle.std.specs.Prelude.{ℕ, List, length}
+use Rattle.sdr_audit.specs.Standing.{StandsForWhole}
 use Rattle.sdr_base.specs.Cells.{IsRegionSize}
-use Rattle.sdr_base.specs.Pools.{Pools}
-use Rattle.sdr_base.specs.declared.line.TheConstants.{WORD}
 use Rattle.sdr_count.specs.Counted.{IsCountedRegion}
-use Rattle.sdr_count.specs.Queues.{AreLawfulIn}
-use Rattle.sdr_model.specs.World.{World}
 use Rattle.sdr_owner.specs.Owned.{AreBytes, IsOwnedRegion}
-use Rattle.sdr_owner.specs.View.{view_in}
-use Rattle.sdr_read.specs.Fitting.{AreFitting}
+use Rattle.sdr_read.specs.Told.{world_of}
+use Rattle.sdr_read.specs.ToldPools.{pools_of}
 use Rattle.sdr_region.specs.Region.{IsSoundRegion}
 
 -- A region of an allowed size passes the steps of the audit before that of queues: its structure is sound, each block has its owner, and
--- what its blocks count and tell of one another is right.
+-- lists, hashes, names, counts and occupancies are right.
 pub record IsCounted (bytes : List ℕ) : Type 0 where
   pub region : IsRegionSize (length bytes)
   pub bytes_are : AreBytes bytes
   pub sound : IsSoundRegion bytes
   pub owned : IsOwnedRegion bytes
   pub counted : IsCountedRegion bytes
-  pub fitting : AreFitting (view_in bytes) (length bytes / WORD)
 
--- it passes all steps: the queues keep their law too
-pub record Passes (bytes : List ℕ) : Type 0 where
-  pub counts : IsCounted bytes
-  pub queues : AreLawfulIn bytes
-
--- the bytes stand for the world, with some pools
-pub record StandsSomehow (bytes : List ℕ) (w : World) : Type 0 where
-  pub pools : Pools
-  pub stands : StandsFor bytes w pools
-
--- the same, and the world is whole, and fits the fields of blocks
-pub record StandsWhole (bytes : List ℕ) (w : World) : Type 0 where
-  pub pools : Pools
-  pub stands : StandsForWhole bytes w pools
+-- the bytes stand for the world and with the pools that they tell; the world is whole, and its numbers fit the fields of blocks
+abbrev pub StandsAsTold : List ℕ → Type 0
+StandsAsTold bytes = StandsForWhole bytes (world_of bytes) (pools_of bytes)

@@ -1,5 +1,5 @@
 -- The world that the blocks and control words of a heap tell.
-use Rattle.std.specs.Prelude.{◌==◌, ◌+◌, ◌*◌, ◌/◌, ℕ, cond, drop, List, [], length, map, filter_map, Option, None, Some}
+use Rattle.std.specs.Prelude.{◌==◌, ◌+◌, ◌/◌, ℕ, cond, drop, List, [], length, map, filter_map, Option, None, Some}
 use Rattle.std.specs.FinMap as finite
 use Rattle.std.specs.List.{flat_map, range_with_len}
 use Rattle.std.specs.Option.{option_map}

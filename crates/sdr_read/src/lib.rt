@@ -5,8 +5,10 @@
 mod accounts;
 mod blocks;
 mod names;
+mod pools;
 mod telling;
 mod things;
 mod zco;
 
-pub use telling::{counted_heaps_stand_for_worlds, passing_heaps_tell_whole_worlds};
+pub use pools::heaps_tell_their_pools;
+pub use telling::{counted_heaps_stand_for_worlds, passing_regions_stand_for_worlds};

@@ -1,18 +1,25 @@
-// What a heap that passes the audit stands for.
-ghost use Rattle.std.specs.Prelude.{ℕ, List};
-ghost use Rattle.sdr_model.specs.Whole.{IsWhole};
-ghost use Rattle.sdr_read.specs.Standing.{IsCounted, Passes, StandsSomehow};
+// What a heap region that passes the audit stands for.
+ghost use Rattle.std.specs.Prelude.{ℕ, List, length};
+ghost use Rattle.sdr_audit.specs.Standing.{StandsFor};
+ghost use Rattle.sdr_base.specs.Cells.{IsRegionSize};
+ghost use Rattle.sdr_count.specs.Checked.{IsRightRegion};
+ghost use Rattle.sdr_owner.specs.Owned.{AreBytes};
+ghost use Rattle.sdr_read.specs.Standing.{IsCounted, StandsAsTold};
 ghost use Rattle.sdr_read.specs.Told.{world_of};
+ghost use Rattle.sdr_read.specs.ToldPools.{pools_of};
+ghost use Rattle.sdr_region.specs.Region.{IsSoundRegion};
 
 /// A law: a heap region that passes the steps of the audit before that of queues stands for the world that its blocks and control
-/// words tell: the blocks in use are just that world's, each with the bytes of what it keeps, and so are the control words. It does
-/// nothing.
+/// words tell, with the pools that these tell: the blocks in use are just that world's, each with the bytes of what it keeps, and so
+/// are the control words. It does nothing.
 pub fn counted_heaps_stand_for_worlds()
-    ensures { (bytes : List ℕ) → IsCounted bytes → StandsSomehow bytes (world_of bytes) }
+    ensures { (bytes : List ℕ) → IsCounted bytes →
+        StandsFor bytes (world_of bytes) (pools_of bytes) }
 {}
 
-/// A law: the world that a heap region tells which passes all steps of the audit is whole: things keep their limits, nothing is
-/// there twice, sources and extents fit each other, and the queues keep their law. It does nothing.
-pub fn passing_heaps_tell_whole_worlds()
-    ensures { (bytes : List ℕ) → Passes bytes → IsWhole (world_of bytes) }
+/// A law: a heap region that passes each check of its structure, and whose owners, counts and queues are right, stands for the
+/// world that it tells, with the pools that it tells; the world is whole, and its numbers fit the fields of blocks. It does nothing.
+pub fn passing_regions_stand_for_worlds()
+    ensures { (bytes : List ℕ) → IsRegionSize (length bytes) → AreBytes bytes → IsSoundRegion bytes →
+        IsRightRegion bytes → StandsAsTold bytes }
 {}

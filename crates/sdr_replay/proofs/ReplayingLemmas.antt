@@ -1,5 +1,5 @@
 -- A run that begins on a heap that was just opened, and what it leaves of the disk.
-use Rattle.std.proofs.Common.{◌≡◌, ◌∙◌, ◌≤◌, ◌/◌, ℕ, List, [], true≢false, Option, None, Some, refl, sym, ap, subst, inl, arith}
+use Rattle.std.proofs.Common.{◌≡◌, ◌∙◌, ◌≤◌, ℕ, List, [], true≢false, Option, None, Some, refl, sym, ap, subst, inl, arith}
 use Rattle.std.specs.Prelude.{is_some}
 use Rattle.sdr_core.specs.CoreKept.{BeginsOn, IsRunOf}
 use Rattle.sdr_disk.specs.Moments.{AtEach}
@@ -7,22 +7,21 @@ use Rattle.sdr_disk.specs.Told.{IfTold}
 use Rattle.sdr_disk.specs.declared.disk.Disk.{Ghosts as DiskGhosts}
 use Rattle.sdr_dry.specs.Schedule.{daemons_of}
 use Rattle.sdr_image.specs.Opening.{MayBeOpened}
-use Rattle.sdr_lock.specs.Standing.{Standing, standing_at}
+use Rattle.sdr_lock.specs.Standing.{standing_at}
 use Rattle.sdr_lock.specs.declared.has_ground.HasGround.{Ghosts}
 use Rattle.sdr_log.specs.Calls.{KeepsDisk}
-use Rattle.sdr_log.specs.Frame.{room_of}
 use Rattle.sdr_log.specs.Log.{put_back_of}
 use Rattle.sdr_log.specs.Logged.{GivesSame}
 use Rattle.sdr_model.specs.declared.journal.Entry.{Entry}
 use Rattle.sdr_model.specs.declared.script.Step.{Step}
 use Rattle.sdr_replay.specs.Handed.{HandedDisk, handed_as}
 use Rattle.sdr_replay.specs.Playing.{Output, PlaysOut}
-use Rattle.sdr_replay.specs.Replaying.{IsNotRun, IsSettled, LeavesJournal, ReplaysOn, begins_on, first_on, with_base}
+use Rattle.sdr_replay.specs.Replaying.{IsNotRun, IsSettled, LeavesJournal, ReplaysOn, begins_on, with_base}
 use Rattle.sdr_replay.specs.declared.playing.Ran.{Ran}
 use Rattle.sdr_station.proofs.GroundLemmas.{heap_ground}
 use Rattle.sdr_station.specs.CrashNow.{crash_now}
 use Rattle.sdr_station.specs.Grounded.{Grounded, Leaves, Opens, StandsForBoth}
-use Rattle.sdr_station.specs.Opening.{IsOpen, fresh_standing}
+use Rattle.sdr_station.specs.Opening.{IsOpen, first_on}
 use Rattle.sdr_station.specs.declared.error.OpenError.{OpenError}
 
 -- a disk that tells its bytes has told them, where it tells them just as before
@@ -63,10 +62,7 @@ module _ {D : Type 0} (d : DiskGhosts D) (read_now : (x : D) → IfTold (d.bytes
     (g : Grounded D) (settled : IsSettled d disk) (o : OpenedSo d disk g) where
   -- what was opened stands for the first state
   stands : StandsForBoth d.bytes d.moment d.may_leave g (standing_at (first_on g) [])
-  stands =
-      let lines : g.heap.size / 64 ≡ o.open_so.lines = omega (arith, o.open_so.long) in
-      subst (λ (v : Standing). StandsForBoth d.bytes d.moment d.may_leave g v)
-      (ap (λ (n : ℕ). fresh_standing (room_of g.heap.cells.frame) n) (sym lines)) (o.open_so.stands settled)
+  stands = o.open_so.stands settled
 
   -- where the disk told its bytes, its moment hasn't fallen
   started : IfTold (d.bytes disk) (λ _. d.moment disk ≤ g.moment)

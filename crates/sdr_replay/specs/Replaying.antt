@@ -1,5 +1,5 @@
 -- A schedule that runs on the heap of a disk.
-use Rattle.std.specs.Prelude.{◌≡◌, ◌≤◌, ◌<◌, ◌/◌, ℕ, List, None, true, false, not, length, min}
+use Rattle.std.specs.Prelude.{◌≡◌, ◌≤◌, ◌<◌, ℕ, List, None, true, false, not, length, min}
 use Rattle.sdr_base.specs.Causes.{Rose}
 use Rattle.sdr_core.specs.CoreKept.{Begins}
 use Rattle.sdr_disk.specs.Moments.{AtEach}
@@ -11,7 +11,6 @@ use Rattle.sdr_lock.specs.Crash.{IsCrashSafe, OpensAfter, OpensTo, done_by, is_s
 use Rattle.sdr_lock.specs.Ground.{State}
 use Rattle.sdr_lock.specs.Legal.{IsAfter, IsLegal}
 use Rattle.sdr_log.specs.Calls.{KeepsDisk}
-use Rattle.sdr_log.specs.Frame.{room_of}
 use Rattle.sdr_log.specs.Logged.{GivesSame}
 use Rattle.sdr_model.specs.declared.journal.Entry.{Entry}
 use Rattle.sdr_model.specs.declared.script.Step.{Step}
@@ -19,16 +18,12 @@ use Rattle.sdr_replay.specs.Handed.{HandedDisk}
 use Rattle.sdr_replay.specs.Playing.{Output, RunsScript}
 use Rattle.sdr_replay.specs.declared.playing.Ran.{Ran}
 use Rattle.sdr_station.specs.Grounded.{Grounded, Opens}
-use Rattle.sdr_station.specs.Opening.{ExplainsOpen, IsOpen, LeavesBytes, fresh_standing}
+use Rattle.sdr_station.specs.Opening.{ExplainsOpen, IsOpen, LeavesBytes, first_on}
 use Rattle.sdr_station.specs.declared.error.Shut.{Shut}
 
 -- nothing is pending on a disk that is handed in, or in lines alone that its open batches name
 abbrev pub IsSettled : {D : Type 0} → DiskGhosts D → D → Type 0
 IsSettled d disk = IfTold (d.bytes disk) (λ x. MayBeOpened x (d.may_leave disk (d.moment disk)))
-
--- the fresh world on the heap that was opened
-abbrev pub first_on : {D : Type 0} → Grounded D → State
-first_on g = (fresh_standing (room_of g.heap.cells.frame) (g.heap.size / 64)).now
 
 -- a run of the script's daemons begins with the world on the heap that was opened, no later than its disk was handed in
 abbrev pub begins_on : {D : Type 0} → HandedDisk → List Step → Grounded D → Begins

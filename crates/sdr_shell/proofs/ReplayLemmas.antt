@@ -1,15 +1,15 @@
 -- What a replay answers follows from what it came to.
 use Rattle.std.proofs.Common.{◌≡◌, ◌∙◌, ◌≤◌, ◌/◌, ◌⊎◌, ℕ, List, [], ◌++◌, Bool, true, false, not, true≢false, Option, None, Some, Ok, Err, IsErr, refl, sym, ap, subst, inl, inr, arith, length}
-use Rattle.std.specs.Prelude.{codes, get_or}
+use Rattle.std.specs.Prelude.{codes}
 use Rattle.std.specs.Io.KnownBytes.{Appends, IsAtEnd}
-use Rattle.sdr_base.proofs.FreshHeapLemmas.{length-fresh_heap}
+use Rattle.sdr_audit.specs.Standing.{StandsForWhole}
 use Rattle.sdr_base.specs.Causes.{Rose}
-use Rattle.sdr_base.specs.FreshHeap.{fresh_heap}
+use Rattle.sdr_base.specs.Pools.{Pools}
 use Rattle.sdr_base.specs.Written.{AppendsPart}
-use Rattle.sdr_base.specs.declared.line.TheConstants.{LEAST_LINES, LINE}
 use Rattle.sdr_disk.specs.declared.disk.Disk.{Ghosts as DiskGhosts}
 use Rattle.sdr_lock.specs.Crash.{is_sound}
 use Rattle.sdr_log.specs.Log.{put_back_of}
+use Rattle.sdr_model.specs.World.{World}
 use Rattle.sdr_model.specs.declared.event.Leave.{Leave}
 use Rattle.sdr_model.specs.declared.journal.Entry.{Entry}
 use Rattle.sdr_model.specs.declared.script.Step.{Step}
@@ -164,34 +164,33 @@ module _ {D : Type 0} (d : DiskGhosts D) (source source' sink sink' : Seen) (dis
       absurd (none_refused source.bytes bytes script told ok served line.line line.input)
   completes status bytes script told ok served no_input no_output no_disk (ComesTo.unheld is same wrote) = inr (inr (inr is))
 
-  -- why no script was run on a disk that gives a fresh heap, where it didn't fail
-  fresh_shut : (why : OpenError) (status : ℕ) (x : List ℕ) (lines : ℕ) → status ≡ status_shut why → IsNotRun d disk (record { why = why; disk = disk' })
-      → d.bytes disk ≡ Some x → LEAST_LINES ≤ lines → put_back_of x ≡ Some (fresh_heap lines) → ¬ Rose (d.faults disk) (d.faults disk')
-      → status ≡ NO_MEMORY
-  fresh_shut errors.NotFormatted status x lines is not told least gives no_disk = let none = not.why x told in absurd cc
-  fresh_shut (errors.Damaged place why) status x lines is not told least gives no_disk =
-      let damaged = not.why.1 x told in
-      let heap : damaged.heap ≡ fresh_heap lines = cc (damaged.gives, gives) in
-      let many : length damaged.heap / LINE ≡ lines = let long = ap length heap in let size = length-fresh_heap lines least in omega (arith, long, size) in
-      absurd (damaged.differs.other (ap (λ (h : List ℕ). get_or h place 0) (heap ∙ ap fresh_heap (sym many))))
-  fresh_shut errors.DiskFault status x lines is not told least gives no_disk = absurd (no_disk not.why)
-  fresh_shut errors.NoMemory status x lines is not told least gives no_disk = is
+  -- why no script was run on a disk that gives a heap for which a world stands, where it didn't fail
+  standing_shut : (why : OpenError) (status : ℕ) (x heap : List ℕ) (w : World) (P : Pools) → status ≡ status_shut why
+      → IsNotRun d disk (record { why = why; disk = disk' }) → d.bytes disk ≡ Some x → put_back_of x ≡ Some heap → StandsForWhole heap w P
+      → ¬ Rose (d.faults disk) (d.faults disk') → status ≡ NO_MEMORY
+  standing_shut errors.NotFormatted status x heap w P is not told gives stands no_disk = let none = not.why x told in absurd cc
+  standing_shut (errors.Damaged place why) status x heap w P is not told gives stands no_disk =
+      let damaged = not.why x told in
+      let same : heap ≡ damaged.heap = cc (damaged.gives, gives) in
+      absurd (damaged.none w P (subst (λ (h : List ℕ). StandsForWhole h w P) same stands))
+  standing_shut errors.DiskFault status x heap w P is not told gives stands no_disk = absurd (no_disk not.why)
+  standing_shut errors.NoMemory status x heap w P is not told gives stands no_disk = is
 
-  takes_fresh : (status : ℕ) (bytes : List ℕ) (script : List Step) → source.bytes ≡ Some bytes → input_script bytes ≡ Ok script → first_unserved script ≡ None
-      → (x : List ℕ) (lines : ℕ) → d.bytes disk ≡ Some x → LEAST_LINES ≤ lines → put_back_of x ≡ Some (fresh_heap lines)
+  takes_standing : (status : ℕ) (bytes : List ℕ) (script : List Step) → source.bytes ≡ Some bytes → input_script bytes ≡ Ok script → first_unserved script ≡ None
+      → (x heap : List ℕ) (w : World) (P : Pools) → d.bytes disk ≡ Some x → put_back_of x ≡ Some heap → StandsForWhole heap w P
       → ¬ Rose source.faults source'.faults → ¬ Rose sink.faults sink'.faults → ¬ Rose (d.faults disk) (d.faults disk')
       → ComesTo d status source source' disk disk' journal sink sink' → (status ≡ DONE) ⊎ (status ≡ NO_MEMORY)
-  takes_fresh status bytes script told ok served x lines has least gives no_input no_output no_disk (ComesTo.done is whole) = inl is
-  takes_fresh status bytes script told ok served x lines has least gives no_input no_output no_disk (ComesTo.unwritten is rose whole) = absurd (no_output rose)
-  takes_fresh status bytes script told ok served x lines has least gives no_input no_output no_disk (ComesTo.failed is ran) =
+  takes_standing status bytes script told ok served x heap w P has gives stands no_input no_output no_disk (ComesTo.done is whole) = inl is
+  takes_standing status bytes script told ok served x heap w P has gives stands no_input no_output no_disk (ComesTo.unwritten is rose whole) = absurd (no_output rose)
+  takes_standing status bytes script told ok served x heap w P has gives stands no_input no_output no_disk (ComesTo.failed is ran) =
       absurd (no_disk (ran.ran.leaves.cause ran.failed))
-  takes_fresh status bytes script told ok served x lines has least gives no_input no_output no_disk (ComesTo.starved is ran) = inr is
-  takes_fresh status bytes script told ok served x lines has least gives no_input no_output no_disk (ComesTo.shut why is was) =
-      inr (fresh_shut why status x lines is was.not_run has least gives no_disk)
-  takes_fresh status bytes script told ok served x lines has least gives no_input no_output no_disk (ComesTo.unread is rose same wrote) = absurd (no_input rose)
-  takes_fresh status bytes script told ok served x lines has least gives no_input no_output no_disk (ComesTo.refused is same line) =
+  takes_standing status bytes script told ok served x heap w P has gives stands no_input no_output no_disk (ComesTo.starved is ran) = inr is
+  takes_standing status bytes script told ok served x heap w P has gives stands no_input no_output no_disk (ComesTo.shut why is was) =
+      inr (standing_shut why status x heap w P is was.not_run has gives stands no_disk)
+  takes_standing status bytes script told ok served x heap w P has gives stands no_input no_output no_disk (ComesTo.unread is rose same wrote) = absurd (no_input rose)
+  takes_standing status bytes script told ok served x heap w P has gives stands no_input no_output no_disk (ComesTo.refused is same line) =
       absurd (none_refused source.bytes bytes script told ok served line.line line.input)
-  takes_fresh status bytes script told ok served x lines has least gives no_input no_output no_disk (ComesTo.unheld is same wrote) = inr is
+  takes_standing status bytes script told ok served x heap w P has gives stands no_input no_output no_disk (ComesTo.unheld is same wrote) = inr is
 
   -- no replay answers that the words are no form
   pub never_usage : (status : ℕ) → ComesTo d status source source' disk disk' journal sink sink' → status ≡ USAGE → ⊥
@@ -213,8 +212,8 @@ module _ {D : Type 0} (d : DiskGhosts D) (source source' sink sink' : Seen) (dis
     comes = comes;
     exact = λ bytes told refused. refused_only status bytes told refused comes;
     complete = λ bytes script told ok served no_input no_output no_disk. completes status bytes script told ok served no_input no_output no_disk comes;
-    fresh = λ bytes script told ok served x lines has least gives no_input no_output no_disk.
-        takes_fresh status bytes script told ok served x lines has least gives no_input no_output no_disk comes;
+    taken = λ bytes script told ok served x heap w P has gives stands no_input no_output no_disk.
+        takes_standing status bytes script told ok served x heap w P has gives stands no_input no_output no_disk comes;
   }
 
 -- where no script was read, it is answered so

@@ -1,12 +1,12 @@
 -- What `replay` answers: by status, what was read, run and printed, and what is left of the disk.
 use Rattle.std.specs.Prelude.{◌≡◌, ◌≤◌, ℕ, Bool, List, [], ◌++◌, ◌⊎◌, Option, None, Some, IsOk, IsErr, Ok, codes, decimal, true, false}
 use Rattle.std.specs.Io.KnownBytes.{Appends, IsAtEnd}
-use Rattle.sdr_check.specs.declared.checking.Why.{Why}
-use Rattle.sdr_check.specs.declared.checking.Why.TheVariants as whys
+use Rattle.sdr_audit.specs.Standing.{StandsForWhole}
+use Rattle.sdr_check.specs.declared.error.Why.{Why}
+use Rattle.sdr_check.specs.declared.error.Why.TheVariants as whys
 use Rattle.sdr_base.specs.Causes.{Rose}
-use Rattle.sdr_base.specs.FreshHeap.{fresh_heap}
+use Rattle.sdr_base.specs.Pools.{Pools}
 use Rattle.sdr_base.specs.Written.{AppendsPart}
-use Rattle.sdr_base.specs.declared.line.TheConstants.{LEAST_LINES}
 use Rattle.sdr_disk.specs.Moments.{AtEach}
 use Rattle.sdr_disk.specs.Told.{IfTold}
 use Rattle.sdr_disk.specs.declared.disk.Disk.{Ghosts as DiskGhosts}
@@ -14,12 +14,13 @@ use Rattle.sdr_dry.specs.Schedule.{daemons_of}
 use Rattle.sdr_lock.specs.Crash.{is_sound}
 use Rattle.sdr_lock.specs.Legal.{IsLegal}
 use Rattle.sdr_log.specs.Log.{put_back_of}
+use Rattle.sdr_model.specs.World.{World}
 use Rattle.sdr_model.specs.declared.event.Leave.{Leave}
 use Rattle.sdr_model.specs.declared.event.Leave.TheVariants as leaves
 use Rattle.sdr_model.specs.declared.journal.Entry.{Entry}
 use Rattle.sdr_model.specs.declared.script.Step.{Step}
 use Rattle.sdr_replay.specs.Playing.{Output, Replays, leave_of}
-use Rattle.sdr_replay.specs.Replaying.{IsNotRun, LeavesJournal, ReplaysOn, first_on}
+use Rattle.sdr_replay.specs.Replaying.{IsNotRun, LeavesJournal, ReplaysOn}
 use Rattle.sdr_replay.specs.Serving.{first_unserved}
 use Rattle.sdr_replay.specs.declared.playing.Ran.{Ran}
 use Rattle.sdr_shell.specs.Answers.{Seen, Wrote}
@@ -27,7 +28,7 @@ use Rattle.sdr_shell.specs.Still.{HadBadLine, HadScript, line_refused}
 use Rattle.sdr_shell.specs.declared.replaying.Replayed.{Replayed}
 use Rattle.sdr_shell.specs.declared.status.TheConstants.{DONE, INPUT_FAULT, OUTPUT_FAULT, DISK_FAULT, NOT_FORMATTED, DAMAGED, REFUSED_LINE, NO_MEMORY}
 use Rattle.sdr_station.specs.Grounded.{Grounded}
-use Rattle.sdr_station.specs.Opening.{IsOpen}
+use Rattle.sdr_station.specs.Opening.{IsOpen, first_on}
 use Rattle.sdr_station.specs.declared.error.OpenError.{OpenError}
 use Rattle.sdr_station.specs.declared.error.OpenError.TheVariants as errors
 use Rattle.sdr_words.specs.Script.{input_script}
@@ -39,6 +40,13 @@ output_of sink = record { taken = sink.bytes; faults = sink.faults }
 -- what is wrong at a place, in a word
 abbrev pub why_text : Why → List ℕ
 why_text whys.Control = codes "control"
+why_text whys.Block = codes "block"
+why_text whys.Bits = codes "bits"
+why_text whys.Free = codes "free"
+why_text whys.Content = codes "content"
+why_text whys.Owner = codes "owner"
+why_text whys.Count = codes "count"
+why_text whys.Queue = codes "queue"
 
 -- the last line where a heap isn't opened
 abbrev pub line_shut : OpenError → List ℕ
@@ -187,9 +195,9 @@ pub record AnswersReplay {D : Type 0} (d : DiskGhosts D) (status : ℕ) (source 
       (bytes : List ℕ) (script : List Step) → source.bytes ≡ Some bytes → input_script bytes ≡ Ok script → first_unserved script ≡ None
       → ¬ Rose source.faults source'.faults → ¬ Rose sink.faults sink'.faults → ¬ Rose (d.faults disk) (d.faults disk')
       → (status ≡ DONE) ⊎ (status ≡ NOT_FORMATTED) ⊎ (status ≡ DAMAGED) ⊎ (status ≡ NO_MEMORY)
-  -- a fresh heap is taken for one
-  pub fresh :
+  -- each heap is taken for which a world stands
+  pub taken :
       (bytes : List ℕ) (script : List Step) → source.bytes ≡ Some bytes → input_script bytes ≡ Ok script → first_unserved script ≡ None
-      → (x : List ℕ) (lines : ℕ) → d.bytes disk ≡ Some x → LEAST_LINES ≤ lines → put_back_of x ≡ Some (fresh_heap lines)
+      → (x heap : List ℕ) (w : World) (P : Pools) → d.bytes disk ≡ Some x → put_back_of x ≡ Some heap → StandsForWhole heap w P
       → ¬ Rose source.faults source'.faults → ¬ Rose sink.faults sink'.faults → ¬ Rose (d.faults disk) (d.faults disk')
       → (status ≡ DONE) ⊎ (status ≡ NO_MEMORY)

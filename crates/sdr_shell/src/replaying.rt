@@ -37,6 +37,13 @@ fn why_text(why: Why) -> &'static [u8]
 {
     match why {
         Why::Control => b"control",
+        Why::Block => b"block",
+        Why::Bits => b"bits",
+        Why::Free => b"free",
+        Why::Content => b"content",
+        Why::Owner => b"owner",
+        Why::Count => b"count",
+        Why::Queue => b"queue",
     }
 }
 

@@ -1,14 +1,10 @@
--- A fresh heap that was opened.
+-- A heap that was opened.
 use Rattle.std.proofs.Common.{◌≡◌, ◌∙◌, ◌≤◌, ◌*◌, ℕ, List, [], false, true, Option, Some, refl, sym, ap, subst, length}
 use Rattle.std.specs.Prelude.{replicate}
-use Rattle.sdr_audit.proofs.FreshLemmas.{fresh_stands_whole}
-use Rattle.sdr_check.specs.Checking.{IsFresh}
 use Rattle.sdr_audit.specs.Standing.{StandsForWhole}
-use Rattle.sdr_check.specs.declared.checking.AuditError.{AuditError}
-use Rattle.sdr_check.specs.declared.checking.AuditError.TheVariants as audits
-use Rattle.sdr_base.proofs.FreshHeapLemmas.{length-fresh_heap}
-use Rattle.sdr_base.specs.FreshHeap.{fresh_heap}
-use Rattle.sdr_base.specs.Pools.{fresh_pools}
+use Rattle.sdr_check.specs.Checked.{IsNoWorld, OnlyReads, TellsFirst}
+use Rattle.sdr_check.specs.declared.error.AuditError.{AuditError}
+use Rattle.sdr_check.specs.declared.error.AuditError.TheVariants as audits
 use Rattle.sdr_disk.specs.Told.{Both}
 use Rattle.sdr_image.proofs.OpenedLemmas.{rests_same}
 use Rattle.sdr_image.specs.Opened.{IsQuiet, Opened}
@@ -19,26 +15,19 @@ use Rattle.sdr_lock.specs.Ground.{Ground, State, resting}
 use Rattle.sdr_log.specs.Calls.{PutsBack}
 use Rattle.sdr_log.specs.Frame.{room_of}
 use Rattle.sdr_log.specs.declared.frame.Frame.{Frame}
-use Rattle.sdr_model.specs.World.{fresh_world}
+use Rattle.sdr_read.specs.Standing.{StandsAsTold}
+use Rattle.sdr_read.specs.Told.{world_of}
+use Rattle.sdr_read.specs.ToldPools.{pools_of}
 use Rattle.sdr_station.proofs.ClosingLemmas.{within_of}
 use Rattle.sdr_station.proofs.StoodLemmas.{stood_of}
 use Rattle.sdr_station.specs.Grounded.{Grounded, IsGround, StandsAtRest, StandsInMemory}
 use Rattle.sdr_station.specs.Opening.{ArePutBack, IsOfAudit, IsOfImage, IsOpen, LeavesBytes}
 use Rattle.sdr_station.specs.declared.error.OpenError.{OpenError}
 
--- the bytes of a fresh heap stand for it at rest
-fresh_rest : (room lines : ℕ) (bytes : List ℕ) → 32 ≤ lines → lines ≤ 262144 → bytes ≡ fresh_heap lines
-    → StandsAtRest room bytes (resting (fresh_world (32 * lines)) (Ground.OnHeap room (fresh_pools lines)))
-fresh_rest room lines bytes least most is = record {
-  pools = fresh_pools lines;
-  base = refl;
-  stands = subst (λ (b : List ℕ). StandsForWhole b (fresh_world (32 * lines)) (fresh_pools lines)) (sym is) (fresh_stands_whole lines least most);
-  demand = refl;
-}
-
--- an image that was opened, and whose bytes were found to be a fresh heap's, stands for it
+-- an image that was opened, and for whose bytes a world was found to stand, stands for it
 pub open_stands : {D : Type 0} (told : D → Option (List ℕ)) (moment : D → ℕ) (may_leave : D → ℕ → List ℕ → Type 0) (disk : D) (i j : Opened D)
-    (count spare : ℕ) → IsOpened told moment may_leave disk i → IsQuiet i j → j.bytes ≡ i.bytes → j.touched ≡ i.touched → IsFresh i.bytes
+    (count spare : ℕ) → IsOpened told moment may_leave disk i → IsQuiet i j → j.bytes ≡ i.bytes → j.touched ≡ i.touched
+    → StandsAsTold i.bytes
     → IsOpen told moment may_leave disk (record {
       heap = record { cells = j; size = length j.bytes; marks = replicate count false; moves = []; spare = spare };
       shown = [];
@@ -47,11 +36,17 @@ pub open_stands : {D : Type 0} (told : D → Option (List ℕ)) (moment : D → 
       moment = moment j.disk;
       restored = i.restored;
     })
-open_stands {D} told moment may_leave disk i j count spare o q bytes touched f =
+open_stands {D} told moment may_leave disk i j count spare o q bytes touched told_stands =
     let room = room_of j.frame in
-    let s : State = resting (fresh_world (32 * f.lines)) (Ground.OnHeap room (fresh_pools f.lines)) in
+    let s : State = resting (world_of j.begun) (Ground.OnHeap room (pools_of j.begun)) in
     let begun : j.begun ≡ j.bytes = q.begun ∙ o.begun ∙ sym bytes in
-    let rest : StandsAtRest room j.bytes s = fresh_rest room f.lines j.bytes f.least f.most (bytes ∙ f.is) in
+    let stands : StandsAsTold j.begun = subst StandsAsTold (sym (q.begun ∙ o.begun)) told_stands in
+    let rest : StandsAtRest room j.bytes s = record {
+      pools = pools_of j.begun;
+      base = refl;
+      stands = subst (λ (b : List ℕ). StandsForWhole b (world_of j.begun) (pools_of j.begun)) begun stands;
+      demand = refl;
+    } in
     let g : Grounded D = record {
       heap = record { cells = j; size = length j.bytes; marks = replicate count false; moves = []; spare = spare };
       shown = [];
@@ -65,23 +60,19 @@ open_stands {D} told moment may_leave disk i j count spare o q bytes touched f =
       sound = q.failed ∙ o.sound;
       size = ap (λ (b : List ℕ). length b) begun;
       before = subst (λ (b : List ℕ). StandsAtRest room b s) (sym begun) rest;
-      taken = refl;
-      gave = refl;
+      taken = stands.stands.taken;
+      gave = stands.stands.shown;
       stood = stood_of within;
       now = λ _. within;
       idle = λ _. refl;
       moves = refl;
     } in
     record {
-      lines = f.lines;
-      least = f.least;
-      most = f.most;
-      long = ap (λ (b : List ℕ). length b) (bytes ∙ f.is) ∙ length-fresh_heap f.lines f.least;
       going = refl;
       idle = refl;
       sound = q.failed ∙ o.sound;
       head = λ x is. o.head x is ∙ ap (λ (f : Frame). Some f) (sym q.frame);
-      gives = λ x is. o.heap x is ∙ ap (λ (b : List ℕ). Some b) f.is;
+      gives = λ x is. o.heap x is ∙ ap (λ (b : List ℕ). Some b) (sym bytes ∙ sym begun);
       back = λ x is y tells.
           subst (λ (r : Frame). PutsBack r i.restored x y) (sym q.frame) (o.back x is y (sym (ap told q.disk) ∙ tells));
       memory = memory;
@@ -110,3 +101,4 @@ pub audit_leaves : (old new : Option (List ℕ)) (error : AuditError) (why : Ope
 audit_leaves old new (audits.Damaged place check) why is back = subst (λ (w : OpenError). LeavesBytes old new w) (sym is) back
 audit_leaves old new audits.DiskFault why is back = subst (λ (w : OpenError). LeavesBytes old new w) (sym is) tt
 audit_leaves old new audits.Failed why is back = subst (λ (w : OpenError). LeavesBytes old new w) (sym is) tt
+audit_leaves old new audits.NoMemory why is back = subst (λ (w : OpenError). LeavesBytes old new w) (sym is) tt

@@ -6,7 +6,7 @@ use sdr_check::Why;
 pub enum OpenError {
     /// The disk gives no heap.
     NotFormatted,
-    /// No world is known to stand for the heap that the disk gives, by what is wrong at a place in it.
+    /// No world stands for the heap that the disk gives, by what is wrong first, at a place in it.
     Damaged { place: u64, why: Why },
     /// The disk failed.
     DiskFault,

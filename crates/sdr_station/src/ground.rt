@@ -123,13 +123,15 @@ fn of_audit(why: AuditError) -> OpenError
         AuditError::Damaged { place, why } => OpenError::Damaged { place, why },
         AuditError::DiskFault => OpenError::DiskFault,
         AuditError::Failed => OpenError::DiskFault,
+        AuditError::NoMemory => OpenError::NoMemory,
     }
 }
 
 impl<D: Disk, F: Notify + Drop> HeapGround<D, F> {
     /// Opens the heap on a disk. Where batches are open, their lines are put back. All memory is taken
     /// here. A crash on the way leaves the same heap as one before, where nothing is pending on the disk
-    /// that is handed in, or a recovery of it was stopped. So far only a fresh heap is opened.
+    /// that is handed in, or a recovery of it was stopped. Each heap is opened for which a world stands, but for a
+    /// fault or want of memory.
     pub fn open(alloc: Global, disk: D, notice: Notice<F>) -> Result<HeapGround<D, F>, Shut<D>>
         ensures opened { IfOk result (IsOpen D.bytes D.moment D.may_leave disk) }
         ensures why { IfErr result (λ shut.
@@ -152,7 +154,7 @@ impl<D: Disk, F: Notify + Drop> HeapGround<D, F> {
             }
         };
         let restored = image.restored();
-        if let Err(why) = check(&mut image) {
+        if let Err(why) = check(alloc, &mut image) {
             return Err(Shut {
                 why: of_audit(why),
                 disk: image.into_disk(),

@@ -46,31 +46,6 @@ pub on_err_map : {T E : Type 0} {P Q : Type 0} (r : Result T E) → (P → Q) �
 on_err_map (Ok x) f p = tt
 on_err_map (Err e) f p = f p
 
--- what stands behind a name in the line of its entry
-abbrev entry_behind : List ℕ → ℕ → ℕ → List ℕ
-entry_behind t kind addr = field_on (field_on t kind) addr ++ codes "\n"
-
-entry_behind-append : (t u : List ℕ) (kind addr : ℕ) → t ++ entry_behind u kind addr ≡ entry_behind (t ++ u) kind addr
-entry_behind-append t u kind addr =
-    simp append_assoc
-
--- the line of an entry whose name stands between quotation marks
-pub entry_quoted : (front name f e : List ℕ) (kind addr : ℕ) → list_all is_text_byte name ≡ true → f ≡ front ++ codes "\"" → e ≡ field_on (field_on (codes "\"") kind) addr ++ codes "\n"
-    → f ++ name ++ e ≡ field_on (field_on (front ++ literal_text name) kind) addr ++ codes "\n"
-entry_quoted front name f e kind addr quoted f_is e_is =
-    let whole : front ++ codes "\"" ++ name ++ codes "\"" ≡ front ++ literal_text name =
-    (let regrouped : front ++ codes "\"" ++ name ++ codes "\"" ≡ front ++ (codes "\"" ++ name ++ codes "\"") = simp append_assoc in
-    regrouped) ∙ ap (λ l. front ++ l) (sym (cond-true _ _ _ quoted)) in
-    ap (λ l. l ++ name ++ e) f_is ∙ ap (λ l. front ++ codes "\"" ++ name ++ l) e_is
-    ∙ entry_behind-append (front ++ codes "\"" ++ name) (codes "\"") kind addr
-    ∙ ap (λ l. entry_behind l kind addr) whole
-
--- the line of an entry whose name is printed as bytes
-pub entry_bytes : (front name f e : List ℕ) (kind addr : ℕ) → list_all is_text_byte name ≡ false → f ≡ front ++ codes "x" → e ≡ field_on (field_on [] kind) addr ++ codes "\n"
-    → f ++ encode_lower name ++ e ≡ field_on (field_on (front ++ literal_text name) kind) addr ++ codes "\n"
-entry_bytes front name f e kind addr other f_is e_is =
-    let whole : front ++ codes "x" ++ encode_lower name ++ [] ≡ front ++ literal_text name =
-    append-nil _ ∙ append_assoc front (codes "x") (encode_lower name) ∙ ap (λ l. front ++ l) (sym (cond-false _ _ _ other)) in
-    ap (λ l. l ++ encode_lower name ++ e) f_is ∙ ap (λ l. front ++ codes "x" ++ encode_lower name ++ l) e_is
-    ∙ entry_behind-append (front ++ codes "x" ++ encode_lower name) [] kind addr
-    ∙ ap (λ l. entry_behind l kind addr) whole
+-- what stands behind a name in the line of its entry, behind the name
+pub entry_behind : (t : List ℕ) (kind addr : ℕ) → t ++ (field_on (field_on [] kind) addr ++ codes "\n") ≡ field_on (field_on t kind) addr ++ codes "\n"
+entry_behind t kind addr = simp append_assoc

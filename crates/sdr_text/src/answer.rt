@@ -7,7 +7,7 @@ ghost use Rattle.sdr_text.specs.Refused.{field_on};
 ghost use Rattle.sdr_text.specs.Text.{grant_text, reply_on, close_on, answer_on, answer_text, bytes_text, literal_text, line_text};
 
 use crate::Line;
-use crate::given::{are_text_bytes, write_given, write_text};
+use crate::given::{write_given, write_literal};
 use crate::refused::{reason, refusal};
 use sdr_base::{Sink, SinkFault, write_all};
 use sdr_model::{Answer, Close, Reply};
@@ -18,6 +18,15 @@ fn grant_text(granted: bool) -> &'static [u8]
     ensures len { length result.now ≤ 8 }
 {
     if granted { b" granted" } else { b" waiting" }
+}
+
+/// Adds whether a ticket was granted.
+pub fn add_grant(line: &mut Line, granted: bool)
+    requires { length line.old ≤ 1000 }
+    ensures text { line.new ≡ line.old ++ grant_text granted }
+    ensures len { length line.new ≤ length line.old + 8 }
+{
+    line.push(grant_text(granted));
 }
 
 // Adds a reply, without the bytes that it gives and what comes behind them.
@@ -46,7 +55,7 @@ fn reply(line: &mut Line, reply: &Reply)
         Reply::Ticket { number, granted } => {
             line.push(b"ticket");
             line.field(*number);
-            line.push(grant_text(*granted));
+            add_grant(line, *granted);
         }
         Reply::Refused(why) => {
             line.push(b"refused ");
@@ -113,8 +122,9 @@ fn write_bytes<K: Sink>(out: &mut K, mut front: Line, bytes: &[u8]) -> Result<()
 
 // The type and the object of an entry of the catalogue, at the end of a line.
 fn entry_end(line: &mut Line, kind: u32, addr: u64)
-    requires { length line.old ≤ 500 }
-    ensures { line.new ≡ field_on (field_on line.old kind) addr ++ codes "\n" }
+    requires { length line.old ≤ 400 }
+    ensures text { line.new ≡ field_on (field_on line.old kind) addr ++ codes "\n" }
+    ensures len { length line.new ≤ length line.old + 43 }
 {
     line.field(u64::from(kind));
     line.field(addr);
@@ -124,7 +134,7 @@ fn entry_end(line: &mut Line, kind: u32, addr: u64)
 // Writes the front of a line, a name, and the type and object of its entry.
 fn write_entry<K: Sink>(
     out: &mut K,
-    mut front: Line,
+    front: Line,
     name: &[u8],
     kind: u32,
     addr: u64,
@@ -137,16 +147,8 @@ fn write_entry<K: Sink>(
     ensures cause { HasCause (K.faults out.old) (K.faults out.new) result }
 {
     let mut end = Line::new();
-    if are_text_bytes(name) {
-        front.push(b"\"");
-        end.push(b"\"");
-        entry_end(&mut end, kind, addr);
-        write_text(out, front.as_slice(), name, end.as_slice())
-    } else {
-        front.push(b"x");
-        entry_end(&mut end, kind, addr);
-        write_given(out, front.as_slice(), name, end.as_slice())
-    }
+    entry_end(&mut end, kind, addr);
+    write_literal(out, front, name, end.as_slice())
 }
 
 // Writes the rest of a line behind its front: an answer, with the bytes that its call gave.

@@ -1,12 +1,13 @@
 // How bytes that a call gave are printed.
-ghost use Rattle.std.specs.Prelude.{◌≡◌, ◌≤◌, ◌++◌, OnOk, OnErr, length};
+ghost use Rattle.std.specs.Prelude.{◌≡◌, ◌≤◌, ◌++◌, OnOk, OnErr, codes, length};
 ghost use Rattle.std.specs.Io.KnownBytes.{Appends};
 ghost use Rattle.std.specs.List.{list_all};
 ghost use Rattle.hex.specs.Hex.{encode_lower};
 ghost use Rattle.sdr_base.specs.Causes.{HasCause};
 ghost use Rattle.sdr_base.specs.Written.{AppendsPart};
-ghost use Rattle.sdr_text.specs.Text.{is_text_byte};
+ghost use Rattle.sdr_text.specs.Text.{is_text_byte, literal_text};
 
+use crate::Line;
 use hex::encode_to_slice;
 use sdr_base::{Sink, SinkFault, write_all};
 
@@ -95,4 +96,31 @@ pub fn are_text_bytes(bytes: &[u8]) -> bool
     ensures { result ≡ list_all is_text_byte bytes.now }
 {
     bytes.iter().all(|b| is_text_byte(*b))
+}
+
+/// Writes the front of a line, a text between quotation marks, or as bytes where it has a byte that doesn't stand for itself, and
+/// the end of the line.
+pub fn write_literal<K: Sink>(
+    out: &mut K,
+    mut front: Line,
+    text: &[u8],
+    end: &[u8],
+) -> Result<(), SinkFault>
+    requires front { length front ≤ 500 }
+    requires end { length end.now ≤ 500 }
+    ensures ok { OnOk result (Appends (K.taken out.old) (K.taken out.new)
+        (front ++ literal_text text.now ++ end.now)) }
+    ensures err { OnErr result (AppendsPart (K.taken out.old) (K.taken out.new)
+        (front ++ literal_text text.now ++ end.now)) }
+    ensures cause { HasCause (K.faults out.old) (K.faults out.new) result }
+{
+    if !are_text_bytes(text) {
+        front.push(b"x");
+        return write_given(out, front.as_slice(), text, end);
+    }
+    front.push(b"\"");
+    let mut behind = Line::new();
+    behind.push(b"\"");
+    behind.push(end);
+    write_text(out, front.as_slice(), text, behind.as_slice())
 }

@@ -10,6 +10,7 @@ mod given;
 mod line;
 mod refused;
 
-pub use answer::write_answer;
-pub use given::are_text_bytes;
+pub use answer::{add_grant, write_answer};
+pub use given::{are_text_bytes, write_given, write_literal};
 pub use line::Line;
+pub use refused::add_space;

@@ -39,7 +39,8 @@ fn refusal_name(refusal: &Refusal) -> &'static [u8]
     }
 }
 
-fn space(line: &mut Line, space: Space)
+/// Adds a space of an account.
+pub fn add_space(line: &mut Line, space: Space)
     requires { length line.old ≤ 600 }
     ensures text { line.new ≡ space_on line.old space }
     ensures len { length line.new ≤ length line.old + 5 }
@@ -115,7 +116,7 @@ fn fields(line: &mut Line, refusal: &Refusal)
             asked,
             most,
         } => {
-            space(line, of);
+            add_space(line, of);
             three_fields(line, occupied, asked, most);
         }
         Refusal::TooLarge {
@@ -123,7 +124,7 @@ fn fields(line: &mut Line, refusal: &Refusal)
             asked,
             most,
         } => {
-            space(line, of);
+            add_space(line, of);
             two_fields(line, asked, most);
         }
         Refusal::Queue { ticket } | Refusal::BadTicket { ticket } => line.field(ticket),

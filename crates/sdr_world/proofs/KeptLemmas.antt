@@ -9,7 +9,7 @@ use Rattle.sdr_base.specs.Blocks.{Block}
 use Rattle.sdr_base.specs.Catalogue.{NameRow, name_addr, name_block}
 use Rattle.sdr_base.specs.Entries.{Entries, at}
 use Rattle.sdr_base.specs.Hashes.{HashItem, item_addr, item_block}
-use Rattle.sdr_base.specs.Linked.{first_of, linked}
+use Rattle.sdr_base.specs.Linked.{linked}
 use Rattle.sdr_base.specs.Lists.{ListElement, addr_of, element_block, list_block}
 use Rattle.sdr_base.specs.Tickets.{TicketRow, ticket_addr, ticket_block}
 use Rattle.sdr_base.specs.ZcoObjects.{CapsuleRow, ExtentRow, capsule_addr, capsule_block, extent_addr, extent_block}
@@ -21,6 +21,7 @@ use Rattle.sdr_owner.specs.Rules.{is_chained, is_source_of, keeps, names_raw, na
 use Rattle.sdr_owner.specs.View.{View, is_kind, word_of}
 use Rattle.sdr_owner.specs.declared.rules.Rule.{Rule}
 use Rattle.sdr_owner.specs.declared.rules.Rule.TheVariants as which
+use Rattle.sdr_world.proofs.StandLemmas.{All-linked}
 
 -- what is found at an address holds what all do
 pub found_at : (P : ℕ × Block → Type 0) (es : Entries) → All P es → (addr : ℕ) (block : Block) → at es addr ≡ Some block → P (addr, block)
@@ -92,11 +93,7 @@ module _ (heap : View) (reached : List ℕ) where
   -- the blocks of rows do where each does
   pub linked_kept : {X : Type 0} (addr : X → ℕ) (block : ℕ → ℕ → X → Block) (R : X → Type 0) → ((before next : ℕ) (x : X) → R x → Kept (addr x) (block before next x)) →
       (before next : ℕ) (xs : List X) → All R xs → All KeptEntry (linked addr block before next xs)
-  unfolding linked
-  linked_kept addr block R each before next [] all = All-nil KeptEntry
-  linked_kept addr block R each before next (x ∷ xs) all =
-      All-cons KeptEntry (addr x, block before (first_of addr next xs) x) (linked addr block (addr x) next xs) (each before (first_of addr next xs) x (All-head R x xs all))
-      (linked_kept addr block R each (addr x) next xs (All-tail R x xs all))
+  linked_kept addr block R each = All-linked KeptEntry addr block R each
 
   -- an element is one that was reached
   pub element_kept : (list before next : ℕ) (row : ListElement) → is_among reached (addr_of row) ≡ true → Kept (addr_of row) (element_block list before next row)

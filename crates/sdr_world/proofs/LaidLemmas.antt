@@ -4,13 +4,12 @@ use Rattle.std.specs.Prelude.{nat_le, nat_lt, replicate}
 use Rattle.std.specs.List.{All, list_all}
 use Rattle.std.proofs.lemmas.Bool.{and_from, eq-eqb, le-leb, le-ltb, lt-ltb}
 use Rattle.std.proofs.lemmas.List.{drop-drop, get_or-drop, get_or-take, length-append, length-replicate, take_all}
-use Rattle.std.proofs.lemmas.List.Elements.{All-cons, All-head, All-nil, All-tail}
 use Rattle.byteorder.specs.Endian.{big_bytes}
 use Rattle.sdr_base.proofs.LayoutLemmas.{length-layout, number_at-layout}
 use Rattle.sdr_base.proofs.StoredLemmas.{number_at-same}
 use Rattle.sdr_base.specs.Blocks.{Block}
 use Rattle.sdr_base.specs.Catalogue.{name_bytes}
-use Rattle.sdr_base.specs.Linked.{first_of, linked}
+use Rattle.sdr_base.specs.Linked.{linked}
 use Rattle.sdr_base.specs.Sources.{flag_word}
 use Rattle.sdr_base.specs.Tickets.{TicketRow, ticket_block, ticket_words}
 use Rattle.sdr_base.specs.Words.{layout}
@@ -21,6 +20,7 @@ use Rattle.sdr_base.specs.declared.kind.Kind.{Kind}
 use Rattle.sdr_base.specs.declared.kind.Kind.TheVariants as kinds
 use Rattle.sdr_model.specs.Limits.{is_no_path}
 use Rattle.sdr_region.specs.Content.{field, has_layout}
+use Rattle.sdr_world.proofs.StandLemmas.{All-linked}
 
 abbrev pub IsLaid : Block → Type 0
 IsLaid block = has_layout block.kind (length block.bytes) (take 96 block.bytes) ≡ true
@@ -37,12 +37,7 @@ count_laid words rest n is = length-layout words rest ∙ is
 -- what a chain's blocks do, each does
 pub linked_laid : {X : Type 0} (addr : X → ℕ) (block : ℕ → ℕ → X → Block) (R : X → Type 0) → ((before next : ℕ) (x : X) → R x → IsLaid (block before next x)) →
     (before next : ℕ) (xs : List X) → All R xs → All (λ (e : ℕ × Block). IsLaid e.1) (linked addr block before next xs)
-unfolding linked
-linked_laid addr block R each before next [] all = All-nil (λ (e : ℕ × Block). IsLaid e.1)
-linked_laid addr block R each before next (x ∷ xs) all =
-    All-cons (λ (e : ℕ × Block). IsLaid e.1) (addr x, block before (first_of addr next xs) x) (linked addr block (addr x) next xs)
-    (each before (first_of addr next xs) x (All-head R x xs all))
-    (linked_laid addr block R each (addr x) next xs (All-tail R x xs all))
+linked_laid addr block R each = All-linked (λ (e : ℕ × Block). IsLaid e.1) addr block R each
 
 -- blocks of words alone
 pub words_laid : (kind : Kind) (words : List ℕ) (n : ℕ) → ((first : List ℕ) → has_layout kind n first ≡ true) → 8 * length words ≡ n →
@@ -105,7 +100,8 @@ zeros_pass : (n : ℕ) → list_all (λ byte. byte == 0) (replicate n 0) ≡ tru
 zeros_pass zero = refl
 zeros_pass (suc n) = zeros_pass n
 
-drop_layout : (words rest : List ℕ) (n : ℕ) → drop (8 * length words + n) (layout words rest) ≡ drop n rest
+-- behind the words stands the rest
+pub drop_layout : (words rest : List ℕ) (n : ℕ) → drop (8 * length words + n) (layout words rest) ≡ drop n rest
 unfolding layout
 drop_layout [] rest n = ap (λ (k : ℕ). drop k rest) (let e : 8 * 0 + n ≡ n = omega arith in e)
 drop_layout (x ∷ words) rest n =

@@ -6,6 +6,7 @@ pub mod LaidLemmas
 pub mod NamedLemmas
 pub mod OnceLemmas
 pub mod OwnerLemmas
+pub mod ReachLemmas
 pub mod SoundLemmas
 pub mod StandLemmas
 pub mod WorldLemmas

@@ -4,7 +4,9 @@ use Rattle.std.specs.List.{All, flat_map}
 use Rattle.std.proofs.lemmas.List.Elements.{All-append, All-cons, All-head, All-nil, All-tail}
 use Rattle.sdr_base.proofs.SectionLemmas.{section-change}
 use Rattle.sdr_base.proofs.StandingLemmas.{found, nonzero}
+use Rattle.sdr_base.specs.Blocks.{Block}
 use Rattle.sdr_base.specs.Entries.{Entries, Stands}
+use Rattle.sdr_base.specs.Linked.{first_of, linked}
 use Rattle.sdr_base.specs.Section.{section}
 use Rattle.sdr_model.specs.World.{World, thing_at}
 use Rattle.sdr_model.specs.declared.things.Thing.{Thing}
@@ -35,6 +37,15 @@ All-whole P f (y ∷ ys) all = All-append P (f y) (flat_map f ys) (All-head (λ 
 pub All-every : {X : Type 0} (P : X → Type 0) → ((x : X) → P x) → (xs : List X) → All P xs
 All-every P each [] = All-nil P
 All-every P each (x ∷ xs) = All-cons P x xs (each x) (All-every P each xs)
+
+-- and of the blocks of a chain where it holds of each row's
+pub All-linked : {X : Type 0} (P : ℕ × Block → Type 0) (addr : X → ℕ) (block : ℕ → ℕ → X → Block) (R : X → Type 0) →
+    ((before next : ℕ) (x : X) → R x → P (addr x, block before next x)) → (before next : ℕ) (xs : List X) → All R xs → All P (linked addr block before next xs)
+unfolding linked
+All-linked P addr block R each before next [] all = All-nil P
+All-linked P addr block R each before next (x ∷ xs) all =
+    All-cons P (addr x, block before (first_of addr next xs) x) (linked addr block (addr x) next xs) (each before (first_of addr next xs) x (All-head R x xs all))
+    (All-linked P addr block R each (addr x) next xs (All-tail R x xs all))
 
 -- all that are listed stand
 pub stands_all : (heap : View) (before entries : Entries) → Stands heap.blocks (before ++ entries) → StandIn heap entries

@@ -1,14 +1,10 @@
 -- A heap whose bytes stand for a world passes the audit of owners.
-use Rattle.std.proofs.Common.{◌≡◌, ◌<◌, ◌+◌, ◌-◌, ◌*◌, ◌/◌, ◌^◌, ◌==◌, ◌&&◌, ◌||◌, ℕ, Bool, true, false, not, List, [], ◌∷◌, ◌++◌, map, length, get_or, Some, arith, refl, sym, ap, ◌∙◌, subst}
+use Rattle.std.proofs.Common.{◌≡◌, ◌<◌, ◌+◌, ◌-◌, ◌*◌, ◌/◌, ◌^◌, ◌==◌, ◌&&◌, ◌||◌, ℕ, Bool, true, false, not, List, [], ◌∷◌, ◌++◌, map, length, Some, arith, refl, sym, ap, ◌∙◌, subst}
 use Rattle.std.specs.Prelude.{IfSome, None, Option}
 use Rattle.std.specs.FinMap as finite
 use Rattle.std.specs.List.{All, flat_map, range_with_len}
 use Rattle.std.proofs.lemmas.Bool.{eq-eqb, eqb-true}
-use Rattle.std.proofs.lemmas.List.Elements.{All-append, All-cons, All-get_or, All-head, All-map, All-nil, All-tail, All-weaker}
-use Rattle.std.proofs.lemmas.List.{map-id}
-use Rattle.std.proofs.lemmas.List.Folds.{flat_map-map}
-use Rattle.std.proofs.lemmas.List.FromFn.{get_or-range_with_len, length-range_with_len}
-use Rattle.std.proofs.lemmas.Simd.{map-map}
+use Rattle.std.proofs.lemmas.List.Elements.{All-append, All-cons, All-head, All-map, All-nil, All-tail, All-weaker}
 use Rattle.sdr_base.specs.Blocks.{Block}
 use Rattle.sdr_base.specs.Catalogue.{catalogue_entries, name_addr, name_block}
 use Rattle.sdr_base.specs.Cells.{IsRegionSize}
@@ -47,9 +43,8 @@ use Rattle.sdr_model.specs.TicketRows.{ticket_row}
 use Rattle.sdr_audit.specs.Standing.{StandsForWhole, entries_of, other_entries, queue_entries, thing_entries}
 use Rattle.sdr_audit.specs.Ties.{or_null, ties_of}
 use Rattle.sdr_owner.proofs.LayoutLemmas.{word_laid}
-use Rattle.sdr_owner.proofs.RegionLemmas.{is_part}
 use Rattle.sdr_owner.proofs.RulesLemmas.{none_keeps}
-use Rattle.sdr_owner.specs.Chains.{Chain, IsChain, is_among}
+use Rattle.sdr_owner.specs.Chains.{is_among}
 use Rattle.sdr_owner.specs.Linking.{StandsAt}
 use Rattle.sdr_owner.specs.Owned.{IsOwnedRegion}
 use Rattle.sdr_owner.specs.Owners.{owned_at, owners_of, root_owners}
@@ -59,13 +54,13 @@ use Rattle.sdr_owner.specs.declared.owner.Owner.{Owner}
 use Rattle.sdr_owner.specs.declared.owner.Owner.TheVariants as owners
 use Rattle.sdr_owner.specs.declared.rules.Rule.{Rule}
 use Rattle.sdr_owner.specs.declared.rules.Rule.TheVariants as which
-use Rattle.sdr_world.proofs.ChainLemmas.{owners_right}
 use Rattle.sdr_world.proofs.KeptLemmas.{All-unmap, IsGoodExtent, Kept, among_all, capsule_kept, element_kept, extent_kept, found_at, item_kept, kept_keeps, linked_kept, list_kept, name_kept, ticket_kept}
 use Rattle.sdr_world.proofs.NamedLemmas.{Names, source_there, source_told, things_found}
-use Rattle.sdr_world.proofs.OnceLemmas.{chains_once}
-use Rattle.sdr_world.proofs.OwnerLemmas.{owned_are, owners_in}
-use Rattle.sdr_world.proofs.StandLemmas.{All-left, All-part, All-right, All-whole, thing_stands}
-use Rattle.sdr_world.specs.WorldChains.{chain_in, chain_of, elements_of, extents_of, headers_of, items_of, trailers_of}
+use Rattle.sdr_world.proofs.OwnerLemmas.{owners_in}
+use Rattle.sdr_world.proofs.ReachLemmas as reach
+use Rattle.sdr_world.proofs.ReachLemmas.{thing_owners, world_chains}
+use Rattle.sdr_world.proofs.StandLemmas.{All-left, All-whole, thing_stands}
+use Rattle.sdr_world.specs.WorldChains.{chain_in, elements_of, extents_of, headers_of, items_of, trailers_of}
 
 or_true : (t : Bool) → (t || true) ≡ true
 or_true true = refl
@@ -94,7 +89,7 @@ raw_word : (named_by : ℕ) (text : List ℕ) → named_by < 2 ^ 64 → word_of 
 raw_word named_by text small = word_laid kinds.Raw (named_by ∷ []) text 0 (omega arith) small
 
 -- an extent that lies inside its source has it
-source_is : (e : Extent) (o : Option Thing) → LiesInside e (as_source o) → (source : ZcoSource) × (o ≡ Some (things.Source source))
+pub source_is : (e : Extent) (o : Option Thing) → LiesInside e (as_source o) → (source : ZcoSource) × (o ≡ Some (things.Source source))
 source_is e None inside = absurd inside
 source_is e (Some (things.Raw bytes)) inside = absurd inside
 source_is e (Some (things.Text text)) inside = absurd inside
@@ -105,7 +100,7 @@ source_is e (Some (things.Source source)) inside = (source, refl)
 source_is e (Some (things.Object z)) inside = absurd inside
 
 -- what has a raw object's bytes is one
-raw_is : (n : ℕ) (o : Option Thing) → HasBytes n (as_raw o) → (text : List ℕ) × (o ≡ Some (things.Raw text))
+pub raw_is : (n : ℕ) (o : Option Thing) → HasBytes n (as_raw o) → (text : List ℕ) × (o ≡ Some (things.Raw text))
 raw_is n None has = absurd has
 raw_is n (Some (things.Raw bytes)) has = (bytes, refl)
 raw_is n (Some (things.Text text)) has = absurd has
@@ -123,7 +118,7 @@ module _ (bytes : List ℕ) (w : World) (P : Pools) (region : IsRegionSize (leng
   words = length bytes / 8
 
   abbrev reached : List ℕ
-  reached = flat_map (chain_in w) (owners_of heap words)
+  reached = reach.reached bytes w P region s
 
   stands : Stands heap.blocks (entries_of w)
   stands = s.stands.blocks
@@ -138,23 +133,9 @@ module _ (bytes : List ℕ) (w : World) (P : Pools) (region : IsRegionSize (leng
   all_reached : All IsReached (owners_of heap words)
   all_reached = among_all (chain_in w) (owners_of heap words)
 
-  abbrev of_words : List Owner
-  of_words = flat_map (λ word. owned_at heap (8 * word)) (range_with_len 0 words)
-
   -- the chains of a thing are reached
   thing_reached : (addr : ℕ) (thing : Thing) (block : Block) → thing_at w addr ≡ Some thing → heap.blocks addr ≡ Some block → All IsReached (owners_in addr (Some thing))
-  thing_reached addr thing block there is =
-      let p = is_part bytes addr block is in
-      let whole = p.whole in
-      let inside = p.inside in
-      let lines = region.whole in
-      let within : addr / 8 < words = omega (arith, whole, inside, lines) in
-      let long = length-range_with_len 0 words in
-      let each = All-part IsReached (λ word. owned_at heap (8 * word)) (range_with_len 0 words) (All-right IsReached root_owners of_words all_reached) in
-      let here = All-get_or (λ word. All IsReached (owned_at heap (8 * word))) (range_with_len 0 words) (addr / 8) 0 (omega (arith, long, within)) each in
-      let at : 8 * get_or (range_with_len 0 words) (addr / 8) 0 ≡ addr =
-      ap (λ (n : ℕ). 8 * n) (get_or-range_with_len 0 words (addr / 8) 0 within) ∙ (let e : 8 * (0 + addr / 8) ≡ addr = omega (arith, whole) in e) in
-      subst (All IsReached) (ap (owned_at heap) at ∙ owned_are heap w stands s.whole.valid addr ∙ ap (owners_in addr) there) here
+  thing_reached = thing_owners bytes w P region s IsReached all_reached
 
   fits_thing : (addr : ℕ) (thing : Thing) → thing_at w addr ≡ Some thing → IsWord addr × FitsThing thing
   fits_thing addr thing is = subst (λ (o : Option Thing). IfSome o (λ thing. IsWord addr × FitsThing thing)) is (s.fits.things addr)
@@ -402,7 +383,7 @@ module _ (bytes : List ℕ) (w : World) (P : Pools) (region : IsRegionSize (leng
       (capsules_kept trailers t))
 
   roots_reached : All IsReached root_owners
-  roots_reached = All-left IsReached root_owners of_words all_reached
+  roots_reached = All-left IsReached root_owners (flat_map (λ word. owned_at heap (8 * word)) (range_with_len 0 words)) all_reached
 
   queue_kept : (account : Acct) → IsReached (owners.Queue account) → All IsKeptEntry (queue_entries w.accounts account)
   queue_kept account among =
@@ -444,13 +425,7 @@ module _ (bytes : List ℕ) (w : World) (P : Pools) (region : IsRegionSize (leng
   pub world_owned : IsOwnedRegion bytes
   world_owned = record {
     reached = reached;
-    chains = record {
-      chains = map (chain_of w) (owners_of heap words);
-      owners_are = map-map (λ (chain : Chain). chain.owner) (chain_of w) (owners_of heap words) ∙ map-id (owners_of heap words);
-      right = All-map (IsChain heap) (chain_of w) (owners_of heap words) (owners_right heap w stands s.stands.roots s.fits s.whole.valid words);
-      reached_are = flat_map-map (λ (chain : Chain). chain.addrs) (chain_of w) (owners_of heap words);
-      once = chains_once heap w stands s.whole.valid words;
-    };
+    chains = world_chains bytes w P region s;
     kept =
         (rule_kept which.SourceIsThere, (rule_kept which.RawIsThere, (rule_kept which.SourceNamesRaw, (rule_kept which.RawNamesSource, (rule_kept which.IsReached, tt)))));
   }

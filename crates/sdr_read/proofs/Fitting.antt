@@ -1,5 +1,5 @@
--- What an audit asks of what the blocks of a heap tell of one another, besides their owners, the counts of sources, and the queues.
-use Rattle.std.specs.Prelude.{◌≡◌, ◌≤◌, ◌<◌, ◌+◌, ◌*◌, ◌⊎◌, ℕ, true, length, map, All}
+-- What the blocks of a heap that passes an audit tell of one another, in the words of the world that they tell.
+use Rattle.std.specs.Prelude.{◌≡◌, ◌≤◌, ◌<◌, ◌+◌, ◌⊎◌, ℕ, true, length, All}
 use Rattle.sdr_base.specs.Sources.{medium_number}
 use Rattle.sdr_base.specs.declared.kind.Kind.TheVariants as kinds
 use Rattle.sdr_base.specs.declared.layout.extent.TheConstants as extent

@@ -1,0 +1,15 @@
+pub mod CountLemmas
+pub mod DistinctLemmas
+pub mod ExtentLemmas
+pub mod HashLemmas
+pub mod KeyLemmas
+pub mod MembersLemmas
+pub mod ObjectLemmas
+pub mod OccupiedLemmas
+pub mod QueueLemmas
+pub mod ReadLemmas
+pub mod RightLemmas
+pub mod RuleLemmas
+pub mod StandLemmas
+pub mod ThingLemmas
+pub mod ToldLemmas

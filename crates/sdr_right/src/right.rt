@@ -1,0 +1,17 @@
+// Counts, occupancies and queues of a heap that keeps a world.
+ghost use Rattle.std.specs.Prelude.{List, ℕ};
+ghost use Rattle.sdr_audit.specs.Standing.{StandsForWhole};
+ghost use Rattle.sdr_base.specs.Pools.{Pools};
+ghost use Rattle.sdr_count.specs.Checked.{IsRightRegion, IsWrongFirst};
+ghost use Rattle.sdr_count.specs.declared.error.Why.{Why};
+ghost use Rattle.sdr_model.specs.World.{World};
+ghost use Rattle.sdr_owner.specs.Owned.{AreBytes};
+
+/// A law: in a heap region whose bytes stand for a whole world, lists, hashes and names, counts of sources, the rules of sources,
+/// extents and objects, what is occupied, and the queues are right, and the audit of these finds no place wrong. It does nothing.
+pub fn worlds_are_right()
+    ensures right { (bytes : List ℕ) (w : World) (P : Pools) →
+        StandsForWhole bytes w P → AreBytes bytes → IsRightRegion bytes }
+    ensures not_wrong { (bytes : List ℕ) (w : World) (P : Pools) (why : Why) (place : ℕ) →
+        StandsForWhole bytes w P → AreBytes bytes → IsWrongFirst bytes why place → ⊥ }
+{}
