@@ -1,5 +1,5 @@
 -- A heap region keeps a heap with the pools that it tells.
-use Rattle.std.proofs.Common.{◌≡◌, ◌≢◌, ◌≤◌, ◌<◌, ◌+◌, ◌-◌, ◌*◌, ◌/◌, ◌%◌, ◌==◌, ◌&&◌, ℕ, Bool, List, [], ◌∷◌, cond, true, false, length, map, arith, ap, ◌∙◌, refl, sym, subst, inl, inr}
+use Rattle.std.proofs.Common.{◌≡◌, ◌≢◌, ◌≤◌, ◌<◌, ◌-◌, ◌/◌, ◌==◌, ◌&&◌, ℕ, Bool, List, [], ◌∷◌, cond, true, false, length, map, arith, ap, ◌∙◌, refl, sym, inl, inr}
 use Rattle.std.specs.Prelude.{count_by, nat_le}
 use Rattle.std.specs.List.{All}
 use Rattle.std.proofs.lemmas.Bool.{and_from, and_parts, cases_Bool, cases_eq, eq-eqb, eqb-true, le-leb, leb-true, ne_eqb}

@@ -1,12 +1,15 @@
 -- What lets a world be made of a heap: numbers that fit their types, and entries of hashes in their buckets.
-use Rattle.std.specs.Prelude.{◌≡◌, ◌<◌, ◌^◌, ◌++◌, ℕ, List, All}
+use Rattle.std.specs.Prelude.{◌≡◌, ◌<◌, ◌^◌, ◌++◌, ℕ, List, All, Option, None, Some}
+use Rattle.std.specs.FinMap as finite
 use Rattle.sdr_base.specs.declared.account.Acct.{Acct}
 use Rattle.sdr_keys.specs.Keyed.{catalogue}
 use Rattle.sdr_keys.specs.Members.{members}
 use Rattle.sdr_model.specs.HashSteps.{bucket_of}
 use Rattle.sdr_model.specs.Hashes.{Hash}
+use Rattle.sdr_model.specs.Things.{Things}
 use Rattle.sdr_model.specs.declared.things.HashEntry.{HashEntry}
-use Rattle.sdr_owner.specs.View.{View, word_of}
+use Rattle.sdr_model.specs.declared.things.Thing.{Thing}
+use Rattle.sdr_owner.specs.View.{View}
 use Rattle.sdr_owner.specs.declared.owner.Owner.TheVariants as owners
 use Rattle.sdr_count.specs.Queues.{ticket_at}
 use Rattle.sdr_read.specs.Told.{bucket_told, hash_told, name_told}
@@ -39,3 +42,8 @@ abbrev pub PutsBehind : List HashEntry → Hash → Hash → Type 0
 PutsBehind entries old new =
     (bucket : ℕ) → All (λ e. bucket_of old.buckets e.key < bucket) old.entries →
     All (λ e. bucket_of old.buckets e.key ≡ bucket) entries → new ≡ record old { entries = old.entries ++ entries }
+
+-- things, and the one at an address, if one stands there
+abbrev pub with_told : Option Thing → ℕ → Things → Things
+with_told None addr things = things
+with_told (Some thing) addr things = finite.insert things addr thing

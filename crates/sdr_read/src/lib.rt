@@ -8,7 +8,9 @@ mod names;
 mod pools;
 mod telling;
 mod things;
+mod world;
 mod zco;
 
 pub use pools::heaps_tell_their_pools;
 pub use telling::{counted_heaps_stand_for_worlds, passing_regions_stand_for_worlds};
+pub use world::world_in;

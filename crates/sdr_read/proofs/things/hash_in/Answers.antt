@@ -1,4 +1,4 @@
-use Rattle.std.proofs.Common.{◌/◌, ◌∙◌, ◌<◌, List, ℕ, ap, length, map, subst}
+use Rattle.std.proofs.Common.{◌/◌, ◌∙◌, ◌<◌, List, ℕ, length, map, subst}
 use Rattle.sdr_owner.specs.View.{view_in}
 use Rattle.sdr_read.proofs.PutLemmas.{hash_more}
 use Rattle.sdr_read.specs.Made.{PutsBehind}
