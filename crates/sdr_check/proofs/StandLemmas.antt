@@ -1,7 +1,6 @@
--- A region for which a world stands passes each check, and one that passes stands for the world that it tells.
-use Rattle.std.proofs.Common.{ℕ, List, length}
+-- A region for which a world stands passes each check.
+use Rattle.std.proofs.Common.{ℕ, List, Result, Ok, Err, IfErr}
 use Rattle.sdr_audit.specs.Standing.{StandsForWhole}
-use Rattle.sdr_base.specs.Cells.{IsRegionSize}
 use Rattle.sdr_base.specs.Pools.{Pools}
 use Rattle.sdr_check.proofs.LawLemmas.{right_not_wrong}
 use Rattle.sdr_check.specs.Checked.{IsNoWorld, IsRight, TellsFirst}
@@ -9,8 +8,6 @@ use Rattle.sdr_check.specs.declared.error.AuditError.{AuditError}
 use Rattle.sdr_check.specs.declared.error.AuditError.TheVariants as errors
 use Rattle.sdr_model.specs.World.{World}
 use Rattle.sdr_owner.specs.Owned.{AreBytes}
-use Rattle.sdr_read.proofs.WorldLemmas.{stands_whole}
-use Rattle.sdr_read.specs.Standing.{StandsAsTold}
 use Rattle.sdr_right.proofs.RightLemmas.{world_right}
 use Rattle.sdr_world.proofs.SoundLemmas.{world_sound}
 
@@ -23,11 +20,12 @@ module _ (bytes : List ℕ) (are : AreBytes bytes) where
   }
 
   -- where something is wrong no world stands
-  pub no_world : (error : AuditError) → TellsFirst bytes error → IsNoWorld bytes error
+  no_world : (error : AuditError) → TellsFirst bytes error → IsNoWorld bytes error
   no_world (errors.Damaged place why) wrong = λ w P stands. right_not_wrong bytes why place (world_passes w P stands) wrong
   no_world errors.DiskFault wrong = tt
   no_world errors.Failed wrong = tt
   no_world errors.NoMemory wrong = tt
 
-pub stands_told : (bytes : List ℕ) → IsRegionSize (length bytes) → IsRight bytes → StandsAsTold bytes
-stands_told bytes region right = stands_whole bytes region right.bytes_are right.sound right.things
+  pub none_stands : {T : Type 0} (result : Result T AuditError) → IfErr result (TellsFirst bytes) → IfErr result (IsNoWorld bytes)
+  none_stands (Ok value) wrong = tt
+  none_stands (Err error) wrong = no_world error wrong

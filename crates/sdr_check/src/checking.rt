@@ -4,7 +4,7 @@ ghost use Rattle.sdr_base.specs.Cells.{IsRegionSize};
 ghost use Rattle.sdr_base.specs.Transaction.{HasReason, TouchesNone};
 ghost use Rattle.sdr_base.specs.declared.line.TheConstants.{WORD};
 ghost use Rattle.sdr_check.specs.Census.{IsCensus};
-ghost use Rattle.sdr_check.specs.Checked.{IsNoFault, IsRight, OnlyReads, TellsFirst};
+ghost use Rattle.sdr_check.specs.Checked.{IsNoFault, IsNoWorld, IsRight, OnlyReads, TellsFirst};
 ghost use Rattle.sdr_count.specs.Checked.{IsRightRegion};
 ghost use Rattle.sdr_region.specs.Region.{IsSoundRegion};
 ghost use Rattle.sdr_owner.specs.Owned.{AreBytes};
@@ -34,11 +34,14 @@ fn read_copy<C: Cells>(c: &mut C, heap: &mut [u8]) -> Result<(), Stop>
 // Checks owners, counts and queues of a region in memory, whose structure is sound, with nothing marked before.
 fn check_things(alloc: Global, heap: &[u8], marks: &mut [bool]) -> Result<(), AuditError>
     requires region { IsRegionSize (length heap.now) }
+    requires bytes { AreBytes heap.now }
     requires sound { IsSoundRegion heap.now }
     requires long { length marks.old * WORD ≡ length heap.now }
     requires clear { (word : ℕ) → get_or marks.old word false ≡ false }
     ensures right { OnOk result (IsRightRegion heap.now) }
+    ensures stands { OnOk result (StandsAsTold heap.now) }
     ensures damaged { IfErr result (TellsFirst heap.now) }
+    ensures none { IfErr result (IsNoWorld heap.now) }
     ensures reason { IfErr result IsNoFault }
 {
     check_copy(alloc, heap, marks)??;

@@ -57,6 +57,7 @@ addrs_counted bytes addr (b ∷ blocks) all =
     ]
 
 module _ (bytes : List ℕ) (P : Pools) (keeps : KeepsHeap bytes P) where
+  -- the blocks of both pools are those that the bytes tell
   small_is : P.small ≡ small_told bytes
   small_is =
       let b = keeps.small.tiles.bounds in
@@ -67,7 +68,7 @@ module _ (bytes : List ℕ) (P : Pools) (keeps : KeepsHeap bytes P) where
   large_is : P.large ≡ large_told bytes
   large_is = large_between bytes P.large _ _ (length bytes) (blocks_are bytes P keeps).follow.above (omega arith)
 
-  -- a free small block of a list
+  -- what holds of a free small block
   record IsSmallListed (words addr : ℕ) : Type 0 where
     some : addr ≢ 0
     place : IsPlace (length bytes) addr
@@ -91,6 +92,7 @@ module _ (bytes : List ℕ) (P : Pools) (keeps : KeepsHeap bytes P) where
         most = i.most;
       }
 
+  -- so is each block of a small list, and they are few
   all_small_listed : (words : ℕ) → All (IsSmallListed words) (P.small_lists words)
   all_small_listed words =
       All-weaker _ (IsSmallListed words)
@@ -108,20 +110,28 @@ module _ (bytes : List ℕ) (P : Pools) (keeps : KeepsHeap bytes P) where
       let once = at-once P.start P.low addr P.small keeps.small.tiles.follow in
       omega (arith, l, of, at, once))
 
+  -- a small list is the one that the bytes tell, which is empty where no block has so many words
+  abbrev small_linked : ℕ → List ℕ
+  small_linked words = linked_from bytes 0 (length bytes) (list_place words)
+
   small_list_is : (words : ℕ) → P.small_lists words ≡ small_list_told bytes words
   small_list_is words = elim (cases_Bool (nat_le 1 words && nat_le words 64)) [
     | inl short ↦
         let p = and_parts (nat_le 1 words) (nat_le words 64) short in
-        chain_linked bytes (P.small_lists words) (list_place words) (length bytes) (keeps.small.lists words (leb-true 1 words p.0) (leb-true words 64 p.1))
-        (All-weaker (IsSmallListed words) (λ addr. addr ≢ 0) (λ addr l. l.some) (P.small_lists words) (all_small_listed words)) (small_few words)
-        ∙ sym (ap (λ (t : Bool). cond t (linked_from bytes 0 (length bytes) (list_place words)) []) short)
+        let chain = keeps.small.lists words (leb-true 1 words p.0) (leb-true words 64 p.1) in
+        let some = All-weaker (IsSmallListed words) (λ addr. addr ≢ 0) (λ addr l. l.some) (P.small_lists words) (all_small_listed words) in
+        chain_linked bytes (P.small_lists words) (list_place words) (length bytes) chain some (small_few words)
+        ∙ sym (ap (λ (t : Bool). cond t (small_linked words) []) short)
     | inr long ↦
         none_among (IsSmallListed words) (P.small_lists words)
-        (λ addr l. let d : false ≡ true = sym long ∙ and_from _ _ (le-leb 1 words l.least) (le-leb words 64 l.most) in cc) (all_small_listed words)
-        ∙ sym (ap (λ (t : Bool). cond t (linked_from bytes 0 (length bytes) (list_place words)) []) long)
+        (λ addr l.
+        let is_short = and_from _ _ (le-leb 1 words l.least) (le-leb words 64 l.most) in
+        let d : false ≡ true = sym long ∙ is_short in
+        cc) (all_small_listed words)
+        ∙ sym (ap (λ (t : Bool). cond t (small_linked words) []) long)
   ]
 
-  -- a free large block of a list
+  -- what holds of a block in a large list
   record IsLargeListed (order : ℕ) (block : ℕ × ℕ) : Type 0 where
     told : IsEntryTold bytes block
     place : IsPlace (length bytes) block.0
@@ -140,7 +150,10 @@ module _ (bytes : List ℕ) (P : Pools) (keeps : KeepsHeap bytes P) where
       let is = eqb-true order (order_of block.1) p.0 in
       let le = order_of-le block.1 in
       record {
-        told = record { some = λ e. omega (arith, e, i.first); words = keeps.large.holds.leaders block.1 block.0 (omega (arith, free, of)) };
+        told = record {
+          some = λ e. omega (arith, e, i.first);
+          words = keeps.large.holds.leaders block.1 block.0 (omega (arith, free, of));
+        };
         place = record {
           word = block.0 / 8;
           below = omega (arith, i.last, i.first, i.some, size);
@@ -149,11 +162,14 @@ module _ (bytes : List ℕ) (P : Pools) (keeps : KeepsHeap bytes P) where
         most = omega (arith, is, le);
       }
 
+  -- so is each block of a large list, at an address of its own, and they are few
   all_large_listed : (order : ℕ) → All (IsLargeListed order) (P.large_lists order)
   all_large_listed order =
-      All-weaker (λ (e : ℕ × ℕ). (true ≡ true) → 0 < count_by (is_entry e.1 e.0) (P.large_lists order)) (IsLargeListed order)
-      (λ e counted. large_listed order e (counted refl)) (P.large_lists order)
-      (counted_each (λ (e : ℕ × ℕ). true) (λ (e : ℕ × ℕ). is_entry e.1 e.0) (λ e passes. and_from _ _ (eq-eqb e.0 e.0 refl) (eq-eqb e.1 e.1 refl)) (P.large_lists order))
+      let blocks = P.large_lists order in
+      All-weaker (λ (e : ℕ × ℕ). (true ≡ true) → 0 < count_by (is_entry e.1 e.0) blocks) (IsLargeListed order)
+      (λ e counted. large_listed order e (counted refl)) blocks
+      (counted_each (λ (e : ℕ × ℕ). true) (λ (e : ℕ × ℕ). is_entry e.1 e.0)
+      (λ e passes. and_from _ _ (eq-eqb e.0 e.0 refl) (eq-eqb e.1 e.1 refl)) blocks)
 
   all_told : (order : ℕ) → All (IsEntryTold bytes) (P.large_lists order)
   all_told order = All-weaker (IsLargeListed order) (IsEntryTold bytes) (λ e l. l.told) (P.large_lists order) (all_large_listed order)
@@ -171,23 +187,28 @@ module _ (bytes : List ℕ) (P : Pools) (keeps : KeepsHeap bytes P) where
 
   large_few : (order : ℕ) → length (P.large_lists order) ≤ length bytes
   large_few order =
-      let few = few_places (length bytes) (addrs_of (P.large_lists order))
-      (All-map (IsPlace (length bytes)) (λ (e : ℕ × ℕ). e.0) (P.large_lists order)
-      (All-weaker (IsLargeListed order) (λ (e : ℕ × ℕ). IsPlace (length bytes) e.0) (λ e l. l.place) (P.large_lists order) (all_large_listed order)))
+      let blocks = P.large_lists order in
+      let placed =
+      All-weaker (IsLargeListed order) (λ (e : ℕ × ℕ). IsPlace (length bytes) e.0) (λ e l. l.place) blocks (all_large_listed order) in
+      let few = few_places (length bytes) (addrs_of blocks) (All-map (IsPlace (length bytes)) (λ (e : ℕ × ℕ). e.0) blocks placed)
       (addrs_once order) in
-      let long = length-map (P.large_lists order) (λ (e : ℕ × ℕ). e.0) in
+      let long = length-map blocks (λ (e : ℕ × ℕ). e.0) in
       omega (arith, few, long)
+
+  -- a large list is the one that the bytes tell, which is empty where no block is of the order
+  abbrev large_linked : ℕ → List (ℕ × ℕ)
+  large_linked order = map (entry_at bytes) (linked_from bytes 8 (length bytes) (large_place order))
 
   large_list_is : (order : ℕ) → P.large_lists order ≡ large_list_told bytes order
   large_list_is order = elim (cases_Bool (nat_le order 20)) [
     | inl few ↦
-        links_linked bytes (P.large_lists order) (large_place order) 0 (length bytes) (keeps.large.holds.lists order (leb-true order 20 few))
-        (all_told order) (large_few order)
-        ∙ sym (ap (λ (t : Bool). cond t (map (entry_at bytes) (linked_from bytes 8 (length bytes) (large_place order))) []) few)
+        let links = keeps.large.holds.lists order (leb-true order 20 few) in
+        links_linked bytes (P.large_lists order) (large_place order) 0 (length bytes) links (all_told order) (large_few order)
+        ∙ sym (ap (λ (t : Bool). cond t (large_linked order) []) few)
     | inr many ↦
         none_among (IsLargeListed order) (P.large_lists order)
         (λ e l. let d : false ≡ true = sym many ∙ le-leb order 20 l.most in cc) (all_large_listed order)
-        ∙ sym (ap (λ (t : Bool). cond t (map (entry_at bytes) (linked_from bytes 8 (length bytes) (large_place order))) []) many)
+        ∙ sym (ap (λ (t : Bool). cond t (large_linked order) []) many)
   ]
 
   -- the pools are those that the bytes tell

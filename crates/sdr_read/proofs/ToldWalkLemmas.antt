@@ -13,20 +13,24 @@ use Rattle.sdr_region.proofs.FollowLemmas.{large_rises, small_rises}
 use Rattle.sdr_region.specs.Walk.{LargeFollow, SmallFollow, large_at, small_at}
 
 module _ (led : ℕ → PoolBlock) (size : ℕ → ℕ) (to : ℕ) where
+  -- the block at a place, and those behind it
+  abbrev led_on : ℕ → ℕ → List PoolBlock
+  led_on most from = led from ∷ blocks_between led size to most (from + size (led from).words)
+
   -- from the place where they end on there is no block
   between-end : (most from : ℕ) → to ≤ from → [] ≡ blocks_between led size to most from
   unfolding blocks_between
   between-end zero from behind = refl
-  between-end (suc most) from behind =
-      sym (ap (λ (t : Bool). cond t [] (led from ∷ blocks_between led size to most (from + size (led from).words))) (le-leb to from behind))
+  between-end (suc most) from behind = sym (ap (λ (t : Bool). cond t [] (led_on most from)) (le-leb to from behind))
 
   -- from a place before there is the block there, and those behind it
   between-next : (block : PoolBlock) (blocks : List PoolBlock) (most from : ℕ) → from < to → block ≡ led from →
-      blocks ≡ blocks_between led size to most (from + size block.words) → block ∷ blocks ≡ blocks_between led size to (suc most) from
+      blocks ≡ blocks_between led size to most (from + size block.words) →
+      block ∷ blocks ≡ blocks_between led size to (suc most) from
   unfolding blocks_between
   between-next block blocks most from before is rest =
       (λ i. is i ∷ (rest ∙ ap (λ (b : PoolBlock). blocks_between led size to most (from + size b.words)) is) i)
-      ∙ sym (ap (λ (t : Bool). cond t [] (led from ∷ blocks_between led size to most (from + size (led from).words))) (lt-leb to from before))
+      ∙ sym (ap (λ (t : Bool). cond t [] (led_on most from)) (lt-leb to from before))
 
 -- small blocks that follow one another are those between both places
 pub small_between : (bytes : List ℕ) (blocks : List PoolBlock) (from to most : ℕ) → SmallFollow bytes from blocks to → to ≤ from + most →

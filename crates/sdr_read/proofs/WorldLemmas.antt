@@ -70,8 +70,10 @@ pub stands_whole : (bytes : List ℕ) → IsRegionSize (length bytes) → AreByt
 stands_whole bytes region are sound right =
     let c : IsCounted bytes = record { region = region; bytes_are = are; sound = sound; owned = right.owned; counted = right.counted } in
     record {
-      stands = stands_so bytes c;
-      whole = whole_so bytes c right;
-      fits = fields_so bytes c;
-      next = next_least bytes sound.sound.control (heap_audited bytes c) right.queued;
+      told = record {
+        stands = stands_so bytes c;
+        whole = whole_so bytes c right;
+        fits = fields_so bytes c;
+        next = next_least bytes sound.sound.control (heap_audited bytes c) right.queued;
+      };
     }

@@ -18,5 +18,5 @@ pub record IsCounted (bytes : List ℕ) : Type 0 where
   pub counted : IsCountedRegion bytes
 
 -- the bytes stand for the world and with the pools that they tell; the world is whole, and its numbers fit the fields of blocks
-abbrev pub StandsAsTold : List ℕ → Type 0
-StandsAsTold bytes = StandsForWhole bytes (world_of bytes) (pools_of bytes)
+pub record StandsAsTold (bytes : List ℕ) : Type 0 where
+  pub told : StandsForWhole bytes (world_of bytes) (pools_of bytes)
