@@ -1,5 +1,5 @@
-//! The world that the bytes of a heap region tell: what a heap that passes the audit stands for, and the world made of it in memory.
-//! Each law is the contract of a function that does nothing.
+//! The world that the bytes of a heap region tell. Of a region that passes the audit `world_in` makes it in memory; and that such a region
+//! stands for the world and with the pools that it tells, are laws, each the contract of a function that does nothing.
 #![tactic(auto)]
 
 mod accounts;

@@ -1,5 +1,5 @@
 // The world of a heap.
-ghost use Rattle.std.specs.Prelude.{◌≡◌, ◌/◌, ℕ, length, true, IfOk, IfSome, OnOk};
+ghost use Rattle.std.specs.Prelude.{◌≡◌, ◌/◌, length, true, IfOk, IfSome, OnOk};
 ghost use Rattle.std.specs.FinMap as finite;
 ghost use Rattle.sdr_base.specs.Cells.{IsRegionSize};
 ghost use Rattle.sdr_base.specs.KeptHeap.{block_in};

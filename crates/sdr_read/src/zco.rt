@@ -1,10 +1,10 @@
 // The sources and zero-copy objects of a heap.
-ghost use Rattle.std.specs.Prelude.{◌≡◌, ◌≤◌, ◌/◌, length, map, IfOk};
+ghost use Rattle.std.specs.Prelude.{◌≡◌, ◌/◌, length, map, IfOk};
 ghost use Rattle.sdr_base.specs.Cells.{IsRegionSize};
 ghost use Rattle.sdr_base.specs.KeptHeap.{block_in};
 ghost use Rattle.sdr_base.specs.declared.line.TheConstants.{WORD};
 ghost use Rattle.sdr_owner.specs.View.{view_in};
-ghost use Rattle.sdr_read.specs.Told.{account_told, capsule_told, extent_told, object_told, source_told, subject_told};
+ghost use Rattle.sdr_read.specs.Told.{capsule_told, extent_told, object_told, source_told, subject_told};
 
 use crate::blocks::behind_words;
 use sdr_base::layout::{capsule, extent, object, source};
