@@ -1,5 +1,5 @@
 // A census of the blocks of a heap.
-ghost use Rattle.std.specs.Prelude.{◌≡◌, ◌≤◌, ◌*◌, ◌/◌, count_by, drop, length, take};
+ghost use Rattle.std.specs.Prelude.{◌≡◌, ◌≤◌, ◌/◌, count_by, length};
 ghost use Rattle.sdr_base.specs.declared.line.TheConstants.{WORD};
 ghost use Rattle.sdr_check.specs.Census.{census_of};
 ghost use Rattle.sdr_region.specs.Spots.{is_free_spot, is_used_spot};

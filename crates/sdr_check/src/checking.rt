@@ -48,6 +48,30 @@ fn check_things(alloc: Global, heap: &[u8], marks: &mut [bool]) -> Result<(), Au
     Ok(())
 }
 
+/// Reads a region into memory, and checks it, as `check` does.
+pub fn check_copied<C: Cells>(
+    alloc: Global,
+    c: &mut C,
+    heap: &mut [u8],
+) -> Result<Census, AuditError>
+    requires room { length heap.old ≡ length (C.bytes c.old) }
+    ensures copied { OnOk result (heap.new ≡ C.bytes c.old) }
+    ensures right { OnOk result (IsRight (C.bytes c.old)) }
+    ensures census { IfOk result (IsCensus (C.bytes c.old)) }
+    ensures stands { OnOk result (StandsAsTold (C.bytes c.old)) }
+    ensures damaged { IfErr result (TellsFirst (C.bytes c.old)) }
+    ensures none { IfErr result (IsNoWorld (C.bytes c.old)) }
+    ensures reads { OnlyReads C.bytes C.transaction C.quiet c.old c.new result }
+{
+    let words = (c.size() / WORD) as usize;
+    let mut spots = vec![in alloc; Spot::Nothing; words]?;
+    let mut marks = vec![in alloc; false; words]?;
+    read_copy(c, heap)?;
+    let census = check_structure(c, &mut spots)?;
+    check_things(alloc, heap, &mut marks)?;
+    Ok(census)
+}
+
 /// Checks a heap region, and takes a census of its blocks: its structure, who owns each block, what blocks and control words count, and
 /// the queues of tickets, in this order. What is wrong first is told by its place, which is that of a byte of the start bits, a control
 /// word's or a block's in bytes, or a block's address, and by the check that found it.
@@ -63,13 +87,6 @@ pub fn check<C: Cells>(alloc: Global, c: &mut C) -> Result<Census, AuditError>
     ensures none { IfErr result (IsNoWorld (C.bytes c.old)) }
     ensures reads { OnlyReads C.bytes C.transaction C.quiet c.old c.new result }
 {
-    let size = c.size();
-    let words = (size / WORD) as usize;
-    let mut heap = vec![in alloc; 0u8; size as usize]?;
-    let mut spots = vec![in alloc; Spot::Nothing; words]?;
-    let mut marks = vec![in alloc; false; words]?;
-    read_copy(c, &mut heap)?;
-    let census = check_structure(c, &mut spots)?;
-    check_things(alloc, &heap, &mut marks)?;
-    Ok(census)
+    let mut heap = vec![in alloc; 0u8; c.size() as usize]?;
+    check_copied(alloc, c, &mut heap)
 }

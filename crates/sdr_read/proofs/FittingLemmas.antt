@@ -43,7 +43,7 @@ use Rattle.sdr_read.proofs.TiesLemmas.{unless}
 use Rattle.sdr_read.specs.Told.{bucket_told, entry_told, extent_told, hash_told, name_told, object_told, world_told}
 
 -- the bytes of a block, as keys and names are read and as things are
-same_bytes : (o : Option Block) → keyed.bytes_of o ≡ bytes_of o
+pub same_bytes : (o : Option Block) → keyed.bytes_of o ≡ bytes_of o
 same_bytes None = refl
 same_bytes (Some block) = refl
 

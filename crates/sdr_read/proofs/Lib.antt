@@ -23,3 +23,7 @@ pub mod FitLemmas
 pub mod QueueLemmas
 pub mod ToldWalkLemmas
 pub mod ToldPoolsLemmas
+pub mod PutLemmas
+pub mod RowsLemmas
+pub mod InsertLemmas
+pub mod ReadyLemmas

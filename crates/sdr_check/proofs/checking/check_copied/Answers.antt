@@ -1,7 +1,7 @@
 use Rattle.std.proofs.Common.{rules, IfErr}
 use Rattle.sdr_check.proofs.StandLemmas.{none_stands}
 use Rattle.sdr_check.specs.Checked.{TellsFirst}
-use Rattle.sdr_check.proofs.checking.check.Goals as goal
+use Rattle.sdr_check.proofs.checking.check_copied.Goals as goal
 
 pub returns-in_err-census-clause-none : goal.returns-in_err-census-clause-none
 returns-in_err-census-clause-none g c =

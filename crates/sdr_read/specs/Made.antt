@@ -1,0 +1,49 @@
+-- What lets a world be made of a heap: numbers that fit their types, and entries of hashes in their buckets.
+use Rattle.std.specs.Prelude.{◌≡◌, ◌<◌, ◌^◌, ◌++◌, ℕ, List, All, Option, None, Some}
+use Rattle.std.specs.FinMap as finite
+use Rattle.sdr_base.specs.declared.account.Acct.{Acct}
+use Rattle.sdr_keys.specs.Keyed.{catalogue}
+use Rattle.sdr_keys.specs.Members.{members}
+use Rattle.sdr_model.specs.HashSteps.{bucket_of}
+use Rattle.sdr_model.specs.Hashes.{Hash}
+use Rattle.sdr_model.specs.Things.{Things}
+use Rattle.sdr_model.specs.declared.things.HashEntry.{HashEntry}
+use Rattle.sdr_model.specs.declared.things.Thing.{Thing}
+use Rattle.sdr_owner.specs.View.{View}
+use Rattle.sdr_owner.specs.declared.owner.Owner.TheVariants as owners
+use Rattle.sdr_count.specs.Queues.{ticket_at}
+use Rattle.sdr_read.specs.Told.{bucket_told, hash_told, name_told}
+
+-- the priorities of the ticket at an address are bytes
+pub record IsShort (heap : View) (addr : ℕ) : Type 0 where
+  pub coarse : (ticket_at heap addr).coarse < 2 ^ 8
+  pub fine : (ticket_at heap addr).fine < 2 ^ 8
+
+-- those of all tickets of an account are
+abbrev pub AreShort : View → ℕ → Acct → Type 0
+AreShort heap words account = All (IsShort heap) (members heap words (owners.Queue account))
+
+-- the type of the entry of the catalogue at an address fits its number
+pub record IsTyped (heap : View) (addr : ℕ) : Type 0 where
+  pub kind : (name_told heap addr).kind < 2 ^ 32
+
+-- those of all entries do
+abbrev pub AreTyped : View → ℕ → Type 0
+AreTyped heap words = All (IsTyped heap) (catalogue heap words)
+
+-- each entry of the hash at an address stands in its bucket
+abbrev pub AreInBuckets : View → ℕ → ℕ → Type 0
+AreInBuckets heap words addr =
+    (bucket : ℕ) → bucket < (hash_told heap words addr).buckets →
+    All (λ e. bucket_of (hash_told heap words addr).buckets e.key ≡ bucket) (bucket_told heap words addr bucket)
+
+-- These entries are put behind those of a hash, where they are all of one bucket, and those in the hash are of lower ones.
+abbrev pub PutsBehind : List HashEntry → Hash → Hash → Type 0
+PutsBehind entries old new =
+    (bucket : ℕ) → All (λ e. bucket_of old.buckets e.key < bucket) old.entries →
+    All (λ e. bucket_of old.buckets e.key ≡ bucket) entries → new ≡ record old { entries = old.entries ++ entries }
+
+-- things, and the one at an address, if one stands there
+abbrev pub with_told : Option Thing → ℕ → Things → Things
+with_told None addr things = things
+with_told (Some thing) addr things = finite.insert things addr thing
