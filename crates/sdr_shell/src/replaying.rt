@@ -12,8 +12,8 @@ use crate::last_line::last_line;
 use crate::status::{
     DAMAGED, DISK_FAULT, DONE, NO_MEMORY, NOT_FORMATTED, OUTPUT_FAULT, REFUSED_LINE,
 };
-use sdr_check::Why;
 use sdr_base::{Sink, Source};
+use sdr_check::Why;
 use sdr_disk::Disk;
 use sdr_model::{Journal, Step};
 use sdr_replay::{Ran, first_unserved, replay};

@@ -40,7 +40,7 @@ open_stands {D} told moment may_leave disk i j count spare o q bytes touched tol
     let room = room_of j.frame in
     let s : State = resting (world_of j.begun) (Ground.OnHeap room (pools_of j.begun)) in
     let begun : j.begun ≡ j.bytes = q.begun ∙ o.begun ∙ sym bytes in
-    let stands : StandsAsTold j.begun = subst StandsAsTold (sym (q.begun ∙ o.begun)) told_stands in
+    let stands = (subst (λ (b : List ℕ). StandsAsTold b) (sym (q.begun ∙ o.begun)) told_stands).told in
     let rest : StandsAtRest room j.bytes s = record {
       pools = pools_of j.begun;
       base = refl;

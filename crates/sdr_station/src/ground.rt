@@ -20,8 +20,8 @@ ghost use Rattle.sdr_station.specs.Opening.{ExplainsOpen, IsOfAudit, IsOfImage, 
 use crate::closing::{cancel, commit, forget_moves, moment_since};
 use crate::error::{OpenError, Shut};
 use sdr_answers::Page;
-use sdr_check::{AuditError, check};
 use sdr_base::{Move, Stop};
+use sdr_check::{AuditError, check};
 use sdr_disk::Disk;
 use sdr_heap::Heap;
 use sdr_image::{Image, ImageError};

@@ -1,6 +1,6 @@
 // A disk that fails at each of its calls in turn, and which calls it gets of one transaction.
 use crate::steps::Step::{Begin, End, Malloc};
-use crate::steps::{LARGE, Said, Step, formatted, opened, wrong_step};
+use crate::steps::{Said, Step, formatted, opened, wrong_step};
 use sdr_base::Stop;
 use sdr_disk::{Disk, MemoryDisk, Torn};
 use sdr_model::Reply;
@@ -27,7 +27,7 @@ const FAILED: [(Step, Said); 4] = [
 
 // A formatted disk whose call of this number fails, counted from 1.
 fn failing(alloc: Global, call: u64) -> Option<MemoryDisk> {
-    let disk = formatted(alloc, LARGE)?;
+    let disk = formatted(alloc)?;
     let image = disk.image_at(disk.now(), Torn::New).ok()?;
     Some(MemoryDisk::new(image, vec![in alloc; call; 1].ok()?))
 }
@@ -40,7 +40,7 @@ fn wrong_at(
 ) -> Option<Result<Option<usize>, OpenError>> {
     let disk = failing(alloc, call)?;
     match Station::open(alloc, disk, Notice::new(Compares)) {
-        Ok(mut station) => Some(Ok(wrong_step(alloc, &mut station, rows))),
+        Ok(mut station) => Some(Ok(wrong_step(&mut station, rows))),
         Err(shut) => Some(Err(shut.why)),
     }
 }
@@ -122,9 +122,9 @@ fn wrong_call(disk: &MemoryDisk, begun: u64) -> Option<(Option<usize>, u64)> {
 // Of the transaction that makes a raw object: the first wrong call and the moments of its end; and how many lines opening puts
 // back where a crash comes in the second write of a line.
 fn ended(alloc: Global) -> Option<((Option<usize>, u64), u64)> {
-    let mut station = opened(alloc, LARGE)?;
+    let mut station = opened(alloc)?;
     let begun = station.now();
-    if wrong_step(alloc, &mut station, &MADE).is_some() {
+    if wrong_step(&mut station, &MADE).is_some() {
         return None;
     }
     let disk = station.into_disk();

@@ -11,8 +11,8 @@
 #[cfg(test)]
 mod fault_tests;
 #[cfg(test)]
-mod refusal_tests;
+mod notice_tests;
 #[cfg(test)]
 mod steps;
 #[cfg(test)]
-mod thing_tests;
+mod telling_tests;

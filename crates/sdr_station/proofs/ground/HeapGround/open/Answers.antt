@@ -19,14 +19,14 @@ returns-in-Err-check-clause-bytes g c =
     audit_leaves (b c.args.disk) (b c.into_disk.result) c.in-Err-check.why c.of_audit.result c.of_audit.ensures (λ x is y tells. record {
       frame = c.in-Ok.image.frame;
       count = c.in-Ok.image.restored;
-      back = c.in-Ok.ensures.opened.back x is y (sym (ap b (c.into_disk.ensures.disk ∙ c.check.ensures.quiet.disk)) ∙ tells);
+      back = c.in-Ok.ensures.opened.back x is y (sym (ap b (c.into_disk.ensures.disk ∙ c.check.ensures.reads.quiet.disk)) ∙ tells);
     })
 
 pub returns-in-Err-check-clause-any_moment : goal.returns-in-Err-check-clause-any_moment
 returns-in-Err-check-clause-any_moment g c x is may =
     let D = g.row.D.Denot in
     subst (λ (d : D). AtEach g.D.Disk.moment g.D.Disk.may_leave c.args.disk d (GivesSame x))
-    (sym (c.into_disk.ensures.disk ∙ c.check.ensures.quiet.disk)) (c.in-Ok.ensures.any_moment x is may)
+    (sym (c.into_disk.ensures.disk ∙ c.check.ensures.reads.quiet.disk)) (c.in-Ok.ensures.any_moment x is may)
 
 pub returns-in-Ok-new-clause-opened : goal.returns-in-Ok-new-clause-opened
 returns-in-Ok-new-clause-opened g c =
@@ -44,19 +44,19 @@ returns-in-Ok-new-clause-opened g c =
       moment = sym c.now-moment.ensures.moment i;
       restored = sym c.restored-restored.ensures i;
     })
-    (open_stands b m l c.args.disk c.in-Ok.image c.check.new.c _ _ c.in-Ok.ensures.opened c.check.ensures.quiet c.check.ensures.bytes c.check.ensures.touched c.in_default.ensures.fresh)
+    (open_stands b m l c.args.disk c.in-Ok.image c.check.new.c _ _ c.in-Ok.ensures.opened c.check.ensures.reads.quiet c.check.ensures.reads.bytes c.check.ensures.reads.touched c.in_default.ensures.stands)
 
 pub returns-in-Ok-new-clause-any_moment : goal.returns-in-Ok-new-clause-any_moment
 returns-in-Ok-new-clause-any_moment g c x is may =
     let D = g.row.D.Denot in
     subst (λ (d : D). AtEach g.D.Disk.moment g.D.Disk.may_leave c.args.disk d (GivesSame x))
-    (sym (ap (λ (h : Held (Opened D)). h.cells.disk) c.in-Ok-new.ensures.made ∙ c.check.ensures.quiet.disk)) (c.in-Ok.ensures.any_moment x is may)
+    (sym (ap (λ (h : Held (Opened D)). h.cells.disk) c.in-Ok-new.ensures.made ∙ c.check.ensures.reads.quiet.disk)) (c.in-Ok.ensures.any_moment x is may)
 
 pub returns-in-Err-new-clause-any_moment : goal.returns-in-Err-new-clause-any_moment
 returns-in-Err-new-clause-any_moment g c x is may =
     let D = g.row.D.Denot in
     subst (λ (d : D). AtEach g.D.Disk.moment g.D.Disk.may_leave c.args.disk d (GivesSame x))
-    (sym (c.into_disk-in-Err-new.ensures.disk ∙ ap (λ (i : Opened D). i.disk) c.in-Err-new.ensures.back ∙ c.check.ensures.quiet.disk)) (c.in-Ok.ensures.any_moment x is may)
+    (sym (c.into_disk-in-Err-new.ensures.disk ∙ ap (λ (i : Opened D). i.disk) c.in-Err-new.ensures.back ∙ c.check.ensures.reads.quiet.disk)) (c.in-Ok.ensures.any_moment x is may)
 
 pub invariant_of-result : goal.invariant_of-result
 invariant_of-result g c =
@@ -74,4 +74,4 @@ invariant_of-result g c =
       moment = sym c.now-moment.ensures.moment i;
       restored = sym c.restored-restored.ensures i;
     })
-    (open_stands b m l c.args.disk c.in-Ok.image c.check.new.c _ _ c.in-Ok.ensures.opened c.check.ensures.quiet c.check.ensures.bytes c.check.ensures.touched c.in_default.ensures.fresh))
+    (open_stands b m l c.args.disk c.in-Ok.image c.check.new.c _ _ c.in-Ok.ensures.opened c.check.ensures.reads.quiet c.check.ensures.reads.bytes c.check.ensures.reads.touched c.in_default.ensures.stands))

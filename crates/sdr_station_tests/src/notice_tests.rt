@@ -2,21 +2,15 @@
 ghost use Rattle.std.specs.Prelude.{◌≡◌, true};
 ghost use Rattle.sdr_served.specs.Serving.{built};
 
+use crate::steps::formatted;
 use sdr_base::{Acct, Amounts, Space};
 use sdr_disk::MemoryDisk;
-use sdr_image::format;
-use sdr_log::Frame;
 use sdr_model::amounts::are_within;
 use sdr_model::{Call, Reply};
 use sdr_station::Station;
 use std::alloc::Global;
 use std::cell::Cell;
 use zco_acct::{Notice, Notify};
-
-const FRAME: Frame = Frame {
-    log_lines: 64,
-    heap_lines: 64,
-};
 
 /// A callback that counts how often it is called.
 #[derive(Drop)]
@@ -85,9 +79,7 @@ fn wrong_row(station: &mut Station<MemoryDisk, Counting<'_>>, times: &Cell<u64>)
 
 // The same, of a station on a disk in memory that is formatted. `None`: there is no station, or no transaction.
 fn played(alloc: Global) -> Option<Option<usize>> {
-    let bytes = vec![in alloc; 7; FRAME.disk_bytes() as usize].ok()?;
-    let mut disk = MemoryDisk::new(bytes, Vec::new(alloc));
-    format(&mut disk, FRAME).ok()?;
+    let disk = formatted(alloc)?;
     let times = Cell::new(0);
     let notice = Notice::new(Counting { times: &times });
     let mut station = Station::open(alloc, disk, notice).ok()?;
