@@ -29,13 +29,15 @@ module _ (test : Spot → Bool) (passes : PoolBlock → Bool) (nothing : test sp
     (same : (block : PoolBlock) → test (spot_of (Some block)) ≡ passes block) (frame : ℕ) where
   pub spots_count : (told : List Spot) (blocks : List PoolBlock) (word from to : ℕ) →
       ((i : ℕ) → i < length told → get_or told i spots.Nothing ≡ spot_of (begun_in frame blocks (8 * (word + i)))) →
-      Spaced frame blocks from to → to % 8 ≡ 0 → 8 * word ≤ from → to ≤ 8 * (word + length told) → count_by test told ≡ count_by passes blocks
+      Spaced frame blocks from to → to % 8 ≡ 0 → 8 * word ≤ from → to ≤ 8 * (word + length told) →
+      count_by test told ≡ count_by passes blocks
   spots_count [] [] word from to are s whole first last = refl
   spots_count [] (block ∷ blocks) word from to are (at, here, (next, later, more)) whole first last =
       absurd (omega (arith, first, last, later, spaced_rises frame blocks next to more))
   spots_count (x ∷ told) [] word from to are s whole first last =
       count_by-no test x told (ap test (are 0 (omega arith)) ∙ nothing)
-      ∙ spots_count told [] (word + 1) (8 * (word + 1 + length told)) (8 * (word + 1 + length told)) (λ i less. later_none i less) refl (omega arith) (omega arith) (omega arith)
+      ∙ spots_count told [] (word + 1) (8 * (word + 1 + length told)) (8 * (word + 1 + length told)) later_none refl (omega arith)
+      (omega arith) (omega arith)
     where
       later_none : (i : ℕ) → i < length told → get_or told i spots.Nothing ≡ spots.Nothing
       later_none i less = are (suc i) (omega (arith, less))
@@ -45,7 +47,8 @@ module _ (test : Spot → Bool) (passes : PoolBlock → Bool) (nothing : test sp
         let is : get_or (x ∷ told) 0 spots.Nothing ≡ spot_of (Some block) =
         are 0 (omega arith) ∙ ap spot_of (begun_first frame block blocks (8 * (word + 0)) (omega (arith, at, begins))) in
         let rest =
-        spots_count told blocks (word + 1) next to (λ i less. behind begins i less) more whole (omega (arith, begins, later, next_whole)) (omega (arith, last)) in
+        spots_count told blocks (word + 1) next to (behind begins) more whole (omega (arith, begins, later, next_whole))
+        (omega (arith, last)) in
         elim (cases_Bool (passes block)) [
           | inl holds ↦
               let e = count_by-yes test x told (ap test is ∙ same block ∙ holds) in
@@ -57,8 +60,11 @@ module _ (test : Spot → Bool) (passes : PoolBlock → Bool) (nothing : test sp
     | inr apart ↦
         let before : 8 * word < from = omega (arith, apart, first) in
         count_by-no test x told
-        (ap test (are 0 (omega arith) ∙ ap spot_of (spaced_before frame (block ∷ blocks) from to (8 * (word + 0)) (at, here, (next, later, more)) (omega (arith, before)))) ∙ nothing)
-        ∙ spots_count told (block ∷ blocks) (word + 1) from to (λ i less. onward i less) (at, here, (next, later, more)) whole (omega (arith, before, here)) (omega (arith, last))
+        (ap test (are 0 (omega arith)
+        ∙ ap spot_of (spaced_before frame (block ∷ blocks) from to (8 * (word + 0)) (at, here, (next, later, more)) (omega (arith, before))))
+        ∙ nothing)
+        ∙ spots_count told (block ∷ blocks) (word + 1) from to onward (at, here, (next, later, more)) whole (omega (arith, before, here))
+        (omega (arith, last))
   ]
     where
       onward : (i : ℕ) → i < length told → get_or told i spots.Nothing ≡ spot_of (begun_in frame (block ∷ blocks) (8 * (word + 1 + i)))
@@ -66,7 +72,8 @@ module _ (test : Spot → Bool) (passes : PoolBlock → Bool) (nothing : test sp
           let e : word + suc i ≡ word + 1 + i = omega arith in
           are (suc i) (omega (arith, less)) ∙ ap (λ (n : ℕ). spot_of (begun_in frame (block ∷ blocks) (8 * n))) e
 
-      behind : from ≡ 8 * word → (i : ℕ) → i < length told → get_or told i spots.Nothing ≡ spot_of (begun_in frame blocks (8 * (word + 1 + i)))
+      behind : from ≡ 8 * word → (i : ℕ) → i < length told →
+          get_or told i spots.Nothing ≡ spot_of (begun_in frame blocks (8 * (word + 1 + i)))
       behind begins i less =
           onward i less ∙ ap spot_of (begun_later frame block blocks (8 * (word + 1 + i)) (λ e. omega (arith, e, at, begins)))
 
@@ -79,39 +86,44 @@ free_same true = refl
 free_same false = refl
 
 -- A region with these blocks, of which its words are told.
-module _ (bytes : List ℕ) (small large : List PoolBlock) (right : ControlIsRight bytes) (are : AreBlocks bytes small large) (told : List Spot)
-    (long : length told * 8 ≡ length bytes) (spots_are : AreSpots small large told) where
+module _ (bytes : List ℕ) (small large : List PoolBlock) (right : ControlIsRight bytes) (are : AreBlocks bytes small large)
+    (told : List Spot) (long : length told * 8 ≡ length bytes) (spots_are : AreSpots small large told) where
+  -- the word at high
+  abbrev edge : ℕ
+  edge = control_word bytes HIGH / 8
+
   module _ (test : Spot → Bool) (passes : PoolBlock → Bool) (nothing : test spots.Nothing ≡ false)
       (same : (block : PoolBlock) → test (spot_of (Some block)) ≡ passes block) where
-    below : count_by test (take (control_word bytes HIGH / 8) told) ≡ count_by passes small
+    below : count_by test (take edge told) ≡ count_by passes small
     below =
         let o = in_order bytes right in
         let high = o.high in
         let start = o.low in
         let end = o.end in
-        let count : length (take (control_word bytes HIGH / 8) told) ≡ control_word bytes HIGH / 8 = length-take (control_word bytes HIGH / 8) told ∙ omega (arith, end, long) in
-        spots_count test passes nothing same 8 (take (control_word bytes HIGH / 8) told) small 0 (control_word bytes START) (control_word bytes LOW)
+        let count : length (take edge told) ≡ edge = length-take edge told ∙ omega (arith, end, long) in
+        spots_count test passes nothing same 8 (take edge told) small 0 (control_word bytes START) (control_word bytes LOW)
         (λ i less.
-        let inside : i < control_word bytes HIGH / 8 = omega (arith, less, count) in
+        let inside : i < edge = omega (arith, less, count) in
         let at : 8 * (0 + i) ≡ 8 * i = omega arith in
-        get_or-take (control_word bytes HIGH / 8) told i spots.Nothing inside ∙ spots_are i (omega (arith, inside, end, long))
+        get_or-take edge told i spots.Nothing inside ∙ spots_are i (omega (arith, inside, end, long))
         ∙ ap (λ (o : Option PoolBlock). spot_of (option_or (begun_in 8 small (8 * i)) o))
         (large_begins bytes large (control_word bytes HIGH) (length bytes) (8 * i) are.follow.above (omega (arith, inside)))
         ∙ ap spot_of (option_or-none (begun_in 8 small (8 * i))) ∙ ap (λ (n : ℕ). spot_of (begun_in 8 small n)) (sym at))
         (spaced_small bytes small large right are) o.low_whole (omega arith) (omega (arith, count, high, o.high_whole))
 
-    above : count_by test (drop (control_word bytes HIGH / 8) told) ≡ count_by passes large
+    above : count_by test (drop edge told) ≡ count_by passes large
     above =
         let o = in_order bytes right in
         let high = o.high in
         let whole = o.high_whole in
         let end = o.end in
-        let count : length (drop (control_word bytes HIGH / 8) told) ≡ length told - control_word bytes HIGH / 8 = length-drop (control_word bytes HIGH / 8) told in
-        spots_count test passes nothing same 16 (drop (control_word bytes HIGH / 8) told) large (control_word bytes HIGH / 8) (control_word bytes HIGH) (length bytes)
+        let count : length (drop edge told) ≡ length told - edge = length-drop edge told in
+        spots_count test passes nothing same 16 (drop edge told) large edge (control_word bytes HIGH) (length bytes)
         (λ i less.
-        get_or-drop (control_word bytes HIGH / 8) told i spots.Nothing ∙ spots_are (control_word bytes HIGH / 8 + i) (omega (arith, less, count))
-        ∙ ap (λ (o : Option PoolBlock). spot_of (option_or o (begun_in 16 large (8 * (control_word bytes HIGH / 8 + i)))))
-        (small_ends bytes small (control_word bytes START) (control_word bytes LOW) (8 * (control_word bytes HIGH / 8 + i)) are.follow.below (omega (arith, high, whole))))
+        get_or-drop edge told i spots.Nothing ∙ spots_are (edge + i) (omega (arith, less, count))
+        ∙ ap (λ (o : Option PoolBlock). spot_of (option_or o (begun_in 16 large (8 * (edge + i)))))
+        (small_ends bytes small (control_word bytes START) (control_word bytes LOW) (8 * (edge + i)) are.follow.below
+        (omega (arith, high, whole))))
         (spaced_large bytes small large right are) (omega (arith, long)) (omega (arith, whole)) (omega (arith, count, end, long, whole))
 
   -- the free blocks of both pools are counted

@@ -15,8 +15,8 @@ use Rattle.sdr_check.proofs.CensusLemmas.{all_used, free_large, free_small}
 use Rattle.sdr_check.specs.Census.{IsCensus, census_of, free_in, used_in}
 
 -- A region whose words are told, and which passed the checks.
-module _ (bytes : List ℕ) (told : List Spot) (control : ControlIsRight bytes) (found : AllFound bytes told) (bits : OfBlocks BitsAreRight bytes)
-    (free : OfBlocks AreListed bytes) (content : OfBlocks ContentIsRight bytes) where
+module _ (bytes : List ℕ) (told : List Spot) (control : ControlIsRight bytes) (found : AllFound bytes told)
+    (bits : OfBlocks BitsAreRight bytes) (free : OfBlocks AreListed bytes) (content : OfBlocks ContentIsRight bytes) where
   sound : IsSound bytes found.small found.large
   sound = record {
     control = control;

@@ -1,9 +1,11 @@
-//! Tests of `sdr_owner` and `sdr_count`, as rows of literals, over heap regions in memory.
+//! Tests of `sdr_owner`, `sdr_count` and `sdr_check`, as rows of literals, over heap regions in memory.
 //!
 //! A row is what is changed in a region that is right, and the place that is told then. Its literals come from the format, and not
 //! from the code.
 #![tactic(auto)]
 
+#[cfg(test)]
+mod check_tests;
 #[cfg(test)]
 mod count_tests;
 #[cfg(test)]

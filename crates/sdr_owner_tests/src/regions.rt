@@ -2,7 +2,9 @@
 ghost use Rattle.std.specs.Prelude.{◌≤◌};
 
 use sdr_base::{Cells, MemoryCells, Stop, WORD, write_number};
+use sdr_check::{check, read_world};
 use sdr_count::{AuditError, check_things};
+use sdr_model::World;
 use sdr_owner::{OwnerError, check_owners};
 use std::alloc::Global;
 
@@ -35,4 +37,28 @@ pub fn checked(alloc: Global, words: &[Word], changes: &[Word]) -> Option<Result
     put_words(&mut cells, words).ok()?;
     put_words(&mut cells, changes).ok()?;
     check_things(alloc, &mut cells).ok()
+}
+
+/// The whole audit of such a region: its bytes, where its unassigned space begins and ends, the blocks in use, and the free small and
+/// large ones.
+pub fn surveyed(
+    alloc: Global,
+    words: &[Word],
+    changes: &[Word],
+) -> Option<Result<[u64; 6], sdr_check::AuditError>> {
+    let mut cells = MemoryCells::fresh(alloc, 1024).ok()?;
+    put_words(&mut cells, words).ok()?;
+    put_words(&mut cells, changes).ok()?;
+    Some(match check(alloc, &mut cells) {
+        Ok(c) => Ok([c.size, c.low, c.high, c.used, c.small, c.large]),
+        Err(error) => Err(error),
+    })
+}
+
+/// The world for which such a region stands.
+pub fn told(alloc: Global, words: &[Word], changes: &[Word]) -> Option<World> {
+    let mut cells = MemoryCells::fresh(alloc, 1024).ok()?;
+    put_words(&mut cells, words).ok()?;
+    put_words(&mut cells, changes).ok()?;
+    read_world(alloc, &mut cells).ok()
 }

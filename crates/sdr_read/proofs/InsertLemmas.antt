@@ -41,7 +41,8 @@ module _ (f : ℕ → Option Thing) where
           ≡ finite.from_entries {R = nat_cmp} (row f 0 n ++ cons_option (option_map (λ x. (8 * n, x)) o) [])
       by_thing None = ap (λ (es : List (ℕ × Thing)). finite.from_entries {R = nat_cmp} es) (sym (append-nil (row f 0 n)))
       by_thing (Some thing) =
-          sym (finite.from_entries_push nat_cmp_total finite.nat_cmp-IsAntisymmetric (row f 0 n) (8 * n) thing (find_behind n 0 n (omega arith)))
+          sym (finite.from_entries_push nat_cmp_total finite.nat_cmp-IsAntisymmetric (row f 0 n) (8 * n) thing
+          (find_behind n 0 n (omega arith)))
 
   -- all together
   pub told_all : (n : ℕ) → finite.from_entries {R = nat_cmp} (row f 0 n) ≡ finite.from_sorted (row f 0 n)

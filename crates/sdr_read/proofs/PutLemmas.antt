@@ -43,13 +43,15 @@ module _ (old : Hash) where
       ap (λ (b : Bool). cond b (1 + prefix_len (lower bucket) (front ++ entries)) 0) on ∙ omega (arith, rest)
 
   -- one more of them goes in front of those that were put there
-  pub puts_more : (mid new : Hash) (entry : HashEntry) (entries : List HashEntry) → PutsBehind entries old mid → new ≡ with_entry mid entry →
+  pub puts_more : (mid new : Hash) (entry : HashEntry) (entries : List HashEntry) → PutsBehind entries old mid →
+      new ≡ with_entry mid entry →
       PutsBehind (entry ∷ entries) old new
   puts_more mid new entry entries puts is bucket below same =
       let rest = All-tail (IsIn bucket) entry entries same in
       let key = All-head (IsIn bucket) entry entries same in
-      let place : prefix_len (λ e. nat_lt (bucket_of old.buckets e.key) (bucket_of old.buckets entry.key)) (old.entries ++ entries) ≡ length old.entries =
-      ap (λ (n : ℕ). prefix_len (λ e. nat_lt (bucket_of old.buckets e.key) n) (old.entries ++ entries)) key ∙ lower_first bucket old.entries entries below rest in
+      let place : prefix_len (lower (bucket_of old.buckets entry.key)) (old.entries ++ entries) ≡ length old.entries =
+      ap (λ (n : ℕ). prefix_len (lower n) (old.entries ++ entries)) key
+      ∙ lower_first bucket old.entries entries below rest in
       let front : length old.entries - length old.entries ≡ 0 = omega arith in
       is ∙ ap (λ (h : Hash). with_entry h entry) (puts bucket below rest)
       ∙ ap (λ (n : ℕ). record old { entries = insert (old.entries ++ entries) n entry }) place
@@ -70,7 +72,8 @@ put_none heap addrs old = record {
   puts = λ bucket below same. ap (λ (es : List HashEntry). record old { entries = es }) (sym (append-nil old.entries));
 }
 
-pub put_more : (heap : View) (addrs left before : List ℕ) (addr : ℕ) (old mid new : Hash) → HasPut heap addrs left old mid → left ≡ before ++ addr ∷ [] →
+pub put_more : (heap : View) (addrs left before : List ℕ) (addr : ℕ) (old mid new : Hash) → HasPut heap addrs left old mid →
+    left ≡ before ++ addr ∷ [] →
     new ≡ with_entry mid (entry_told heap addr) → HasPut heap addrs before old new
 put_more heap addrs left before addr old mid new h at is = record {
   behind = addr ∷ h.behind;
@@ -78,7 +81,8 @@ put_more heap addrs left before addr old mid new h at is = record {
   puts = puts_more old mid new (entry_told heap addr) (map (entry_told heap) h.behind) h.puts is;
 }
 
-pub put_all : (heap : View) (addrs left : List ℕ) (old made : Hash) → HasPut heap addrs left old made → left ≡ [] → PutsBehind (map (entry_told heap) addrs) old made
+pub put_all : (heap : View) (addrs left : List ℕ) (old made : Hash) → HasPut heap addrs left old made → left ≡ [] →
+    PutsBehind (map (entry_told heap) addrs) old made
 put_all heap addrs left old made h none =
     subst (λ (l : List ℕ). PutsBehind (map (entry_told heap) l) old made) (sym (h.whole ∙ ap (λ (l : List ℕ). l ++ h.behind) none)) h.puts
 
@@ -98,7 +102,8 @@ module _ (heap : View) (words addr : ℕ) where
     abbrev IsBelow : ℕ → HashEntry → Type 0
     IsBelow n e = bucket_of (hash_told heap words addr).buckets e.key < n
 
-    lower_told : (n : ℕ) → n ≤ (hash_told heap words addr).buckets → All (IsBelow n) (flat_map (bucket_told heap words addr) (range_with_len 0 n))
+    lower_told : (n : ℕ) → n ≤ (hash_told heap words addr).buckets →
+        All (IsBelow n) (flat_map (bucket_told heap words addr) (range_with_len 0 n))
     lower_told zero within = All-nil (IsBelow 0)
     lower_told (suc n) within =
         let f = bucket_told heap words addr in
@@ -106,8 +111,10 @@ module _ (heap : View) (words addr : ℕ) where
         subst (λ (m : ℕ). All (IsBelow m) (flat_map f (range_with_len 0 m))) more
         (subst (All (IsBelow (n + 1))) (sym (told_more n))
         (All-append (IsBelow (n + 1)) (flat_map f (range_with_len 0 n)) (f n)
-        (all_so (IsBelow n) (IsBelow (n + 1)) (λ e less. omega (arith, less)) (flat_map f (range_with_len 0 n)) (lower_told n (omega (arith, within))))
-        (all_so (λ (e : HashEntry). bucket_of (hash_told heap words addr).buckets e.key ≡ n) (IsBelow (n + 1)) (λ e is. omega (arith, is)) (f n) (placed n (omega (arith, within))))))
+        (all_so (IsBelow n) (IsBelow (n + 1)) (λ e less. omega (arith, less)) (flat_map f (range_with_len 0 n))
+        (lower_told n (omega (arith, within))))
+        (all_so (λ (e : HashEntry). bucket_of (hash_told heap words addr).buckets e.key ≡ n) (IsBelow (n + 1))
+        (λ e is. omega (arith, is)) (f n) (placed n (omega (arith, within))))))
 
     -- the next bucket is put behind those before it
     pub hash_more : (n : ℕ) (old new : Hash) → n < (hash_told heap words addr).buckets → old ≡ made_up_to n →

@@ -27,7 +27,8 @@ use Rattle.sdr_read.specs.Told.{name_told, thing_told, world_told}
 -- what holds of all that a function makes
 all_made : {X : Type 0} (P : X → Type 0) (f : ℕ → X) (ns : List ℕ) → All P (map f ns) → All (λ n. P (f n)) ns
 all_made P f [] all = All-nil (λ n. P (f n))
-all_made P f (n ∷ ns) all = All-cons (λ n. P (f n)) n ns (All-head P (f n) (map f ns) all) (all_made P f ns (All-tail P (f n) (map f ns) all))
+all_made P f (n ∷ ns) all =
+    All-cons (λ n. P (f n)) n ns (All-head P (f n) (map f ns) all) (all_made P f ns (All-tail P (f n) (map f ns) all))
 
 module _ (bytes : List ℕ) (c : IsCounted bytes) where
   heap_audited : IsAudited (view_in bytes) (length bytes / 8)
@@ -61,7 +62,8 @@ module _ (bytes : List ℕ) (c : IsCounted bytes) where
   pub tickets_short : (account : Acct) → AreShort (view_in bytes) (length bytes / 8) account
   tickets_short account =
       let addrs = members (view_in bytes) (length bytes / 8) (owners.Queue account) in
-      all_so (λ n. FitsTicket (ticket_at (view_in bytes) n)) (IsShort (view_in bytes)) (λ n fits. record { coarse = fits.coarse; fine = fits.fine }) addrs
+      all_so (λ n. FitsTicket (ticket_at (view_in bytes) n)) (IsShort (view_in bytes))
+      (λ n fits. record { coarse = fits.coarse; fine = fits.fine }) addrs
       (all_made FitsTicket (ticket_at (view_in bytes)) addrs (by_account account))
     where
       by_account : (of : Acct) → All FitsTicket (map (ticket_at (view_in bytes)) (members (view_in bytes) (length bytes / 8) (owners.Queue of)))

@@ -93,8 +93,10 @@ fn account_in(alloc: Global, heap: &[u8], account: Acct) -> Result<Account, NoMe
 /// Both accounts, the priorities of whose tickets are bytes, and the number of the next ticket.
 pub fn accounts_in(alloc: Global, heap: &[u8]) -> Result<Accounts, NoMemory>
     requires region { IsRegionSize (length heap.now) }
-    requires short { (account : Acct) → AreShort (view_in heap.now) (length heap.now / WORD) account }
-    ensures { IfOk result (λ made. made ≡ accounts_told (view_in heap.now) (length heap.now / WORD)) }
+    requires short { (account : Acct) →
+        AreShort (view_in heap.now) (length heap.now / WORD) account }
+    ensures { IfOk result (λ made. made
+        ≡ accounts_told (view_in heap.now) (length heap.now / WORD)) }
 {
     Ok(Accounts {
         inbound: account_in(alloc, heap, Acct::Inbound)?,

@@ -35,7 +35,8 @@ fn elements_at(alloc: Global, heap: &[u8], addrs: &[Addr]) -> Result<Items<Eleme
 // The list at an address.
 fn list_in(alloc: Global, heap: &[u8], addr: Addr) -> Result<SdrList, NoMemory>
     requires region { IsRegionSize (length heap.now) }
-    ensures { IfOk result (λ row. row ≡ list_told (view_in heap.now) (length heap.now / WORD) addr) }
+    ensures { IfOk result (λ row. row
+        ≡ list_told (view_in heap.now) (length heap.now / WORD) addr) }
 {
     let addrs = members(alloc, heap, Owner::List(addr))?;
     Ok(SdrList {
@@ -82,7 +83,8 @@ fn put_bucket(
     addrs: &[Addr],
 ) -> Result<(), NoMemory>
     requires region { IsRegionSize (length heap.now) }
-    ensures { OnOk result (PutsBehind (map (entry_told (view_in heap.now)) addrs.now) made.old made.new) }
+    ensures { OnOk result (PutsBehind (map (entry_told (view_in heap.now)) addrs.now)
+        made.old made.new) }
 {
     let mut left = addrs;
     while let Some((addr, before)) = left.split_last() {
@@ -98,7 +100,8 @@ fn hash_in(alloc: Global, heap: &[u8], addr: Addr) -> Result<SdrHash, NoMemory>
     requires region { IsRegionSize (length heap.now) }
     requires valid { IsValidHash (hash_told (view_in heap.now) (length heap.now / WORD) addr) }
     requires placed { AreInBuckets (view_in heap.now) (length heap.now / WORD) addr }
-    ensures { IfOk result (λ made. made ≡ hash_told (view_in heap.now) (length heap.now / WORD) addr) }
+    ensures { IfOk result (λ made. made
+        ≡ hash_told (view_in heap.now) (length heap.now / WORD) addr) }
 {
     let buckets = word(heap, addr, hash::BUCKETS);
     let mut made = SdrHash::new(alloc, word(heap, addr, hash::KEY_LENGTH), buckets);
@@ -115,10 +118,12 @@ fn hash_in(alloc: Global, heap: &[u8], addr: Addr) -> Result<SdrHash, NoMemory>
 /// The thing at an address, which keeps the limits, and if it is a hash, has each entry in its bucket. `None` where none stands there.
 pub fn thing_in(alloc: Global, heap: &[u8], addr: Addr) -> Result<Option<Thing>, NoMemory>
     requires region { IsRegionSize (length heap.now) }
-    requires valid { IfSome (thing_told (view_in heap.now) (length heap.now / WORD) addr) IsValidThing }
+    requires valid { IfSome (thing_told (view_in heap.now) (length heap.now / WORD) addr)
+        IsValidThing }
     requires placed { is_kind Kind.Hash (block_in heap.now addr) ≡ true →
         AreInBuckets (view_in heap.now) (length heap.now / WORD) addr }
-    ensures { IfOk result (λ thing. thing ≡ thing_told (view_in heap.now) (length heap.now / WORD) addr) }
+    ensures { IfOk result (λ thing. thing
+        ≡ thing_told (view_in heap.now) (length heap.now / WORD) addr) }
 {
     let thing = if is_kind(heap, addr, Kind::Raw) {
         Thing::Raw(Bytes::copied(alloc, behind(bytes_of(heap, addr), raw::BYTES as usize))?)

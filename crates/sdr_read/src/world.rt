@@ -26,7 +26,8 @@ fn put_thing(
     addr: Addr,
 ) -> Result<(), NoMemory>
     requires region { IsRegionSize (length heap.now) }
-    requires valid { IfSome (thing_told (view_in heap.now) (length heap.now / WORD) addr) IsValidThing }
+    requires valid { IfSome (thing_told (view_in heap.now) (length heap.now / WORD) addr)
+        IsValidThing }
     requires placed { is_kind Kind.Hash (block_in heap.now addr) ≡ true →
         AreInBuckets (view_in heap.now) (length heap.now / WORD) addr }
     ensures { OnOk result (finite.from_entries things.new.entries
@@ -42,7 +43,8 @@ fn put_thing(
 // The things by their addresses.
 fn things_in(alloc: Global, heap: &[u8]) -> Result<BTreeMap<u64, Thing>, NoMemory>
     requires counted { IsCounted heap.now }
-    ensures { IfOk result (λ things. finite.from_entries things.entries ≡ (world_of heap.now).things) }
+    ensures { IfOk result (λ things. finite.from_entries things.entries
+        ≡ (world_of heap.now).things) }
 {
     let mut things = BTreeMap::new(alloc);
     for number in 0..heap.len() as u64 / WORD {

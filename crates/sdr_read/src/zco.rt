@@ -94,7 +94,8 @@ fn account_of(heap: &[u8], addr: Addr) -> Acct
 /// The object at an address.
 pub fn object_in(alloc: Global, heap: &[u8], addr: Addr) -> Result<ZcoObject, NoMemory>
     requires region { IsRegionSize (length heap.now) }
-    ensures { IfOk result (λ made. made ≡ object_told (view_in heap.now) (length heap.now / WORD) addr) }
+    ensures { IfOk result (λ made. made
+        ≡ object_told (view_in heap.now) (length heap.now / WORD) addr) }
 {
     let headers = members(alloc, heap, Owner::Headers(addr))?;
     let extents = members(alloc, heap, Owner::Extents(addr))?;

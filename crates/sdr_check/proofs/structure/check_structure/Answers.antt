@@ -22,7 +22,8 @@ returns-in_err-check_free-clause-damaged g c =
     let blocks = c.in_ok-check_blocks.ensures.audits.bytes ∙ c.in_ok-edges.ensures.audits.bytes in
     let bits = c.in_ok-check_bits.ensures.audits.bytes ∙ blocks in
     let wrong =
-    subst (λ (x : List ℕ). DamagedBy whys.Free (λ at. (small large : List PoolBlock) → AreBlocks x small large → IsWrongFree x small large at) c.in_err-check_free.field-0.0)
+    subst (λ (x : List ℕ). DamagedBy whys.Free
+    (λ at. (small large : List PoolBlock) → AreBlocks x small large → IsWrongFree x small large at) c.in_err-check_free.field-0.0)
     bits c.in_err-check_free.ensures.damaged in
     error_same (TellsFirst bytes) c.from_residual-in_err-check_free.result c.from_residual-in_err-check_free.ensures.1
     (free_tells bytes c.check_blocks.new.spots c.in_ok-edges.ensures.right
@@ -36,12 +37,14 @@ returns-in_err-check_content-clause-damaged g c =
     let bits = c.in_ok-check_bits.ensures.audits.bytes ∙ blocks in
     let free = c.in_ok-check_free.ensures.audits.bytes ∙ bits in
     let wrong =
-    subst (λ (x : List ℕ). DamagedBy whys.Content (λ at. (small large : List PoolBlock) → AreBlocks x small large → IsWrongContent x small large at) c.in_err-check_content.field-0.0)
+    subst (λ (x : List ℕ). DamagedBy whys.Content
+    (λ at. (small large : List PoolBlock) → AreBlocks x small large → IsWrongContent x small large at) c.in_err-check_content.field-0.0)
     free c.in_err-check_content.ensures.damaged in
     error_same (TellsFirst bytes) c.from_residual-in_err-check_content.result c.from_residual-in_err-check_content.ensures.1
     (content_tells bytes c.check_blocks.new.spots c.in_ok-edges.ensures.right
     (subst (λ (x : List ℕ). AllFound x c.check_blocks.new.spots) c.in_ok-edges.ensures.audits.bytes c.in_ok-check_blocks.ensures.surveyed.found)
-    (subst (OfBlocks BitsAreRight) blocks c.in_ok-check_bits.ensures.right) (subst (OfBlocks AreListed) bits c.in_ok-check_free.ensures.right)
+    (subst (OfBlocks BitsAreRight) blocks c.in_ok-check_bits.ensures.right)
+    (subst (OfBlocks AreListed) bits c.in_ok-check_free.ensures.right)
     (Err c.in_err-check_content.field-0.0) wrong)
 
 pub returns-in_err-check_content-clause-audits : goal.returns-in_err-check_content-clause-audits
@@ -65,5 +68,6 @@ returns-clause-census g c =
     subst (IsCensus bytes) (sym (c.of-census.ensures ∙ ap (λ (e : Edges). census_of e told) c.in_ok-edges.ensures.edges))
     (census_is bytes told c.in_ok-edges.ensures.right
     (subst (λ (x : List ℕ). AllFound x told) control c.in_ok-check_blocks.ensures.surveyed.found)
-    (subst (OfBlocks BitsAreRight) blocks c.in_ok-check_bits.ensures.right) (subst (OfBlocks AreListed) bits c.in_ok-check_free.ensures.right)
+    (subst (OfBlocks BitsAreRight) blocks c.in_ok-check_bits.ensures.right)
+    (subst (OfBlocks AreListed) bits c.in_ok-check_free.ensures.right)
     (subst (OfBlocks ContentIsRight) free c.in_ok-check_content.ensures.right) c.requires.region long)

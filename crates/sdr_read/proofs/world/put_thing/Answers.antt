@@ -9,4 +9,5 @@ use Rattle.sdr_read.proofs.world.put_thing.Goals as goal
 pub returns-in_ok-insert : goal.returns-in_ok-insert
 returns-in_ok-insert c =
     inserted c.args.things.now.entries c.insert.new.self.entries c.args.addr c.in-Some.thing c.in_ok-insert.ensures.updates.0
-    ∙ ap (λ (o : Option Thing). with_told o c.args.addr (finite.from_entries c.args.things.now.entries)) (sym c.in-Some.is ∙ c.in_ok-thing.ensures)
+    ∙ ap (λ (o : Option Thing). with_told o c.args.addr (finite.from_entries c.args.things.now.entries))
+    (sym c.in-Some.is ∙ c.in_ok-thing.ensures)

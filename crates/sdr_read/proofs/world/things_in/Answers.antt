@@ -29,4 +29,5 @@ returns c =
     let most = c.loop-number.auto.number-end in
     let least = c.loop-number-test.false in
     let all : c.loop-number.number ≡ length c.args.heap.now / 8 = omega (arith, most, least) in
-    c.loop-number.invariant ∙ ap (λ (n : ℕ). finite.from_entries {R = nat_cmp} (row told 0 n)) all ∙ told_all told (length c.args.heap.now / 8)
+    c.loop-number.invariant ∙ ap (λ (n : ℕ). finite.from_entries {R = nat_cmp} (row told 0 n)) all
+    ∙ told_all told (length c.args.heap.now / 8)
