@@ -78,9 +78,10 @@ pub fn ask(station: &mut Station<MemoryDisk, Compares>, step: &Step) -> Option<S
         return None;
     }
     match step {
-        Step::Malloc(bytes) => Some(Said::Replied(
-            station.call(&Call::Malloc(*bytes), &mut [0; 4096]),
-        )),
+        Step::Malloc(bytes) => Some(Said::Replied(station.call(
+            &Call::Malloc(*bytes),
+            &mut [0; 4096],
+        ))),
         _ => Some(end(station)),
     }
 }
