@@ -9,4 +9,5 @@ mod ChargeLemmas
 mod CapsuleLemmas
 mod MadeLemmas
 mod DiscardLemmas
+mod ExtentLemmas
 pub mod OccupancyLaws

@@ -7,3 +7,6 @@ pub mod Making
 pub mod Chains
 pub mod Capsules
 pub mod Discards
+pub mod Extents
+pub mod Beside
+pub mod Appending

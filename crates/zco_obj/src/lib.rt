@@ -12,6 +12,7 @@ mod adding;
 mod capsule;
 mod charging;
 mod discarding;
+mod extent;
 mod linking;
 mod object;
 mod seeing;
