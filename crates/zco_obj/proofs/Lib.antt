@@ -10,4 +10,6 @@ mod CapsuleLemmas
 mod MadeLemmas
 mod DiscardLemmas
 mod ExtentLemmas
+mod SourceLemmas
+mod PairLemmas
 pub mod OccupancyLaws

@@ -50,8 +50,8 @@ RangeRefused piece have stop = ⊥
 
 -- the blocks of an object and of a source stand there, and P holds of whichever source is kept
 pub record OfSource (P : CountedSource → Type 0) (object addr : ℕ) (heap : Heap) : Type 0 where
-  pub object : IsKind (heap.blocks object) kinds.Object
-  pub source : IsKind (heap.blocks addr) kinds.Source
+  pub is_object : IsKind (heap.blocks object) kinds.Object
+  pub is_source : IsKind (heap.blocks addr) kinds.Source
   pub holds : (source : CountedSource) → KeepsSource (heap.blocks addr) source → P source
 
 -- an extent may name this piece of a source: the source isn't flagged, and has the bytes
@@ -104,7 +104,7 @@ SourceStops object number piece old new stop = OnlyFault stop
 
 -- the blocks of an object and of a raw object stand there, no source names that, and P holds of the bytes of whichever is kept
 pub record OfRaw (P : List ℕ → Type 0) (object raw : ℕ) (heap : Heap) : Type 0 where
-  pub object : IsKind (heap.blocks object) kinds.Object
+  pub is_object : IsKind (heap.blocks object) kinds.Object
   pub unnamed : IsUnnamed (heap.blocks raw)
   pub holds : (bytes : List ℕ) → KeepsRaw (heap.blocks raw) 0 bytes → P bytes
 
@@ -171,7 +171,7 @@ LacksRooms first second old new stop = OnlyFault stop
 
 -- the block of an object stands there, and none of a source at the other address, for which the call is refused
 pub record NamesNoRaw (object : ℕ) (piece : Piece) (heap : Heap) (refusal : Refusal) : Type 0 where
-  pub object : IsKind (heap.blocks object) kinds.Object
+  pub is_object : IsKind (heap.blocks object) kinds.Object
   pub other : IsKind (heap.blocks piece.of) kinds.Source → ⊥
   pub stops : RawStops heap.blocks piece.of (Refused refusal)
 

@@ -61,7 +61,7 @@ fn link_extent<O: Objects>(o: &mut O, object: Addr, last: Addr, added: Addr) -> 
 }
 
 // Makes an extent behind an object's others.
-fn add_extent<O: Objects>(o: &mut O, object: Addr, piece: Piece) -> Result<(), Stop>
+pub fn add_extent<O: Objects>(o: &mut O, object: Addr, piece: Piece) -> Result<(), Stop>
     requires kept { KeepsSome (O.keeps o.old) }
     requires spare { 1 ≤ (O.heap o.old).spare }
     requires object { SomeObject (O.heap o.old).blocks object }

@@ -9,6 +9,7 @@
 #![tactic(auto)]
 
 mod adding;
+mod appending;
 mod capsule;
 mod charging;
 mod discarding;
@@ -19,6 +20,7 @@ mod seeing;
 mod summing;
 
 pub use adding::{append_trailer, prepend_header};
+pub use appending::append_extent;
 pub use discarding::{discard_first_header, discard_last_trailer};
 pub use object::create;
 pub use summing::{length, source_length};
