@@ -12,4 +12,5 @@ mod DiscardLemmas
 mod ExtentLemmas
 mod SourceLemmas
 mod PairLemmas
+mod SourceStopLemmas
 pub mod OccupancyLaws
