@@ -13,4 +13,6 @@ mod ExtentLemmas
 mod SourceLemmas
 mod PairLemmas
 mod SourceStopLemmas
+mod RoomLemmas
+mod RawStopLemmas
 pub mod OccupancyLaws
