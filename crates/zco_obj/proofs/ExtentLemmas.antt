@@ -9,7 +9,7 @@ use Rattle.sdr_base.specs.Linked.{first_of, last_of, linked}
 use Rattle.sdr_base.specs.Making.{Made, besides, with_moves}
 use Rattle.sdr_base.specs.Objects.{Heap}
 use Rattle.sdr_base.specs.Words.{HasWord, TakesBytes, layout, with_word}
-use Rattle.sdr_base.specs.ZcoObjects.{CapsuleRow, ExtentRow, ObjectRow, capsule_entries, extent_addr, extent_block, extent_entries, object_block, object_entries}
+use Rattle.sdr_base.specs.ZcoObjects.{ExtentRow, ObjectRow, capsule_entries, extent_addr, extent_block, extent_entries, object_block, object_entries}
 use Rattle.sdr_base.specs.declared.kind.Kind.TheVariants as kinds
 use Rattle.sdr_base.specs.declared.moves.Move.TheVariants.{Took}
 use Rattle.sdr_base.proofs.ChainLemmas.{last_holds}
@@ -234,8 +234,11 @@ module _ {object addr : ℕ} {old mid : Heap} (piece : Piece)
             (capsule_entries row.headers ++ (capsule_entries row.trailers
             ++ ((addr, extent_block 0 0 (extent_of addr piece)) ∷ k.rest))) 0 0 x xs
             (λ p y. let l = length-layout (y.source ∷ y.offset ∷ y.length ∷ 0 ∷ []) [] in omega (arith, l))
-            (subst (λ (rows : List ExtentRow). Stands grew.blocks ((object, extents_block row (first_of extent_addr 0 row.extents)
-            (last_of extent_addr 0 row.extents) (grown row piece.bytes)) ∷ (linked extent_addr extent_block 0 0 rows
+            (subst (λ (rows : List ExtentRow). Stands grew.blocks ((
+              object,
+              extents_block row (first_of extent_addr 0 row.extents)
+                  (last_of extent_addr 0 row.extents) (grown row piece.bytes),
+            ) ∷ (linked extent_addr extent_block 0 0 rows
             ++ (capsule_entries row.headers ++ (capsule_entries row.trailers
             ++ ((addr, extent_block 0 0 (extent_of addr piece)) ∷ k.rest)))))) e (grown_opened k k.rest k.stands)))
 

@@ -1,19 +1,17 @@
 -- An object and a source beside it: an extent comes that names the source, which counts it.
-use Rattle.std.proofs.Common.{◌≡◌, ◌<◌, ◌^◌, ℕ, List, [], ◌∷◌, ◌++◌, Some, sym, ap, ◌∙◌, subst, append_assoc}
-use Rattle.sdr_base.specs.Blocks.{Blocks, IsKind}
+use Rattle.std.proofs.Common.{◌<◌, ◌^◌, ℕ, List, [], ◌++◌, sym, ◌∙◌, subst, append_assoc}
+use Rattle.sdr_base.specs.Blocks.{Blocks}
 use Rattle.sdr_base.specs.Entries.{Entries, Stands}
-use Rattle.sdr_base.specs.Objects.{Heap, OnlyShort, OnlyUnmoved}
-use Rattle.sdr_base.specs.ZcoObjects.{ObjectRow, object_block, object_entries}
+use Rattle.sdr_base.specs.Objects.{Heap}
+use Rattle.sdr_base.specs.ZcoObjects.{ObjectRow, object_entries}
 use Rattle.sdr_base.specs.declared.account.Acct.{Acct}
 use Rattle.sdr_base.specs.declared.account.Amounts.{Amounts}
-use Rattle.sdr_base.specs.declared.kind.Kind.TheVariants as kinds
-use Rattle.sdr_base.specs.declared.stop.Stop.{Stop}
 use Rattle.sdr_base.proofs.StandingLemmas.{found, moved, moved_back}
 use Rattle.sdr_model.specs.declared.accounts.Ticket.{Ticket}
 use Rattle.zco_acct.specs.Charges.{charged}
 use Rattle.zco_acct.specs.Kept.{queue_entries}
 use Rattle.zco_obj.specs.Appending.{NamesSource}
-use Rattle.zco_obj.specs.Beside.{KeepsBeside, KeepsPair, KeepsWithSource, SomePair, SomeWithSource}
+use Rattle.zco_obj.specs.Beside.{KeepsBeside, KeepsPair, KeepsWithSource, SomePair}
 use Rattle.zco_obj.specs.Charging.{ChargesObject}
 use Rattle.zco_obj.specs.Extents.{AddsExtent, extent_of, with_extent}
 use Rattle.zco_obj.specs.Kept.{KeepsObject, SomeObject}
@@ -21,7 +19,7 @@ use Rattle.zco_obj.specs.Reading.{Tells}
 use Rattle.zco_obj.specs.declared.extent.Piece.{Piece}
 use Rattle.zco_obj.proofs.ChargeLemmas.{queue_of, stands_still}
 use Rattle.zco_ref.specs.Counting.{Attaches, attached}
-use Rattle.zco_ref.specs.Kept.{CountedSource, KeepsSource, SomeBelow, SomeSource, count_in, counted_block, counted_entries}
+use Rattle.zco_ref.specs.Kept.{CountedSource, KeepsSource, SomeBelow, count_in, counted_block, counted_entries}
 
 -- a part may stand before the others, behind some first ones
 pub swapped : (b : Blocks) (xs ys part zs : Entries) → Stands b (xs ++ (ys ++ (part ++ zs))) → Stands b (xs ++ (part ++ (ys ++ zs)))

@@ -1,9 +1,8 @@
 -- A part of a raw object is appended, which a source has taken over, or it isn't.
-use Rattle.std.proofs.Common.{◌≡◌, ◌≢◌, ◌-◌, ◌<◌, ◌≤◌, ◌^◌, ℕ, List, [], ◌∷◌, ◌++◌, length, None, Some, refl, sym, ap, ◌∙◌, arith, subst, append_assoc}
+use Rattle.std.proofs.Common.{◌≡◌, ◌-◌, ◌<◌, ◌≤◌, ◌^◌, ℕ, List, [], ◌∷◌, ◌++◌, None, Some, refl, sym, ap, ◌∙◌, arith, subst, append_assoc}
 use Rattle.std.specs.Prelude.{Option}
 use Rattle.sdr_base.specs.Blocks.{Block, Blocks, IsKind, IsOther}
 use Rattle.sdr_base.specs.Entries.{Changes, Entries, Stands, times}
-use Rattle.sdr_base.specs.Making.{Made}
 use Rattle.sdr_base.specs.Objects.{Heap, OnlyShort}
 use Rattle.sdr_base.specs.Raws.{raw_block, raw_entries}
 use Rattle.sdr_base.specs.ZcoObjects.{ObjectRow, object_entries}
@@ -24,18 +23,18 @@ use Rattle.zco_acct.specs.Kept.{queue_entries}
 use Rattle.zco_obj.specs.Amounts.{extent_amounts}
 use Rattle.zco_obj.specs.Appending.{AppendsRaw, HasPiece, IsWithin, LacksRooms, NamesSource, OfRaw, RangeRefused, RawAllowed, RawPieceStops, taken_piece, taking_over}
 use Rattle.zco_obj.specs.Beside.{IsWithRaw, KeepsPair, KeepsWithRaw, SomePair, SomeWithRaw}
-use Rattle.zco_obj.specs.Charging.{ChargesObject, LacksRoom, ObjectAllows, ObjectChargeStops}
+use Rattle.zco_obj.specs.Charging.{ChargesObject, ObjectAllows, ObjectChargeStops}
 use Rattle.zco_obj.specs.Extents.{extent_of, with_extent}
-use Rattle.zco_obj.specs.Kept.{ObjectFits, SomeWithQueue}
+use Rattle.zco_obj.specs.Kept.{SomeWithQueue}
 use Rattle.zco_obj.specs.declared.extent.Piece.{Piece}
 use Rattle.zco_obj.proofs.CauseLemmas.{object_cause}
-use Rattle.zco_obj.proofs.ChargeLemmas.{charged_moves, charged_spare, free_before, lacks_after, pays, queue_of}
+use Rattle.zco_obj.proofs.ChargeLemmas.{charged_moves, free_before, lacks_after, pays, queue_of}
 use Rattle.zco_obj.proofs.PairLemmas.{beside_still, swapped}
 use Rattle.zco_obj.proofs.RoomLemmas.{first_lacks, made_then, second_lacks, took_neither}
-use Rattle.zco_obj.proofs.SourceStopLemmas.{beside_stands, object_kind, object_spare}
+use Rattle.zco_obj.proofs.SourceStopLemmas.{beside_stands, object_spare}
 use Rattle.zco_ref.specs.Counting.{attached}
 use Rattle.zco_ref.specs.Kept.{IsRaw, KeepsRaw, SomeRaw, count_in, counted_entries}
-use Rattle.zco_ref.specs.Naming.{HasUnnamed, IsNamed, IsUnnamed, MakesRawSource, NamingStops, RawStops}
+use Rattle.zco_ref.specs.Naming.{HasUnnamed, IsUnnamed, MakesRawSource, NamingStops, RawStops}
 
 -- the raw object that stands beside is kept
 pub raw_beside : {heap : Heap} {object : ℕ} {row : ObjectRow} {tickets : List Ticket} {raw named_by : ℕ} {bytes : List ℕ} →

@@ -1,5 +1,5 @@
 -- A part of a source is appended after its charge, or it isn't.
-use Rattle.std.proofs.Common.{◌≡◌, ◌≤◌, ◌^◌, ℕ, List, ◌++◌, false, true, Some, refl, sym, ap, ◌∙◌, arith, subst, append_assoc}
+use Rattle.std.proofs.Common.{◌≡◌, ◌≤◌, ◌^◌, ℕ, List, ◌++◌, false, true, Some, refl, sym, ◌∙◌, arith, subst, append_assoc}
 use Rattle.std.specs.Prelude.{Option}
 use Rattle.sdr_base.specs.Blocks.{Block, IsKind}
 use Rattle.sdr_base.specs.Entries.{Entries, Stands}
@@ -14,7 +14,7 @@ use Rattle.sdr_base.specs.declared.stop.Stop.TheVariants.{Refused, DiskFault, Me
 use Rattle.sdr_base.proofs.StandingLemmas.{found}
 use Rattle.sdr_model.specs.declared.accounts.Ticket.{Ticket}
 use Rattle.zco_acct.specs.Kept.{queue_entries}
-use Rattle.zco_obj.specs.Amounts.{extent_amounts, source_space}
+use Rattle.zco_obj.specs.Amounts.{extent_amounts}
 use Rattle.zco_obj.specs.Appending.{AppendsSource, IsWithin, MayName, NamesSource, OfSource, RangeRefused, SourceAllowed, SourceStops}
 use Rattle.zco_obj.specs.Beside.{KeepsBeside, KeepsWithSource, SomePair, SomeWithSource}
 use Rattle.zco_obj.specs.Charging.{ChargesObject, LacksRoom, ObjectAllows, ObjectChargeStops, ObjectRefuses}

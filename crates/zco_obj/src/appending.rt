@@ -54,12 +54,7 @@ pub fn append_extent<O: Objects>(
 }
 
 // Puts a part of a source behind an object's extents, and charges the object's account for it.
-fn append_source<O: Objects>(
-    o: &mut O,
-    object: Addr,
-    ticket: u64,
-    piece: Piece,
-) -> Result<(), Stop>
+fn append_source<O: Objects>(o: &mut O, object: Addr, ticket: u64, piece: Piece) -> Result<(), Stop>
     requires kept { KeepsSome (O.keeps o.old) }
     requires spare { 1 ≤ (O.heap o.old).spare }
     requires some { SomeWithSource (O.heap o.old) object piece.of }
@@ -74,23 +69,13 @@ fn append_source<O: Objects>(
         return Err(Stop::Refused(Refusal::NotFound));
     }
     check_range(piece, seen.bytes)?;
-    charge_object(
-        o,
-        object,
-        ticket,
-        &extent_amounts(seen.space, piece.bytes),
-    )?;
+    charge_object(o, object, ticket, &extent_amounts(seen.space, piece.bytes))?;
     name_source(o, object, piece)
 }
 
 // Puts a part of a raw object behind an object's extents, whose account is charged for it. A source
 // takes the raw object over before.
-fn append_raw<O: Objects>(
-    o: &mut O,
-    object: Addr,
-    ticket: u64,
-    piece: Piece,
-) -> Result<(), Stop>
+fn append_raw<O: Objects>(o: &mut O, object: Addr, ticket: u64, piece: Piece) -> Result<(), Stop>
     requires kept { KeepsSome (O.keeps o.old) }
     requires spare { 2 ≤ (O.heap o.old).spare }
     requires object { IsKind ((O.heap o.old).blocks object) kinds.Object }
@@ -104,14 +89,16 @@ fn append_raw<O: Objects>(
 {
     let have = expect_unnamed(o, piece.of)?;
     check_range(piece, have)?;
-    charge_object(
+    charge_object(o, object, ticket, &extent_amounts(Space::Heap, piece.bytes))?;
+    let source = heap_source(o, piece.of)?;
+    name_source(
         o,
         object,
-        ticket,
-        &extent_amounts(Space::Heap, piece.bytes),
-    )?;
-    let source = heap_source(o, piece.of)?;
-    name_source(o, object, Piece { of: source, ..piece })
+        Piece {
+            of: source,
+            ..piece
+        },
+    )
 }
 
 // Refuses a piece that has no byte, or doesn't lie within so many.
