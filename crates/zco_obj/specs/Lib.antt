@@ -11,3 +11,6 @@ pub mod Sources
 pub mod Extents
 pub mod Beside
 pub mod Appending
+pub mod Gone
+pub mod Giving
+pub mod Destroying

@@ -12,6 +12,7 @@ mod adding;
 mod appending;
 mod capsule;
 mod charging;
+mod destroying;
 mod discarding;
 mod extent;
 mod linking;
@@ -21,6 +22,7 @@ mod summing;
 
 pub use adding::{append_trailer, prepend_header};
 pub use appending::append_extent;
+pub use destroying::destroy;
 pub use discarding::{discard_first_header, discard_last_trailer};
 pub use object::create;
 pub use summing::{length, source_length};
