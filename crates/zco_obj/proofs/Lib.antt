@@ -14,5 +14,8 @@ mod SourceLemmas
 mod PairLemmas
 mod SourceStopLemmas
 mod RoomLemmas
+mod StopLemmas
+mod GaveLemmas
+mod UseLemmas
 mod RawStopLemmas
 pub mod OccupancyLaws

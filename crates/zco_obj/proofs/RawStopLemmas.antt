@@ -30,7 +30,8 @@ use Rattle.zco_obj.specs.declared.extent.Piece.{Piece}
 use Rattle.zco_obj.proofs.CauseLemmas.{object_cause}
 use Rattle.zco_obj.proofs.ChargeLemmas.{charged_moves, free_before, lacks_after, pays, queue_of}
 use Rattle.zco_obj.proofs.PairLemmas.{beside_still, swapped}
-use Rattle.zco_obj.proofs.RoomLemmas.{first_lacks, made_then, second_lacks, took_neither}
+use Rattle.zco_obj.proofs.GaveLemmas.{made_then}
+use Rattle.zco_obj.proofs.RoomLemmas.{first_lacks, second_lacks, took_neither}
 use Rattle.zco_obj.proofs.SourceStopLemmas.{beside_stands, object_spare}
 use Rattle.zco_ref.specs.Counting.{attached}
 use Rattle.zco_ref.specs.Kept.{IsRaw, KeepsRaw, SomeRaw, count_in, counted_entries}
