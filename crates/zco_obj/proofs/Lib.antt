@@ -17,5 +17,7 @@ mod RoomLemmas
 mod StopLemmas
 mod GaveLemmas
 mod UseLemmas
+mod ChainGoneLemmas
+mod CapsulesGoneLemmas
 mod RawStopLemmas
 pub mod OccupancyLaws
