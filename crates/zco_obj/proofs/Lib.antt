@@ -19,5 +19,7 @@ mod GaveLemmas
 mod UseLemmas
 mod ChainGoneLemmas
 mod CapsulesGoneLemmas
+mod CountLemmas
+mod ExtentsGoneLemmas
 mod RawStopLemmas
 pub mod OccupancyLaws
