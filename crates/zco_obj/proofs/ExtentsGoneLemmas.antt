@@ -108,7 +108,7 @@ less_fits accts.Outbound n s f =
 pub same_amounts : (f g : Space → ℕ) → ((space : Space) → f space ≡ g space) → amounts_by f ≡ amounts_by g
 same_amounts f g e = λ i. record { file = e spaces.File i; bulk = e spaces.Bulk i; heap = e spaces.Heap i }
 
-amount_by : (f : Space → ℕ) (space : Space) → amount (amounts_by f) space ≡ f space
+pub amount_by : (f : Space → ℕ) (space : Space) → amount (amounts_by f) space ≡ f space
 amount_by f spaces.File = refl
 amount_by f spaces.Bulk = refl
 amount_by f spaces.Heap = refl

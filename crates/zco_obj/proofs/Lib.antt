@@ -21,5 +21,6 @@ mod ChainGoneLemmas
 mod CapsulesGoneLemmas
 mod CountLemmas
 mod ExtentsGoneLemmas
+mod PartsGoneLemmas
 mod RawStopLemmas
 pub mod OccupancyLaws

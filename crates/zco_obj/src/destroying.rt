@@ -15,10 +15,9 @@ ghost use Rattle.zco_obj.specs.Reading.{Tells};
 ghost use Rattle.zco_obj.specs.Walks.{CapsulesAt};
 
 use crate::charging::{capsule_bytes, extent_amounts, heap_amounts};
-use crate::object::{OBJECT_BYTES, account};
+use crate::object::{OBJECT_BYTES, account, first_parts};
 use crate::seeing::{TOO_MANY_PARTS, see_capsule, see_extent, see_source};
-use sdr_base::layout::object as words;
-use sdr_base::{Acct, Addr, Amounts, Kind, Objects, Stop, check_failed, expect_kind, word};
+use sdr_base::{Acct, Addr, Amounts, Kind, Objects, Stop, check_failed, expect_kind};
 use sdr_model::amounts::{NOTHING, plus};
 use zco_acct::release;
 use zco_ref::detach;
@@ -64,12 +63,10 @@ fn give_parts<O: Objects>(o: &mut O, object: Addr, acct: Acct) -> Result<Amounts
         KeepsSources (O.heap o.old).blocks object row sources →
         Works O.HasHeap (parts_lines row sources) o.old o.new result }
 {
-    let first_header = word(o, object, words::FIRST_HEADER)?;
-    let first_extent = word(o, object, words::FIRST_EXTENT)?;
-    let first_trailer = word(o, object, words::FIRST_TRAILER)?;
-    let headers = give_capsules(o, first_header)?;
-    let extents = give_extents(o, acct, first_extent)?;
-    let trailers = give_capsules(o, first_trailer)?;
+    let first = first_parts(o, object)?;
+    let headers = give_capsules(o, first.header)?;
+    let extents = give_extents(o, acct, first.extent)?;
+    let trailers = give_capsules(o, first.trailer)?;
     Ok(plus(&extents, &heap_amounts(headers + trailers)))
 }
 
