@@ -22,5 +22,6 @@ mod CapsulesGoneLemmas
 mod CountLemmas
 mod ExtentsGoneLemmas
 mod PartsGoneLemmas
+mod EndLemmas
 mod RawStopLemmas
 pub mod OccupancyLaws
