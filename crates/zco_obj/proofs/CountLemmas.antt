@@ -1,5 +1,5 @@
 -- How many extents name a source, and when it goes with them.
-use Rattle.std.proofs.Common.{◌≡◌, ◌≢◌, ◌+◌, ◌-◌, ◌<◌, ◌≤◌, ℕ, Bool, List, [], ◌∷◌, ◌++◌, length, true, false, eqb, refl, sym, ap, ◌∙◌, arith, subst, eq-eqb}
+use Rattle.std.proofs.Common.{◌≡◌, ◌≢◌, ◌+◌, ◌-◌, ◌≤◌, ℕ, Bool, List, [], ◌∷◌, ◌++◌, true, false, eqb, refl, sym, ap, ◌∙◌, arith, eq-eqb}
 use Rattle.std.specs.Prelude.{◌==◌, ◌&&◌, nat_lt, if◌then◌else◌}
 use Rattle.std.proofs.lemmas.Bool.{eqb-true, false≢true, lt-ltb, ne_eqb}
 use Rattle.std.proofs.lemmas.List.Sums.{sum_by-append, sum_by-cons}
@@ -9,7 +9,7 @@ use Rattle.sdr_base.specs.ZcoObjects.{ExtentRow}
 use Rattle.sdr_base.specs.declared.account.Acct.{Acct}
 use Rattle.sdr_base.specs.declared.account.Acct.TheVariants as accts
 use Rattle.zco_obj.specs.Giving.{left_next}
-use Rattle.zco_obj.specs.Gone.{NamedSource, goes_with, going_before, left_of, less_uses, naming}
+use Rattle.zco_obj.specs.Gone.{NamedSource, less_uses, naming}
 use Rattle.zco_ref.specs.Counting.{detached, gone_next}
 use Rattle.zco_ref.specs.Going.{gone_with, goes_next, is_passing, left_by}
 use Rattle.zco_ref.specs.Kept.{CountedSource, count_in, tied_entries, uses_of}

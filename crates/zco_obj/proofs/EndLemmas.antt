@@ -1,6 +1,5 @@
 -- An object is destroyed.
-use Rattle.std.proofs.Common.{◌≡◌, ◌+◌, ◌-◌, ◌≤◌, ℕ, List, [], ◌∷◌, ◌++◌, length, refl, sym, ap, ◌∙◌, arith, subst, append_assoc, append-nil, length-append}
-use Rattle.std.specs.Prelude.{sum_by}
+use Rattle.std.proofs.Common.{◌≡◌, ◌+◌, ◌≤◌, ℕ, List, [], ◌∷◌, ◌++◌, sym, ap, ◌∙◌, arith, subst, append_assoc, append-nil, length-append}
 use Rattle.sdr_base.specs.Blocks.{Blocks, IsKind, Reaches}
 use Rattle.sdr_base.specs.Entries.{Entries, Stands}
 use Rattle.sdr_base.specs.Making.{besides, with_moves}
@@ -20,9 +19,8 @@ use Rattle.sdr_base.proofs.WritingLemmas.{reaches}
 use Rattle.sdr_model.specs.Amounts.{amount, in_space, minus, plus}
 use Rattle.zco_acct.specs.Words.{occupied_in, with_occupied}
 use Rattle.zco_obj.specs.Amounts.{charge_of, heap_amounts}
-use Rattle.zco_obj.specs.Destroying.{DestroysObject, DestroyStops, GivesParts, KeepsSources, ObjectGone, PartsGone, PartStops, SomeWithSources, capsule_charge, charges_of, gone_object, gone_parts, parts_amounts}
+use Rattle.zco_obj.specs.Destroying.{DestroysObject, DestroyStops, GivesParts, KeepsSources, PartStops, SomeWithSources, capsule_charge, charges_of, gone_object, gone_parts, parts_amounts}
 use Rattle.zco_obj.specs.Gone.{NamedSource, extent_charge, sources_entries, sources_left}
-use Rattle.zco_obj.specs.Kept.{KeepsObject}
 use Rattle.zco_obj.specs.Reading.{Tells}
 use Rattle.zco_obj.proofs.ExtentsGoneLemmas.{amount_by, same_amounts}
 use Rattle.zco_obj.proofs.GaveLemmas.{gave_spare, one_gave, some_of, some_then}

@@ -1,14 +1,13 @@
 -- The extents of a chain are given back, each after what goes with it.
-use Rattle.std.proofs.Common.{◌≡◌, ◌≢◌, ◌+◌, ◌-◌, ◌*◌, ◌≤◌, ℕ, Bool, List, [], ◌∷◌, ◌++◌, length, true, false, cond, eqb, Some, None, refl, sym, ap, ◌∙◌, arith, subst, append_assoc, length-append, eq-eqb}
-use Rattle.std.specs.Prelude.{◌==◌, ◌&&◌, All, Option, flat_map, sum_by, if◌then◌else◌}
-use Rattle.std.proofs.lemmas.Bool.{eqb-true, false≢true, ne_eqb}
+use Rattle.std.proofs.Common.{◌≡◌, ◌≢◌, ◌+◌, ◌-◌, ◌*◌, ◌≤◌, ℕ, Bool, List, [], ◌∷◌, ◌++◌, length, true, false, cond, eqb, Some, refl, sym, ap, ◌∙◌, arith, subst, append_assoc, length-append, eq-eqb}
+use Rattle.std.specs.Prelude.{◌==◌, ◌&&◌, All, sum_by, if◌then◌else◌}
+use Rattle.std.proofs.lemmas.Bool.{eqb-true}
 use Rattle.std.proofs.lemmas.List.Concat.{flat_map-append}
 use Rattle.std.proofs.lemmas.List.Elements.{All-head, All-tail}
 use Rattle.std.proofs.lemmas.List.Sums.{sum_by_push}
-use Rattle.sdr_base.specs.Blocks.{Block, Blocks}
+use Rattle.sdr_base.specs.Blocks.{Block}
 use Rattle.sdr_base.specs.Entries.{Entries, Stands, times}
 use Rattle.sdr_base.specs.Linked.{first_of}
-use Rattle.sdr_base.specs.Making.{Made}
 use Rattle.sdr_base.specs.Objects.{Heap}
 use Rattle.sdr_base.specs.Sources.{SourceRow}
 use Rattle.sdr_base.specs.ZcoObjects.{ExtentRow, extent_addr, extent_block, extent_entries}
@@ -17,7 +16,6 @@ use Rattle.sdr_base.specs.declared.account.Acct.TheVariants as accts
 use Rattle.sdr_base.specs.declared.account.Amounts.{Amounts}
 use Rattle.sdr_base.specs.declared.kind.Space.{Space}
 use Rattle.sdr_base.specs.declared.kind.Space.TheVariants as spaces
-use Rattle.sdr_base.specs.declared.moves.Move.{Move}
 use Rattle.sdr_base.specs.declared.refusal.Refusal.TheVariants.{LogFull}
 use Rattle.sdr_base.specs.declared.stop.Stop.{Stop}
 use Rattle.sdr_base.specs.declared.stop.Stop.TheVariants.{Refused, DiskFault, MediaFault, Failed}

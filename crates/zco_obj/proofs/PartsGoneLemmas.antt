@@ -1,11 +1,11 @@
 -- The parts of an object are given back, with what goes with its extents.
-use Rattle.std.proofs.Common.{◌≡◌, ◌+◌, ◌-◌, ◌≤◌, ℕ, List, [], ◌∷◌, ◌++◌, length, map, refl, sym, ap, ◌∙◌, arith, subst, append_assoc, append-nil, length-append}
+use Rattle.std.proofs.Common.{◌≡◌, ◌+◌, ℕ, List, [], ◌∷◌, ◌++◌, length, map, refl, sym, ap, ◌∙◌, arith, subst, append_assoc, append-nil, length-append}
 use Rattle.std.specs.Prelude.{sum_by}
 use Rattle.std.proofs.lemmas.List.{length-map}
 use Rattle.std.proofs.lemmas.List.Sums.{sum_by-cons}
 use Rattle.sdr_base.specs.Entries.{Entries, Stands}
 use Rattle.sdr_base.specs.Objects.{Heap}
-use Rattle.sdr_base.specs.ZcoObjects.{CapsuleRow, ObjectRow, capsule_addr, capsule_entries, extent_addr, extent_entries, object_block, object_entries}
+use Rattle.sdr_base.specs.ZcoObjects.{CapsuleRow, ObjectRow, capsule_addr, capsule_entries, extent_entries, object_block}
 use Rattle.sdr_base.specs.declared.account.Acct.{Acct}
 use Rattle.sdr_base.specs.declared.account.Amounts.{Amounts}
 use Rattle.sdr_base.specs.declared.kind.Space.{Space}
@@ -16,9 +16,9 @@ use Rattle.sdr_base.specs.declared.stop.Stop.TheVariants.{Refused, DiskFault, Me
 use Rattle.sdr_base.proofs.StandingLemmas.{moved}
 use Rattle.sdr_model.specs.Amounts.{amount, in_space, plus}
 use Rattle.zco_obj.specs.Amounts.{charge_of, heap_amounts}
-use Rattle.zco_obj.specs.Destroying.{GivesParts, KeepsSources, PartsGone, PartStops, SomeWithSources, capsule_charge, gone_parts}
+use Rattle.zco_obj.specs.Destroying.{GivesParts, KeepsSources, PartStops, SomeWithSources, capsule_charge, gone_parts}
 use Rattle.zco_obj.specs.Giving.{AreNamed, CapsuleGiveStops, CapsulesGone, ExtentsGiveStops, ExtentsGone, GivesCapsules, GivesExtents, SomeCapsulesToGive, SomeUses, UsesAt, capsules_charge}
-use Rattle.zco_obj.specs.Gone.{NamedSource, extent_charge, extents_amounts, gone_blocks, sources_entries, sources_left}
+use Rattle.zco_obj.specs.Gone.{NamedSource, extent_charge, gone_blocks, sources_entries, sources_left}
 use Rattle.zco_obj.specs.Kept.{KeepsObject, SomeObject}
 use Rattle.zco_obj.specs.Reading.{Tells, TellsFirsts}
 use Rattle.zco_obj.specs.Walks.{CapsulesAt}

@@ -1,23 +1,21 @@
 -- An extent is given back, once its source counts one less.
-use Rattle.std.proofs.Common.{◌≡◌, ◌+◌, ◌-◌, ◌≤◌, ◌^◌, ℕ, Bool, List, [], ◌∷◌, ◌++◌, length, true, false, Some, refl, sym, ap, ◌∙◌, arith, subst}
+use Rattle.std.proofs.Common.{◌≡◌, ◌+◌, ◌≤◌, ◌^◌, ℕ, Bool, List, [], ◌∷◌, ◌++◌, length, true, false, Some, refl, sym, ap, ◌∙◌, arith, subst}
 use Rattle.std.specs.Prelude.{◌==◌, ◌&&◌, MatchBool, Option, if◌then◌else◌}
 use Rattle.sdr_base.specs.Blocks.{Block, Blocks, Reaches}
 use Rattle.sdr_base.specs.Entries.{Changes, Entries, Stands}
-use Rattle.sdr_base.specs.Making.{Made, besides, with_moves}
+use Rattle.sdr_base.specs.Making.{Made}
 use Rattle.sdr_base.specs.Objects.{Heap, OnlyUnmoved, with_given}
 use Rattle.sdr_base.specs.Raws.{raw_block}
 use Rattle.sdr_base.specs.Sources.{flag_word, medium_number}
-use Rattle.sdr_base.specs.Words.{HasWord, layout}
+use Rattle.sdr_base.specs.Words.{HasWord}
 use Rattle.sdr_base.specs.ZcoObjects.{ExtentRow, extent_block}
 use Rattle.sdr_base.specs.declared.account.Acct.{Acct}
 use Rattle.sdr_base.specs.declared.account.Acct.TheVariants as accts
-use Rattle.sdr_base.specs.declared.account.Amounts.{Amounts}
 use Rattle.sdr_base.specs.declared.kind.Kind.TheVariants as kinds
 use Rattle.sdr_base.specs.declared.kind.Space.{Space}
 use Rattle.sdr_base.specs.declared.kind.Space.TheVariants as spaces
 use Rattle.sdr_base.specs.declared.medium.Medium.{Medium}
 use Rattle.sdr_base.specs.declared.medium.Medium.TheVariants as media
-use Rattle.sdr_base.specs.declared.moves.Move.TheVariants.{Gave}
 use Rattle.sdr_base.specs.declared.refusal.Refusal.TheVariants.{LogFull}
 use Rattle.sdr_base.specs.declared.stop.Stop.{Stop}
 use Rattle.sdr_base.specs.declared.stop.Stop.TheVariants.{Refused, DiskFault, MediaFault, Failed}

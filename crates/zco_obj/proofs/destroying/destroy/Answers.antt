@@ -1,12 +1,10 @@
 -- The parts go, then the object, and its account is given back what they charged.
-use Rattle.std.proofs.Common.{◌∙◌, arith, ap}
+use Rattle.std.proofs.Common.{◌∙◌, ap}
 use Rattle.std.proofs.lemmas.Result.{IfErr-weaker, err_from_is_err_and, on_ok_weaker}
-use Rattle.sdr_base.proofs.WorksLemmas.{looks_looks, looks_then, looks_works, works_more, works_then}
 use Rattle.sdr_model.specs.Amounts.{plus}
 use Rattle.zco_obj.specs.Destroying.{DestroyStops}
-use Rattle.zco_obj.proofs.EndLemmas.{destroys, missed_stops, object_room, object_still, object_stop, parts_stop, release_stop}
+use Rattle.zco_obj.proofs.EndLemmas.{destroys, object_room, object_still, object_stop, parts_stop, release_stop}
 use Rattle.zco_obj.proofs.PartsGoneLemmas.{some_kept}
-use Rattle.zco_obj.proofs.StopLemmas.{works_stopped}
 use Rattle.zco_obj.proofs.destroying.destroy.Goals as goal
 
 pub account-requires-clause-object : goal.account-requires-clause-object

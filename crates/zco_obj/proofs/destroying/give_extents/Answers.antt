@@ -1,5 +1,5 @@
 -- The extents go one by one.
-use Rattle.std.proofs.Common.{arith, refl, ap, ◌∙◌}
+use Rattle.std.proofs.Common.{arith, refl}
 use Rattle.std.proofs.lemmas.Result.{err_from_is_err_and}
 use Rattle.sdr_base.proofs.WorksLemmas.{looks_works, works_more, works_ok, works_then}
 use Rattle.zco_obj.proofs.ExtentsGoneLemmas.{at_most_both, extent_room, extent_stops, extent_there, extents_all, extents_begun, extents_many, extents_on, lines_most, lines_next, moves_so_far, moves_with}
