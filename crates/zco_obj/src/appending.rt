@@ -40,6 +40,8 @@ pub fn append_extent<O: Objects>(
         (record { of = source_or_raw; offset = offset; bytes = bytes })
         (O.heap o.old) (O.heap o.new)) }
     ensures works { Works O.HasHeap 73 o.old o.new result }
+    ensures works_source { IsKind ((O.heap o.old).blocks source_or_raw) kinds.Source →
+        Works O.HasHeap 42 o.old o.new result }
 {
     expect_kind(o, object, Kind::Object)?;
     let piece = Piece {
