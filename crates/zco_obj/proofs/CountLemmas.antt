@@ -8,7 +8,7 @@ use Rattle.sdr_base.specs.Sources.{SourceRow}
 use Rattle.sdr_base.specs.ZcoObjects.{ExtentRow}
 use Rattle.sdr_base.specs.declared.account.Acct.{Acct}
 use Rattle.sdr_base.specs.declared.account.Acct.TheVariants as accts
-use Rattle.zco_obj.specs.Giving.{left_next}
+use Rattle.zco_obj.specs.Uses.{left_next}
 use Rattle.zco_obj.specs.Gone.{NamedSource, less_uses, naming}
 use Rattle.zco_ref.specs.Counting.{detached, gone_next}
 use Rattle.zco_ref.specs.Going.{gone_with, goes_next, is_passing, left_by}

@@ -22,7 +22,7 @@ use Rattle.zco_obj.specs.Amounts.{charge_of, heap_amounts}
 use Rattle.zco_obj.specs.Destroying.{DestroysObject, DestroyStops, GivesParts, KeepsSources, PartStops, SomeWithSources, capsule_charge, charges_of, gone_object, gone_parts, parts_amounts}
 use Rattle.zco_obj.specs.Gone.{NamedSource, extent_charge, sources_entries, sources_left}
 use Rattle.zco_obj.specs.Reading.{Tells}
-use Rattle.zco_obj.proofs.ExtentsGoneLemmas.{amount_by, same_amounts}
+use Rattle.zco_obj.proofs.SpotLemmas.{amount_by, same_amounts}
 use Rattle.zco_obj.proofs.GaveLemmas.{gave_spare, one_gave, some_of, some_then}
 use Rattle.zco_obj.proofs.KeptLemmas.{object_words}
 use Rattle.zco_ref.specs.Going.{GaveSome, gave}

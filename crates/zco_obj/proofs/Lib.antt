@@ -20,8 +20,10 @@ mod UseLemmas
 mod ChainGoneLemmas
 mod CapsulesGoneLemmas
 mod CountLemmas
+mod SpotLemmas
 mod ExtentsGoneLemmas
 mod PartsGoneLemmas
 mod EndLemmas
+mod RawLemmas
 mod RawStopLemmas
 pub mod OccupancyLaws

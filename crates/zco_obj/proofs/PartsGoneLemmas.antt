@@ -17,13 +17,14 @@ use Rattle.sdr_base.proofs.StandingLemmas.{moved}
 use Rattle.sdr_model.specs.Amounts.{amount, in_space, plus}
 use Rattle.zco_obj.specs.Amounts.{charge_of, heap_amounts}
 use Rattle.zco_obj.specs.Destroying.{GivesParts, KeepsSources, PartStops, SomeWithSources, capsule_charge, gone_parts}
-use Rattle.zco_obj.specs.Giving.{AreNamed, CapsuleGiveStops, CapsulesGone, ExtentsGiveStops, ExtentsGone, GivesCapsules, GivesExtents, SomeCapsulesToGive, SomeUses, UsesAt, capsules_charge}
+use Rattle.zco_obj.specs.Giving.{CapsuleGiveStops, CapsulesGone, GivesCapsules, SomeCapsulesToGive, capsules_charge}
+use Rattle.zco_obj.specs.Uses.{AreNamed, ExtentsGiveStops, ExtentsGone, GivesExtents, SomeUses, UsesAt}
 use Rattle.zco_obj.specs.Gone.{NamedSource, extent_charge, gone_blocks, sources_entries, sources_left}
 use Rattle.zco_obj.specs.Kept.{KeepsObject, SomeObject}
 use Rattle.zco_obj.specs.Reading.{Tells, TellsFirsts}
 use Rattle.zco_obj.specs.Walks.{CapsulesAt}
 use Rattle.zco_obj.specs.declared.object.Firsts.{Firsts}
-use Rattle.zco_obj.proofs.ExtentsGoneLemmas.{amount_by, same_amounts}
+use Rattle.zco_obj.proofs.SpotLemmas.{amount_by, same_amounts}
 use Rattle.zco_obj.proofs.GaveLemmas.{gave_spare, more_gave, some_of, some_then}
 use Rattle.zco_obj.proofs.PairLemmas.{swapped}
 use Rattle.zco_ref.specs.Going.{GaveSome}

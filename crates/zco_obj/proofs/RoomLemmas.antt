@@ -6,7 +6,7 @@ use Rattle.sdr_base.specs.declared.moves.Move.TheVariants.{Short, Took}
 use Rattle.sdr_base.specs.declared.refusal.Refusal.TheVariants as refusals
 use Rattle.sdr_base.specs.declared.stop.Stop.{Stop}
 use Rattle.sdr_base.specs.declared.stop.Stop.TheVariants.{Refused, DiskFault, MediaFault, Failed}
-use Rattle.zco_obj.specs.Appending.{LacksRooms, TookNoMoreThanTwo}
+use Rattle.zco_obj.specs.AppendStops.{LacksRooms, TookNoMoreThanTwo}
 use Rattle.zco_obj.specs.Charging.{LacksRoom}
 
 -- neither of two blocks was taken

@@ -23,7 +23,8 @@ use Rattle.sdr_base.proofs.HeapLemmas.{given_blocks}
 use Rattle.sdr_base.proofs.StandingLemmas.{found, moved, went}
 use Rattle.sdr_base.proofs.WritingLemmas.{reaches}
 use Rattle.zco_obj.specs.Amounts.{extent_amounts, source_space}
-use Rattle.zco_obj.specs.Giving.{AreAtMost, ExtentGiveStops, GivesExtent, SomeUse, UseAt, going_with, left_next}
+use Rattle.zco_obj.specs.Giving.{AreAtMost}
+use Rattle.zco_obj.specs.Uses.{ExtentGiveStops, GivesExtent, SomeUse, UseAt, going_with, left_next}
 use Rattle.zco_obj.specs.Sources.{SeesSource}
 use Rattle.zco_obj.specs.Walks.{KeepsExtent, SeesExtent, SomeExtent}
 use Rattle.zco_obj.specs.declared.destroying.GivenExtent.{GivenExtent}

@@ -16,7 +16,7 @@ use Rattle.sdr_model.specs.Amounts.{amounts_by, in_space, minus}
 use Rattle.sdr_model.specs.Charges.{capsule_bytes, object_bytes}
 use Rattle.zco_acct.specs.Words.{occupied_in, with_occupied}
 use Rattle.zco_obj.specs.Amounts.{charge_of}
-use Rattle.zco_obj.specs.Giving.{AreNamed, uses_lines}
+use Rattle.zco_obj.specs.Uses.{AreNamed, uses_lines}
 use Rattle.zco_obj.specs.Gone.{NamedSource, extent_charge, gone_blocks, sources_entries, sources_left}
 use Rattle.zco_obj.specs.Kept.{ObjectFits}
 use Rattle.zco_ref.specs.Going.{GaveSome, gave}

@@ -6,8 +6,10 @@ ghost use Rattle.sdr_base.specs.Objects.{OnlyShort};
 ghost use Rattle.sdr_base.specs.Works.{Works};
 ghost use Rattle.sdr_base.specs.declared.kind.Kind.TheVariants as kinds;
 ghost use Rattle.sdr_model.specs.Limits.{longest_source};
-ghost use Rattle.zco_obj.specs.Appending.{AppendsPiece, AppendsRaw, AppendsSource, AppendStops, IsWithin};
-ghost use Rattle.zco_obj.specs.Appending.{NamesSource, RangeRefused, RawPieceStops, SourceStops};
+ghost use Rattle.zco_obj.specs.Appending.{AppendsPiece, AppendsRaw, AppendsSource, IsWithin};
+ghost use Rattle.zco_obj.specs.AppendStops.{AppendStops};
+ghost use Rattle.zco_obj.specs.Appending.{NamesSource};
+ghost use Rattle.zco_obj.specs.AppendStops.{RangeRefused, RawPieceStops, SourceStops};
 ghost use Rattle.zco_obj.specs.Beside.{IsWithRaw, IsWithSource, SomePair, SomeWithRaw, SomeWithSource};
 
 use crate::charging::{charge_object, extent_amounts};
