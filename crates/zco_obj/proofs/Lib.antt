@@ -27,3 +27,4 @@ mod EndLemmas
 mod RawLemmas
 mod RawStopLemmas
 pub mod OccupancyLaws
+mod RowsOfExtents
