@@ -7,3 +7,12 @@ pub mod Making
 pub mod Chains
 pub mod Capsules
 pub mod Discards
+pub mod Sources
+pub mod Extents
+pub mod Beside
+pub mod Appending
+pub mod AppendStops
+pub mod Gone
+pub mod Giving
+pub mod Uses
+pub mod Destroying
