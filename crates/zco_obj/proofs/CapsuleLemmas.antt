@@ -1,47 +1,31 @@
 -- A header or trailer comes after its charge, or it doesn't.
-use Rattle.std.proofs.Common.{◌≤◌, ◌+◌, ℕ, List, [], ◌∷◌, length, refl, sym, ◌∙◌, arith, append-nil}
+use Rattle.std.proofs.Common.{◌≤◌, ◌+◌, ℕ, List, [], length, refl, sym, arith, append-nil}
 use Rattle.sdr_base.specs.Blocks.{IsKind}
 use Rattle.sdr_base.specs.Objects.{Heap, OnlyShort}
 use Rattle.sdr_base.specs.Words.{HasWord}
 use Rattle.sdr_base.specs.declared.kind.Kind.TheVariants as kinds
-use Rattle.sdr_base.specs.declared.moves.Move.TheVariants.{Took}
-use Rattle.sdr_base.specs.declared.refusal.Refusal.{Refusal}
 use Rattle.sdr_base.specs.declared.refusal.Refusal.TheVariants as refusals
 use Rattle.sdr_base.specs.declared.stop.Stop.{Stop}
 use Rattle.sdr_base.specs.declared.stop.Stop.TheVariants.{Refused, DiskFault, MediaFault, Failed}
 use Rattle.zco_obj.specs.Amounts.{capsule_amounts}
 use Rattle.zco_obj.specs.Capsules.{AddsCapsule, CapsuleAllowed, CapsuleStops, ChargesCapsule, IsCapsuleLength, with_header, with_trailer}
 use Rattle.zco_obj.specs.Chains.{InsertsCapsule, SomeGap}
-use Rattle.zco_obj.specs.Charging.{LacksRoom, ObjectChargeStops, ObjectRefuses}
+use Rattle.zco_obj.specs.Charging.{LacksRoom, ObjectChargeStops}
 use Rattle.zco_obj.specs.Kept.{SomeWithQueue}
 use Rattle.zco_obj.specs.declared.linking.Side.TheVariants as sides
-use Rattle.zco_obj.proofs.CauseLemmas.{IsCause, is_cause}
-use Rattle.zco_obj.proofs.ChargeLemmas.{charged_moves, charged_spare, free_before, lacks_after, pays, queue_of, still_kept}
+use Rattle.zco_obj.proofs.CauseLemmas.{object_cause}
+use Rattle.zco_obj.proofs.ChargeLemmas.{charged_moves, charged_spare, free_before, lacks_after, none_took, pays, queue_of, still_kept}
 use Rattle.zco_obj.proofs.KeptLemmas.{object_word}
-
-object_cause : {object : ℕ} (number : ℕ) (text : List ℕ) {heap : Heap} {refusal : Refusal} → SomeWithQueue heap object →
-    ObjectRefuses object number (capsule_amounts text) heap refusal → IsCause refusal
-object_cause {object} number text {heap} {refusal} q r =
-    is_cause heap q.row.account number (capsule_amounts text) q.tickets refusal (r.refuses q.row q.tickets q.keeps)
 
 -- why none comes: its account isn't charged
 pub uncharged_stops : (object number : ℕ) (text : List ℕ) (old new : Heap) (stop : Stop) → SomeWithQueue old object →
     IsKind (old.blocks object) kinds.Object → IsCapsuleLength (length text) →
     ObjectChargeStops object number (capsule_amounts text) old new stop → CapsuleStops object number text old new stop
-uncharged_stops object number text old new (Refused (refusals.BadAddress bad)) q k f s = absurd (object_cause number text q s.0)
-uncharged_stops object number text old new (Refused (refusals.WrongKind bad kind)) q k f s = absurd (object_cause number text q s.0)
-uncharged_stops object number text old new (Refused (refusals.BadLength bad most)) q k f s = absurd (object_cause number text q s.0)
-uncharged_stops object number text old new (Refused (refusals.NoBlock missing)) q k f s = absurd (object_cause number text q s.0)
-uncharged_stops object number text old new (Refused (refusals.LogFull lines room)) q k f s = (
-  record { kind = k; fits = f; allows = s.0 },
-  record {
-    addr = 0;
-    made = [];
-    first = record { rest = Took (8 + length text) 0 ∷ []; whole = refl };
-    moves = s.1.moves ∙ sym (append-nil old.moves);
-    spare = let e = s.1.spare in omega (arith, e);
-  },
-)
+uncharged_stops object number text old new (Refused (refusals.BadAddress bad)) q k f s = absurd (object_cause number (capsule_amounts text) q s.0)
+uncharged_stops object number text old new (Refused (refusals.WrongKind bad kind)) q k f s = absurd (object_cause number (capsule_amounts text) q s.0)
+uncharged_stops object number text old new (Refused (refusals.BadLength bad most)) q k f s = absurd (object_cause number (capsule_amounts text) q s.0)
+uncharged_stops object number text old new (Refused (refusals.NoBlock missing)) q k f s = absurd (object_cause number (capsule_amounts text) q s.0)
+uncharged_stops object number text old new (Refused (refusals.LogFull lines room)) q k f s = (record { kind = k; fits = f; allows = s.0 }, none_took (8 + length text) s.1)
 uncharged_stops object number text old new (Refused refusal) q k f s =
     (record { kind = k; fits = f; refuses = s.0 }, s.1)
 uncharged_stops object number text old new DiskFault q k f s = s

@@ -13,7 +13,8 @@ use Rattle.sdr_model.specs.declared.accounts.Ticket.{Ticket}
 use Rattle.zco_acct.specs.Kept.{SomeQueue}
 use Rattle.zco_acct.specs.Refusals.{Refuses, charge_refusal, no_space, ticket_refusal, uncovered_by, unusable}
 use Rattle.zco_acct.specs.Walks.{has_number}
-use Rattle.zco_obj.specs.Charging.{refusal_in}
+use Rattle.zco_obj.specs.Charging.{ObjectRefuses, refusal_in}
+use Rattle.zco_obj.specs.Kept.{SomeWithQueue}
 
 -- the causes
 abbrev pub IsCause : Refusal → Type 0
@@ -68,3 +69,8 @@ pub queue_cause : {heap : Heap} {acct : Acct} (number : ℕ) (amounts : Amounts)
     Refuses heap acct (refusal_in heap acct number amounts) refusal → IsCause refusal
 queue_cause {heap} {acct} number amounts {refusal} q r =
     is_cause heap acct number amounts q.tickets refusal (r.some q.tickets q.keeps)
+
+pub object_cause : {object : ℕ} (number : ℕ) (amounts : Amounts) {heap : Heap} {refusal : Refusal} → SomeWithQueue heap object →
+    ObjectRefuses object number amounts heap refusal → IsCause refusal
+object_cause number amounts {heap} {refusal} q r =
+    is_cause heap q.row.account number amounts q.tickets refusal (r.refuses q.row q.tickets q.keeps)

@@ -1,15 +1,15 @@
 -- An account is charged, and then a thing is changed.
-use Rattle.std.proofs.Common.{◌≡◌, ◌≢◌, ◌+◌, ◌-◌, ◌<◌, ◌^◌, ℕ, List, [], ◌∷◌, ◌++◌, length, true, false, cond, eqb, refl, sym, ap, ◌∙◌, arith, subst, append_assoc}
+use Rattle.std.proofs.Common.{◌≡◌, ◌≢◌, ◌+◌, ◌-◌, ◌<◌, ◌^◌, ℕ, List, [], ◌∷◌, ◌++◌, length, true, false, cond, eqb, refl, sym, ap, ◌∙◌, arith, subst, append_assoc, append-nil}
 use Rattle.std.specs.Prelude.{◌==◌, None, Some, if◌then◌else◌}
 use Rattle.sdr_base.specs.Entries.{Changes, Entries, Stands, times}
 use Rattle.sdr_base.specs.Linked.{linked}
 use Rattle.sdr_base.specs.Making.{Made, with_moves}
-use Rattle.sdr_base.specs.Objects.{Heap, OnlyShort}
+use Rattle.sdr_base.specs.Objects.{Heap, IsUnmoved, OnlyShort, TookNoMore}
 use Rattle.sdr_base.specs.ZcoObjects.{ObjectRow, object_entries}
 use Rattle.sdr_base.specs.declared.account.Acct.{Acct}
 use Rattle.sdr_base.specs.declared.account.Amounts.{Amounts}
 use Rattle.sdr_base.specs.declared.moves.Move.{Move}
-use Rattle.sdr_base.specs.declared.moves.Move.TheVariants.{Short}
+use Rattle.sdr_base.specs.declared.moves.Move.TheVariants.{Short, Took}
 use Rattle.sdr_base.specs.declared.refusal.Refusal.TheVariants as refusals
 use Rattle.sdr_base.specs.declared.stop.Stop.{Stop}
 use Rattle.sdr_base.specs.declared.stop.Stop.TheVariants.{Refused, DiskFault, MediaFault, Failed}
@@ -154,6 +154,16 @@ still_kept {object} c {row} {tickets} k = record {
   rest = _;
   stands = stands_still (c.charges row tickets k) (queue_of k) (object_entries object row) k.rest k.stands;
   fits = k.fits;
+}
+
+-- no move was made
+pub none_took : {old new : Heap} (need : ℕ) → IsUnmoved old new → TookNoMore need old new
+none_took {old} need u = record {
+  addr = 0;
+  made = [];
+  first = record { rest = Took need 0 ∷ []; whole = refl };
+  moves = u.moves ∙ sym (append-nil old.moves);
+  spare = let e = u.spare in omega (arith, e);
 }
 
 -- why there is no block after a charge

@@ -9,4 +9,10 @@ mod ChargeLemmas
 mod CapsuleLemmas
 mod MadeLemmas
 mod DiscardLemmas
+mod ExtentLemmas
+mod SourceLemmas
+mod PairLemmas
+mod SourceStopLemmas
+mod RoomLemmas
+mod RawStopLemmas
 pub mod OccupancyLaws

@@ -1,5 +1,5 @@
 -- Objects that were made.
-use Rattle.std.proofs.Common.{◌≡◌, ◌+◌, ℕ, List, [], ◌∷◌, refl, sym, ap, ◌∙◌, arith, subst, append-nil}
+use Rattle.std.proofs.Common.{◌≡◌, ◌+◌, ℕ, List, [], ◌∷◌, ap, ◌∙◌, arith, subst}
 use Rattle.sdr_base.specs.Linked.{linked}
 use Rattle.sdr_base.specs.Making.{Made, besides, with_moves}
 use Rattle.sdr_base.specs.Objects.{Heap, OnlyShort}
@@ -19,7 +19,7 @@ use Rattle.zco_obj.specs.Amounts.{object_amounts}
 use Rattle.zco_obj.specs.Charging.{LacksRoom}
 use Rattle.zco_obj.specs.Making.{CreatesObject, CreateStops}
 use Rattle.zco_obj.proofs.CauseLemmas.{queue_cause}
-use Rattle.zco_obj.proofs.ChargeLemmas.{charged_moves, charged_spare, free_before, lacks_after, pays}
+use Rattle.zco_obj.proofs.ChargeLemmas.{charged_moves, charged_spare, free_before, lacks_after, none_took, pays}
 
 -- the words of an object with nothing in it
 abbrev empty_words : ℕ → List ℕ
@@ -48,16 +48,7 @@ creates {acct} {number} {addr} {old} {mid} {new} account q e c t =
 pub uncharged : (acct : Acct) (number : ℕ) (old new : Heap) (stop : Stop) → SomeQueue old acct →
     ChargeStops acct number object_amounts old new stop → CreateStops acct number old new stop
 uncharged acct number old new (Refused (refusals.NoBlock missing)) q s = absurd (queue_cause number object_amounts q s.0)
-uncharged acct number old new (Refused (refusals.LogFull lines room)) q s = (
-  s.0,
-  record {
-    addr = 0;
-    made = [];
-    first = record { rest = Took 72 0 ∷ []; whole = refl };
-    moves = s.1.moves ∙ sym (append-nil old.moves);
-    spare = let e = s.1.spare in omega (arith, e);
-  },
-)
+uncharged acct number old new (Refused (refusals.LogFull lines room)) q s = (s.0, none_took 72 s.1)
 uncharged acct number old new (Refused refusal) q s = s
 uncharged acct number old new DiskFault q s = s
 uncharged acct number old new MediaFault q s = s

@@ -7,3 +7,7 @@ pub mod Making
 pub mod Chains
 pub mod Capsules
 pub mod Discards
+pub mod Sources
+pub mod Extents
+pub mod Beside
+pub mod Appending

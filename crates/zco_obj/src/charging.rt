@@ -3,16 +3,20 @@ ghost use Rattle.std.specs.Prelude.{◌≡◌, ◌≤◌, IfErr, OnOk};
 ghost use Rattle.sdr_base.specs.Moves.{KeepsSome};
 ghost use Rattle.sdr_base.specs.Works.{Works};
 ghost use Rattle.sdr_model.specs.Charges.{capsule_bytes};
-ghost use Rattle.zco_obj.specs.Amounts.{heap_amounts};
+ghost use Rattle.sdr_model.specs.Limits.{longest_source};
+ghost use Rattle.zco_obj.specs.Amounts.{extent_amounts, heap_amounts};
 ghost use Rattle.zco_obj.specs.Charging.{ChargesObject, ObjectChargeStops};
 ghost use Rattle.zco_obj.specs.Kept.{SomeWithQueue};
 
 use crate::object::account;
-use sdr_base::{Addr, Amounts, Objects, Stop};
+use sdr_base::{Addr, Amounts, Objects, Space, Stop};
 use zco_acct::charge;
 
 /// The most bytes of a header or trailer, which has one at least.
 pub const LONGEST_CAPSULE: u64 = 1024;
+
+// What an extent charges of heap space for itself, in bytes.
+const EXTENT_BYTES: u64 = 32;
 
 // So many bytes of heap space.
 pub fn heap_amounts(bytes: u64) -> Amounts
@@ -22,6 +26,26 @@ pub fn heap_amounts(bytes: u64) -> Amounts
         file: 0,
         bulk: 0,
         heap: bytes,
+    }
+}
+
+// What an extent of so many bytes charges, which are in this space: its bytes, and its own block.
+pub fn extent_amounts(space: Space, bytes: u64) -> Amounts
+    requires short { bytes ≤ longest_source }
+    ensures { result ≡ extent_amounts space bytes }
+{
+    match space {
+        Space::File => Amounts {
+            file: bytes,
+            bulk: 0,
+            heap: EXTENT_BYTES,
+        },
+        Space::Bulk => Amounts {
+            file: 0,
+            bulk: bytes,
+            heap: EXTENT_BYTES,
+        },
+        Space::Heap => heap_amounts(bytes + EXTENT_BYTES),
     }
 }
 

@@ -9,15 +9,18 @@
 #![tactic(auto)]
 
 mod adding;
+mod appending;
 mod capsule;
 mod charging;
 mod discarding;
+mod extent;
 mod linking;
 mod object;
 mod seeing;
 mod summing;
 
 pub use adding::{append_trailer, prepend_header};
+pub use appending::append_extent;
 pub use discarding::{discard_first_header, discard_last_trailer};
 pub use object::create;
 pub use summing::{length, source_length};

@@ -1,15 +1,17 @@
-// Headers, extents and trailers as they are read, and the end of a chain.
+// Headers, extents, trailers and sources as they are read, and the end of a chain.
 ghost use Rattle.std.specs.Prelude.{◌≡◌, ◌≢◌, ◌≤◌, IfErr, IfOk};
 ghost use Rattle.sdr_base.specs.Moves.{KeepsSome};
 ghost use Rattle.sdr_base.specs.Objects.{OnlyFault};
 ghost use Rattle.sdr_base.specs.Works.{Looks};
 ghost use Rattle.sdr_model.specs.Limits.{longest_source};
+ghost use Rattle.zco_obj.specs.Sources.{IsSpaceOf, SeesSource};
 ghost use Rattle.zco_obj.specs.Walks.{FindsLast, SeesCapsule, SeesExtent, SomeCapsule, SomeCapsules, SomeExtent};
+ghost use Rattle.zco_ref.specs.Kept.{SomeSource};
 
 use crate::capsule::TEXT_FROM;
 use crate::charging::LONGEST_CAPSULE;
-use sdr_base::layout::{capsule as capsule_words, extent as extent_words};
-use sdr_base::{Addr, Objects, Stop, check_failed, word};
+use sdr_base::layout::{capsule as capsule_words, extent as extent_words, source as source_words};
+use sdr_base::{Addr, Objects, Space, Stop, check_failed, word};
 
 /// More parts than an object may have.
 pub const TOO_MANY_PARTS: u64 = 4_194_304;
@@ -27,6 +29,16 @@ pub struct SeenExtent {
     pub source: Addr,
     pub length: u64,
     pub next: Addr,
+}
+
+// What an extent asks of the source that it is to name.
+#[derive(Clone, Copy)]
+pub struct SeenSource {
+    // The space that its bytes are in.
+    pub space: Space,
+    // Whether it goes with its last extent, and no extent may be added.
+    pub flagged: bool,
+    pub bytes: u64,
 }
 
 // The last header or trailer of a chain, and the one before it, 0 for none.
@@ -70,6 +82,35 @@ pub fn see_extent<O: Objects>(o: &mut O, extent: Addr) -> Result<SeenExtent, Sto
         length,
         next,
     })
+}
+
+// What the block of a source says.
+pub fn see_source<O: Objects>(o: &mut O, source: Addr) -> Result<SeenSource, Stop>
+    requires kept { KeepsSome (O.keeps o.old) }
+    requires source { SomeSource ((O.heap o.old).blocks source) }
+    ensures seen { IfOk result (SeesSource ((O.heap o.old).blocks source)) }
+    ensures refused { IfErr result OnlyFault }
+    ensures looks { Looks O.HasHeap o.old o.new result }
+{
+    let medium = word(o, source, source_words::MEDIUM)?;
+    let flag = word(o, source, source_words::FLAG)?;
+    let bytes = word(o, source, source_words::LENGTH)?;
+    Ok(SeenSource {
+        space: space_of(medium),
+        flagged: flag == 1,
+        bytes,
+    })
+}
+
+// The space that the bytes of a medium of this number are in.
+fn space_of(number: u64) -> Space
+    ensures { IsSpaceOf number result }
+{
+    match number {
+        1 => Space::File,
+        2 => Space::Bulk,
+        _ => Space::Heap,
+    }
 }
 
 // The last header or trailer of a chain that isn't empty. It is linear in the chain, whose links go
