@@ -22,5 +22,5 @@ mod summing;
 pub use adding::{append_trailer, prepend_header};
 pub use appending::append_extent;
 pub use discarding::{discard_first_header, discard_last_trailer};
-pub use object::create;
+pub use object::{account, create};
 pub use summing::{length, source_length};
