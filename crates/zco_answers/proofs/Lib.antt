@@ -1,2 +1,7 @@
 pub mod ObjectLemmas
 mod ReadingCalls
+pub mod MovingLemmas
+pub mod MovedLemmas
+pub mod ChargeLemmas
+pub mod PayingLemmas
+mod CreateCalls
