@@ -5,3 +5,5 @@ pub mod MovedLemmas
 pub mod ChargeLemmas
 pub mod PayingLemmas
 mod CreateCalls
+pub mod TextLemmas
+mod CapsuleCalls

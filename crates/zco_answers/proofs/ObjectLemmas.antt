@@ -10,6 +10,7 @@ use Rattle.sdr_answers.specs.Answering.{IsServed}
 use Rattle.sdr_audit.proofs.ChangeLemmas.{apart}
 use Rattle.sdr_audit.specs.Rows.{capsule_row, extent_row, object_row}
 use Rattle.sdr_audit.specs.Standing.{HeapStandsFor}
+use Rattle.sdr_audit.specs.Ties.{TieAlike}
 use Rattle.sdr_base.proofs.LinkedLemmas.{length-linked}
 use Rattle.sdr_base.specs.Blocks.{IsKind}
 use Rattle.sdr_base.specs.Entries.{Entries}
@@ -19,6 +20,7 @@ use Rattle.sdr_base.specs.declared.kind.Kind.TheVariants as kinds
 use Rattle.sdr_laws.proofs.SourceViews.{fits_from}
 use Rattle.sdr_laws.proofs.ThingLemmas.{object_is, source_is}
 use Rattle.sdr_model.proofs.SumLemmas.{sum_by-map}
+use Rattle.sdr_model.specs.Accounts.{tickets_of}
 use Rattle.sdr_model.specs.Fields.{FitsCapsule, FitsExtent, FitsObject, FitsThing, IsWord}
 use Rattle.sdr_model.specs.Limits.{longest_source}
 use Rattle.sdr_model.specs.Things.{own_block}
@@ -31,7 +33,10 @@ use Rattle.sdr_model.specs.declared.zco.Capsule.{Capsule}
 use Rattle.sdr_model.specs.declared.zco.Extent.{Extent}
 use Rattle.sdr_model.specs.declared.zco.ZcoObject.{ZcoObject}
 use Rattle.sdr_model.specs.declared.zco.ZcoSource.{ZcoSource}
-use Rattle.zco_obj.specs.Kept.{CapsuleFits, ExtentFits, KeepsObject, ObjectFits, parts_of}
+use Rattle.zco_answers.proofs.MovingLemmas.{both_focused, queue_swap, things_swap}
+use Rattle.zco_granted.proofs.ComingLemmas.{tickets_kept}
+use Rattle.zco_granted.proofs.QueueLemmas.{queue_kept}
+use Rattle.zco_obj.specs.Kept.{CapsuleFits, ExtentFits, KeepsObject, KeepsWithQueue, ObjectFits, parts_of}
 
 -- the rows of headers and trailers fit
 pub capsules_fit : (cs : List Capsule) → AllByRecursion IsValidCapsule cs → AllByRecursion FitsCapsule cs →
@@ -145,3 +150,22 @@ no_object heap w addr s valid other = by (thing_at w addr) refl
     by (Some (things.Object z)) at = absurd (other (own_in_use heap w addr (things.Object z) s valid at))
     by None at = refl
     by (Some thing) at = refl
+
+-- an object is kept together with the queue of its account
+pub object_with_queue : (heap : Heap) (w : World) (addr : ℕ) (z : ZcoObject) → HeapStandsFor heap w → IsServed w → IsSmall heap →
+    thing_at w addr ≡ Some (things.Object z) →
+    KeepsWithQueue heap addr (object_row z) (tickets_of w.accounts z.account)
+object_with_queue heap w addr z s served small there =
+    let ts = tickets_of w.accounts z.account in
+    let k = queue_kept z.account s (tickets_kept served) in
+    let alike : TieAlike (Some (things.Object z)) (Some (things.Object z)) =
+    record { raws = λ raw. refl; sources = λ source acct. refl } in
+    record {
+      rest = _;
+      stands = both_focused (things_swap w addr (Some (things.Object z)) (Some (things.Object z)) there alike)
+          (queue_swap w z.account ts) s.blocks;
+      fits = object_fits heap w s served small addr z there;
+      first = k.first;
+      last = k.last;
+      tickets_fit = k.fits;
+    }
