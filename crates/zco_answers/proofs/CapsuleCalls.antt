@@ -1,5 +1,5 @@
 -- A header or trailer that is added, as a step.
-use Rattle.std.proofs.Common.{◌≡◌, ◌∙◌, ◌+◌, ◌≤◌, ◌<◌, ◌⊎◌, ℕ, List, [], ◌∷◌, ◌++◌, Option, Some, None, true, false, inl, inr, length, map, refl, sym, ap, subst, arith, if◌then◌else◌}
+use Rattle.std.proofs.Common.{◌≡◌, ◌∙◌, ◌+◌, ◌<◌, ◌⊎◌, ℕ, List, [], ◌∷◌, ◌++◌, Some, true, false, inl, inr, length, refl, sym, ap, subst, arith, if◌then◌else◌}
 use Rattle.std.proofs.lemmas.List.{map-append}
 use Rattle.std.proofs.lemmas.Bool.Decides.{nat_tests}
 use Rattle.std.specs.FinMap as finite
@@ -12,7 +12,6 @@ use Rattle.sdr_audit.specs.Ties.{TieAlike}
 use Rattle.sdr_base.specs.Entries.{Changes}
 use Rattle.sdr_base.specs.Objects.{Heap}
 use Rattle.sdr_base.specs.ZcoObjects.{CapsuleRow, ObjectRow, object_entries}
-use Rattle.sdr_base.specs.declared.account.Acct.{Acct}
 use Rattle.sdr_base.specs.declared.kind.Kind.TheVariants as kinds
 use Rattle.sdr_base.specs.declared.kind.Space.{Space}
 use Rattle.sdr_base.specs.declared.kind.Space.TheVariants as spaces
@@ -48,9 +47,9 @@ use Rattle.zco_acct.specs.Charges.{charged}
 use Rattle.zco_acct.specs.Kept.{queue_entries}
 use Rattle.zco_answers.proofs.ChargeLemmas.{IsPaid, paid, unpaid}
 use Rattle.zco_answers.proofs.MovingLemmas.{both_change, things_swap}
-use Rattle.zco_answers.proofs.ObjectLemmas.{IsObjectAt, no_object, object_is_at, object_with_queue}
+use Rattle.zco_answers.proofs.ObjectLemmas.{no_object, object_is_at, object_with_queue}
 use Rattle.zco_answers.proofs.PayingLemmas.{paid_stands, paid_world, room_refused, same_refusal}
-use Rattle.zco_obj.specs.Capsules.{AddsCapsule, CapsuleStops, IsCapsuleLength, IsNoCapsule, with_header, with_trailer}
+use Rattle.zco_obj.specs.Capsules.{AddsCapsule, CapsuleStops, IsCapsuleLength, with_header, with_trailer}
 use Rattle.zco_obj.specs.Charging.{ObjectAllows, refusal_in}
 
 -- an object with one header or trailer more has the row with one more, names what it named, and charges as much more
@@ -129,11 +128,16 @@ module _ (old new : Heap) (w : World) (unmoved : old.moves ≡ []) (s : HeapStan
       row (outcome z block)
       (on_some _ (going (outcome z block)) (object_at w addr) z (ap as_object there)
       (on_false _ _ (is_no_capsule (length text)) (is_capsule (length text) fits)
-      (p.goes (outcome z block) (paying (outcome z block) z)
-      (refl, (sym (ap (λ (used : World). record (with_object used addr (more z (capsule block))) {
-        marks = w.marks ++ block ∷ [];
-        shown = [];
-      }) p.used), refl)))))
+      (p.goes (outcome z block) (paying (outcome z block) z) (
+        refl,
+        (
+          sym (ap (λ (used : World). record (with_object used addr (more z (capsule block))) {
+            marks = w.marks ++ block ∷ [];
+            shown = [];
+          }) p.used),
+          refl,
+        ),
+      ))))
 
   added_aim : (z : ZcoObject) → thing_at w addr ≡ Some (things.Object z) → IsCapsuleLength (length text) →
       IsPaid w z.account number charge → TakesAim w call need

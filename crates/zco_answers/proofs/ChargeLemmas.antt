@@ -1,9 +1,8 @@
 -- A charge that an account of a world allows or refuses, as its row says.
-use Rattle.std.proofs.Common.{◌≡◌, ◌∙◌, ◌+◌, ◌==◌, ℕ, zero, suc, List, [], ◌∷◌, Bool, true, false, cond, find, length, not, set, refl, sym, ap, subst, arith, if◌then◌else◌, eqb-true}
+use Rattle.std.proofs.Common.{◌≡◌, ◌∙◌, ◌+◌, ◌==◌, ℕ, zero, suc, List, [], ◌∷◌, Bool, true, false, cond, find, not, set, refl, sym, ap, arith, if◌then◌else◌}
 use Rattle.std.specs.List.{position_or_len}
 use Rattle.std.specs.Option.{option_map, option_or}
 use Rattle.std.specs.Prelude.{Option, None, Some, MatchOption, slice_get}
-use Rattle.std.proofs.Math.Numerals.{one-add}
 use Rattle.sdr_base.specs.Linked.{first_of, last_of}
 use Rattle.sdr_base.specs.declared.account.Acct.{Acct}
 use Rattle.sdr_base.specs.declared.account.Acct.TheVariants as accts
@@ -87,7 +86,7 @@ charged_ends number amounts ts =
     ]
 
 -- the world with an account's own tickets is as it was
-stays : (w : World) (acct : Acct) → w ≡ moved w w.things acct (tickets_of w.accounts acct)
+pub stays : (w : World) (acct : Acct) → w ≡ moved w w.things acct (tickets_of w.accounts acct)
 stays w accts.Inbound = refl
 stays w accts.Outbound = refl
 

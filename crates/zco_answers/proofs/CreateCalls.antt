@@ -1,5 +1,5 @@
 -- An object that is made, as a step.
-use Rattle.std.proofs.Common.{◌≡◌, ◌∙◌, ◌+◌, ℕ, List, [], ◌∷◌, ◌++◌, Option, Some, None, Bool, true, false, cond, inl, refl, sym, ap, arith}
+use Rattle.std.proofs.Common.{◌≡◌, ◌∙◌, ℕ, List, [], ◌∷◌, ◌++◌, Some, None, Bool, true, false, cond, inl, refl, sym, ap, arith}
 use Rattle.std.specs.FinMap as finite
 use Rattle.sdr_answers.proofs.RowLemmas.{TakesAim, moved_answered, row_refused, took_has}
 use Rattle.sdr_answers.specs.Answering.{Answered, IsRefused, IsServed}
@@ -24,11 +24,10 @@ use Rattle.sdr_model.specs.ObjectSteps.{with_object}
 use Rattle.sdr_model.specs.Rows.{ByRow}
 use Rattle.sdr_model.specs.Steps.{Outcome, Takes}
 use Rattle.sdr_model.specs.Things.{Things, object_need}
-use Rattle.sdr_model.specs.World.{World, thing_at}
+use Rattle.sdr_model.specs.World.{World}
 use Rattle.sdr_model.specs.Zco.{empty_object}
 use Rattle.sdr_model.specs.declared.answer.Reply.TheVariants as replies
 use Rattle.sdr_model.specs.declared.call.Call.TheVariants as calls
-use Rattle.sdr_model.specs.declared.things.Thing.{Thing}
 use Rattle.sdr_model.specs.declared.things.Thing.TheVariants as things
 use Rattle.zco_acct.specs.Charges.{charged}
 use Rattle.zco_answers.proofs.ChargeLemmas.{IsPaid, paid, unpaid}
@@ -70,11 +69,16 @@ module _ (old new : Heap) (w : World) (unmoved : old.moves ≡ []) (s : HeapStan
 
   create_row : (addr : ℕ) → IsPaid w acct number charge → ByRow w (outcome addr) (calls.Create acct number)
   create_row addr p =
-      p.goes (outcome addr) (goes_on (outcome addr))
-      (refl, (sym (ap (λ (used : World). record (with_object used addr (empty_object acct)) {
-        marks = w.marks ++ addr ∷ [];
-        shown = [];
-      }) p.used), refl))
+      p.goes (outcome addr) (goes_on (outcome addr)) (
+        refl,
+        (
+          sym (ap (λ (used : World). record (with_object used addr (empty_object acct)) {
+            marks = w.marks ++ addr ∷ [];
+            shown = [];
+          }) p.used),
+          refl,
+        ),
+      )
 
   create_aim : IsPaid w acct number charge → TakesAim w (calls.Create acct number) object_need
   create_aim p = record { after = _; reply = _; row = create_row 0 p; answered = refl }

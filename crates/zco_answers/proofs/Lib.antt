@@ -7,3 +7,7 @@ pub mod PayingLemmas
 mod CreateCalls
 pub mod TextLemmas
 mod CapsuleCalls
+pub mod LosingLemmas
+mod DiscardCalls
+pub mod GoodLemmas
+pub mod DemandLemmas

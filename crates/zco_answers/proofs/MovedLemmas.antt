@@ -19,7 +19,6 @@ use Rattle.sdr_base.specs.declared.moves.Move.{Move}
 use Rattle.sdr_laws.proofs.BarredLemmas.{amount_by, amounts_same}
 use Rattle.sdr_laws.proofs.ChargeLemmas.{things_charge}
 use Rattle.sdr_model.specs.Accounts.{account_of, is_same_account, tickets_of}
-use Rattle.sdr_model.specs.Amounts.{amount}
 use Rattle.sdr_model.specs.Charges.{left_in, occupancies, occupancy}
 use Rattle.sdr_model.specs.Things.{Things}
 use Rattle.sdr_model.specs.TicketRows.{ticket_row}

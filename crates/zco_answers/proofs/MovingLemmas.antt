@@ -1,7 +1,6 @@
 -- A heap that stands for a world, where things and the queue of an account change together.
-use Rattle.std.proofs.Common.{◌≡◌, ◌∙◌, ◌+◌, ℕ, List, [], ◌∷◌, ◌++◌, Option, Some, None, map, false, refl, sym, ap, subst, append_assoc, append-nil}
+use Rattle.std.proofs.Common.{◌≡◌, ◌∙◌, ℕ, List, [], ◌++◌, Option, Some, None, map, refl, sym, ap, subst, append_assoc, append-nil}
 use Rattle.std.specs.FinMap as finite
-use Rattle.sdr_audit.proofs.ChangeLemmas.{part_becomes}
 use Rattle.sdr_audit.proofs.TiesLemmas.{same_ties}
 use Rattle.sdr_audit.specs.Rows.{name_row}
 use Rattle.sdr_audit.specs.Standing.{HeapStandsFor, account_roots, entries_of, other_entries, roots_of, thing_entries, with_taken_marked}
@@ -13,32 +12,20 @@ use Rattle.sdr_base.proofs.StandingLemmas.{moved_back, stands_swapped_two, swaps
 use Rattle.sdr_base.specs.Blocks.{Blocks}
 use Rattle.sdr_base.specs.Catalogue.{catalogue_entries}
 use Rattle.sdr_base.specs.Entries.{Changes, Entries, Stands, Swaps}
-use Rattle.sdr_base.specs.Linked.{first_of, last_of}
-use Rattle.sdr_base.specs.Making.{marked_by}
-use Rattle.sdr_base.specs.Objects.{Heap}
-use Rattle.sdr_base.specs.Roots.{account_words as words}
 use Rattle.sdr_base.specs.Section.{section}
 use Rattle.sdr_base.specs.Tickets.{ticket_entries}
 use Rattle.sdr_base.specs.declared.account.Acct.{Acct}
 use Rattle.sdr_base.specs.declared.account.Acct.TheVariants as accts
-use Rattle.sdr_base.specs.declared.account.Amounts.{Amounts}
-use Rattle.sdr_base.specs.declared.kind.Space.{Space}
-use Rattle.sdr_base.specs.declared.moves.Move.{Move}
-use Rattle.sdr_laws.proofs.BarredLemmas.{amounts_same}
-use Rattle.sdr_laws.proofs.ChargeLemmas.{things_charge}
 use Rattle.sdr_model.proofs.ThingsLemmas.{with_at-again}
-use Rattle.sdr_model.specs.Accounts.{account_of, is_same_account, tickets_of, with_tickets}
-use Rattle.sdr_model.specs.Charges.{left_in, occupancies, occupancy}
+use Rattle.sdr_model.specs.Accounts.{tickets_of, with_tickets}
 use Rattle.sdr_model.specs.Things.{Things, with_at}
 use Rattle.sdr_model.specs.TicketRows.{ticket_row}
 use Rattle.sdr_model.specs.World.{World, thing_at}
 use Rattle.sdr_model.specs.declared.accounts.Ticket.{Ticket}
 use Rattle.sdr_model.specs.declared.things.Thing.{Thing}
-use Rattle.zco_acct.specs.Kept.{block_of, queue_entries}
-use Rattle.zco_granted.proofs.AccountLemmas.{account_with, account_words, roots_before, roots_now, world_with}
-use Rattle.zco_granted.proofs.OccupiedLemmas.{occupied_with}
+use Rattle.zco_acct.specs.Kept.{queue_entries}
+use Rattle.zco_granted.proofs.AccountLemmas.{account_with, world_with}
 use Rattle.zco_granted.proofs.QueueLemmas.{same_entries}
-use Rattle.zco_granted.proofs.WordLemmas.{AccountWords, occupied_set, roots_with, set_occupied}
 
 -- the blocks of two parts stand in front of all others
 pub both_focused : {b : Blocks} {xs xs' ys ys' p p' q q' : Entries} (u : Swaps xs xs' p p') (v : Swaps ys ys' q q') →

@@ -1,7 +1,7 @@
 -- What a heap that stands for a world comes to where an account is charged, or given back, for its objects.
-use Rattle.std.proofs.Common.{◌≡◌, ◌∙◌, ◌+◌, ◌-◌, ◌++◌, ℕ, List, [], ◌∷◌, Option, Some, None, true, false, true≢false, inl, inr, refl, sym, ap, subst, arith}
-use Rattle.sdr_answers.proofs.RowLemmas.{TakesAim, row_refused}
-use Rattle.sdr_answers.specs.Answering.{Aim, IsRefused}
+use Rattle.std.proofs.Common.{◌≡◌, ◌∙◌, ◌+◌, ◌++◌, ℕ, List, [], ◌∷◌, false, true≢false, inr, refl, sym, ap, arith}
+use Rattle.sdr_answers.proofs.RowLemmas.{TakesAim}
+use Rattle.sdr_answers.specs.Answering.{IsRefused}
 use Rattle.sdr_audit.specs.Standing.{HeapStandsFor, entries_of, with_taken_marked}
 use Rattle.sdr_base.specs.Entries.{Changes, Entries}
 use Rattle.sdr_base.specs.Objects.{Heap}
@@ -18,17 +18,16 @@ use Rattle.sdr_laws.proofs.ChargeLemmas.{things_charge}
 use Rattle.sdr_laws.proofs.ChargeMoves.{MovesCharge}
 use Rattle.sdr_laws.proofs.ZcoOutcomes.{nothing}
 use Rattle.sdr_model.proofs.AmountLemmas.{amount-minus}
-use Rattle.sdr_model.specs.Accounts.{account_of, tickets_of}
+use Rattle.sdr_model.specs.Accounts.{tickets_of}
 use Rattle.sdr_model.specs.Amounts.{amount, amounts_by, minus}
-use Rattle.sdr_model.specs.Charges.{left_in, occupancies, occupancy}
+use Rattle.sdr_model.specs.Charges.{left_in, occupancy}
 use Rattle.sdr_model.specs.Reading.{is_reading}
 use Rattle.sdr_model.specs.Things.{Things}
 use Rattle.sdr_model.specs.World.{World}
-use Rattle.sdr_model.specs.declared.accounts.Ticket.{Ticket}
 use Rattle.sdr_model.specs.declared.call.Call.{Call}
 use Rattle.zco_acct.specs.Charges.{charged}
 use Rattle.zco_acct.specs.Refusals.{charge_refusal}
-use Rattle.zco_acct.specs.Words.{maxima_in, occupied_in}
+use Rattle.zco_acct.specs.Words.{occupied_in}
 use Rattle.zco_answers.proofs.ChargeLemmas.{charged_ends, refusal_of}
 use Rattle.zco_answers.proofs.MovedLemmas.{moved_stands}
 use Rattle.zco_answers.proofs.MovingLemmas.{moved}

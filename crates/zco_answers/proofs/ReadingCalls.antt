@@ -1,12 +1,12 @@
 -- Lengths of objects that are told, as steps.
-use Rattle.std.proofs.Common.{◌≡◌, ◌∙◌, ◌+◌, ℕ, List, [], Option, Some, None, length, refl, ap, arith}
+use Rattle.std.proofs.Common.{◌≡◌, ◌∙◌, ℕ, List, [], length, refl, ap, arith}
 use Rattle.sdr_answers.proofs.ListLemmas.{IsSmall}
 use Rattle.sdr_answers.proofs.RowLemmas.{looked, misnamed_refused}
 use Rattle.sdr_answers.specs.Answering.{Answered, IsRefused, IsServed}
 use Rattle.sdr_audit.specs.Rows.{capsule_row, extent_row, object_row}
 use Rattle.sdr_audit.specs.Standing.{HeapStandsFor}
 use Rattle.sdr_base.specs.Objects.{Heap, Misses}
-use Rattle.sdr_base.specs.ZcoObjects.{CapsuleRow, ObjectRow}
+use Rattle.sdr_base.specs.ZcoObjects.{CapsuleRow}
 use Rattle.sdr_base.specs.declared.kind.Kind.TheVariants as kinds
 use Rattle.sdr_base.specs.declared.refusal.Refusal.{Refusal}
 use Rattle.sdr_base.specs.declared.stop.Stop.TheVariants as stops

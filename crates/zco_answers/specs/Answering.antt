@@ -1,5 +1,5 @@
 -- The calls on zero-copy objects, and what they ask for of a heap.
-use Rattle.std.specs.Prelude.{◌≡◌, ◌+◌, ◌*◌, ◌/◌, ℕ, Bool, true, false, length, Option, None, Some}
+use Rattle.std.specs.Prelude.{◌+◌, ◌*◌, ◌/◌, ℕ, Bool, true, false, length}
 use Rattle.std.specs.Option.{option_map_or}
 use Rattle.sdr_base.specs.Objects.{Heap}
 use Rattle.sdr_lock.specs.Demand.{grants_between}

@@ -8,9 +8,7 @@ ghost use Rattle.sdr_model.specs.Fields.{FitsCall};
 ghost use Rattle.sdr_model.specs.World.{World};
 ghost use Rattle.zco_answers.specs.Answering.{IsGood, call_lines, is_object_call};
 
-use crate::capsules::{
-    append_trailer, discard_first_header, discard_last_trailer, prepend_header,
-};
+use crate::capsules::{append_trailer, discard_first_header, discard_last_trailer, prepend_header};
 use crate::objects::{create, length, source_length};
 use sdr_answers::Page;
 use sdr_base::{Objects, Stop};

@@ -1,5 +1,5 @@
 pub mod StopLemmas
-mod RootLemmas
+pub mod RootLemmas
 pub mod ServedLemmas
 mod ServingLemmas
 mod ServesLemmas
