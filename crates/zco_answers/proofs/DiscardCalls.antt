@@ -1,19 +1,15 @@
 -- A header or trailer that goes, as a step.
-use Rattle.std.proofs.Common.{◌≡◌, ◌∙◌, ◌+◌, ◌-◌, ℕ, List, [], ◌∷◌, ◌++◌, Option, Some, None, false, true≢false, inl, take, length, map, refl, sym, ap, subst, arith, append_assoc, if◌then◌else◌}
-use Rattle.std.proofs.lemmas.List.{drop-map, length-map, take-map}
-use Rattle.std.proofs.lemmas.List.Elements.{All-drop, All-take}
-use Rattle.std.proofs.lemmas.Option.{slice_get-map}
+use Rattle.std.proofs.Common.{◌≡◌, ◌∙◌, ℕ, List, [], ◌∷◌, ◌++◌, Option, Some, None, false, true≢false, inl, length, refl, sym, ap, subst, arith, if◌then◌else◌}
 use Rattle.std.specs.FinMap as finite
 use Rattle.std.specs.Option.{option_map, option_map_or}
-use Rattle.std.specs.Prelude.{All, IfSome, slice_get}
+use Rattle.std.specs.Prelude.{All, IfSome}
 use Rattle.sdr_answers.proofs.ListLemmas.{IsSmall}
 use Rattle.sdr_answers.proofs.RowLemmas.{HasMoves, gave_has, misnamed_refused, row_refused}
 use Rattle.sdr_answers.specs.Answering.{Aim, Answered, IsRefused, IsServed}
 use Rattle.sdr_audit.specs.Rows.{capsule_row, object_row}
 use Rattle.sdr_audit.specs.Standing.{HeapStandsFor, with_taken_marked}
 use Rattle.sdr_audit.specs.Ties.{TieAlike}
-use Rattle.sdr_base.specs.Blocks.{Blocks}
-use Rattle.sdr_base.specs.Entries.{Changes, Entries, Stands}
+use Rattle.sdr_base.specs.Entries.{Changes}
 use Rattle.sdr_base.specs.Objects.{Heap, OnlyUnmoved}
 use Rattle.sdr_base.specs.ZcoObjects.{CapsuleRow, ObjectRow, object_entries}
 use Rattle.sdr_base.specs.declared.account.Acct.{Acct}
@@ -27,7 +23,6 @@ use Rattle.sdr_base.specs.declared.refusal.Refusal.TheVariants as refusals
 use Rattle.sdr_base.specs.declared.stop.Stop.TheVariants as stops
 use Rattle.sdr_laws.proofs.ChargeMoves.{MovesCharge, object_moves}
 use Rattle.sdr_laws.proofs.ObjectFields.{put_fits}
-use Rattle.sdr_laws.proofs.ObjectRows.{first_less, last_less}
 use Rattle.sdr_laws.proofs.SourceViews.{of}
 use Rattle.sdr_laws.proofs.ZcoOutcomes.{nothing}
 use Rattle.sdr_laws.specs.Fresh.{AreFresh}
@@ -36,8 +31,8 @@ use Rattle.sdr_lock.specs.Demand.{grants_between}
 use Rattle.sdr_model.specs.Accounts.{is_same_account, tickets_of}
 use Rattle.sdr_model.specs.Amounts.{amounts_by, in_space, minus}
 use Rattle.sdr_model.specs.Blocks.{addresses_of, blocks_of}
-use Rattle.sdr_model.specs.Charges.{capsule_bytes, capsule_charge, object_charge}
-use Rattle.sdr_model.specs.Fields.{FitsCapsule, FitsObject, FitsThing, IsWord}
+use Rattle.sdr_model.specs.Charges.{capsule_bytes}
+use Rattle.sdr_model.specs.Fields.{FitsThing, IsWord}
 use Rattle.sdr_model.specs.ObjectSteps as object
 use Rattle.sdr_model.specs.ObjectSteps.{last_capsule, with_object}
 use Rattle.sdr_model.specs.Queue.{with_served}
@@ -56,6 +51,7 @@ use Rattle.sdr_model.specs.declared.zco.ZcoObject.{ZcoObject}
 use Rattle.zco_acct.specs.Kept.{queue_entries}
 use Rattle.zco_acct.specs.Words.{occupied_in}
 use Rattle.zco_answers.proofs.ChargeLemmas.{stays}
+use Rattle.zco_answers.proofs.DropLemmas.{DropsOne, framed}
 use Rattle.zco_answers.proofs.LosingLemmas.{StillFits}
 use Rattle.zco_answers.proofs.MovedLemmas.{moved_stands}
 use Rattle.zco_answers.proofs.MovingLemmas.{both_change, moved, things_swap}
@@ -65,61 +61,8 @@ use Rattle.zco_answers.specs.Answering.{left_with}
 use Rattle.zco_granted.proofs.AccountLemmas.{unmarked}
 use Rattle.zco_granted.proofs.ComingLemmas.{log_full}
 use Rattle.zco_granted.specs.Answering.{KeepsTickets, Serves}
-use Rattle.zco_obj.specs.Discards.{Discarded, DiscardsCapsule, DiscardsOne, DiscardStops, GaveOne, first_header, last_trailer, without_header, without_trailer}
+use Rattle.zco_obj.specs.Discards.{Discarded, DiscardsCapsule, DiscardsOne, DiscardStops, GaveOne}
 use Rattle.zco_obj.specs.Reading.{Tells}
-
--- the header or trailer that goes from an object, and the object without it, are those of its row; the object names what it
--- named, and charges less by what that one charged
-pub record DropsOne (pick : ZcoObject → Option Capsule) (without : ZcoObject → ZcoObject) (pick_row : ObjectRow → Option CapsuleRow)
-    (without_row : ObjectRow → ObjectRow) : Type 0 where
-  pub picked : (z : ZcoObject) → pick_row (object_row z) ≡ option_map capsule_row (pick z)
-  pub rows : (z : ZcoObject) → object_row (without z) ≡ without_row (object_row z)
-  pub account : (z : ZcoObject) → (without z).account ≡ z.account
-  pub extents : (z : ZcoObject) → (without z).extents ≡ z.extents
-  pub less : (w : World) (z : ZcoObject) (c : Capsule) → pick z ≡ Some c → (space : Space) →
-      object_charge w space (without z) + capsule_charge space c ≡ object_charge w space z
-  pub fits : (z : ZcoObject) → FitsObject z → FitsObject (without z)
-
-pub drops_header : DropsOne (λ z. slice_get z.headers 0) object.without_header first_header without_header
-drops_header = record {
-  picked = λ z. slice_get-map capsule_row z.headers 0;
-  rows = λ z. ap (λ (rows : List CapsuleRow). record (object_row z) { headers = rows }) (sym (drop-map capsule_row 1 z.headers));
-  account = λ z. refl;
-  extents = λ z. refl;
-  less = λ w z c is space. first_less w z c is space;
-  fits = λ z f. record {
-    headers = All-drop FitsCapsule 1 z.headers f.headers;
-    extents = f.extents;
-    trailers = f.trailers;
-  };
-}
-
-pub drops_trailer : DropsOne (λ z. last_capsule z.trailers) object.without_trailer last_trailer without_trailer
-drops_trailer = record {
-  picked = λ z.
-      ap (λ n. slice_get (map capsule_row z.trailers) (n - 1)) (length-map z.trailers capsule_row)
-      ∙ slice_get-map capsule_row z.trailers (length z.trailers - 1);
-  rows = λ z.
-      ap (λ (rows : List CapsuleRow). record (object_row z) { trailers = rows })
-      (sym (take-map capsule_row (length z.trailers - 1) z.trailers)
-      ∙ ap (λ n. take (n - 1) (map capsule_row z.trailers)) (sym (length-map z.trailers capsule_row)));
-  account = λ z. refl;
-  extents = λ z. refl;
-  less = λ w z c is space. last_less w z c is space;
-  fits = λ z f. record {
-    headers = f.headers;
-    extents = f.extents;
-    trailers = All-take FitsCapsule (length z.trailers - 1) z.trailers f.trailers;
-  };
-}
-
--- what stands behind some blocks stands so where they change
-framed : {b b' : Blocks} (es es' q : Entries) → Changes b b' es es' → Changes b b' (es ++ q) (es' ++ q)
-framed {b} {b'} es es' q c = record {
-  kept = λ rest s.
-      subst (λ (xs : Entries). Stands b' xs) (sym (append_assoc es' q rest))
-      (c.kept (q ++ rest) (subst (λ (xs : Entries). Stands b xs) (append_assoc es q rest) s));
-}
 
 -- a call on a heap that stands for a world in which it is served
 module _ (old : Heap) (w : World) (unmoved : old.moves ≡ []) (s : HeapStandsFor old w) (served : IsServed w) (small : IsSmall old)

@@ -8,6 +8,7 @@ mod CreateCalls
 pub mod TextLemmas
 mod CapsuleCalls
 pub mod LosingLemmas
+pub mod DropLemmas
 mod DiscardCalls
 pub mod GoodLemmas
 pub mod DemandLemmas

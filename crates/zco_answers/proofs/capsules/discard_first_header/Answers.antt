@@ -10,7 +10,8 @@ use Rattle.sdr_base.specs.Objects.{OnlyUnmoved}
 use Rattle.sdr_model.specs.ObjectSteps.{without_header}
 use Rattle.sdr_model.specs.declared.answer.Reply.TheVariants as replies
 use Rattle.sdr_model.specs.declared.call.Call.TheVariants as calls
-use Rattle.zco_answers.proofs.DiscardCalls.{discard_answered, discard_refused, dropped, drops_header, lost, lost_grants, lost_keeps, served_stands, unserved}
+use Rattle.zco_answers.proofs.DiscardCalls.{discard_answered, discard_refused, dropped, lost, lost_grants, lost_keeps, served_stands, unserved}
+use Rattle.zco_answers.proofs.DropLemmas.{drops_header}
 use Rattle.zco_answers.proofs.LosingLemmas.{header_fits, object_left, queue_left}
 use Rattle.zco_obj.specs.Discards as rows
 use Rattle.zco_obj.specs.Discards.{DiscardStops}

@@ -9,7 +9,8 @@ use Rattle.sdr_base.specs.Objects.{OnlyUnmoved}
 use Rattle.sdr_model.specs.ObjectSteps.{last_capsule, without_trailer}
 use Rattle.sdr_model.specs.declared.answer.Reply.TheVariants as replies
 use Rattle.sdr_model.specs.declared.call.Call.TheVariants as calls
-use Rattle.zco_answers.proofs.DiscardCalls.{discard_answered, discard_refused, dropped, drops_trailer, lost, lost_grants, lost_keeps, served_stands, unserved}
+use Rattle.zco_answers.proofs.DiscardCalls.{discard_answered, discard_refused, dropped, lost, lost_grants, lost_keeps, served_stands, unserved}
+use Rattle.zco_answers.proofs.DropLemmas.{drops_trailer}
 use Rattle.zco_answers.proofs.LosingLemmas.{trailer_fits, object_left, queue_left}
 use Rattle.zco_obj.specs.Discards as rows
 use Rattle.zco_obj.specs.Discards.{DiscardStops}
