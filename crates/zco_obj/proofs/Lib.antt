@@ -14,5 +14,17 @@ mod SourceLemmas
 mod PairLemmas
 mod SourceStopLemmas
 mod RoomLemmas
+mod StopLemmas
+mod GaveLemmas
+mod UseLemmas
+mod ChainGoneLemmas
+mod CapsulesGoneLemmas
+mod CountLemmas
+mod SpotLemmas
+mod ExtentsGoneLemmas
+mod PartsGoneLemmas
+mod EndLemmas
+mod RawLemmas
 mod RawStopLemmas
 pub mod OccupancyLaws
+mod RowsOfExtents

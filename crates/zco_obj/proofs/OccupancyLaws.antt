@@ -1,6 +1,6 @@
 -- What is occupied is the sum of what objects charge and of what is left of grants, before and after each change. The laws
 -- hold whatever an object, an extent, and a header or trailer charge.
-use Rattle.std.proofs.Common.{◌≡◌, ◌+◌, ◌-◌, ℕ, List, [], ◌∷◌, ◌++◌, true, false, cond, Some, None, refl, ap, arith}
+use Rattle.std.proofs.Common.{◌≡◌, ◌+◌, ◌-◌, ℕ, List, [], ◌∷◌, ◌++◌, true, false, cond, Some, None, refl, sym, ap, ◌∙◌, arith}
 use Rattle.std.specs.Prelude.{◌==◌, find, sum_by, if◌then◌else◌}
 use Rattle.std.proofs.lemmas.List.Sums.{sum_by-cons, sum_by_push}
 use Rattle.sdr_base.specs.Objects.{Heap}
@@ -19,6 +19,7 @@ use Rattle.zco_acct.specs.Words.{occupied_in}
 use Rattle.zco_obj.specs.Amounts.{charge_of}
 use Rattle.zco_obj.specs.Capsules.{with_header, with_trailer}
 use Rattle.zco_obj.specs.Charging.{occupied_then}
+use Rattle.zco_obj.specs.Extents.{with_extent}
 use Rattle.zco_obj.specs.Making.{empty_row}
 
 -- what an object charges, once it is made, and once a header or trailer came
@@ -33,6 +34,11 @@ module _ (own : ℕ) (extent : ExtentRow → ℕ) (capsule : CapsuleRow → ℕ)
   pub charge_of-trailer : (row : ObjectRow) (c : CapsuleRow) →
       charge_of own extent capsule (with_trailer row c) ≡ charge_of own extent capsule row + capsule c
   charge_of-trailer row c = let s = sum_by_push capsule row.trailers c in omega (arith, s)
+
+  -- or an extent
+  pub charge_of-extent : (row : ObjectRow) (e : ExtentRow) →
+      charge_of own extent capsule (with_extent row e) ≡ charge_of own extent capsule row + extent e
+  charge_of-extent row e = let s = sum_by_push extent row.extents e in omega (arith, s)
 
   -- and once one went
   pub charge_of-headless : (row : ObjectRow) (c : CapsuleRow) (behind : List CapsuleRow) → row.headers ≡ c ∷ behind →
@@ -109,3 +115,10 @@ pub occupied_released : (occupied amounts : Amounts) (space : Space) (objects le
     amount occupied space ≡ (objects + amount amounts space) + left → amount (minus occupied amounts) space ≡ objects + left
 occupied_released occupied amounts space objects left e =
     let m = amount-minus occupied amounts space in omega (arith, e, m)
+
+-- an object's end: what objects charge has what it charges less, with all its parts
+pub occupied_ended : (occupied amounts : Amounts) (space : Space) (own : ℕ) (extent : ExtentRow → ℕ) (capsule : CapsuleRow → ℕ)
+    (row : ObjectRow) (objects left : ℕ) → amount amounts space ≡ charge_of own extent capsule row →
+    amount occupied space ≡ (objects + charge_of own extent capsule row) + left → amount (minus occupied amounts) space ≡ objects + left
+occupied_ended occupied amounts space own extent capsule row objects left c e =
+    occupied_released occupied amounts space objects left (e ∙ ap (λ n. (objects + n) + left) (sym c))

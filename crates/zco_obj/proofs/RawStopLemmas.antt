@@ -1,13 +1,10 @@
 -- A part of a raw object is appended, which a source has taken over, or it isn't.
-use Rattle.std.proofs.Common.{◌≡◌, ◌-◌, ◌<◌, ◌≤◌, ◌^◌, ℕ, List, [], ◌∷◌, ◌++◌, None, Some, refl, sym, ap, ◌∙◌, arith, subst, append_assoc}
-use Rattle.std.specs.Prelude.{Option}
-use Rattle.sdr_base.specs.Blocks.{Block, Blocks, IsKind, IsOther}
-use Rattle.sdr_base.specs.Entries.{Changes, Entries, Stands, times}
+use Rattle.std.proofs.Common.{◌≡◌, ◌-◌, ◌<◌, ◌≤◌, ◌^◌, ℕ, List, [], ◌∷◌, ◌++◌, refl, sym, ap, ◌∙◌, arith, subst, append_assoc}
+use Rattle.sdr_base.specs.Blocks.{IsKind}
+use Rattle.sdr_base.specs.Entries.{Changes, Entries, Stands}
 use Rattle.sdr_base.specs.Objects.{Heap, OnlyShort}
 use Rattle.sdr_base.specs.Raws.{raw_block, raw_entries}
 use Rattle.sdr_base.specs.ZcoObjects.{ObjectRow, object_entries}
-use Rattle.sdr_base.specs.declared.account.Acct.{Acct}
-use Rattle.sdr_base.specs.declared.account.Acct.TheVariants as accts
 use Rattle.sdr_base.specs.declared.kind.Kind.TheVariants as kinds
 use Rattle.sdr_base.specs.declared.kind.Space.TheVariants as spaces
 use Rattle.sdr_base.specs.declared.medium.Medium.TheVariants as media
@@ -16,12 +13,13 @@ use Rattle.sdr_base.specs.declared.moves.Move.TheVariants.{Took}
 use Rattle.sdr_base.specs.declared.refusal.Refusal.TheVariants as refusals
 use Rattle.sdr_base.specs.declared.stop.Stop.{Stop}
 use Rattle.sdr_base.specs.declared.stop.Stop.TheVariants.{Refused, DiskFault, MediaFault, Failed}
-use Rattle.sdr_base.proofs.StandingLemmas.{at-nowhere, found, moved, moved_back, nowhere-at, times-append}
+use Rattle.sdr_base.proofs.StandingLemmas.{found, moved, moved_back}
 use Rattle.sdr_model.specs.declared.accounts.Ticket.{Ticket}
 use Rattle.zco_acct.specs.Charges.{charged}
 use Rattle.zco_acct.specs.Kept.{queue_entries}
 use Rattle.zco_obj.specs.Amounts.{extent_amounts}
-use Rattle.zco_obj.specs.Appending.{AppendsRaw, HasPiece, IsWithin, LacksRooms, NamesSource, OfRaw, RangeRefused, RawAllowed, RawPieceStops, taken_piece, taking_over}
+use Rattle.zco_obj.specs.Appending.{AppendsRaw, HasPiece, IsWithin, NamesSource, OfRaw, taken_piece, taking_over}
+use Rattle.zco_obj.specs.AppendStops.{LacksRooms, RangeRefused, RawAllowed, RawPieceStops}
 use Rattle.zco_obj.specs.Beside.{IsWithRaw, KeepsPair, KeepsWithRaw, SomePair, SomeWithRaw}
 use Rattle.zco_obj.specs.Charging.{ChargesObject, ObjectAllows, ObjectChargeStops}
 use Rattle.zco_obj.specs.Extents.{extent_of, with_extent}
@@ -30,73 +28,13 @@ use Rattle.zco_obj.specs.declared.extent.Piece.{Piece}
 use Rattle.zco_obj.proofs.CauseLemmas.{object_cause}
 use Rattle.zco_obj.proofs.ChargeLemmas.{charged_moves, free_before, lacks_after, pays, queue_of}
 use Rattle.zco_obj.proofs.PairLemmas.{beside_still, swapped}
-use Rattle.zco_obj.proofs.RoomLemmas.{first_lacks, made_then, second_lacks, took_neither}
-use Rattle.zco_obj.proofs.SourceStopLemmas.{beside_stands, object_spare}
+use Rattle.zco_obj.proofs.GaveLemmas.{made_then}
+use Rattle.zco_obj.proofs.RoomLemmas.{first_lacks, second_lacks, took_neither}
+use Rattle.zco_obj.proofs.SourceStopLemmas.{object_spare}
 use Rattle.zco_ref.specs.Counting.{attached}
-use Rattle.zco_ref.specs.Kept.{IsRaw, KeepsRaw, SomeRaw, count_in, counted_entries}
-use Rattle.zco_ref.specs.Naming.{HasUnnamed, IsUnnamed, MakesRawSource, NamingStops, RawStops}
-
--- the raw object that stands beside is kept
-pub raw_beside : {heap : Heap} {object : ℕ} {row : ObjectRow} {tickets : List Ticket} {raw named_by : ℕ} {bytes : List ℕ} →
-    KeepsWithRaw heap object row tickets raw named_by bytes → KeepsRaw (heap.blocks raw) named_by bytes
-raw_beside {heap} {object} {row} {tickets} {raw} {named_by} {bytes} k = record {
-  block = found heap.blocks raw (raw_block named_by bytes) (object_entries object row ++ queue_entries row.account tickets) _
-      (beside_stands k.beside);
-  small = k.small;
-}
-
--- a raw object that is there is kept together with its source
-pub is_raw : {heap : Heap} {object raw : ℕ} → IsKind (heap.blocks object) kinds.Object → IsWithRaw heap object raw → IsRaw heap.blocks raw
-is_raw is w kind =
-    let q = w is kind in
-    record { named_by = q.named_by; bytes = q.bytes; keeps = raw_beside q.keeps; named = q.keeps.named }
-
--- why none is appended: for its address, or since a source names it
-pub address_stops : (object number : ℕ) (piece : Piece) (old new : Heap) (stop : Stop) → IsKind (old.blocks object) kinds.Object →
-    (IsKind (old.blocks piece.of) kinds.Source → ⊥) → RawStops old.blocks piece.of stop → new ≡ old →
-    RawPieceStops object number piece old new stop
-address_stops object number piece old new (Refused (refusals.BadAddress bad)) is other r same =
-    (record { is_object = is; other = other; stops = r }, same)
-address_stops object number piece old new (Refused (refusals.WrongKind bad kind)) is other r same =
-    (record { is_object = is; other = other; stops = r }, same)
-address_stops object number piece old new (Refused (refusals.InUse bad count)) is other r same =
-    (record { is_object = is; other = other; stops = r }, same)
-address_stops object number piece old new (Refused refusal) is other r same = absurd r
-address_stops object number piece old new DiskFault is other r same = r
-address_stops object number piece old new MediaFault is other r same = r
-address_stops object number piece old new Failed is other r same = r
-
--- it is there, and it is a raw object
-none_some : {x : Block} → None ≡ Some x → ⊥
-none_some e = cc
-
-other_kind : (o : Option Block) (bytes : List ℕ) (number : ℕ) → o ≡ Some (raw_block 0 bytes) → IsOther o kinds.Raw number → ⊥
-other_kind o bytes number e i = (subst (λ (p : Option Block). IsOther p kinds.Raw number) e i).1 refl
-
--- no extent names a new source
-count_none : (acct : Acct) (raw : ℕ) (bytes : List ℕ) → count_in acct (taking_over raw bytes) ≡ 0
-count_none accts.Inbound raw bytes = refl
-count_none accts.Outbound raw bytes = refl
-
--- where nothing stands now, nothing stood before, if no less stood
-none_before : (b b' : Blocks) (es es' : Entries) (p : ℕ) → Stands b es → Stands b' es' → times p es ≤ times p es' → b' p ≡ None → b p ≡ None
-none_before b b' es es' p s s' le e =
-    let none = nowhere-at p es' (sym (s'.same p) ∙ e) in s.same p ∙ at-nowhere p es (omega (arith, none, le))
-
-times-raw : (p raw source : ℕ) (bytes : List ℕ) → times p (raw_entries raw 0 bytes) ≡ times p (raw_entries raw source bytes)
-unfolding times
-times-raw p raw source bytes = refl
-
--- a raw object stands where it stood, once a source names it
-more_stands : (p raw source : ℕ) (bytes : List ℕ) (xs ys rest : Entries) →
-    times p (xs ++ (raw_entries raw 0 bytes ++ rest)) ≤ times p (xs ++ (ys ++ (raw_entries raw source bytes ++ rest)))
-more_stands p raw source bytes xs ys rest =
-    let a = times-append p xs (raw_entries raw 0 bytes ++ rest) in
-    let b = times-append p xs (ys ++ (raw_entries raw source bytes ++ rest)) in
-    let c = times-append p ys (raw_entries raw source bytes ++ rest) in
-    let d = times-append p (raw_entries raw 0 bytes) rest in
-    let e = times-append p (raw_entries raw source bytes) rest in
-    let f = times-raw p raw source bytes in omega (arith, a, b, c, d, e, f)
+use Rattle.zco_ref.specs.Kept.{KeepsRaw, SomeRaw, counted_entries}
+use Rattle.zco_ref.specs.Naming.{HasUnnamed, IsUnnamed, MakesRawSource, NamingStops}
+use Rattle.zco_obj.proofs.RawLemmas.{count_none, more_stands, none_before, none_some, other_kind, raw_beside}
 
 -- the object and the raw object that no source names
 module _ {heap : Heap} {object raw : ℕ} (is : IsKind (heap.blocks object) kinds.Object) (w : IsWithRaw heap object raw)

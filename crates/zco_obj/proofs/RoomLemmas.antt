@@ -1,36 +1,13 @@
--- Moves made one after another, and want of one of two blocks.
-use Rattle.std.proofs.Common.{◌≡◌, ◌-◌, ℕ, Bool, List, [], ◌∷◌, ◌++◌, length, true, refl, sym, ap, ◌∙◌, arith, append_assoc, append-nil, length-append, inl, inr}
-use Rattle.sdr_base.specs.Blocks.{with_at}
-use Rattle.sdr_base.specs.Making.{Made, besides, marked_by, with_moves}
+-- Want of one of two blocks.
+use Rattle.std.proofs.Common.{◌≡◌, ◌-◌, ℕ, List, [], ◌∷◌, ◌++◌, refl, sym, ap, ◌∙◌, arith, append_assoc, append-nil, inl, inr}
 use Rattle.sdr_base.specs.Objects.{Heap, IsUnmoved, OnlyShort}
 use Rattle.sdr_base.specs.declared.moves.Move.{Move}
-use Rattle.sdr_base.specs.declared.moves.Move.TheVariants.{Gave, Short, Took}
+use Rattle.sdr_base.specs.declared.moves.Move.TheVariants.{Short, Took}
 use Rattle.sdr_base.specs.declared.refusal.Refusal.TheVariants as refusals
 use Rattle.sdr_base.specs.declared.stop.Stop.{Stop}
 use Rattle.sdr_base.specs.declared.stop.Stop.TheVariants.{Refused, DiskFault, MediaFault, Failed}
-use Rattle.zco_obj.specs.Appending.{LacksRooms, TookNoMoreThanTwo}
+use Rattle.zco_obj.specs.AppendStops.{LacksRooms, TookNoMoreThanTwo}
 use Rattle.zco_obj.specs.Charging.{LacksRoom}
-
--- moves one after another
-marked_by-append : (ms ns : List Move) (marks : ℕ → Bool) → marked_by marks (ms ++ ns) ≡ marked_by (marked_by marks ms) ns
-marked_by-append [] ns marks = refl
-marked_by-append (Took need addr ∷ ms) ns marks = marked_by-append ms ns (with_at marks addr true)
-marked_by-append (Gave addr ∷ ms) ns marks = marked_by-append ms ns marks
-marked_by-append (Short need ∷ ms) ns marks = marked_by-append ms ns marks
-
-pub made_then : {old mid new : Heap} (ms ns : List Move) → Made ms old mid → Made ns mid new → Made (ms ++ ns) old new
-made_then {old} {mid} {new} ms ns m n = record {
-  all = n.all ∙ ap (λ (h : Heap). besides (with_moves h ns)) m.all ∙ whole;
-}
-  where
-    marks : marked_by (marked_by old.marks ms) ns ≡ marked_by old.marks (ms ++ ns)
-    marks = sym (marked_by-append ms ns old.marks)
-
-    spare : (old.spare - length ms) - length ns ≡ old.spare - length (ms ++ ns)
-    spare = let l = length-append ms ns in omega (arith, l)
-
-    whole : besides (with_moves (with_moves old ms) ns) ≡ besides (with_moves old (ms ++ ns))
-    whole = λ i. besides (record old { marks = marks i; moves = append_assoc old.moves ms ns i; spare = spare i })
 
 -- neither of two blocks was taken
 pub took_neither : {old new : Heap} (first second : ℕ) → IsUnmoved old new → TookNoMoreThanTwo first second old new

@@ -15,7 +15,8 @@ use Rattle.sdr_base.proofs.StandingLemmas.{found}
 use Rattle.sdr_model.specs.declared.accounts.Ticket.{Ticket}
 use Rattle.zco_acct.specs.Kept.{queue_entries}
 use Rattle.zco_obj.specs.Amounts.{extent_amounts}
-use Rattle.zco_obj.specs.Appending.{AppendsSource, IsWithin, MayName, NamesSource, OfSource, RangeRefused, SourceAllowed, SourceStops}
+use Rattle.zco_obj.specs.Appending.{AppendsSource, IsWithin, MayName, NamesSource, OfSource}
+use Rattle.zco_obj.specs.AppendStops.{RangeRefused, SourceAllowed, SourceStops}
 use Rattle.zco_obj.specs.Beside.{KeepsBeside, KeepsWithSource, SomePair, SomeWithSource}
 use Rattle.zco_obj.specs.Charging.{ChargesObject, LacksRoom, ObjectAllows, ObjectChargeStops, ObjectRefuses}
 use Rattle.zco_obj.specs.Kept.{SomeWithQueue}

@@ -96,7 +96,7 @@ pub has_first : {X : Type 0} (addr : X → ℕ) (left : List X) → first_of add
 has_first addr [] n = absurd (n refl)
 has_first addr (x ∷ xs) n = record { one = x; behind = xs; is = refl }
 
-fits_from : {X : Type 0} (P : X → Type 0) (xs ys : List X) → All P (xs ++ ys) → All P ys
+pub fits_from : {X : Type 0} (P : X → Type 0) (xs ys : List X) → All P (xs ++ ys) → All P ys
 fits_from P [] ys a = a
 fits_from P (x ∷ xs) ys a = fits_from P xs ys (All-tail P x (xs ++ ys) a)
 

@@ -11,3 +11,8 @@ pub mod Sources
 pub mod Extents
 pub mod Beside
 pub mod Appending
+pub mod AppendStops
+pub mod Gone
+pub mod Giving
+pub mod Uses
+pub mod Destroying

@@ -6,8 +6,10 @@ ghost use Rattle.sdr_base.specs.Objects.{OnlyShort};
 ghost use Rattle.sdr_base.specs.Works.{Works};
 ghost use Rattle.sdr_base.specs.declared.kind.Kind.TheVariants as kinds;
 ghost use Rattle.sdr_model.specs.Limits.{longest_source};
-ghost use Rattle.zco_obj.specs.Appending.{AppendsPiece, AppendsRaw, AppendsSource, AppendStops, IsWithin};
-ghost use Rattle.zco_obj.specs.Appending.{NamesSource, RangeRefused, RawPieceStops, SourceStops};
+ghost use Rattle.zco_obj.specs.Appending.{AppendsPiece, AppendsRaw, AppendsSource, IsWithin};
+ghost use Rattle.zco_obj.specs.AppendStops.{AppendStops};
+ghost use Rattle.zco_obj.specs.Appending.{NamesSource};
+ghost use Rattle.zco_obj.specs.AppendStops.{RangeRefused, RawPieceStops, SourceStops};
 ghost use Rattle.zco_obj.specs.Beside.{IsWithRaw, IsWithSource, SomePair, SomeWithRaw, SomeWithSource};
 
 use crate::charging::{charge_object, extent_amounts};
@@ -40,6 +42,8 @@ pub fn append_extent<O: Objects>(
         (record { of = source_or_raw; offset = offset; bytes = bytes })
         (O.heap o.old) (O.heap o.new)) }
     ensures works { Works O.HasHeap 73 o.old o.new result }
+    ensures works_source { IsKind ((O.heap o.old).blocks source_or_raw) kinds.Source →
+        Works O.HasHeap 42 o.old o.new result }
 {
     expect_kind(o, object, Kind::Object)?;
     let piece = Piece {

@@ -6,12 +6,17 @@
 //!    changes. A call that takes from it gives the account back what that charged.
 //! 3. A header or trailer comes and goes between two others, each of which may be the end of its
 //!    chain.
+//! 4. An extent names a part of a source, which counts it among those of the object's account. It
+//!    comes behind the others. Of a raw object a source is made first, which takes it over.
+//! 5. An object goes after its parts, which go in the order of its chains. A source that goes with
+//!    its last extent goes before that, and before it the raw object that it has taken over.
 #![tactic(auto)]
 
 mod adding;
 mod appending;
 mod capsule;
 mod charging;
+mod destroying;
 mod discarding;
 mod extent;
 mod linking;
@@ -21,6 +26,7 @@ mod summing;
 
 pub use adding::{append_trailer, prepend_header};
 pub use appending::append_extent;
+pub use destroying::destroy;
 pub use discarding::{discard_first_header, discard_last_trailer};
 pub use object::{account, create};
 pub use summing::{length, source_length};

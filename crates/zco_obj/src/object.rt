@@ -7,7 +7,7 @@ ghost use Rattle.sdr_base.specs.ZcoObjects.{account_number};
 ghost use Rattle.zco_acct.specs.Kept.{SomeQueue};
 ghost use Rattle.zco_obj.specs.Kept.{SomeObject};
 ghost use Rattle.zco_obj.specs.Making.{CreatesObject, CreateStops};
-ghost use Rattle.zco_obj.specs.Reading.{Tells};
+ghost use Rattle.zco_obj.specs.Reading.{Tells, TellsFirsts};
 
 use crate::charging::heap_amounts;
 use sdr_base::layout::object as words;
@@ -16,6 +16,14 @@ use zco_acct::charge;
 
 /// What an object charges of heap space for itself, in bytes.
 pub const OBJECT_BYTES: u64 = 72;
+
+// The first header, extent and trailer of an object, 0 for none.
+#[derive(Clone, Copy)]
+pub struct Firsts {
+    pub header: Addr,
+    pub extent: Addr,
+    pub trailer: Addr,
+}
 
 /// Makes an object with nothing in it in an account, and charges the account for it. What is left
 /// of the grant of the ticket of this number covers what it can; 0 is no ticket.
@@ -57,4 +65,22 @@ pub fn account<O: Objects>(o: &mut O, object: Addr) -> Result<Acct, Stop>
     } else {
         Ok(Acct::Outbound)
     }
+}
+
+// Where the chains of an object begin.
+pub fn first_parts<O: Objects>(o: &mut O, object: Addr) -> Result<Firsts, Stop>
+    requires kept { KeepsSome (O.keeps o.old) }
+    requires object { SomeObject (O.heap o.old).blocks object }
+    ensures told { IfOk result (TellsFirsts (O.heap o.old).blocks object) }
+    ensures refused { IfErr result OnlyFault }
+    ensures looks { Looks O.HasHeap o.old o.new result }
+{
+    let header = word(o, object, words::FIRST_HEADER)?;
+    let extent = word(o, object, words::FIRST_EXTENT)?;
+    let trailer = word(o, object, words::FIRST_TRAILER)?;
+    Ok(Firsts {
+        header,
+        extent,
+        trailer,
+    })
 }

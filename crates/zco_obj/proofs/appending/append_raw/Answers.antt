@@ -1,8 +1,9 @@
 -- The raw object is tested, the account is charged, a source takes the raw object over, and the extent comes.
 use Rattle.std.proofs.Common.{arith}
 use Rattle.std.proofs.lemmas.Result.{IfErr-weaker, err_from_is_err_and, on_ok_weaker}
-use Rattle.zco_obj.specs.Appending.{RawPieceStops}
-use Rattle.zco_obj.proofs.RawStopLemmas.{address_stops, appends_raw, extent_stops, is_raw, queue_with_raw, raw_range_stops, raw_short, raw_uncharged, some_raw, source_stops, taken_pair, taken_spare}
+use Rattle.zco_obj.specs.AppendStops.{RawPieceStops}
+use Rattle.zco_obj.proofs.RawStopLemmas.{appends_raw, extent_stops, queue_with_raw, raw_range_stops, raw_short, raw_uncharged, some_raw, source_stops, taken_pair, taken_spare}
+use Rattle.zco_obj.proofs.RawLemmas.{address_stops, is_raw}
 use Rattle.zco_obj.proofs.SourceStopLemmas.{object_spare}
 use Rattle.zco_obj.proofs.appending.append_raw.Goals as goal
 

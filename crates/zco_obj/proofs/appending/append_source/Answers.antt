@@ -1,7 +1,7 @@
 -- The source is read, the account is charged, and the extent comes.
 use Rattle.std.proofs.Common.{arith}
 use Rattle.std.proofs.lemmas.Result.{IfErr-weaker, err_from_is_err_and, on_ok_weaker}
-use Rattle.zco_obj.specs.Appending.{SourceStops}
+use Rattle.zco_obj.specs.AppendStops.{SourceStops}
 use Rattle.zco_obj.proofs.SourceStopLemmas.{appends_source, charge_stopped, flagged_stops, object_spare, pair_there, piece_short, queue_there, range_stops, room_stops, source_there}
 use Rattle.zco_obj.proofs.appending.append_source.Goals as goal
 
