@@ -5,6 +5,7 @@ pub mod FreshBlocksLemmas
 pub mod FreshHeapLemmas
 pub mod FreshLargeLemmas
 pub mod FreshPoolsLemmas
+pub mod GaveLemmas
 pub mod HeapLemmas
 pub mod KeptPoolsLemmas
 pub mod LayoutLemmas

@@ -8,7 +8,7 @@ use Rattle.sdr_base.specs.declared.refusal.Refusal.TheVariants.{LogFull}
 use Rattle.sdr_base.specs.declared.stop.Stop.{Stop}
 use Rattle.sdr_base.specs.declared.stop.Stop.TheVariants.{Refused}
 use Rattle.sdr_base.proofs.ObjectsLemmas.{Settled-then}
-use Rattle.sdr_base.proofs.TransactionLemmas.{reason_then, touches_more, touches_then}
+use Rattle.sdr_base.proofs.TransactionLemmas.{reason_stopped, reason_then, touches_more, touches_stopped, touches_then}
 
 -- a call after another
 pub works_then : {S T U : Type 0} {m : Ghosts S} {i j : ℕ} {a b c : S} {v : U} {r : Result T Stop} →
@@ -90,3 +90,14 @@ looks_ok l = record {
 -- one reading call after another, whatever the last one answered
 pub looks_on : {S T U V : Type 0} {m : Ghosts S} {a b c : S} {v : T} {w : U} {x : V} → Looks m a b (Ok v) → Looks m b c (Ok w) → Looks m a c (Ok x)
 looks_on f s = looks_ok (looks_looks f s)
+
+-- what a stop touches and keeps doesn't depend on what would have been answered
+pub works_stopped : {S T U : Type 0} {m : Ghosts S} {lines : ℕ} {a b : S} (stop : Stop) → Works {T = T} m lines a b (Err stop) →
+    Works {T = U} m lines a b (Err stop)
+works_stopped {S} {T} {U} {m} {lines} {a} {b} stop w = record {
+  kept = w.kept;
+  moved = w.moved;
+  room = touches_stopped lines (m.transaction a) (m.transaction b) stop w.room;
+  cause = reason_stopped (m.transaction a) (m.transaction b) stop w.cause;
+  quiet = w.quiet;
+}

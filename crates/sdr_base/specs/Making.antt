@@ -1,10 +1,10 @@
 -- What a call on things does to a heap, beside the change of its blocks.
-use Rattle.std.specs.Prelude.{◌≡◌, ◌-◌, ℕ, Bool, true, List, [], ◌∷◌, ◌++◌, length, None}
+use Rattle.std.specs.Prelude.{◌≡◌, ◌-◌, ℕ, Bool, true, List, [], ◌∷◌, ◌++◌, length, map, None}
 use Rattle.sdr_base.specs.Blocks.{with_at}
 use Rattle.sdr_base.specs.Entries.{Entries, Adds}
-use Rattle.sdr_base.specs.Objects.{Heap}
+use Rattle.sdr_base.specs.Objects.{AreFirstOf, Heap}
 use Rattle.sdr_base.specs.declared.moves.Move.{Move}
-use Rattle.sdr_base.specs.declared.moves.Move.TheVariants.{Took}
+use Rattle.sdr_base.specs.declared.moves.Move.TheVariants.{Gave, Took}
 
 -- the marks once these moves were made: each block that they take is marked
 abbrev pub marked_by : (ℕ → Bool) → List Move → ℕ → Bool
@@ -32,3 +32,14 @@ pub record Made (moves : List Move) (old new : Heap) : Type 0 where
 pub record MakesThing (need addr : ℕ) (es : Entries) (old new : Heap) : Type 0 where
   pub adds : Adds old.blocks new.blocks addr [] es
   pub made : Made (Took need addr ∷ []) old new
+
+-- the blocks at these addresses are given back, in order
+abbrev pub gave : List ℕ → List Move
+gave = map (λ addr. Gave addr)
+
+-- some first ones of these were given back, and no other move was made
+pub record GaveSome (addrs : List ℕ) (old new : Heap) : Type 0 where
+  pub made : List Move
+  pub first : AreFirstOf (gave addrs) made
+  pub moves : new.moves ≡ old.moves ++ made
+  pub spare : new.spare ≡ old.spare - length made

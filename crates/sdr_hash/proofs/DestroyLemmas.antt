@@ -1,24 +1,25 @@
 -- The entries of a hash are given back bucket by bucket, and then the hash.
-use Rattle.std.proofs.Common.{◌≡◌, ℕ, ◌+◌, ◌-◌, ◌*◌, ◌≤◌, ◌<◌, Bool, true, List, [], ◌∷◌, ◌++◌, length, map, take, drop, get_or, Option, Some, None, refl, sym, ap, ◌∙◌, arith, subst, append_assoc, append-nil, length-append}
+use Rattle.std.proofs.Common.{◌≡◌, ℕ, ◌+◌, ◌-◌, ◌*◌, ◌≤◌, ◌<◌, List, [], ◌∷◌, ◌++◌, length, map, take, drop, get_or, Option, Some, None, refl, sym, ap, ◌∙◌, arith, subst, append_assoc, append-nil, length-append}
 use Rattle.std.specs.Prelude.{flat_map, sum_by}
 use Rattle.std.proofs.lemmas.Grind.{flat_map-append}
 use Rattle.std.proofs.lemmas.List.{drop_more, length-map, map-append, take-append-drop, take_all, take_more}
 use Rattle.std.proofs.lemmas.List.Sums.{sum_by-cons, sum_by-drop_more, sum_by-take-drop}
 use Rattle.std.proofs.Math.ListN.{drop_of_length-le}
-use Rattle.sdr_base.specs.Blocks.{Block, Blocks, IsKind, Reaches, with_at}
+use Rattle.sdr_base.specs.Blocks.{Block, Blocks, IsKind, Reaches}
 use Rattle.sdr_base.specs.Entries.{Entries, Few, Stands}
 use Rattle.sdr_base.specs.Hashes.{HashItem, HashRow, bucket_entries, hash_block, hash_entries, item_addr}
-use Rattle.sdr_base.specs.Making.{Made, besides, marked_by, with_moves}
+use Rattle.sdr_base.specs.Making.{GaveSome, Made, gave}
 use Rattle.sdr_base.specs.Objects.{Heap, OnlyUnmoved, with_given}
 use Rattle.sdr_base.specs.Stored.{number_at}
 use Rattle.sdr_base.specs.Words.{HasWord}
 use Rattle.sdr_base.specs.declared.kind.Kind.{Kind}
 use Rattle.sdr_base.specs.declared.kind.Kind.TheVariants as kinds
 use Rattle.sdr_base.specs.declared.moves.Move.{Move}
-use Rattle.sdr_base.specs.declared.moves.Move.TheVariants.{Took, Gave, Short}
+use Rattle.sdr_base.specs.declared.moves.Move.TheVariants.{Gave}
 use Rattle.sdr_base.specs.declared.refusal.Refusal.TheVariants.{LogFull}
 use Rattle.sdr_base.specs.declared.stop.Stop.{Stop}
 use Rattle.sdr_base.specs.declared.stop.Stop.TheVariants.{Refused, DiskFault, MediaFault, Failed}
+use Rattle.sdr_base.proofs.GaveLemmas.{made_then, none_made, one_gave, some_then}
 use Rattle.sdr_base.proofs.HeapLemmas.{given_blocks}
 use Rattle.sdr_base.proofs.StandingLemmas.{found, went}
 use Rattle.sdr_base.proofs.WritingLemmas.{reaches}
@@ -29,60 +30,6 @@ use Rattle.sdr_hash.specs.Opened.{IsOpened}
 use Rattle.sdr_hash.specs.declared.bucket.Link.{Link}
 use Rattle.sdr_hash.proofs.KeptLemmas.{buckets_is, entries_is, few_entries, hash_words}
 use Rattle.sdr_hash.proofs.OpenedLemmas.{opened}
-use Rattle.sdr_list.specs.Giving.{GaveSome, gave}
-use Rattle.sdr_list.proofs.GivingLemmas.{one_more}
-
--- moves one after another
-marked_by-append : (ms ns : List Move) (marks : ℕ → Bool) → marked_by marks (ms ++ ns) ≡ marked_by (marked_by marks ms) ns
-marked_by-append [] ns marks = refl
-marked_by-append (Took need addr ∷ ms) ns marks = marked_by-append ms ns (with_at marks addr true)
-marked_by-append (Gave addr ∷ ms) ns marks = marked_by-append ms ns marks
-marked_by-append (Short need ∷ ms) ns marks = marked_by-append ms ns marks
-
-made_then : {old mid new : Heap} (ms ns : List Move) → Made ms old mid → Made ns mid new → Made (ms ++ ns) old new
-made_then {old} {mid} {new} ms ns m n = record {
-  all = n.all ∙ ap (λ (h : Heap). besides (with_moves h ns)) m.all ∙ whole;
-}
-  where
-    marks : marked_by (marked_by old.marks ms) ns ≡ marked_by old.marks (ms ++ ns)
-    marks = sym (marked_by-append ms ns old.marks)
-
-    spare : (old.spare - length ms) - length ns ≡ old.spare - length (ms ++ ns)
-    spare = let l = length-append ms ns in omega (arith, l)
-
-    whole : besides (with_moves (with_moves old ms) ns) ≡ besides (with_moves old (ms ++ ns))
-    whole = λ i. besides (record old { marks = marks i; moves = append_assoc old.moves ms ns i; spare = spare i })
-
-none_made : (h : Heap) → Made [] h h
-none_made h = record {
-  all = λ i. besides (record h { moves = sym (append-nil h.moves) i; spare = none i });
-}
-  where
-    none : h.spare ≡ h.spare - 0
-    none = omega arith
-
--- some first ones of what is given back, after others
-some_then : {old mid new : Heap} (before addrs behind : List ℕ) → Made (gave before) old mid → GaveSome addrs mid new →
-    GaveSome (before ++ (addrs ++ behind)) old new
-some_then {old} {mid} {new} before addrs behind m s = record {
-  made = gave before ++ s.made;
-  first = record {
-    rest = s.first.rest ++ gave behind;
-    whole =
-        map-append (λ a. Gave a) before (addrs ++ behind)
-        ∙ ap (λ (ms : List Move). gave before ++ ms)
-        (map-append (λ a. Gave a) addrs behind ∙ ap (λ (ms : List Move). ms ++ gave behind) s.first.whole
-        ∙ append_assoc s.made s.first.rest (gave behind))
-        ∙ sym (append_assoc (gave before) s.made (s.first.rest ++ gave behind));
-  };
-  moves =
-      s.moves ∙ ap (λ (ms : List Move). ms ++ s.made) (ap (λ (h : Heap). h.moves) m.all)
-      ∙ append_assoc old.moves (gave before) s.made;
-  spare =
-      let e : mid.spare ≡ old.spare - length (gave before) = ap (λ (h : Heap). h.spare) m.all in
-      let n = s.spare in
-      let l = length-append (gave before) s.made in omega (arith, e, n, l);
-}
 
 -- the addresses in buckets are as many as their entries
 length-addrs_in : (buckets : List (List HashItem)) → length (gave (addrs_in buckets)) ≡ sum_by length buckets
@@ -267,7 +214,7 @@ module _ (old : Heap) (hash size count buckets : ℕ) (few : Few size old.blocks
             subst (λ (b : Blocks). Stands b rest) (sym (given_blocks hash now new is))
             (went now.blocks hash (hash_block row) [] rest (left_at row rest s k.fits).0);
       };
-      made = λ row k. one_more hash (addrs_in row.buckets) is (left_at row k.rest k.stands k.fits).1;
+      made = λ row k. one_gave (addrs_in row.buckets) hash (left_at row k.rest k.stands k.fits).1 is;
     }
 
     -- a stop at the hash's own block

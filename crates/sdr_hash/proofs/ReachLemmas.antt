@@ -1,5 +1,5 @@
 -- What is reached in a block is reached still, after another block is taken or bytes are put into one.
-use Rattle.std.proofs.Common.{◌≡◌, ℕ, ◌*◌, ◌≤◌, ◌==◌, List, length, Bool, true, false, cond, Option, None, Some, refl, sym, ap, ◌∙◌, subst, arith, length-append, length-take, length-drop}
+use Rattle.std.proofs.Common.{◌≡◌, ℕ, ◌≤◌, ◌==◌, List, length, Bool, true, false, cond, Option, None, Some, refl, sym, ap, ◌∙◌, subst, arith, length-append, length-take, length-drop}
 use Rattle.std.proofs.lemmas.Bool.{eqb-true}
 use Rattle.sdr_base.specs.Blocks.{Block, Blocks, Reaches, overwritten, with_block}
 use Rattle.sdr_base.specs.Objects.{Heap, with_bytes}

@@ -3,7 +3,7 @@ use Rattle.std.specs.Prelude.{◌≡◌, ℕ, List, [], ◌∷◌, ◌++◌, map
 use Rattle.sdr_base.specs.Blocks.{Block, IsKind}
 use Rattle.sdr_base.specs.Entries.{Changes, Entries, Stands}
 use Rattle.sdr_base.specs.Hashes.{HashItem, HashRow, bucket_entries, hash_block, hash_entries, item_addr}
-use Rattle.sdr_base.specs.Making.{Made}
+use Rattle.sdr_base.specs.Making.{GaveSome, Made, gave}
 use Rattle.sdr_base.specs.Objects.{Heap, Misses, OnlyFault}
 use Rattle.sdr_base.specs.Stored.{number_at}
 use Rattle.sdr_base.specs.declared.kind.Kind.{Kind}
@@ -12,7 +12,6 @@ use Rattle.sdr_base.specs.declared.refusal.Refusal.TheVariants as refusals
 use Rattle.sdr_base.specs.declared.stop.Stop.{Stop}
 use Rattle.sdr_base.specs.declared.stop.Stop.TheVariants.{Refused}
 use Rattle.sdr_hash.specs.Kept.{HashFits, KeepsHash}
-use Rattle.sdr_list.specs.Giving.{GaveSome, gave}
 
 -- the addresses of the entries in these buckets, in order
 abbrev pub addrs_in : List (List HashItem) → List ℕ

@@ -3,7 +3,7 @@ use Rattle.std.specs.Prelude.{◌≡◌, ◌≤◌, ◌+◌, ◌-◌, ℕ, List,
 use Rattle.sdr_base.specs.Blocks.{Blocks}
 use Rattle.sdr_base.specs.Entries.{Entries, Stands}
 use Rattle.sdr_base.specs.Hashes.{HashItem, item_addr, item_block}
-use Rattle.sdr_base.specs.Making.{Made}
+use Rattle.sdr_base.specs.Making.{GaveSome, Made, gave}
 use Rattle.sdr_base.specs.Objects.{Heap, OnlyFault}
 use Rattle.sdr_base.specs.declared.refusal.Refusal.TheVariants.{LogFull}
 use Rattle.sdr_base.specs.declared.stop.Stop.{Stop}
@@ -11,7 +11,7 @@ use Rattle.sdr_base.specs.declared.stop.Stop.TheVariants.{Refused}
 use Rattle.sdr_hash.specs.Kept.{ItemFits}
 use Rattle.sdr_hash.specs.Opened.{IsOpened, opened_entries, words_block}
 use Rattle.sdr_hash.specs.declared.bucket.Link.{Link}
-use Rattle.sdr_list.specs.Giving.{GaveSome, Part, gave}
+use Rattle.sdr_list.specs.Giving.{Part}
 
 -- how many entries were given back at most, of so many at most: those that the answer has fewer, or all
 abbrev pub given : ℕ → Result ℕ Stop → ℕ

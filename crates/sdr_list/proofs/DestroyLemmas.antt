@@ -1,7 +1,7 @@
 -- The elements of a list are given back, and then the list.
 use Rattle.std.proofs.Common.{◌≡◌, ℕ, ◌+◌, ◌-◌, ◌≤◌, ◌<◌, List, [], ◌∷◌, ◌++◌, length, map, None, Some}
 use Rattle.std.proofs.Common.{sym, ap, ◌∙◌, subst, arith, append_assoc, append-nil, Option}
-use Rattle.std.specs.Prelude.{All, Ok}
+use Rattle.std.specs.Prelude.{All}
 use Rattle.std.proofs.lemmas.List.{map-append}
 use Rattle.std.proofs.lemmas.List.Elements.{All-tail}
 use Rattle.sdr_base.specs.Blocks.{Block, Blocks, IsKind, Reaches}
@@ -9,10 +9,9 @@ use Rattle.sdr_base.specs.Entries.{Entries, Stands}
 use Rattle.sdr_base.specs.Linked.{first_of, last_of}
 use Rattle.sdr_base.specs.Stored.{number_at}
 use Rattle.sdr_base.specs.Lists.{ElementFits, ListRow, KeepsList, addr_of, element_block, elements_between, list_block, list_entries}
+use Rattle.sdr_base.specs.Making.{GaveSome, gave}
 use Rattle.sdr_base.specs.Objects.{Heap, OnlyUnmoved, with_given}
 use Rattle.sdr_base.specs.Words.{HasWord}
-use Rattle.sdr_base.specs.Works.{Works}
-use Rattle.sdr_base.specs.declared.has_heap.HasHeap.{Ghosts}
 use Rattle.sdr_base.specs.declared.kind.Kind.TheVariants as kinds
 use Rattle.sdr_base.specs.declared.kind.Kind.{Kind}
 use Rattle.sdr_base.specs.declared.moves.Move.{Move}
@@ -20,12 +19,13 @@ use Rattle.sdr_base.specs.declared.moves.Move.TheVariants.{Gave}
 use Rattle.sdr_base.specs.declared.refusal.Refusal.TheVariants.{LogFull}
 use Rattle.sdr_base.specs.declared.stop.Stop.{Stop}
 use Rattle.sdr_base.specs.declared.stop.Stop.TheVariants.{Refused, DiskFault, MediaFault, Failed}
+use Rattle.sdr_base.proofs.GaveLemmas.{one_gave}
 use Rattle.sdr_base.proofs.HeapLemmas.{given_blocks}
 use Rattle.sdr_base.proofs.StandingLemmas.{found, moved_back, went}
 use Rattle.sdr_base.proofs.WritingLemmas.{reaches, word_is}
 use Rattle.sdr_list.specs.Destroying.{DestroysList, DestroyStops}
-use Rattle.sdr_list.specs.Giving.{ChainAt, GaveSome, GiveStops, Gives, GivesChain, Gone, SomeChain, gave}
-use Rattle.sdr_list.proofs.GivingLemmas.{length-addrs, one_more, part_begun, part_found, part_given, part_made, part_more, part_some, part_spare, part_stands}
+use Rattle.sdr_list.specs.Giving.{ChainAt, GiveStops, Gives, GivesChain, Gone, SomeChain}
+use Rattle.sdr_list.proofs.GivingLemmas.{length-addrs, part_begun, part_found, part_given, part_made, part_more, part_some, part_spare, part_stands}
 use Rattle.sdr_list.specs.Kept.{SomeList, elements_in, if_list}
 use Rattle.sdr_list.proofs.KeptLemmas.{elements_are, first_fits, first_is, length_is, list_words, words}
 
@@ -153,7 +153,7 @@ destroys {list} {old = old} {mid = mid} new kind h f g is = record {
         subst (λ (b : Blocks). Stands b rest) (sym (given_blocks list mid new is))
         (went mid.blocks list (head row) [] rest (gone_of h f k rest s g).stands);
   };
-  made = λ row k. one_more list (map addr_of row.elements) is (gone_of h f k k.rest k.stands g).made;
+  made = λ row k. one_gave (map addr_of row.elements) list (gone_of h f k k.rest k.stands g).made is;
 }
 
 -- some first ones of the elements are some first ones of all

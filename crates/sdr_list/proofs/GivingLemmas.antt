@@ -1,5 +1,5 @@
 -- A chain of any layout is given back, one after another.
-use Rattle.std.proofs.Common.{◌≡◌, ℕ, suc, ◌+◌, ◌-◌, ◌<◌, Bool, List, [], ◌∷◌, ◌++◌, length, map, Some}
+use Rattle.std.proofs.Common.{◌≡◌, ℕ, suc, ◌+◌, ◌-◌, ◌<◌, List, [], ◌∷◌, ◌++◌, length, map, Some}
 use Rattle.std.proofs.Common.{refl, sym, ap, ◌∙◌, subst, arith, append_assoc, append-nil, length-append}
 use Rattle.std.specs.Prelude.{All}
 use Rattle.std.proofs.lemmas.List.{map-append}
@@ -7,51 +7,17 @@ use Rattle.std.proofs.lemmas.List.Elements.{All-tail}
 use Rattle.sdr_base.specs.Blocks.{Block, Blocks}
 use Rattle.sdr_base.specs.Entries.{Entries, Stands}
 use Rattle.sdr_base.specs.Linked.{first_of, linked}
-use Rattle.sdr_base.specs.Making.{Made, besides, marked_by}
+use Rattle.sdr_base.specs.Making.{GaveSome, Made, gave}
 use Rattle.sdr_base.specs.Objects.{Heap, with_given}
-use Rattle.sdr_base.specs.declared.moves.Move.{Move}
 use Rattle.sdr_base.specs.declared.moves.Move.TheVariants.{Gave}
+use Rattle.sdr_base.proofs.GaveLemmas.{none_made, one_gave}
 use Rattle.sdr_base.proofs.HeapLemmas.{given_blocks}
 use Rattle.sdr_base.proofs.StandingLemmas.{found, went}
-use Rattle.sdr_list.specs.Giving.{GaveSome, Part, gave}
-
--- what is given back isn't marked
-unmarked : (addrs : List ℕ) (marks : ℕ → Bool) → marked_by marks (gave addrs) ≡ marks
-unmarked [] marks = refl
-unmarked (a ∷ addrs) marks = unmarked addrs marks
-
-length-gave : (addrs : List ℕ) → length (gave addrs) ≡ length addrs
-length-gave [] = refl
-length-gave (a ∷ addrs) = ap suc (length-gave addrs)
+use Rattle.sdr_list.specs.Giving.{Part}
 
 pub length-addrs : {X : Type 0} (addr : X → ℕ) (xs : List X) → length (gave (map addr xs)) ≡ length xs
 length-addrs addr [] = refl
 length-addrs addr (x ∷ xs) = ap suc (length-addrs addr xs)
-
--- the heap beside its blocks, by its parts
-same_rest : (h : Heap) (marks marks' : ℕ → Bool) (moves moves' : List Move) (spare spare' : ℕ) → marks ≡ marks' → moves ≡ moves' → spare ≡ spare' →
-    besides (record h { marks = marks; moves = moves; spare = spare }) ≡ besides (record h { marks = marks'; moves = moves'; spare = spare' })
-same_rest h marks marks' moves moves' spare spare' m o s = λ i. besides (record h { marks = m i; moves = o i; spare = s i })
-
-none_made : (h : Heap) → Made [] h h
-none_made h = record { all = same_rest h h.marks h.marks h.moves (h.moves ++ []) h.spare (h.spare - 0) refl (sym (append-nil h.moves)) (omega arith) }
-
--- one more is given back
-pub one_more : {old now new : Heap} (at : ℕ) (addrs : List ℕ) → new ≡ with_given now at → Made (gave addrs) old now →
-    Made (gave (addrs ++ (at ∷ []))) old new
-one_more {old} {now} {new} at addrs is m = record {
-  all =
-      ap besides is
-      ∙ ap (λ (h : Heap). record h { moves = h.moves ++ Gave at ∷ []; spare = h.spare - 1 }) m.all
-      ∙ same_rest old (marked_by old.marks (gave addrs)) (marked_by old.marks (gave (addrs ++ (at ∷ []))))
-      ((old.moves ++ gave addrs) ++ Gave at ∷ []) (old.moves ++ gave (addrs ++ (at ∷ [])))
-      ((old.spare - length (gave addrs)) - 1) (old.spare - length (gave (addrs ++ (at ∷ []))))
-      (unmarked addrs old.marks ∙ sym (unmarked (addrs ++ (at ∷ [])) old.marks))
-      (append_assoc old.moves (gave addrs) (Gave at ∷ [])
-      ∙ ap (λ (t : List Move). old.moves ++ t) (sym (map-append (λ (a : ℕ). Gave a) addrs (at ∷ []))))
-      (let a = length-gave addrs in let b = length-gave (addrs ++ (at ∷ [])) in let c = length-append addrs (at ∷ []) in
-      omega (arith, a, b, c));
-}
 
 -- there is one left
 pub record NotDone {X : Type 0} (left : List X) : Type 0 where
@@ -116,7 +82,7 @@ module _ {X : Type 0} (P : X → Type 0) (addr : X → ℕ) (block : ℕ → ℕ
               (linked addr block (addr n.head) next n.tail ++ rest) (stands_from n));
           made =
               subst (λ (addrs : List ℕ). Made (gave addrs) old new) (sym (map-append addr p.gone (n.head ∷ [])))
-              (one_more (addr n.head) (map addr p.gone) given p.made);
+              (one_gave (map addr p.gone) (addr n.head) p.made given);
         }
 
     -- for as many more there is room

@@ -1,17 +1,13 @@
 -- A list is walked, element by element.
 use Rattle.std.proofs.Common.{◌≡◌, ℕ, suc, ◌+◌, ◌<◌, ◌^◌, ◌==◌, List, [], ◌∷◌, ◌++◌, length, take, drop, Some, None}
 use Rattle.std.proofs.Common.{refl, sym, ap, ◌∙◌, arith, append_assoc, append-nil, length-append, Bool, true, false, cond, not}
-use Rattle.std.specs.Prelude.{find, slice_get, ◌&&◌, if◌then◌else◌, Ok, Result}
+use Rattle.std.specs.Prelude.{find, slice_get, ◌&&◌, if◌then◌else◌}
 use Rattle.std.proofs.lemmas.Bool.{ne_eqb}
 use Rattle.std.proofs.lemmas.List.{take-append-le, take_all}
 use Rattle.sdr_base.specs.Blocks.{Blocks}
 use Rattle.sdr_base.specs.Linked.{first_of, last_of}
 use Rattle.sdr_base.specs.Lists.{ListElement, ListRow, KeepsList, addr_of}
-use Rattle.sdr_base.specs.Works.{Looks}
-use Rattle.sdr_base.specs.declared.has_heap.HasHeap.{Ghosts}
-use Rattle.sdr_base.specs.declared.stop.Stop.{Stop}
 use Rattle.sdr_base.proofs.LinkedLemmas.{last-append}
-use Rattle.sdr_base.proofs.TransactionLemmas.{reason_then, touches_then}
 use Rattle.sdr_list.specs.Kept.{IsSpot, addr_before, addr_from}
 use Rattle.sdr_list.specs.Orders.{found_addr, place_behind}
 use Rattle.sdr_list.specs.Walks.{WalkedBack, WalkedOn}

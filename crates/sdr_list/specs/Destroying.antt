@@ -3,13 +3,12 @@ use Rattle.std.specs.Prelude.{◌≡◌, ℕ, [], ◌∷◌, ◌++◌, map}
 use Rattle.sdr_base.specs.Blocks.{IsKind}
 use Rattle.sdr_base.specs.Entries.{Changes}
 use Rattle.sdr_base.specs.Lists.{ListRow, KeepsList, addr_of, list_entries}
-use Rattle.sdr_base.specs.Making.{Made}
+use Rattle.sdr_base.specs.Making.{GaveSome, Made, gave}
 use Rattle.sdr_base.specs.Objects.{Heap, Misses, OnlyFault}
 use Rattle.sdr_base.specs.declared.kind.Kind.TheVariants as kinds
 use Rattle.sdr_base.specs.declared.refusal.Refusal.TheVariants as refusals
 use Rattle.sdr_base.specs.declared.stop.Stop.{Stop}
 use Rattle.sdr_base.specs.declared.stop.Stop.TheVariants.{Refused}
-use Rattle.sdr_list.specs.Giving.{GaveSome, gave}
 
 -- whichever list is kept is gone with its elements: they were given back in order, and then the list
 pub record DestroysList (list : ℕ) (old new : Heap) : Type 0 where

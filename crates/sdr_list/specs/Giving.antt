@@ -1,27 +1,14 @@
 -- A chain of blocks that is given back, the first one first.
-use Rattle.std.specs.Prelude.{◌≡◌, ◌-◌, ℕ, List, ◌++◌, length, map, All}
+use Rattle.std.specs.Prelude.{◌≡◌, ℕ, List, ◌++◌, length, map, All}
 use Rattle.sdr_base.specs.Blocks.{Block, Blocks}
 use Rattle.sdr_base.specs.Entries.{Entries, Stands}
 use Rattle.sdr_base.specs.Linked.{first_of, linked}
 use Rattle.sdr_base.specs.Lists.{ElementFits, ListElement, addr_of, element_block, elements_between}
-use Rattle.sdr_base.specs.Making.{Made}
-use Rattle.sdr_base.specs.Objects.{AreFirstOf, Heap, OnlyFault}
-use Rattle.sdr_base.specs.declared.moves.Move.{Move}
-use Rattle.sdr_base.specs.declared.moves.Move.TheVariants.{Gave}
+use Rattle.sdr_base.specs.Making.{GaveSome, Made, gave}
+use Rattle.sdr_base.specs.Objects.{Heap, OnlyFault}
 use Rattle.sdr_base.specs.declared.refusal.Refusal.TheVariants.{LogFull}
 use Rattle.sdr_base.specs.declared.stop.Stop.{Stop}
 use Rattle.sdr_base.specs.declared.stop.Stop.TheVariants.{Refused}
-
--- the blocks at these addresses are given back, in order
-abbrev pub gave : List ℕ → List Move
-gave = map (λ addr. Gave addr)
-
--- some first ones of these were given back, and no other move was made
-pub record GaveSome (addrs : List ℕ) (old new : Heap) : Type 0 where
-  pub made : List Move
-  pub first : AreFirstOf (gave addrs) made
-  pub moves : new.moves ≡ old.moves ++ made
-  pub spare : new.spare ≡ old.spare - length made
 
 -- of a chain of any layout so many first ones were given back; the next one is at the cursor, and P holds of all
 pub record Part {X : Type 0} (P : X → Type 0) (addr : X → ℕ) (block : ℕ → ℕ → X → Block) (next : ℕ) (old now : Heap)

@@ -2,6 +2,7 @@
 ghost use Rattle.std.specs.Prelude.{◌≡◌, ◌≤◌, ◌<◌, IfOk, IfSome, OnErr, OnOk, Some, length, map, position, remove, set, []};
 ghost use Rattle.sdr_model.specs.HashChanges.{first_of, with_entry};
 ghost use Rattle.sdr_model.specs.HashSteps.{bucket_of, has_key};
+ghost use Rattle.sdr_model.specs.Hashes.{AreByBucket};
 ghost use Rattle.sdr_model.specs.Things.{block_among, entry_block};
 
 use crate::{Block, HashEntry};
@@ -61,6 +62,20 @@ impl SdrHash {
             key_length,
             buckets,
             entries: Items::new(alloc),
+        }
+    }
+
+    /// A hash of these entries, by bucket and the newest first in its bucket.
+    pub fn of(key_length: u64, buckets: u64, entries: Items<HashEntry>) -> SdrHash
+        requires some { 1 ≤ buckets }
+        requires few { buckets ≤ 256 }
+        requires by_bucket { AreByBucket buckets entries }
+        ensures { result ≡ record { key_length = key_length; buckets = buckets; entries = entries } }
+    {
+        SdrHash {
+            key_length,
+            buckets,
+            entries,
         }
     }
 

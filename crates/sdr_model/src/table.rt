@@ -56,6 +56,20 @@ impl SdrTable {
         })
     }
 
+    /// A table of these bytes, the rows one after another.
+    pub fn of(user: u64, rows: u64, size: u64, bytes: Bytes) -> SdrTable
+        requires whole { length bytes ≡ rows * size }
+        requires below { length bytes < 2 ^ 63 }
+        ensures { result ≡ record { user = user; rows = rows; size = size; bytes = bytes } }
+    {
+        SdrTable {
+            user,
+            rows,
+            size,
+            bytes,
+        }
+    }
+
     pub fn user(&self) -> u64
         ensures { result ≡ self.now.user }
     {

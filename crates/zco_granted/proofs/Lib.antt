@@ -1,8 +1,8 @@
 pub mod QueueLemmas
-mod WordLemmas
-mod OccupiedLemmas
+pub mod WordLemmas
+pub mod OccupiedLemmas
 pub mod AccountLemmas
-mod FoundLemmas
+pub mod FoundLemmas
 pub mod GrantLemmas
 pub mod ComingLemmas
 pub mod GoodLemmas

@@ -5,12 +5,11 @@ use Rattle.std.proofs.lemmas.List.Elements.{All-tail}
 use Rattle.sdr_base.specs.Blocks.{Block, Blocks}
 use Rattle.sdr_base.specs.Entries.{Entries, Stands}
 use Rattle.sdr_base.specs.Linked.{first_of, linked}
-use Rattle.sdr_base.specs.Making.{Made}
+use Rattle.sdr_base.specs.Making.{GaveSome, Made, gave}
 use Rattle.sdr_base.specs.Objects.{Heap}
+use Rattle.sdr_base.proofs.GaveLemmas.{gave_spare, more_gave, none_made, some_then}
 use Rattle.sdr_base.proofs.StandingLemmas.{found, moved, nonzero, rotated}
-use Rattle.zco_obj.proofs.GaveLemmas.{gave_spare, more_gave, none_made, some_then}
 use Rattle.zco_obj.proofs.WalkLemmas.{HasFirst, has_first}
-use Rattle.zco_ref.specs.Going.{GaveSome, gave}
 
 -- a chain whose members go: where each stands, and its block between two others; the blocks beside the chain once some first
 -- ones are gone; the addresses of the blocks that go with some last ones; and what is told of some first ones

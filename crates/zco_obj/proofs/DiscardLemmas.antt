@@ -6,7 +6,7 @@ use Rattle.std.proofs.Math.Seq.{get_or-append_seam, take-append_seam}
 use Rattle.sdr_base.specs.Blocks.{Blocks, IsKind}
 use Rattle.sdr_base.specs.Entries.{Stands}
 use Rattle.sdr_base.specs.Linked.{first_of}
-use Rattle.sdr_base.specs.Making.{besides, with_moves}
+use Rattle.sdr_base.specs.Making.{GaveSome, besides, with_moves}
 use Rattle.sdr_base.specs.Objects.{Heap, OnlyUnmoved}
 use Rattle.sdr_base.specs.Words.{HasWord}
 use Rattle.sdr_base.specs.ZcoObjects.{CapsuleRow, ObjectRow, capsule_addr, capsule_block, object_entries}
@@ -21,7 +21,6 @@ use Rattle.sdr_base.proofs.HeapLemmas.{heap_blocks}
 use Rattle.sdr_model.specs.Amounts.{minus}
 use Rattle.sdr_model.specs.Charges.{capsule_bytes}
 use Rattle.zco_acct.specs.Words.{occupied_in, with_occupied}
-use Rattle.zco_ref.specs.Going.{GaveSome}
 use Rattle.zco_ref.proofs.GoneLemmas.{unmoved}
 use Rattle.zco_obj.specs.Amounts.{heap_amounts}
 use Rattle.zco_obj.specs.Chains.{IsSpot, RemovesCapsule, SomeSpot, capsules, with_capsules}

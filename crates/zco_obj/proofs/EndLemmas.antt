@@ -2,7 +2,7 @@
 use Rattle.std.proofs.Common.{◌≡◌, ◌+◌, ◌≤◌, ℕ, List, [], ◌∷◌, ◌++◌, sym, ap, ◌∙◌, arith, subst, append_assoc, append-nil, length-append}
 use Rattle.sdr_base.specs.Blocks.{Blocks, IsKind, Reaches}
 use Rattle.sdr_base.specs.Entries.{Entries, Stands}
-use Rattle.sdr_base.specs.Making.{besides, with_moves}
+use Rattle.sdr_base.specs.Making.{GaveSome, besides, gave, with_moves}
 use Rattle.sdr_base.specs.Objects.{Heap, Misses, OnlyUnmoved, with_given}
 use Rattle.sdr_base.specs.ZcoObjects.{ObjectRow, object_block, object_entries}
 use Rattle.sdr_base.specs.declared.account.Acct.{Acct}
@@ -13,6 +13,7 @@ use Rattle.sdr_base.specs.declared.kind.Space.TheVariants as spaces
 use Rattle.sdr_base.specs.declared.refusal.Refusal.TheVariants as refusals
 use Rattle.sdr_base.specs.declared.stop.Stop.{Stop}
 use Rattle.sdr_base.specs.declared.stop.Stop.TheVariants.{Refused, DiskFault, MediaFault, Failed}
+use Rattle.sdr_base.proofs.GaveLemmas.{gave_spare, one_gave, some_of, some_then}
 use Rattle.sdr_base.proofs.HeapLemmas.{given_blocks, heap_blocks}
 use Rattle.sdr_base.proofs.StandingLemmas.{found, went}
 use Rattle.sdr_base.proofs.WritingLemmas.{reaches}
@@ -23,9 +24,7 @@ use Rattle.zco_obj.specs.Destroying.{DestroysObject, DestroyStops, GivesParts, K
 use Rattle.zco_obj.specs.Gone.{NamedSource, extent_charge, sources_entries, sources_left}
 use Rattle.zco_obj.specs.Reading.{Tells}
 use Rattle.zco_obj.proofs.SpotLemmas.{amount_by, same_amounts}
-use Rattle.zco_obj.proofs.GaveLemmas.{gave_spare, one_gave, some_of, some_then}
 use Rattle.zco_obj.proofs.KeptLemmas.{object_words}
-use Rattle.zco_ref.specs.Going.{GaveSome, gave}
 use Rattle.zco_ref.proofs.GoneLemmas.{unmoved}
 
 -- for the address nothing is destroyed

@@ -7,6 +7,7 @@ use Rattle.std.proofs.lemmas.List.Sums.{sum_by_push}
 use Rattle.sdr_base.specs.Blocks.{Block}
 use Rattle.sdr_base.specs.Entries.{Entries, Stands, times}
 use Rattle.sdr_base.specs.Linked.{first_of}
+use Rattle.sdr_base.specs.Making.{gave}
 use Rattle.sdr_base.specs.Objects.{Heap}
 use Rattle.sdr_base.specs.Sources.{SourceRow}
 use Rattle.sdr_base.specs.ZcoObjects.{ExtentRow, extent_addr, extent_block, extent_entries}
@@ -16,6 +17,7 @@ use Rattle.sdr_base.specs.declared.kind.Space.{Space}
 use Rattle.sdr_base.specs.declared.refusal.Refusal.TheVariants.{LogFull}
 use Rattle.sdr_base.specs.declared.stop.Stop.{Stop}
 use Rattle.sdr_base.specs.declared.stop.Stop.TheVariants.{Refused, DiskFault, MediaFault, Failed}
+use Rattle.sdr_base.proofs.GaveLemmas.{length-gave}
 use Rattle.sdr_base.proofs.StandingLemmas.{moved_back, rotated, times-append}
 use Rattle.sdr_model.specs.Amounts.{amount, amounts_by, plus}
 use Rattle.sdr_model.specs.Charges.{bytes_charge}
@@ -26,12 +28,11 @@ use Rattle.zco_obj.specs.Kept.{ExtentFits}
 use Rattle.zco_obj.specs.declared.destroying.GivenExtent.{GivenExtent}
 use Rattle.zco_obj.proofs.ChainGoneLemmas.{Leaving, PartLeft, given_most, over_made, over_stands, over_told, part_at, part_begun, part_below, part_count, part_first, part_fits, part_many, part_none, part_on, part_room, part_some, part_stands, passed_most}
 use Rattle.zco_obj.proofs.CountLemmas.{goes_after, gone_then, left_after, left_then, left_there, less_row, naming_all, naming_one, still_counted}
-use Rattle.zco_obj.proofs.GaveLemmas.{length-gave}
 use Rattle.zco_obj.proofs.KeptLemmas.{first_extent}
 use Rattle.zco_obj.proofs.UseLemmas.{going_told}
 use Rattle.zco_obj.proofs.WalkLemmas.{HasFirst, fits_from}
 use Rattle.zco_ref.specs.Counting.{gone_next}
-use Rattle.zco_ref.specs.Going.{gave, gone_with}
+use Rattle.zco_ref.specs.Going.{gone_with}
 use Rattle.zco_ref.specs.Kept.{CountedSource, count_in, counted_block, tied_entries}
 use Rattle.zco_obj.proofs.SpotLemmas.{SpotOf, amount_by, find_spot, less_fits, none_gone, others, same_amounts, times_head}
 

@@ -14,8 +14,6 @@ mod SourceLemmas
 mod PairLemmas
 mod SourceStopLemmas
 mod RoomLemmas
-mod StopLemmas
-mod GaveLemmas
 mod UseLemmas
 mod ChainGoneLemmas
 mod CapsulesGoneLemmas

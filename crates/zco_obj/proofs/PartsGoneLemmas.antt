@@ -4,6 +4,7 @@ use Rattle.std.specs.Prelude.{sum_by}
 use Rattle.std.proofs.lemmas.List.{length-map}
 use Rattle.std.proofs.lemmas.List.Sums.{sum_by-cons}
 use Rattle.sdr_base.specs.Entries.{Entries, Stands}
+use Rattle.sdr_base.specs.Making.{GaveSome}
 use Rattle.sdr_base.specs.Objects.{Heap}
 use Rattle.sdr_base.specs.ZcoObjects.{CapsuleRow, ObjectRow, capsule_addr, capsule_entries, extent_entries, object_block}
 use Rattle.sdr_base.specs.declared.account.Acct.{Acct}
@@ -13,6 +14,7 @@ use Rattle.sdr_base.specs.declared.kind.Space.TheVariants as spaces
 use Rattle.sdr_base.specs.declared.refusal.Refusal.TheVariants.{LogFull}
 use Rattle.sdr_base.specs.declared.stop.Stop.{Stop}
 use Rattle.sdr_base.specs.declared.stop.Stop.TheVariants.{Refused, DiskFault, MediaFault, Failed}
+use Rattle.sdr_base.proofs.GaveLemmas.{gave_spare, more_gave, some_of, some_then}
 use Rattle.sdr_base.proofs.StandingLemmas.{moved}
 use Rattle.sdr_model.specs.Amounts.{amount, in_space, plus}
 use Rattle.zco_obj.specs.Amounts.{charge_of, heap_amounts}
@@ -25,9 +27,7 @@ use Rattle.zco_obj.specs.Reading.{Tells, TellsFirsts}
 use Rattle.zco_obj.specs.Walks.{CapsulesAt}
 use Rattle.zco_obj.specs.declared.object.Firsts.{Firsts}
 use Rattle.zco_obj.proofs.SpotLemmas.{amount_by, same_amounts}
-use Rattle.zco_obj.proofs.GaveLemmas.{gave_spare, more_gave, some_of, some_then}
 use Rattle.zco_obj.proofs.PairLemmas.{swapped}
-use Rattle.zco_ref.specs.Going.{GaveSome}
 
 -- what headers or trailers charge of a space
 capsules_sum : (space : Space) (rows : List CapsuleRow) → sum_by (capsule_charge space) rows

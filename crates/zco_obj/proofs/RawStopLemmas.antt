@@ -13,6 +13,7 @@ use Rattle.sdr_base.specs.declared.moves.Move.TheVariants.{Took}
 use Rattle.sdr_base.specs.declared.refusal.Refusal.TheVariants as refusals
 use Rattle.sdr_base.specs.declared.stop.Stop.{Stop}
 use Rattle.sdr_base.specs.declared.stop.Stop.TheVariants.{Refused, DiskFault, MediaFault, Failed}
+use Rattle.sdr_base.proofs.GaveLemmas.{made_then}
 use Rattle.sdr_base.proofs.StandingLemmas.{found, moved, moved_back}
 use Rattle.sdr_model.specs.declared.accounts.Ticket.{Ticket}
 use Rattle.zco_acct.specs.Charges.{charged}
@@ -28,7 +29,6 @@ use Rattle.zco_obj.specs.declared.extent.Piece.{Piece}
 use Rattle.zco_obj.proofs.CauseLemmas.{object_cause}
 use Rattle.zco_obj.proofs.ChargeLemmas.{charged_moves, free_before, lacks_after, pays, queue_of}
 use Rattle.zco_obj.proofs.PairLemmas.{beside_still, swapped}
-use Rattle.zco_obj.proofs.GaveLemmas.{made_then}
 use Rattle.zco_obj.proofs.RoomLemmas.{first_lacks, second_lacks, took_neither}
 use Rattle.zco_obj.proofs.SourceStopLemmas.{object_spare}
 use Rattle.zco_ref.specs.Counting.{attached}

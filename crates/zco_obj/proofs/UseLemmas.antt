@@ -3,7 +3,7 @@ use Rattle.std.proofs.Common.{◌≡◌, ◌+◌, ◌≤◌, ◌^◌, ℕ, Bool,
 use Rattle.std.specs.Prelude.{◌==◌, ◌&&◌, MatchBool, Option, if◌then◌else◌}
 use Rattle.sdr_base.specs.Blocks.{Block, Blocks, Reaches}
 use Rattle.sdr_base.specs.Entries.{Changes, Entries, Stands}
-use Rattle.sdr_base.specs.Making.{Made}
+use Rattle.sdr_base.specs.Making.{Made, gave}
 use Rattle.sdr_base.specs.Objects.{Heap, OnlyUnmoved, with_given}
 use Rattle.sdr_base.specs.Raws.{raw_block}
 use Rattle.sdr_base.specs.Sources.{flag_word, medium_number}
@@ -19,6 +19,7 @@ use Rattle.sdr_base.specs.declared.medium.Medium.TheVariants as media
 use Rattle.sdr_base.specs.declared.refusal.Refusal.TheVariants.{LogFull}
 use Rattle.sdr_base.specs.declared.stop.Stop.{Stop}
 use Rattle.sdr_base.specs.declared.stop.Stop.TheVariants.{Refused, DiskFault, MediaFault, Failed}
+use Rattle.sdr_base.proofs.GaveLemmas.{gave_spare, none_made, one_gave, some_of, some_then}
 use Rattle.sdr_base.proofs.HeapLemmas.{given_blocks}
 use Rattle.sdr_base.proofs.StandingLemmas.{found, moved, went}
 use Rattle.sdr_base.proofs.WritingLemmas.{reaches}
@@ -30,10 +31,9 @@ use Rattle.zco_obj.specs.Walks.{KeepsExtent, SeesExtent, SomeExtent}
 use Rattle.zco_obj.specs.declared.destroying.GivenExtent.{GivenExtent}
 use Rattle.zco_obj.specs.declared.seeing.SeenExtent.{SeenExtent}
 use Rattle.zco_obj.specs.declared.seeing.SeenSource.{SeenSource}
-use Rattle.zco_obj.proofs.GaveLemmas.{gave_spare, none_made, one_gave, some_of, some_then}
 use Rattle.zco_obj.proofs.WalkLemmas.{source_is}
 use Rattle.zco_ref.specs.Counting.{Becomes, DetachStops, Detaches, detached, gone_next}
-use Rattle.zco_ref.specs.Going.{Goes, gave, goes_next, going, going_by, gone_with, is_passing, left_by, passing_blocks, word_in}
+use Rattle.zco_ref.specs.Going.{Goes, goes_next, going, going_by, gone_with, is_passing, left_by, passing_blocks, word_in}
 use Rattle.zco_ref.specs.Kept.{CountedSource, IsTiedRaw, KeepsSource, KeepsTied, SomeAttached, SomeSource, counted_block, counted_entries, raw_part, tied_entries, uses_of}
 use Rattle.zco_ref.proofs.GoneLemmas.{unmoved}
 use Rattle.zco_ref.proofs.KeptLemmas.{flag_is, inbound_is, medium_is, outbound_is}

@@ -2,7 +2,7 @@
 use Rattle.std.specs.Prelude.{◌≡◌, ◌+◌, ◌*◌, ◌≤◌, ℕ, List, [], ◌∷◌, ◌++◌, length, map}
 use Rattle.sdr_base.specs.Blocks.{Blocks, IsKind}
 use Rattle.sdr_base.specs.Entries.{Changes, Entries, Stands}
-use Rattle.sdr_base.specs.Making.{Made, besides, with_moves}
+use Rattle.sdr_base.specs.Making.{GaveSome, Made, besides, gave, with_moves}
 use Rattle.sdr_base.specs.Objects.{Heap, Misses, OnlyFault}
 use Rattle.sdr_base.specs.ZcoObjects.{CapsuleRow, ObjectRow, capsule_addr, object_block, object_entries}
 use Rattle.sdr_base.specs.declared.account.Amounts.{Amounts}
@@ -19,7 +19,6 @@ use Rattle.zco_obj.specs.Amounts.{charge_of}
 use Rattle.zco_obj.specs.Uses.{AreNamed, uses_lines}
 use Rattle.zco_obj.specs.Gone.{NamedSource, extent_charge, gone_blocks, sources_entries, sources_left}
 use Rattle.zco_obj.specs.Kept.{ObjectFits}
-use Rattle.zco_ref.specs.Going.{GaveSome, gave}
 
 -- these blocks keep an object, and the sources that its extents name beside it
 pub record KeepsSources (blocks : Blocks) (object : ℕ) (row : ObjectRow) (sources : List NamedSource) : Type 0 where

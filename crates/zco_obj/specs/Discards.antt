@@ -2,7 +2,7 @@
 use Rattle.std.specs.Prelude.{◌≡◌, ◌-◌, ℕ, List, [], ◌∷◌, ◌++◌, length, drop, take, slice_get, Option, None, Some}
 use Rattle.sdr_base.specs.Blocks.{IsKind}
 use Rattle.sdr_base.specs.Entries.{Changes}
-use Rattle.sdr_base.specs.Making.{besides, with_moves}
+use Rattle.sdr_base.specs.Making.{GaveSome, besides, with_moves}
 use Rattle.sdr_base.specs.Objects.{Heap, Misses, OnlyFault}
 use Rattle.sdr_base.specs.ZcoObjects.{CapsuleRow, ObjectRow, object_entries}
 use Rattle.sdr_base.specs.declared.kind.Kind.TheVariants as kinds
@@ -16,7 +16,6 @@ use Rattle.zco_obj.specs.Amounts.{capsule_amounts}
 use Rattle.zco_obj.specs.Chains.{IsSpot, with_capsules}
 use Rattle.zco_obj.specs.Kept.{KeepsObject}
 use Rattle.zco_obj.specs.declared.linking.Side.{Side}
-use Rattle.zco_ref.specs.Going.{GaveSome}
 
 -- the first header
 abbrev pub first_header : ObjectRow → Option CapsuleRow

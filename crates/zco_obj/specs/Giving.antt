@@ -1,7 +1,7 @@
 -- Headers and trailers that are given back, the first one of a chain first.
 use Rattle.std.specs.Prelude.{◌≡◌, ◌≤◌, ℕ, List, length, map, sum_by}
 use Rattle.sdr_base.specs.Entries.{Entries, Stands}
-use Rattle.sdr_base.specs.Making.{Made}
+use Rattle.sdr_base.specs.Making.{GaveSome, Made, gave}
 use Rattle.sdr_base.specs.Objects.{Heap, OnlyFault}
 use Rattle.sdr_base.specs.ZcoObjects.{CapsuleRow, capsule_addr}
 use Rattle.sdr_base.specs.declared.account.Amounts.{Amounts}
@@ -10,7 +10,6 @@ use Rattle.sdr_base.specs.declared.stop.Stop.{Stop}
 use Rattle.sdr_base.specs.declared.stop.Stop.TheVariants.{Refused}
 use Rattle.sdr_model.specs.Charges.{capsule_bytes}
 use Rattle.zco_obj.specs.Walks.{CapsulesAt}
-use Rattle.zco_ref.specs.Going.{GaveSome, gave}
 
 -- each amount is at most so many bytes
 pub record AreAtMost (most : ℕ) (amounts : Amounts) : Type 0 where

@@ -3,7 +3,7 @@ use Rattle.std.specs.Prelude.{◌≡◌, ◌+◌, ◌*◌, ◌<◌, ◌≤◌, �
 use Rattle.sdr_base.specs.Blocks.{Blocks}
 use Rattle.sdr_base.specs.Entries.{Changes, Entries, Stands}
 use Rattle.sdr_base.specs.Linked.{first_of}
-use Rattle.sdr_base.specs.Making.{Made}
+use Rattle.sdr_base.specs.Making.{GaveSome, Made, gave}
 use Rattle.sdr_base.specs.Objects.{Heap, OnlyFault}
 use Rattle.sdr_base.specs.ZcoObjects.{ExtentRow, extent_addr, extent_block, extent_entries}
 use Rattle.sdr_base.specs.declared.account.Acct.{Acct}
@@ -17,7 +17,7 @@ use Rattle.zco_obj.specs.Gone.{NamedSource, extents_amounts, gone_blocks, naming
 use Rattle.zco_obj.specs.Kept.{ExtentFits}
 use Rattle.zco_obj.specs.declared.destroying.GivenExtent.{GivenExtent}
 use Rattle.zco_ref.specs.Counting.{detached, gone_next}
-use Rattle.zco_ref.specs.Going.{GaveSome, gave, goes_next, going, left_by, word_in}
+use Rattle.zco_ref.specs.Going.{goes_next, going, left_by, word_in}
 use Rattle.zco_ref.specs.Kept.{CountedSource, SourceFits, count_in, tied_entries}
 
 -- an extent stands there before another, and the source that it names with its raw object; an extent of the account names it

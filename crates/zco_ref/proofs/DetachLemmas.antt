@@ -3,6 +3,7 @@ use Rattle.std.proofs.Common.{◌≡◌, ℕ, ◌+◌, ◌-◌, ◌≤◌, List,
 use Rattle.std.specs.Prelude.{Option, ◌==◌, ◌&&◌}
 use Rattle.std.specs.Prelude.{if◌then◌else◌}
 use Rattle.sdr_base.specs.Blocks.{Block}
+use Rattle.sdr_base.specs.Making.{GaveSome}
 use Rattle.sdr_base.specs.Objects.{Heap, OnlyFull, OnlyUnmoved}
 use Rattle.sdr_base.specs.Sources.{flag_word, medium_number}
 use Rattle.sdr_base.specs.Words.{HasWord, with_word}
@@ -15,7 +16,7 @@ use Rattle.sdr_base.specs.declared.refusal.Refusal.TheVariants.{LogFull}
 use Rattle.sdr_base.specs.declared.stop.Stop.{Stop}
 use Rattle.sdr_base.specs.declared.stop.Stop.TheVariants.{Refused, DiskFault, MediaFault, Failed}
 use Rattle.zco_ref.specs.Counting.{Detaches, DetachStops, count_field, gone_next}
-use Rattle.zco_ref.specs.Going.{GaveSome, OnlyGave, VanishStops, Vanishes, blocks_with, goes_by, goes_next, going, going_by, gone_with, is_passing, passing_blocks, word_in}
+use Rattle.zco_ref.specs.Going.{OnlyGave, VanishStops, Vanishes, blocks_with, goes_by, goes_next, going, going_by, gone_with, is_passing, passing_blocks, word_in}
 use Rattle.zco_ref.specs.Kept.{CountedSource, KeepsSource, SomeAttached, uses_of}
 use Rattle.zco_ref.specs.Seeing.{SeesSource}
 use Rattle.zco_ref.specs.declared.seeing.Seen.{Seen}

@@ -4,7 +4,7 @@ use Rattle.std.proofs.lemmas.List.{append-nil}
 use Rattle.std.specs.Prelude.{Option, None, Some, ◌⊎◌}
 use Rattle.sdr_base.specs.Blocks.{Block, Blocks, Reaches, with_block}
 use Rattle.sdr_base.specs.Entries.{Changes, Stands}
-use Rattle.sdr_base.specs.Making.{Made, besides, with_moves}
+use Rattle.sdr_base.specs.Making.{GaveSome, Made, besides, gave, with_moves}
 use Rattle.sdr_base.specs.Objects.{Heap, OnlyUnmoved, with_given}
 use Rattle.sdr_base.specs.Raws.{raw_block}
 use Rattle.sdr_base.specs.Words.{with_word}
@@ -20,7 +20,7 @@ use Rattle.sdr_base.proofs.HeapLemmas.{given_blocks, heap_blocks}
 use Rattle.sdr_base.proofs.ObjectsLemmas.{with_block-apart}
 use Rattle.sdr_base.proofs.StandingLemmas.{went}
 use Rattle.sdr_base.proofs.WritingLemmas.{reaches, word_set}
-use Rattle.zco_ref.specs.Going.{GaveSome, Goes, OnlyGave, VanishStops, Vanishes, gave, gone_with, left_by}
+use Rattle.zco_ref.specs.Going.{Goes, OnlyGave, VanishStops, Vanishes, gone_with, left_by}
 use Rattle.zco_ref.specs.Kept.{CountedSource, SomeTied, counted_block, counted_entries, raw_part}
 use Rattle.zco_ref.specs.Seeing.{SeesSource}
 use Rattle.zco_ref.specs.declared.seeing.Seen.{Seen}

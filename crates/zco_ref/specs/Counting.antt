@@ -3,7 +3,7 @@ use Rattle.std.specs.Prelude.{◌≡◌, ◌+◌, ◌-◌, ℕ, Bool, List, [], 
 use Rattle.std.specs.Prelude.{if◌then◌else◌}
 use Rattle.sdr_base.specs.Blocks.{Block, IsKind}
 use Rattle.sdr_base.specs.Entries.{Changes}
-use Rattle.sdr_base.specs.Making.{besides}
+use Rattle.sdr_base.specs.Making.{GaveSome, besides}
 use Rattle.sdr_base.specs.Objects.{Heap, OnlyFault}
 use Rattle.sdr_base.specs.declared.account.Acct.{Acct}
 use Rattle.sdr_base.specs.declared.account.Acct.TheVariants as accts
@@ -12,7 +12,7 @@ use Rattle.sdr_base.specs.declared.layout.source.TheConstants.{INBOUND, OUTBOUND
 use Rattle.sdr_base.specs.declared.refusal.Refusal.TheVariants.{LogFull}
 use Rattle.sdr_base.specs.declared.stop.Stop.{Stop}
 use Rattle.sdr_base.specs.declared.stop.Stop.TheVariants.{Refused}
-use Rattle.zco_ref.specs.Going.{GaveSome, Goes, goes_next, gone_with}
+use Rattle.zco_ref.specs.Going.{Goes, goes_next, gone_with}
 use Rattle.zco_ref.specs.Kept.{CountedSource, KeepsSource, KeepsTied, count_in, counted_entries, uses_of}
 
 -- so many extents name whichever source is kept

@@ -1,10 +1,10 @@
 -- Sources that go, and what goes with them.
-use Rattle.std.specs.Prelude.{◌≡◌, ◌+◌, ◌-◌, ◌*◌, ◌==◌, ◌&&◌, ◌||◌, ℕ, Bool, true, false, List, [], ◌∷◌, ◌++◌, length, map, ⊤, Option, Some, None}
+use Rattle.std.specs.Prelude.{◌+◌, ◌*◌, ◌==◌, ◌&&◌, ◌||◌, ℕ, Bool, true, false, List, [], ◌∷◌, ⊤, Option, Some, None}
 use Rattle.std.specs.Prelude.{if◌then◌else◌}
 use Rattle.sdr_base.specs.Blocks.{Block}
 use Rattle.sdr_base.specs.Entries.{Changes, Entries}
-use Rattle.sdr_base.specs.Making.{Made}
-use Rattle.sdr_base.specs.Objects.{AreFirstOf, Heap, OnlyUnmoved}
+use Rattle.sdr_base.specs.Making.{GaveSome, Made, gave}
+use Rattle.sdr_base.specs.Objects.{Heap, OnlyUnmoved}
 use Rattle.sdr_base.specs.Raws.{raw_entries}
 use Rattle.sdr_base.specs.Sources.{medium_number}
 use Rattle.sdr_base.specs.Stored.{number_at}
@@ -12,8 +12,6 @@ use Rattle.sdr_base.specs.declared.layout.source.TheConstants.{FLAG, INBOUND, ME
 use Rattle.sdr_base.specs.declared.line.TheConstants.{WORD}
 use Rattle.sdr_base.specs.declared.medium.Medium.{Medium}
 use Rattle.sdr_base.specs.declared.medium.Medium.TheVariants as media
-use Rattle.sdr_base.specs.declared.moves.Move.{Move}
-use Rattle.sdr_base.specs.declared.moves.Move.TheVariants.{Gave}
 use Rattle.sdr_base.specs.declared.refusal.Refusal.TheVariants.{LogFull}
 use Rattle.sdr_base.specs.declared.stop.Stop.{Stop}
 use Rattle.sdr_base.specs.declared.stop.Stop.TheVariants.{Refused, DiskFault, MediaFault, Failed}
@@ -51,10 +49,6 @@ abbrev pub left_by : Medium → ℕ → List ℕ → Entries
 left_by media.Obj raw bytes = raw_entries raw 0 bytes
 left_by medium raw bytes = []
 
--- the blocks at these addresses are given back, in order
-abbrev pub gave : List ℕ → List Move
-gave = map (λ addr. Gave addr)
-
 -- the source is gone, with the raw object that it had taken over, and all else stays
 pub record Goes (addr : ℕ) (source : CountedSource) (bytes : List ℕ) (old new : Heap) : Type 0 where
   pub changes : Changes old.blocks new.blocks (tied_entries addr source bytes)
@@ -64,13 +58,6 @@ pub record Goes (addr : ℕ) (source : CountedSource) (bytes : List ℕ) (old ne
 -- so is whichever source is kept there
 pub record Vanishes (addr : ℕ) (old new : Heap) : Type 0 where
   pub goes : (source : CountedSource) (bytes : List ℕ) → KeepsTied old.blocks addr source bytes → Goes addr source bytes old new
-
--- some first ones of the blocks at these addresses were given back, and no other move was made
-pub record GaveSome (addrs : List ℕ) (old new : Heap) : Type 0 where
-  pub made : List Move
-  pub first : AreFirstOf (gave addrs) made
-  pub moves : new.moves ≡ old.moves ++ made
-  pub spare : new.spare ≡ old.spare - length made
 
 -- why a raw object and its source don't go: there is no log room, and no more than the raw object was given back; or a fault
 abbrev pub OnlyGave : ℕ → Heap → Heap → Stop → Type 0

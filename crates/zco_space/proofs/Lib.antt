@@ -1,5 +1,4 @@
-pub mod StopLemmas
-mod RootLemmas
+pub mod RootLemmas
 pub mod ServedLemmas
 mod ServingLemmas
 mod ServesLemmas

@@ -1,11 +1,10 @@
 -- The queue is served, so it is in the world.
 use Rattle.std.proofs.Common.{arith}
 use Rattle.std.proofs.lemmas.Result.{err_from_is_err_and}
-use Rattle.sdr_base.proofs.WorksLemmas.{works_more, works_ok}
+use Rattle.sdr_base.proofs.WorksLemmas.{works_more, works_ok, works_stopped}
 use Rattle.sdr_model.specs.Accounts.{tickets_of}
 use Rattle.zco_granted.proofs.AccountLemmas.{serve_grants, serves}
 use Rattle.zco_granted.proofs.QueueLemmas.{queue_kept}
-use Rattle.zco_space.proofs.StopLemmas.{works_stopped}
 use Rattle.zco_granted.proofs.accounts.serve.Goals as goal
 
 pub returns-in_err-serve-clause-works : goal.returns-in_err-serve-clause-works

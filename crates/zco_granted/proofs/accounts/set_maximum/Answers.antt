@@ -2,7 +2,7 @@
 use Rattle.std.proofs.Common.{arith, refl, rules, Err}
 use Rattle.std.proofs.lemmas.Result.{err_from_is_err_and}
 use Rattle.sdr_answers.specs.Answering.{Comes}
-use Rattle.sdr_base.proofs.WorksLemmas.{works_more, works_ok, works_then}
+use Rattle.sdr_base.proofs.WorksLemmas.{works_more, works_ok, works_stopped, works_then}
 use Rattle.sdr_base.specs.Objects.{OnlyUnmoved}
 use Rattle.sdr_model.specs.declared.answer.Reply.TheVariants as replies
 use Rattle.sdr_model.specs.declared.call.Call.TheVariants as calls
@@ -10,7 +10,6 @@ use Rattle.zco_acct.specs.Changes.{MaximumStops}
 use Rattle.zco_granted.proofs.AccountCalls.{maxed, maxed_grants, maxed_keeps, maxed_queue, maxed_stands, maximum_aim, maximum_answered_by, maximum_refused}
 use Rattle.sdr_answers.proofs.CallLemmas.{comes_answered, comes_stopped}
 use Rattle.zco_granted.proofs.ComingLemmas.{log_full, tickets_kept}
-use Rattle.zco_space.proofs.StopLemmas.{works_stopped}
 use Rattle.zco_granted.proofs.accounts.set_maximum.Goals as goal
 
 pub returns-in_err-set_maximum-clause-comes : goal.returns-in_err-set_maximum-clause-comes

@@ -2,14 +2,13 @@
 use Rattle.std.proofs.Common.{arith, rules, Err}
 use Rattle.std.proofs.lemmas.Result.{err_from_is_err_and}
 use Rattle.sdr_answers.specs.Answering.{Comes}
-use Rattle.sdr_base.proofs.WorksLemmas.{works_more, works_ok}
+use Rattle.sdr_base.proofs.WorksLemmas.{works_more, works_ok, works_stopped}
 use Rattle.sdr_model.specs.Accounts.{tickets_of}
 use Rattle.sdr_model.specs.declared.answer.Reply.TheVariants as replies
 use Rattle.sdr_answers.proofs.CallLemmas.{comes_answered, comes_stopped}
 use Rattle.zco_granted.proofs.ComingLemmas.{tickets_kept}
 use Rattle.zco_granted.proofs.QueueLemmas.{queue_kept}
 use Rattle.zco_granted.proofs.RequestCalls.{asks, request_grants, requested_answered, requested_refused}
-use Rattle.zco_space.proofs.StopLemmas.{works_stopped}
 use Rattle.zco_space.specs.Requests.{RequestStops}
 use Rattle.zco_granted.proofs.tickets.request.Goals as goal
 

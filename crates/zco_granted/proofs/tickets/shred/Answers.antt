@@ -2,7 +2,7 @@
 use Rattle.std.proofs.Common.{arith, rules, Err}
 use Rattle.std.proofs.lemmas.Result.{err_from_is_err_and}
 use Rattle.sdr_answers.specs.Answering.{Comes}
-use Rattle.sdr_base.proofs.WorksLemmas.{works_more, works_ok}
+use Rattle.sdr_base.proofs.WorksLemmas.{works_more, works_ok, works_stopped}
 use Rattle.sdr_base.specs.declared.account.Acct.TheVariants as accts
 use Rattle.sdr_model.specs.declared.answer.Reply.TheVariants as replies
 use Rattle.sdr_model.specs.declared.call.Call.TheVariants as calls
@@ -10,7 +10,6 @@ use Rattle.sdr_answers.proofs.CallLemmas.{comes_answered, comes_stopped}
 use Rattle.zco_granted.proofs.ComingLemmas.{tickets_kept}
 use Rattle.zco_granted.proofs.QueueLemmas.{queue_kept}
 use Rattle.zco_granted.proofs.ShredCalls.{shred_grants, shredded_answered, shredded_refused}
-use Rattle.zco_space.proofs.StopLemmas.{works_stopped}
 use Rattle.zco_space.specs.Shreds.{ShredStops}
 use Rattle.zco_granted.proofs.tickets.shred.Goals as goal
 

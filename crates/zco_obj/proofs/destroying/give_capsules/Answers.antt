@@ -1,9 +1,8 @@
 -- The headers or trailers go one by one.
 use Rattle.std.proofs.Common.{arith}
 use Rattle.std.proofs.lemmas.Result.{err_from_is_err_and}
-use Rattle.sdr_base.proofs.WorksLemmas.{looks_works, works_more, works_ok, works_then}
+use Rattle.sdr_base.proofs.WorksLemmas.{looks_works, works_more, works_ok, works_stopped, works_then}
 use Rattle.zco_obj.proofs.CapsulesGoneLemmas.{capsule_below, capsule_room, capsule_stops, capsule_there, capsule_used, capsules_all, capsules_begun, capsules_many, capsules_most, capsules_on}
-use Rattle.zco_obj.proofs.StopLemmas.{works_stopped}
 use Rattle.zco_obj.proofs.destroying.give_capsules.Goals as goal
 
 pub loop-i-init : goal.loop-i-init

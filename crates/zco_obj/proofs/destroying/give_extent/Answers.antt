@@ -1,8 +1,7 @@
 -- The extent and its source are read, the source counts one less, and the extent goes.
 use Rattle.std.proofs.Common.{refl, arith}
 use Rattle.std.proofs.lemmas.Result.{err_from_is_err_and}
-use Rattle.sdr_base.proofs.WorksLemmas.{looks_looks, looks_then, works_more, works_ok, works_then}
-use Rattle.zco_obj.proofs.StopLemmas.{works_stopped}
+use Rattle.sdr_base.proofs.WorksLemmas.{looks_looks, looks_then, works_more, works_ok, works_stopped, works_then}
 use Rattle.zco_obj.proofs.UseLemmas.{detach_stops, give_stops, gives_extent, same_going, some_attached, some_use_extent, some_use_source, spare_still, used_still}
 use Rattle.zco_obj.proofs.destroying.give_extent.Goals as goal
 

@@ -1,10 +1,9 @@
 -- The extents go one by one.
 use Rattle.std.proofs.Common.{arith, refl}
 use Rattle.std.proofs.lemmas.Result.{err_from_is_err_and}
-use Rattle.sdr_base.proofs.WorksLemmas.{looks_works, works_more, works_ok, works_then}
+use Rattle.sdr_base.proofs.WorksLemmas.{looks_works, works_more, works_ok, works_stopped, works_then}
 use Rattle.zco_obj.proofs.ExtentsGoneLemmas.{extent_room, extent_stops, extent_there, extents_all, extents_begun, extents_many, extents_on, lines_most, lines_next, moves_so_far, moves_with}
 use Rattle.zco_obj.proofs.SpotLemmas.{at_most_both}
-use Rattle.zco_obj.proofs.StopLemmas.{works_stopped}
 use Rattle.zco_obj.proofs.destroying.give_extents.Goals as goal
 
 pub loop-i-init : goal.loop-i-init

@@ -1,10 +1,9 @@
 -- The headers go, the extents, and the trailers.
 use Rattle.std.proofs.Common.{◌∙◌, arith, ap}
 use Rattle.std.proofs.lemmas.Result.{err_from_is_err_and}
-use Rattle.sdr_base.proofs.WorksLemmas.{looks_then, works_more, works_ok, works_then}
+use Rattle.sdr_base.proofs.WorksLemmas.{looks_then, works_more, works_ok, works_stopped, works_then}
 use Rattle.sdr_model.specs.Amounts.{plus}
 use Rattle.zco_obj.proofs.PartsGoneLemmas.{extents_in, extents_stop, gives_parts, headers_in, headers_stop, some_extents, some_headers, some_kept, some_trailers, trailers_in, trailers_stop}
-use Rattle.zco_obj.proofs.StopLemmas.{works_stopped}
 use Rattle.zco_obj.proofs.destroying.give_parts.Goals as goal
 
 pub first_parts-requires-clause-object : goal.first_parts-requires-clause-object

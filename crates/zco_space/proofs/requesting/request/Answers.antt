@@ -2,9 +2,8 @@
 use Rattle.std.proofs.Common.{refl, ap, arith}
 use Rattle.std.proofs.lemmas.Result.{err_from_is_err_and}
 use Rattle.sdr_base.specs.Objects.{Heap}
-use Rattle.sdr_base.proofs.WorksLemmas.{looks_then, looks_works, works_more, works_ok, works_then}
+use Rattle.sdr_base.proofs.WorksLemmas.{looks_then, looks_works, works_more, works_ok, works_stopped, works_then}
 use Rattle.zco_space.proofs.RequestLemmas.{granted_there, kept_back, requests, short_since, stops_short}
-use Rattle.zco_space.proofs.StopLemmas.{works_stopped}
 use Rattle.zco_space.proofs.requesting.request.Goals as goal
 
 pub enqueue-requires-clause-new : goal.enqueue-requires-clause-new

@@ -1,10 +1,9 @@
 -- The tickets are served one by one.
 use Rattle.std.proofs.Common.{◌∙◌, ap, sym, arith}
 use Rattle.std.proofs.lemmas.Result.{err_from_is_err_and}
-use Rattle.sdr_base.proofs.WorksLemmas.{looks_looks, looks_works, works_more, works_ok, works_then}
+use Rattle.sdr_base.proofs.WorksLemmas.{looks_looks, looks_works, works_more, works_ok, works_stopped, works_then}
 use Rattle.sdr_model.specs.Amounts.{are_within}
 use Rattle.zco_acct.specs.Kept.{AmountsFit}
-use Rattle.zco_space.proofs.StopLemmas.{works_stopped}
 use Rattle.zco_space.proofs.ServesLemmas.{count_below, count_most, goes_on, inside_here, passes, serves_all, serves_most, serves_some, some_here, sum_fits, unmoved}
 use Rattle.zco_space.proofs.ServingLemmas.{starts}
 use Rattle.zco_space.proofs.serving.serve.Goals as goal

@@ -2,12 +2,11 @@
 use Rattle.std.proofs.Common.{refl, ap, sym, ◌∙◌, arith}
 use Rattle.std.proofs.lemmas.Result.{err_from_is_err_and}
 use Rattle.sdr_base.specs.Objects.{Heap}
-use Rattle.sdr_base.proofs.WorksLemmas.{looks_then, works_more, works_ok, works_then}
+use Rattle.sdr_base.proofs.WorksLemmas.{looks_then, works_more, works_ok, works_stopped, works_then}
 use Rattle.zco_space.specs.Served.{newly_granted}
 use Rattle.zco_space.specs.Shreds.{queue_of, without_number}
 use Rattle.zco_space.proofs.FindLemmas.{kept_of, queue_kept, some_first}
 use Rattle.zco_space.proofs.ShredLemmas.{granted_there, kept_back, served_back, shreds, stops_after, stops_before}
-use Rattle.zco_space.proofs.StopLemmas.{works_stopped}
 use Rattle.zco_space.proofs.shredding.shred.Goals as goal
 
 pub take_out-requires-clause-first : goal.take_out-requires-clause-first

@@ -2,11 +2,10 @@
 use Rattle.std.proofs.Common.{◌≡◌, ◌-◌, ℕ, Bool, List, [], ◌∷◌, ◌++◌, length, true, refl, sym, ap, ◌∙◌, arith, subst, append_assoc, append-nil, length-append}
 use Rattle.std.proofs.lemmas.List.{length-map, map-append}
 use Rattle.sdr_base.specs.Blocks.{with_at}
-use Rattle.sdr_base.specs.Making.{Made, besides, marked_by, with_moves}
+use Rattle.sdr_base.specs.Making.{GaveSome, Made, besides, gave, marked_by, with_moves}
 use Rattle.sdr_base.specs.Objects.{Heap, with_given}
 use Rattle.sdr_base.specs.declared.moves.Move.{Move}
 use Rattle.sdr_base.specs.declared.moves.Move.TheVariants.{Gave, Short, Took}
-use Rattle.zco_ref.specs.Going.{GaveSome, gave}
 
 -- moves one after another
 marked_by-append : (ms ns : List Move) (marks : ℕ → Bool) → marked_by marks (ms ++ ns) ≡ marked_by (marked_by marks ms) ns

@@ -1,0 +1,25 @@
+-- Objects and queues are kept where a heap stands for a world in which calls on objects are served.
+use Rattle.sdr_answers.proofs.ListLemmas.{IsSmall}
+use Rattle.sdr_answers.specs.Answering.{IsServed}
+use Rattle.sdr_audit.specs.Rows.{object_row}
+use Rattle.sdr_audit.specs.Standing.{HeapStandsFor}
+use Rattle.sdr_base.specs.Objects.{Heap}
+use Rattle.sdr_model.specs.World.{World}
+use Rattle.zco_answers.proofs.ObjectLemmas.{object_is_at, object_kept, object_with_queue}
+use Rattle.zco_answers.specs.Answering.{IsGood}
+use Rattle.zco_granted.proofs.GoodLemmas as tickets
+
+pub good_of : (heap : Heap) (w : World) → HeapStandsFor heap w → IsServed w → IsSmall heap → IsGood heap
+good_of heap w s served small = record {
+  queues = tickets.good_of heap w s served;
+  objects = λ addr kind.
+      let at = object_is_at heap w addr s served kind in
+      record { row = object_row at.object; keeps = object_kept heap w s served small addr at.object at.there };
+  with_queues = λ addr kind.
+      let at = object_is_at heap w addr s served kind in
+      record {
+        row = object_row at.object;
+        tickets = _;
+        keeps = object_with_queue heap w addr at.object s served small at.there;
+      };
+}
