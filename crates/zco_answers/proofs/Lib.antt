@@ -1,3 +1,4 @@
+pub mod FewLemmas
 pub mod ObjectLemmas
 mod ReadingCalls
 pub mod MovingLemmas

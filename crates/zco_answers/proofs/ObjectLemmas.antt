@@ -1,6 +1,6 @@
 -- Objects of a world in blocks, alone and together with the queue of their account.
 use Rattle.std.proofs.Common.{◌≡◌, ◌∙◌, ◌+◌, ◌≤◌, ◌<◌, ◌^◌, ◌++◌, ℕ, List, [], ◌∷◌, Option, Some, None, map, refl, ap, subst, arith}
-use Rattle.std.proofs.lemmas.List.{length-append}
+use Rattle.std.proofs.lemmas.List.{length-map}
 use Rattle.std.proofs.lemmas.List.Elements.{All-cons, All-nil, recursion_from_All}
 use Rattle.std.specs.List.{AllByRecursion}
 use Rattle.std.specs.Prelude.{All, IfSome}
@@ -11,10 +11,8 @@ use Rattle.sdr_audit.proofs.ChangeLemmas.{apart}
 use Rattle.sdr_audit.specs.Rows.{capsule_row, extent_row, object_row}
 use Rattle.sdr_audit.specs.Standing.{HeapStandsFor}
 use Rattle.sdr_audit.specs.Ties.{TieAlike}
-use Rattle.sdr_base.proofs.LinkedLemmas.{length-linked}
 use Rattle.sdr_base.specs.Blocks.{IsKind}
 use Rattle.sdr_base.specs.Objects.{Heap}
-use Rattle.sdr_base.specs.ZcoObjects.{capsule_addr, capsule_block, capsule_entries, extent_addr, extent_block, extent_entries, object_entries}
 use Rattle.sdr_base.specs.declared.kind.Kind.TheVariants as kinds
 use Rattle.sdr_laws.proofs.SourceViews.{fits_from}
 use Rattle.sdr_laws.proofs.ThingLemmas.{source_is}
@@ -32,6 +30,7 @@ use Rattle.sdr_model.specs.declared.zco.Capsule.{Capsule}
 use Rattle.sdr_model.specs.declared.zco.Extent.{Extent}
 use Rattle.sdr_model.specs.declared.zco.ZcoObject.{ZcoObject}
 use Rattle.sdr_model.specs.declared.zco.ZcoSource.{ZcoSource}
+use Rattle.zco_answers.proofs.FewLemmas.{few_blocks}
 use Rattle.zco_answers.proofs.MovingLemmas.{both_focused, queue_swap, things_swap}
 use Rattle.zco_granted.proofs.ComingLemmas.{tickets_kept}
 use Rattle.zco_granted.proofs.QueueLemmas.{queue_kept}
@@ -85,23 +84,15 @@ module _ (heap : Heap) (w : World) (s : HeapStandsFor heap w) (served : IsServed
   -- an object has few parts
   few_parts : (addr : ℕ) (z : ZcoObject) → thing_at w addr ≡ Some (things.Object z) → parts_of (object_row z) < 2 ^ 22
   few_parts addr z there =
-      let row = object_row z in
-      let a = apart addr (things.Object z) s there in
-      let headers = capsule_entries row.headers in
-      let extents = extent_entries row.extents in
-      let trailers = capsule_entries row.trailers in
-      let all = small.few.few (object_entries addr row ++ a.rest) a.stands in
+      let few = few_blocks heap w addr z s small.few there in
       let most = small.small in
       omega (
         arith,
-        all,
+        few,
         most,
-        length-append (headers ++ extents ++ trailers) a.rest,
-        length-append (headers ++ extents) trailers,
-        length-append headers extents,
-        length-linked capsule_addr capsule_block 0 0 row.headers,
-        length-linked extent_addr extent_block 0 0 row.extents,
-        length-linked capsule_addr capsule_block 0 0 row.trailers,
+        length-map z.headers capsule_row,
+        length-map z.extents extent_row,
+        length-map z.trailers capsule_row,
       )
 
   -- its numbers fit
