@@ -6,6 +6,7 @@
 #![tactic(auto)]
 
 mod answering;
+mod appending;
 mod capsules;
 mod objects;
 
