@@ -131,8 +131,9 @@ module _ (old new : Heap) (w : World) (unmoved : old.moves ≡ []) (s : HeapStan
         on_charge (outcome source block) unnamed within
         (paid.goes (outcome source block) (taking_both (outcome source block)) (
           refl,
-          sym (ap (λ (used : World). record (with_object (with_thing used source (things.Source (taking w addr raw p source block offset bytes)))
-              addr (raw_object w addr raw p source block offset bytes)) {
+          sym (ap (λ (used : World). record (with_object
+              (with_thing used source (things.Source (taking w addr raw p source block offset bytes))) addr
+              (raw_object w addr raw p source block offset bytes)) {
                 marks = w.marks ++ source ∷ block ∷ [];
                 shown = [];
               }) paid.used),
@@ -227,7 +228,8 @@ module _ (old new : Heap) (w : World) (unmoved : old.moves ≡ []) (s : HeapStan
             after = _;
             reply = replies.Done;
             row = λ source block.
-                appended_row source block unnamed a.has (paid w acct number charge (sym (same_refusal acct s number charge) ∙ none));
+                appended_row source block unnamed a.has
+                (paid w acct number charge (sym (same_refusal acct s number charge) ∙ none));
             answered = refl;
           }
 
@@ -242,7 +244,8 @@ module _ (old new : Heap) (w : World) (unmoved : old.moves ≡ []) (s : HeapStan
         (refl, refl, λ i. replies.Refused (refusals.BadRange (r.0 i) (r.1 i) (r.2 i)))))
 
     unpaid_row : (refusal : Refusal) → source_on w raw ≡ None → IsWithin piece (length p.text) →
-        refusal_in old p.object.account number (amounts_by charge) (tickets_of w.accounts p.object.account) ≡ Some refusal → new ≡ old →
+        refusal_in old p.object.account number (amounts_by charge) (tickets_of w.accounts p.object.account) ≡ Some refusal →
+        new ≡ old →
         ByRow w (record { moves = new.moves; after = w; reply = replies.Refused refusal }) call
     unpaid_row refusal unnamed within some same =
         let o = refusing refusal in
@@ -268,8 +271,8 @@ module _ (old new : Heap) (w : World) (unmoved : old.moves ≡ []) (s : HeapStan
   raw_appended a = pair_appended (there a.may) (none_on a.may) a (held a.may)
 
   -- the address is that of no raw object
-  misnamed : (was : List ℕ) (refusal : Refusal) → NamesNoRaw addr piece old refusal → Misses (old.blocks raw) raw kinds.Raw (stops.Refused refusal) →
-      new ≡ old → IsRefused w call old new was was refusal
+  misnamed : (was : List ℕ) (refusal : Refusal) → NamesNoRaw addr piece old refusal →
+      Misses (old.blocks raw) raw kinds.Raw (stops.Refused refusal) → new ≡ old → IsRefused w call old new was was refusal
   misnamed was refusal m misses same =
       let z = object_is_at old w addr s served m.is_object in
       let none = no_source old w raw s served.whole.valid m.other in

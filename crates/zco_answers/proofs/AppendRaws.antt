@@ -31,7 +31,7 @@ use Rattle.sdr_laws.proofs.ZcoOutcomes.{nothing}
 use Rattle.sdr_model.proofs.ThingsLemmas.{same_things}
 use Rattle.sdr_model.specs.Accounts.{tickets_of}
 use Rattle.sdr_model.specs.Charges.{bytes_charge}
-use Rattle.sdr_model.specs.Limits.{longest_source}
+use Rattle.sdr_model.specs.Limits.{longest_raw}
 use Rattle.sdr_model.specs.ObjectSteps as object
 use Rattle.sdr_model.specs.SourceSteps.{new_source}
 use Rattle.sdr_model.specs.Steps.{with_thing}
@@ -65,7 +65,8 @@ pub record IsWithRawAt (w : World) (addr raw : ℕ) : Type 0 where
   pub raw_there : thing_at w raw ≡ Some (things.Raw text)
 
 -- a source of a raw object that no other names is the one that names it
-module _ (w : World) (raw addr : ℕ) (source : ZcoSource) (none : source_on w raw ≡ None) (names : is_of_raw raw source.subject ≡ true) where
+module _ (w : World) (raw addr : ℕ) (source : ZcoSource) (none : source_on w raw ≡ None)
+    (names : is_of_raw raw source.subject ≡ true) where
   abbrev with_source : World
   with_source = with_thing w addr (things.Source source)
 
@@ -130,10 +131,13 @@ module _ (w : World) (addr raw : ℕ) (p : IsWithRawAt w addr raw) where
 
     -- where no source names the raw object, and the one that takes it over comes where nothing was
     module _ (unnamed : source_on w raw ≡ None) (fits : FitTogether w) (free : thing_at w source ≡ None) where
-      -- it is not where the object is, nor where the raw object is
+      -- nothing that was there is where it is
       new_apart : (q : ℕ) (thing : Thing) → thing_at w q ≡ Some thing → q ≢ source
       new_apart q thing there same =
           let no : None ≡ Some thing = sym free ∙ ap (thing_at w) (sym same) ∙ there in cc
+
+      source_apart : source ≢ addr
+      source_apart same = new_apart addr (things.Object p.object) p.there (sym same)
 
       mid_there : thing_at mid addr ≡ Some (things.Object p.object)
       mid_there =
@@ -198,13 +202,13 @@ module _ (w : World) (addr raw : ℕ) (p : IsWithRawAt w addr raw) where
 
       source_stays : finite.get raw_things source ≡ Some (things.Source taking)
       source_stays =
-          apart_at mid.things addr (Some now) source (λ same. new_apart addr (things.Object p.object) p.there (sym same))
+          apart_at mid.things addr (Some now) source source_apart
           ∙ here_at w.things source (Some (things.Source taking))
 
       without_both : finite.remove (finite.remove raw_things addr) source ≡ finite.remove w.things addr
       without_both =
           ap (λ (m : Things). finite.remove m source) (lost_again mid.things addr now)
-          ∙ put_and_lost w.things source addr (things.Source taking) (λ same. new_apart addr (things.Object p.object) p.there (sym same)) free
+          ∙ put_and_lost w.things source addr (things.Source taking) source_apart free
 
       -- the object, the source and the raw object stand in front of them
       three_first : StandAlike (section g raw_things)
@@ -214,7 +218,7 @@ module _ (w : World) (addr raw : ℕ) (p : IsWithRawAt w addr raw) where
           (subst (λ (m : Things). StandAlike (section g raw_things) (g addr now ++ (g source (things.Source taking) ++ section g m)))
           without_both
           (two_first g raw_things addr source now (things.Source taking)
-          (λ same. new_apart addr (things.Object p.object) p.there (sym same))
+          source_apart
           (here_at mid.things addr (Some now)) source_stays))
           (alike_behind (g addr now)
           (alike_behind (g source (things.Source taking))
@@ -254,7 +258,8 @@ module _ (heap : Heap) (w : World) (s : HeapStandsFor heap w) (served : IsServed
   pub raw_kept : (p : IsWithRawAt w addr raw) →
       KeepsWithRaw heap addr (object_row p.object) (tickets_of w.accounts p.object.account) raw (or_null (source_on w raw)) p.text
   raw_kept p =
-      let valid : length p.text ≤ 1048576 = subst (λ (o : Option Thing). IfSome o IsValidThing) p.raw_there (served.whole.valid.things raw) in
+      let valid : length p.text ≤ longest_raw =
+      subst (λ (o : Option Thing). IfSome o IsValidThing) p.raw_there (served.whole.valid.things raw) in
       record {
         beside = object_beside heap w addr p.object s served small p.there (raw_entries raw (or_null (source_on w raw)) p.text)
             (section (thing_entries (ties_of w)) (raw_others w addr raw p)) (raw_before w addr raw p);

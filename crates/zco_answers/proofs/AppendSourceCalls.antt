@@ -174,7 +174,8 @@ module _ (old new : Heap) (w : World) (unmoved : old.moves ≡ []) (s : HeapStan
     may_pay none =
         paid w p.object.account number charge
         (sym (same_refusal p.object.account s number charge)
-        ∙ subst (λ (a : Amounts). refusal_in old p.object.account number a (tickets_of w.accounts p.object.account) ≡ None) same_charge none)
+        ∙ subst (λ (a : Amounts). refusal_in old p.object.account number a (tickets_of w.accounts p.object.account) ≡ None)
+        same_charge none)
 
     -- a row that refuses the call
     abbrev refusing : Refusal → Outcome

@@ -1,4 +1,4 @@
-// The call that puts a part of a source or of a raw object into an object, as a step of the machine.
+// The call that gives an object a part of a source or of a raw object, as a step of the machine.
 ghost use Rattle.std.specs.Prelude.{[], ◌≡◌, ◌≤◌};
 ghost use Rattle.sdr_answers.specs.Answering.{Comes, IsServed};
 ghost use Rattle.sdr_audit.specs.Standing.{HeapStandsFor};
@@ -14,7 +14,8 @@ use sdr_answers::Page;
 use sdr_base::{Addr, Objects, Stop};
 use sdr_model::Reply;
 
-// Puts a part of a source, or of a raw object that a new source takes over, behind an object's extents.
+// Puts a part of a source, or of a raw object that a new source takes over, behind an object's
+// extents.
 pub fn append_extent<O: Objects>(
     o: &mut O,
     object: Addr,
