@@ -27,7 +27,7 @@ use Rattle.zco_answers.proofs.AppendRawCalls.{raw_appended, raw_refused}
 use Rattle.zco_answers.proofs.AppendSourceCalls.{source_appended, source_refused}
 use Rattle.zco_answers.proofs.ObjectLemmas.{no_object}
 use Rattle.zco_obj.specs.AppendStops.{AppendStops, RawPieceStops, SourceStops}
-use Rattle.zco_obj.specs.Appending.{AppendsPiece, AppendsRaw, AppendsSource}
+use Rattle.zco_obj.specs.Appending.{AppendsPiece}
 use Rattle.zco_obj.specs.declared.extent.Piece.{Piece}
 
 -- a call on a heap that stands for a world in which it is served

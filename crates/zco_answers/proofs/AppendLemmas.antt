@@ -1,5 +1,5 @@
 -- An object that gets an extent more, as the world and the blocks have it, and what may stand beside it.
-use Rattle.std.proofs.Common.{◌≡◌, ◌≢◌, ◌∙◌, ◌+◌, ◌≤◌, ◌<◌, ◌==◌, ◌||◌, ◌⊎◌, ◌++◌, ℕ, List, [], ◌∷◌, Bool, true, false, cond, inl, inr, map, nat_lt, Option, Some, None, refl, sym, ap, subst, arith, append_assoc, eq-eqb, if◌then◌else◌, MatchOption}
+use Rattle.std.proofs.Common.{◌≡◌, ◌≢◌, ◌∙◌, ◌+◌, ◌≤◌, ◌<◌, ◌==◌, ◌||◌, ◌⊎◌, ◌++◌, ℕ, List, [], ◌∷◌, Bool, true, false, cond, inl, inr, map, nat_lt, Some, None, refl, sym, ap, arith, eq-eqb, if◌then◌else◌, MatchOption}
 use Rattle.std.proofs.lemmas.Bool.{ne_eqb}
 use Rattle.std.proofs.lemmas.Bool.Decides.{nat_tests}
 use Rattle.std.proofs.lemmas.List.{map-append}
@@ -13,7 +13,7 @@ use Rattle.sdr_answers.proofs.RowLemmas.{HasMoves}
 use Rattle.sdr_audit.proofs.TiesLemmas.{same_first}
 use Rattle.sdr_audit.specs.Rows.{extent_row, medium_of, object_row, source_row}
 use Rattle.sdr_audit.specs.Standing.{HeapStandsFor, thing_entries}
-use Rattle.sdr_audit.specs.Ties.{Ties, names_raw_at, ties_of}
+use Rattle.sdr_audit.specs.Ties.{Ties, names_raw_at}
 use Rattle.sdr_base.proofs.StandingLemmas.{times-append}
 use Rattle.sdr_base.specs.Blocks.{Blocks}
 use Rattle.sdr_base.specs.Entries.{Entries, Stands, times}
@@ -42,7 +42,6 @@ use Rattle.sdr_model.specs.Zco.{count_of, extents_length, naming, source_at, sou
 use Rattle.sdr_model.specs.declared.things.Thing.{Thing}
 use Rattle.sdr_model.specs.declared.things.Thing.TheVariants as things
 use Rattle.sdr_model.specs.declared.zco.Extent.{Extent}
-use Rattle.sdr_model.specs.declared.zco.Part.{Part}
 use Rattle.sdr_model.specs.declared.zco.Subject.{Subject}
 use Rattle.sdr_model.specs.declared.zco.Subject.TheVariants as subjects
 use Rattle.sdr_model.specs.declared.zco.ZcoObject.{ZcoObject}
@@ -154,7 +153,7 @@ module _ (z : ZcoObject) (e : Extent) where
       let extents = map-append extent_row z.extents (e ∷ []) in
       λ i. record (object_row z) { extents = extents i; part_offset = offset i; part_length = part i }
 
--- so long is the count of extents that name a source, where an object gets an extent more
+-- how many extents name a source, where an object gets an extent more
 module _ (w : World) (addr : ℕ) (z : ZcoObject) (e : Extent) (there : thing_at w addr ≡ Some (things.Object z)) where
   abbrev pub longer : World
   longer = with_object w addr (object.with_extent z e)

@@ -1,15 +1,14 @@
 -- A part of a raw object that an object gets, which a new source takes over, as a step.
-use Rattle.std.proofs.Common.{◌≡◌, ◌≢◌, ◌∙◌, ◌+◌, ◌==◌, ◌||◌, ℕ, List, [], ◌∷◌, ◌++◌, Some, None, false, true, inl, length, nat_lt, refl, sym, ap, subst, append_assoc}
+use Rattle.std.proofs.Common.{◌≡◌, ◌≢◌, ◌∙◌, ℕ, List, [], ◌∷◌, ◌++◌, Some, None, inl, length, refl, sym, ap, subst, append_assoc}
 use Rattle.sdr_answers.proofs.ListLemmas.{IsSmall}
 use Rattle.sdr_answers.proofs.RawLemmas.{no_raw}
-use Rattle.sdr_answers.proofs.RowLemmas.{HasMoves, misnamed_refused, moved_answered, row_refused}
+use Rattle.sdr_answers.proofs.RowLemmas.{misnamed_refused, moved_answered, row_refused}
 use Rattle.sdr_answers.specs.Answering.{Answered, IsRefused, IsServed}
 use Rattle.sdr_audit.proofs.ChangeLemmas.{apart, nothing_at}
 use Rattle.sdr_audit.specs.Rows.{object_row}
 use Rattle.sdr_audit.specs.Standing.{HeapStandsFor, other_entries, thing_entries, with_taken_marked}
 use Rattle.sdr_audit.specs.Ties.{or_null, ties_of}
 use Rattle.sdr_base.proofs.StandingLemmas.{found}
-use Rattle.sdr_base.specs.Blocks.{IsKind}
 use Rattle.sdr_base.specs.Entries.{Entries, Stands}
 use Rattle.sdr_base.specs.Objects.{Heap, Misses}
 use Rattle.sdr_base.specs.Raws.{raw_block, raw_entries}
@@ -32,7 +31,7 @@ use Rattle.sdr_model.specs.ObjectSteps as object
 use Rattle.sdr_model.specs.ObjectSteps.{raw_append_moves, with_object}
 use Rattle.sdr_model.specs.Rows.{ByRow}
 use Rattle.sdr_model.specs.Steps.{DoesWith, On, Outcome, with_thing}
-use Rattle.sdr_model.specs.Things.{Things, extent_need, source_need}
+use Rattle.sdr_model.specs.Things.{extent_need, source_need}
 use Rattle.sdr_model.specs.World.{World, as_raw, thing_at}
 use Rattle.sdr_model.specs.Zco.{as_object, as_source, object_at, source_at, source_on}
 use Rattle.sdr_model.specs.declared.answer.Reply.TheVariants as replies

@@ -1,6 +1,6 @@
 -- An object and a raw object of a world beside each other, before and after a new source takes the raw object over and the object
 -- gets an extent of that.
-use Rattle.std.proofs.Common.{◌≡◌, ◌≢◌, ◌∙◌, ◌+◌, ◌≤◌, ◌<◌, ◌^◌, ◌++◌, ℕ, List, [], ◌∷◌, length, Option, Some, None, true, true≢false, refl, sym, ap, subst, arith, append_assoc}
+use Rattle.std.proofs.Common.{◌≡◌, ◌≢◌, ◌∙◌, ◌≤◌, ◌++◌, ℕ, List, length, Option, Some, None, true, true≢false, refl, sym, ap, subst, arith}
 use Rattle.std.proofs.lemmas.Bool.{eq-eqb, ne_eqb}
 use Rattle.std.specs.FinMap as finite
 use Rattle.std.specs.Prelude.{IfSome}
@@ -28,7 +28,6 @@ use Rattle.sdr_laws.proofs.ObjectRows.{extent_charge_more}
 use Rattle.sdr_laws.proofs.OutcomeFits.{unnamed_from}
 use Rattle.sdr_laws.proofs.SourceViews.{NoSpare, apart_at, by_addr, fits_from, here_at, of}
 use Rattle.sdr_laws.proofs.ZcoOutcomes.{nothing}
-use Rattle.sdr_model.proofs.ThingsLemmas.{same_things}
 use Rattle.sdr_model.specs.Accounts.{tickets_of}
 use Rattle.sdr_model.specs.Charges.{bytes_charge}
 use Rattle.sdr_model.specs.Limits.{longest_raw}
@@ -37,7 +36,7 @@ use Rattle.sdr_model.specs.SourceSteps.{new_source}
 use Rattle.sdr_model.specs.Steps.{with_thing}
 use Rattle.sdr_model.specs.Things.{Things}
 use Rattle.sdr_model.specs.Valid.{FitTogether, IsValidThing}
-use Rattle.sdr_model.specs.World.{World, as_raw, thing_at}
+use Rattle.sdr_model.specs.World.{World, thing_at}
 use Rattle.sdr_model.specs.Zco.{as_object, as_source, count_of, is_of_raw, source_on}
 use Rattle.sdr_model.specs.declared.things.Thing.{Thing}
 use Rattle.sdr_model.specs.declared.things.Thing.TheVariants as things

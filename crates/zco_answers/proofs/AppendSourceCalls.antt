@@ -1,5 +1,5 @@
 -- A part of a source that an object gets, as a step.
-use Rattle.std.proofs.Common.{◌≡◌, ◌∙◌, ◌+◌, ◌==◌, ◌||◌, ℕ, List, [], ◌∷◌, ◌++◌, Some, None, false, true, inl, nat_lt, refl, sym, ap, subst, append_assoc, MatchOption}
+use Rattle.std.proofs.Common.{◌≡◌, ◌∙◌, ℕ, List, [], ◌∷◌, ◌++◌, Some, None, false, true, inl, refl, sym, ap, subst, append_assoc}
 use Rattle.sdr_answers.proofs.ListLemmas.{IsSmall}
 use Rattle.sdr_answers.proofs.RowLemmas.{TakesAim, moved_answered, row_refused, took_has}
 use Rattle.sdr_answers.specs.Answering.{Answered, IsRefused, IsServed}
@@ -25,19 +25,18 @@ use Rattle.sdr_model.specs.Charging.{Charges}
 use Rattle.sdr_model.specs.ObjectSteps as object
 use Rattle.sdr_model.specs.ObjectSteps.{with_object}
 use Rattle.sdr_model.specs.Rows.{ByRow}
-use Rattle.sdr_model.specs.Steps.{On, Outcome, RefusedIf, Takes}
+use Rattle.sdr_model.specs.Steps.{Outcome, Takes}
 use Rattle.sdr_model.specs.Things.{extent_need}
-use Rattle.sdr_model.specs.World.{World, as_raw, thing_at}
+use Rattle.sdr_model.specs.World.{World}
 use Rattle.sdr_model.specs.Zco.{as_object, as_source, object_at, source_at, space_of}
 use Rattle.sdr_model.specs.declared.answer.Reply.TheVariants as replies
 use Rattle.sdr_model.specs.declared.call.Call.{Call}
 use Rattle.sdr_model.specs.declared.call.Call.TheVariants as calls
-use Rattle.sdr_model.specs.declared.zco.ZcoObject.{ZcoObject}
 use Rattle.sdr_model.specs.declared.zco.ZcoSource.{ZcoSource}
 use Rattle.zco_acct.specs.Charges.{charged}
 use Rattle.zco_answers.proofs.AlikeLemmas.{StandAlike}
 use Rattle.zco_answers.proofs.AppendLemmas.{AppendsNamed, in_range, out_of_range, same_space}
-use Rattle.zco_answers.proofs.AppendSources.{IsPair, pair_after, pair_at, pair_before, pair_charge, pair_extent, pair_kept, pair_object, pair_others, pair_things}
+use Rattle.zco_answers.proofs.AppendSources.{IsPair, pair_after, pair_at, pair_before, pair_charge, pair_kept, pair_object, pair_others, pair_things}
 use Rattle.zco_answers.proofs.ChargeLemmas.{IsPaid, paid, unpaid}
 use Rattle.zco_answers.proofs.MovingLemmas.{both_alike}
 use Rattle.zco_answers.proofs.PayingLemmas.{paid_stands, paid_world, room_refused, same_refusal}

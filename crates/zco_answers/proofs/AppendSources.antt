@@ -1,9 +1,9 @@
 -- An object and a source of a world beside each other, before and after the object gets an extent of the source.
-use Rattle.std.proofs.Common.{◌≡◌, ◌≢◌, ◌∙◌, ◌<◌, ◌^◌, ◌++◌, ℕ, Some, None, refl, sym, ap, subst, append_assoc}
+use Rattle.std.proofs.Common.{◌≡◌, ◌≢◌, ◌∙◌, ◌<◌, ◌^◌, ◌++◌, ℕ, Some, None, refl, sym, ap, subst}
 use Rattle.std.specs.FinMap as finite
 use Rattle.sdr_answers.proofs.ListLemmas.{IsSmall}
 use Rattle.sdr_answers.specs.Answering.{IsServed}
-use Rattle.sdr_audit.specs.Rows.{object_row, source_row}
+use Rattle.sdr_audit.specs.Rows.{object_row}
 use Rattle.sdr_audit.specs.Standing.{HeapStandsFor, thing_entries}
 use Rattle.sdr_audit.specs.Ties.{or_null, ties_of}
 use Rattle.sdr_base.specs.Blocks.{IsKind}
@@ -14,7 +14,6 @@ use Rattle.sdr_base.specs.ZcoObjects.{object_entries}
 use Rattle.sdr_base.specs.declared.account.Acct.{Acct}
 use Rattle.sdr_base.specs.declared.account.Acct.TheVariants as accts
 use Rattle.sdr_base.specs.declared.kind.Kind.TheVariants as kinds
-use Rattle.sdr_base.specs.declared.kind.Space.{Space}
 use Rattle.sdr_laws.proofs.ChargeMoves.{MovesCharge, object_moves}
 use Rattle.sdr_laws.proofs.ObjectRows.{extent_charge_more}
 use Rattle.sdr_laws.proofs.SourceViews.{apart_at, here_at, of}

@@ -53,8 +53,8 @@ has_lost w addr pick without o row answered = by (object_at w addr) refl row
     by (Some z) is row = picked z is (pick z) row
 
 -- one block or two were taken for an extent
-append_enough : (d : Demand) (w : World) (call : Call) (o : Outcome) (named : Option ZcoSource) (at : ℕ → ℕ) → bytes_written call ≡ 0 →
-    o.moves ≡ append_moves named at →
+append_enough : (d : Demand) (w : World) (call : Call) (o : Outcome) (named : Option ZcoSource) (at : ℕ → ℕ) →
+    bytes_written call ≡ 0 → o.moves ≡ append_moves named at →
     most_lines d + (if is_some named then 42 else 73) ≤ most_lines (demand_after d w call o)
 append_enough d w call o None at none moves =
     let two : length o.moves ≡ 2 = ap (λ (ms : List Move). length ms) moves in
@@ -75,7 +75,8 @@ enough d w call o is row answered = by call is row (moves_are_the_rows w o.after
         most_lines d + call_lines w c ≤ most_lines (demand_after d w c o)
     by (calls.Create acct ticket) is row moves =
         let one : length o.moves ≡ 1 = ap (λ (ms : List Move). length ms) moves in omega (arith, one)
-    by (calls.AppendExtent addr ticket named offset bytes) is row moves = append_enough d w (calls.AppendExtent addr ticket named offset bytes) o (source_at w named) at refl moves
+    by (calls.AppendExtent addr ticket named offset bytes) is row moves =
+        append_enough d w (calls.AppendExtent addr ticket named offset bytes) o (source_at w named) at refl moves
     by (calls.PrependHeader addr ticket text) is row moves =
         let one : length o.moves ≡ 1 = ap (λ (ms : List Move). length ms) moves in
         let need : bytes_taken o.moves ≡ 8 + length text + 0 = ap bytes_taken moves in omega (arith, one, need)

@@ -130,7 +130,8 @@ both_alike {b} {b'} w m acct ts part part' rest was now changes = record { kept 
     last : (others tail : Entries) → Stands b' ((part' ++ rest) ++ (others ++ tail)) →
         Stands b' ((section (thing_entries (ties_of (record w { things = m }))) m ++ others) ++ tail)
     last others tail s =
-        subst (λ (es : Entries). Stands b' es) (sym (append_assoc (section (thing_entries (ties_of (record w { things = m }))) m) others tail))
+        subst (λ (es : Entries). Stands b' es)
+        (sym (append_assoc (section (thing_entries (ties_of (record w { things = m }))) m) others tail))
         (now.back b' (others ++ tail) s)
 
     by : (a : Acct) (tail : Entries) → Stands b (entries_of w ++ tail) →

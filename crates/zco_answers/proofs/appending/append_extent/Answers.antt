@@ -1,5 +1,5 @@
 -- A part of a source or of a raw object, appended or refused.
-use Rattle.std.proofs.Common.{rules, Err, refl}
+use Rattle.std.proofs.Common.{rules, Err}
 use Rattle.std.proofs.lemmas.Result.{err_from_is_err_and}
 use Rattle.sdr_answers.specs.Answering.{Comes}
 use Rattle.sdr_answers.proofs.ListLemmas.{IsSmall}
