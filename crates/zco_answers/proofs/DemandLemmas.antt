@@ -1,24 +1,25 @@
 -- How many lines a call may touch by what it asks.
 use Rattle.std.proofs.Common.{◌≡◌, ◌∙◌, ◌≤◌, ◌+◌, ℕ, List, [], true, true≢false, length, inl, refl, sym, ap, arith}
 use Rattle.std.specs.Option.{option_map_or}
-use Rattle.std.specs.Prelude.{Option, None, Some, slice_get, slice_index}
+use Rattle.std.specs.Prelude.{Option, None, Some, is_some, slice_get, slice_index, if◌then◌else◌}
 use Rattle.sdr_base.specs.declared.moves.Move.{Move}
 use Rattle.sdr_base.specs.declared.refusal.Refusal.{Refusal}
 use Rattle.sdr_laws.proofs.StepLemmas.{moves_are_the_rows}
-use Rattle.sdr_lock.specs.Demand.{Demand, bytes_taken, demand_after, grants_between, most_lines}
+use Rattle.sdr_lock.specs.Demand.{Demand, bytes_taken, bytes_written, demand_after, grants_between, most_lines}
 use Rattle.sdr_model.specs.ObjectSteps as object
 use Rattle.sdr_model.specs.Queue.{with_served}
 use Rattle.sdr_model.specs.Reading.{is_reading}
-use Rattle.sdr_model.specs.RowMoves.{row_moves}
+use Rattle.sdr_model.specs.RowMoves.{append_moves, row_moves}
 use Rattle.sdr_model.specs.Rows.{ByRow}
 use Rattle.sdr_model.specs.Step.{is_answer}
 use Rattle.sdr_model.specs.Steps.{Outcome, On, Refuses, taken_addresses}
 use Rattle.sdr_model.specs.World.{World}
-use Rattle.sdr_model.specs.Zco.{object_at}
+use Rattle.sdr_model.specs.Zco.{object_at, source_at}
 use Rattle.sdr_model.specs.declared.call.Call.{Call}
 use Rattle.sdr_model.specs.declared.call.Call.TheVariants as calls
 use Rattle.sdr_model.specs.declared.zco.Capsule.{Capsule}
 use Rattle.sdr_model.specs.declared.zco.ZcoObject.{ZcoObject}
+use Rattle.sdr_model.specs.declared.zco.ZcoSource.{ZcoSource}
 use Rattle.zco_answers.specs.Answering.{call_lines, is_object_call, left_with}
 
 -- what is refused is no answer
@@ -51,6 +52,17 @@ has_lost w addr pick without o row answered = by (object_at w addr) refl row
     by None is row = absurd (unrefused row answered)
     by (Some z) is row = picked z is (pick z) row
 
+-- one block or two were taken for an extent
+append_enough : (d : Demand) (w : World) (call : Call) (o : Outcome) (named : Option ZcoSource) (at : ℕ → ℕ) →
+    bytes_written call ≡ 0 → o.moves ≡ append_moves named at →
+    most_lines d + (if is_some named then 42 else 73) ≤ most_lines (demand_after d w call o)
+append_enough d w call o None at none moves =
+    let two : length o.moves ≡ 2 = ap (λ (ms : List Move). length ms) moves in
+    let need : bytes_taken o.moves ≡ 80 = ap bytes_taken moves in omega (arith, two, need, none)
+append_enough d w call o (Some source) at none moves =
+    let one : length o.moves ≡ 1 = ap (λ (ms : List Move). length ms) moves in
+    let need : bytes_taken o.moves ≡ 32 = ap bytes_taken moves in omega (arith, one, need, none)
+
 -- a call that is answered by its row asks for as many lines as it touches
 pub enough : (d : Demand) (w : World) (call : Call) (o : Outcome) → is_object_call call ≡ true → ByRow w o call →
     is_answer o.reply ≡ true → most_lines d + call_lines w call ≤ most_lines (demand_after d w call o)
@@ -63,6 +75,8 @@ enough d w call o is row answered = by call is row (moves_are_the_rows w o.after
         most_lines d + call_lines w c ≤ most_lines (demand_after d w c o)
     by (calls.Create acct ticket) is row moves =
         let one : length o.moves ≡ 1 = ap (λ (ms : List Move). length ms) moves in omega (arith, one)
+    by (calls.AppendExtent addr ticket named offset bytes) is row moves =
+        append_enough d w (calls.AppendExtent addr ticket named offset bytes) o (source_at w named) at refl moves
     by (calls.PrependHeader addr ticket text) is row moves =
         let one : length o.moves ≡ 1 = ap (λ (ms : List Move). length ms) moves in
         let need : bytes_taken o.moves ≡ 8 + length text + 0 = ap bytes_taken moves in omega (arith, one, need)
@@ -84,6 +98,7 @@ enough d w call o is row answered = by call is row (moves_are_the_rows w o.after
 -- a call that reads touches none
 pub reading_lines : (w : World) (call : Call) → is_reading call ≡ true → call_lines w call ≡ 0
 reading_lines w (calls.Create acct ticket) reads = absurd (true≢false (sym reads))
+reading_lines w (calls.AppendExtent addr ticket named offset bytes) reads = absurd (true≢false (sym reads))
 reading_lines w (calls.PrependHeader addr ticket text) reads = absurd (true≢false (sym reads))
 reading_lines w (calls.AppendTrailer addr ticket text) reads = absurd (true≢false (sym reads))
 reading_lines w (calls.DiscardFirstHeader addr) reads = absurd (true≢false (sym reads))

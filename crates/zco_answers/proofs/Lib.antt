@@ -1,4 +1,5 @@
 pub mod FewLemmas
+pub mod AlikeLemmas
 pub mod ObjectLemmas
 mod ReadingCalls
 pub mod MovingLemmas
@@ -8,6 +9,12 @@ pub mod PayingLemmas
 mod CreateCalls
 pub mod TextLemmas
 mod CapsuleCalls
+pub mod AppendLemmas
+pub mod AppendSources
+mod AppendSourceCalls
+pub mod AppendRaws
+mod AppendRawCalls
+mod AppendCalls
 pub mod LosingLemmas
 pub mod DropLemmas
 mod DiscardCalls
