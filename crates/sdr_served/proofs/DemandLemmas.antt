@@ -153,6 +153,8 @@ enough d heap w call o is s served small row answered =
     by (calls.Awarded number) is there moves = tickets_enough d w (calls.Awarded number) o refl there answered
     by (calls.Shred number) is there moves = tickets_enough d w (calls.Shred number) o refl there answered
     by (calls.Create acct ticket) is there moves = objects_enough d w (calls.Create acct ticket) o refl there answered
+    by (calls.AppendExtent addr ticket named offset bytes) is there moves =
+        objects_enough d w (calls.AppendExtent addr ticket named offset bytes) o refl there answered
     by (calls.PrependHeader addr ticket text) is there moves = objects_enough d w (calls.PrependHeader addr ticket text) o refl there answered
     by (calls.AppendTrailer addr ticket text) is there moves = objects_enough d w (calls.AppendTrailer addr ticket text) o refl there answered
     by (calls.DiscardFirstHeader addr) is there moves = objects_enough d w (calls.DiscardFirstHeader addr) o refl there answered
@@ -221,6 +223,7 @@ reading_lines heap w (calls.Request acct file bulk heap_bytes coarse fine) is re
 reading_lines heap w (calls.Awarded number) is reads = refl
 reading_lines heap w (calls.Shred number) is reads = absurd (true≢false (sym reads))
 reading_lines heap w (calls.Create acct ticket) is reads = absurd (true≢false (sym reads))
+reading_lines heap w (calls.AppendExtent addr ticket named offset bytes) is reads = absurd (true≢false (sym reads))
 reading_lines heap w (calls.PrependHeader addr ticket text) is reads = absurd (true≢false (sym reads))
 reading_lines heap w (calls.AppendTrailer addr ticket text) is reads = absurd (true≢false (sym reads))
 reading_lines heap w (calls.DiscardFirstHeader addr) is reads = absurd (true≢false (sym reads))
