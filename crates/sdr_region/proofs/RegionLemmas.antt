@@ -1,16 +1,13 @@
 -- The steps of an audit together.
-use Rattle.std.proofs.Common.{ℕ, List, length, sym, subst}
-use Rattle.std.specs.Prelude.{Ok, Err, IfErr, OnOk, Result}
-use Rattle.sdr_base.specs.Cells.{IsRegionSize}
-use Rattle.sdr_base.specs.KeptHeap.{KeepsSomeHeap}
+use Rattle.std.proofs.Common.{ℕ, List, sym, subst}
+use Rattle.std.specs.Prelude.{Ok, Err, IfErr, Result}
 use Rattle.sdr_base.specs.Pools.{PoolBlock}
-use Rattle.sdr_region.proofs.KeptLemmas.{keeps_blocks}
 use Rattle.sdr_region.specs.Auditing.{DamagedBy}
 use Rattle.sdr_region.specs.Bits.{BitsAreRight}
-use Rattle.sdr_region.specs.Content.{ContentIsRight, IsWrongContent}
+use Rattle.sdr_region.specs.Content.{IsWrongContent}
 use Rattle.sdr_region.specs.Control.{ControlIsRight}
 use Rattle.sdr_region.specs.Free.{AreListed, IsWrongFree}
-use Rattle.sdr_region.specs.Region.{IsSoundRegion, IsWrongFirst, TellsFirst}
+use Rattle.sdr_region.specs.Region.{IsWrongFirst, TellsFirst}
 use Rattle.sdr_region.specs.Walk.{AreBlocks}
 use Rattle.sdr_region.specs.Walked.{AllFound}
 use Rattle.sdr_region.specs.declared.error.AuditError.{AuditError}
