@@ -48,7 +48,8 @@ module _ (listed : List (ℕ × Thing)) (at : ℕ → Option Thing) where
   thing_by w addr (things.Raw bytes) =
       raw_on (decimal addr) bytes (unwrap_or (option_map (λ e. e.0) (find (λ e. names_raw addr e.1) listed)) 0)
   thing_by w addr (things.Source source) =
-      source_on (decimal addr) source (sum_by (λ e. uses_in addr accts.Inbound e.1) listed) (sum_by (λ e. uses_in addr accts.Outbound e.1) listed)
+      source_on (decimal addr) source (sum_by (λ e. uses_in addr accts.Inbound e.1) listed)
+      (sum_by (λ e. uses_in addr accts.Outbound e.1) listed)
   thing_by w addr thing = thing_on w addr thing
 
   abbrev text_by : World → Census → List ℕ

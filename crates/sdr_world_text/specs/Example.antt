@@ -39,7 +39,7 @@ bundle_world = record (fresh_world 32768) {
 abbrev pub bundle_census : Census
 bundle_census = record { size = 65536; low = 2416; high = 65536; used = 8; small = 0; large = 0 }
 
--- a ticket that was granted, of which some is left, and one that waits
+-- a ticket that was granted, of whose heap space less is left than was asked
 abbrev pub granted_ticket : Ticket
 granted_ticket = record {
   block = 2056;
@@ -51,6 +51,7 @@ granted_ticket = record {
   granted = true;
 }
 
+-- a ticket that waits
 abbrev pub waiting_ticket : Ticket
 waiting_ticket = record {
   block = 2160;

@@ -1,8 +1,10 @@
 //! The printed text of a world: what an operator sees of a heap.
 //!
-//! 1. A line is built in place and goes out in one write; a line that shows bytes, a text or elements goes out in pieces.
-//! 2. What a line tells of other things (the source that names a raw object, the extents that name a source) is counted over
-//!    the world once, before anything is written (`Tied`), which is all that takes memory.
+//! 1. A line is built in place and goes out in one write; a line that shows bytes, a text or elements
+//!    goes out in pieces.
+//! 2. What a line tells of other things (the source that names a raw object, the extents that name a
+//!    source) is counted over the world once (`Tied`). That alone takes memory, and comes before
+//!    anything is written.
 //! 3. Where the sink fails, a part of the text from its front was written.
 #![tactic(auto)]
 
