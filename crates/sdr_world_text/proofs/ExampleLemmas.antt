@@ -19,7 +19,8 @@ use Rattle.sdr_model.specs.declared.things.Thing.{Thing}
 use Rattle.sdr_model.specs.declared.things.Thing.TheVariants as things
 use Rattle.sdr_model.specs.declared.zco.ZcoObject.{ZcoObject}
 use Rattle.sdr_world_text.specs.AccountText.{account_line}
-use Rattle.sdr_world_text.specs.Example.{bundle_things, bundle_world, mixed_things, mixed_world}
+use Rattle.sdr_audit.specs.Example.{bundle_things, bundle_world}
+use Rattle.sdr_world_text.specs.Example.{mixed_things, mixed_world}
 use Rattle.sdr_world_text.specs.ThingText.{thing_on, raw_on, source_on}
 use Rattle.sdr_world_text.specs.WorldText.{blocks_line, heap_line, queues_text, world_text}
 use Rattle.sdr_world_text.specs.declared.census.Census.{Census}

@@ -25,7 +25,8 @@ module _ {T E : Type 0} (result : Result T E) (old now new : Option (List ℕ)) 
   ]
 
 -- the texts of items are written one after another, and here is the next one
-module _ {X : Type 0} (text : X → List ℕ) (old now later : Option (List ℕ)) (all : List X) {rest after : List X} {x : X} (is : rest ≡ x ∷ after)
+module _ {X : Type 0} (text : X → List ℕ) (old now later : Option (List ℕ)) (all : List X)
+    {rest after : List X} {x : X} (is : rest ≡ x ∷ after)
     (goes : GoesOut old now (flat_map text all) (flat_map text rest)) where
   next_goes : GoesOut old now (flat_map text all) (text x ++ flat_map text after)
   next_goes = subst (λ l. GoesOut old now (flat_map text all) (flat_map text l)) is goes

@@ -75,7 +75,8 @@ pub record ToldUpTo (things : List (ℕ × Thing)) (tied : Tied) (rest : List (�
 
 -- of one more
 pub told_more : {things : List (ℕ × Thing)} {old new : Tied} {entry : ℕ × Thing} {rest : List (ℕ × Thing)} →
-    ToldUpTo things old (entry ∷ rest) → ((done : List (ℕ × Thing)) → TellsOf done old → TellsOf (done ++ (entry ∷ [])) new) → ToldUpTo things new rest
+    ToldUpTo things old (entry ∷ rest) →
+    ((done : List (ℕ × Thing)) → TellsOf done old → TellsOf (done ++ (entry ∷ [])) new) → ToldUpTo things new rest
 told_more {entry = entry} {rest = rest} t more = record {
   done = t.done ++ (entry ∷ []);
   told = more t.done t.told;
@@ -92,7 +93,8 @@ uses_parts source acct done entry rest =
 
 -- what is counted before a thing, and of it, is at most what is counted of all
 pub few_here : {things : List (ℕ × Thing)} {tied : Tied} {entry : ℕ × Thing} {rest : List (ℕ × Thing)} →
-    ToldUpTo things tied (entry ∷ rest) → ((source : ℕ) (acct : Acct) → uses_among source acct things < 2 ^ 63) → (acct : Acct) (source : ℕ) →
+    ToldUpTo things tied (entry ∷ rest) →
+    ((source : ℕ) (acct : Acct) → uses_among source acct things < 2 ^ 63) → (acct : Acct) (source : ℕ) →
     counted_by tied acct source + uses_in source acct entry.1 < 2 ^ 63
 few_here {entry = entry} {rest = rest} t few acct source =
     let a = t.told.uses acct source in

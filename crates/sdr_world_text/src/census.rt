@@ -1,7 +1,7 @@
 // What a heap region is made of.
 
-/// What a heap region is made of: bytes, edges of its unassigned space as places of bytes, and counts
-/// of blocks.
+/// What a heap region is made of: bytes, edges of its unassigned space as places of bytes, and
+/// counts of blocks.
 #[derive(Clone, Copy)]
 pub struct Census {
     /// The bytes of the region.

@@ -14,8 +14,8 @@ use sdr_model::{Extent, Thing, World, ZcoObject, ZcoSource};
 use std::alloc::Global;
 use std::collections::BTreeMap;
 
-/// What ties the things of a world to each other: of each raw object the source that names it, and of
-/// each source how many extents of each account name it.
+/// What ties the things of a world to each other: of each raw object the source that names it, and
+/// of each source how many extents of each account name it.
 #[derive(Drop)]
 pub struct Tied {
     /// By raw object, the source that names it.

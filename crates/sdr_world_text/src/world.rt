@@ -169,8 +169,8 @@ fn write_counted<K: Sink>(
     write_blocks(out, census)
 }
 
-/// Writes the text of a world in a heap region, as it is made: whole, or a part of it from the front
-/// where the sink fails. What is occupied of each space, and the bytes of each object on the wire,
+/// Writes the text of a world in a heap region, as it is made: whole, or a part of it from the
+/// front where the sink fails. What is occupied of each space, and the bytes of each object on the wire,
 /// have to be below 2^64. Before anything is written it takes memory for each source that an extent
 /// names, and for each raw object that a source names. It goes over the things a fixed number of
 /// times, with a look-up for each of them and for each extent.

@@ -7,11 +7,13 @@ use Rattle.sdr_world_text.proofs.thing.write_elements.Goals as goal
 pub loop-element-preserved : goal.loop-element-preserved
 loop-element-preserved g c = record {
   goes =
-      next_whole element_text _ _ _ c.args.elements.now c.in-Some.ensures.cases.0 c.loop-element.invariant.goes c.in_ok-write_element.ensures.ok;
+      next_whole element_text _ _ _ c.args.elements.now
+      c.in-Some.ensures.cases.0 c.loop-element.invariant.goes c.in_ok-write_element.ensures.ok;
   later = omega (arith, c.loop-element.invariant.later, c.write_element.ensures.cause.later);
 }
 
 pub returns-in_err-write_element-clause-err : goal.returns-in_err-write_element-clause-err
 returns-in_err-write_element-clause-err g c =
     on_err _
-    (next_part element_text _ _ _ c.args.elements.now c.in-Some.ensures.cases.0 c.loop-element.invariant.goes c.in_err-write_element.ensures.err)
+    (next_part element_text _ _ _ c.args.elements.now
+    c.in-Some.ensures.cases.0 c.loop-element.invariant.goes c.in_err-write_element.ensures.err)
