@@ -1,5 +1,5 @@
 // The things of a heap.
-ghost use Rattle.std.specs.Prelude.{◌≡◌, ◌/◌, ◌++◌, length, map, IfOk, IfSome, OnOk};
+ghost use Rattle.std.specs.Prelude.{◌≡◌, ◌≤◌, ◌/◌, ◌++◌, length, map, IfOk, IfSome, OnOk};
 ghost use Rattle.sdr_base.specs.Cells.{IsRegionSize};
 ghost use Rattle.sdr_base.specs.KeptHeap.{block_in};
 ghost use Rattle.sdr_base.specs.declared.line.TheConstants.{WORD};
@@ -96,6 +96,7 @@ fn entries_in(
     buckets: u64,
 ) -> Result<Items<HashEntry>, NoMemory>
     requires region { IsRegionSize (length heap.now) }
+    requires few { buckets ≤ 256 }
     ensures { IfOk result (λ entries. entries ≡ entries_up_to (view_in heap.now)
         (length heap.now / WORD) addr buckets) }
 {

@@ -1,8 +1,15 @@
-use Rattle.std.proofs.Common.{◌/◌, length}
+use Rattle.std.proofs.Common.{◌/◌, List, ℕ, length, subst, sym}
+use Rattle.sdr_model.specs.Hashes.{AreByBucket}
+use Rattle.sdr_model.specs.declared.things.HashEntry.{HashEntry}
 use Rattle.sdr_owner.specs.View.{view_in}
 use Rattle.sdr_read.proofs.PutLemmas.{by_bucket}
-use Rattle.sdr_read.specs.Told.{hash_told}
+use Rattle.sdr_read.specs.Told.{entries_up_to, hash_told}
 use Rattle.sdr_read.proofs.things.hash_in.Goals as goal
 
 pub of-requires-clause-by_bucket : goal.of-requires-clause-by_bucket
-of-requires-clause-by_bucket c = by_bucket (hash_told (view_in c.args.heap.now) (length c.args.heap.now / 8) c.args.addr) c.requires.valid
+of-requires-clause-by_bucket c =
+    let heap = view_in c.args.heap.now in
+    let words = length c.args.heap.now / 8 in
+    subst (λ (es : List HashEntry). AreByBucket c.word-buckets.result es) (sym c.in_ok-entries.ensures)
+    (subst (λ (n : ℕ). AreByBucket n (entries_up_to heap words c.args.addr n)) (sym c.word-buckets.ensures)
+    (by_bucket (hash_told heap words c.args.addr) c.requires.valid))
