@@ -23,7 +23,7 @@ use Rattle.sdr_audit.specs.Example.{bundle_things, bundle_world}
 use Rattle.sdr_world_text.specs.Example.{mixed_things, mixed_world}
 use Rattle.sdr_world_text.specs.ThingText.{thing_on, raw_on, source_on}
 use Rattle.sdr_world_text.specs.WorldText.{blocks_line, heap_line, queues_text, world_text}
-use Rattle.sdr_world_text.specs.declared.census.Census.{Census}
+use Rattle.sdr_check.specs.declared.census.Census.{Census}
 
 -- The text of a world, where its things are listed so, and looked up so.
 module _ (listed : List (ℕ × Thing)) (at : ℕ → Option Thing) where

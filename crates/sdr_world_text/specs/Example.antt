@@ -8,7 +8,7 @@ use Rattle.sdr_model.specs.declared.accounts.Ticket.{Ticket}
 use Rattle.sdr_model.specs.declared.things.Thing.{Thing}
 use Rattle.sdr_model.specs.declared.things.Thing.TheVariants as things
 use Rattle.sdr_model.specs.declared.zco.Subject.TheVariants as subjects
-use Rattle.sdr_world_text.specs.declared.census.Census.{Census}
+use Rattle.sdr_check.specs.declared.census.Census.{Census}
 
 -- what the heap of the bundle is made of: a string, a list and its element, a name, a source, an object, its header and its extent
 abbrev pub bundle_census : Census

@@ -9,7 +9,6 @@
 #![tactic(auto)]
 
 mod account;
-mod census;
 mod example;
 mod laws;
 mod occupied;
@@ -17,7 +16,6 @@ mod thing;
 mod tied;
 mod world;
 
-pub use census::Census;
 pub use example::{bundle_is_printed_so, mixed_world_is_printed_so};
 pub use laws::whole_worlds_have_small_sums;
 pub use world::{PrintError, write_world};

@@ -9,11 +9,11 @@ ghost use Rattle.sdr_world_text.specs.Tied.{TellsTies};
 ghost use Rattle.sdr_world_text.specs.WorldText.{HasSmallSums, account_text, blocks_line, front_text, heap_line, queues_text, world_text};
 
 use crate::account::{write_account, write_names, write_tickets};
-use crate::census::Census;
 use crate::occupied::occupancies;
 use crate::thing::write_thing;
 use crate::tied::Tied;
 use sdr_base::{Acct, NoMemory, Sink, SinkFault, write_all};
+use sdr_check::Census;
 use sdr_model::World;
 use sdr_text::Line;
 use std::alloc::Global;
