@@ -21,5 +21,5 @@ pub use census::Census;
 pub use checking::check;
 pub use error::{AuditError, Why};
 pub use laws::right_regions_are_not_wrong;
-pub use reading::read_world;
+pub use reading::{Survey, read_survey, read_world};
 pub use structure::check_structure;

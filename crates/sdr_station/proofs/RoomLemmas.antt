@@ -227,6 +227,16 @@ IsOther (calls.Destroy object) = ⊥
 IsOther (calls.AppendExtent object ticket named offset bytes) = ⊥
 IsOther call = ⊤
 
+pub is_other : (call : Call) → ((list : ℕ) → call ≡ calls.ListDestroy list → ⊥) → ((hash : ℕ) → call ≡ calls.HashDestroy hash → ⊥)
+    → ((object : ℕ) → call ≡ calls.Destroy object → ⊥)
+    → ((object ticket named offset bytes : ℕ) → call ≡ calls.AppendExtent object ticket named offset bytes → ⊥) → IsOther call
+is_other (calls.ListDestroy list) no_list no_hash no_object no_extent = absurd (no_list list refl)
+is_other (calls.HashDestroy hash) no_list no_hash no_object no_extent = absurd (no_hash hash refl)
+is_other (calls.Destroy object) no_list no_hash no_object no_extent = absurd (no_object object refl)
+is_other (calls.AppendExtent object ticket named offset bytes) no_list no_hash no_object no_extent =
+    absurd (no_extent object ticket named offset bytes refl)
+is_other call no_list no_hash no_object no_extent = tt
+
 -- any other that is served has one at most
 pub moves_one : (size : ℕ) (call : Call) → built call ≡ true → IsOther call → MovesAtMost size call 1
 moves_one size call is other = moves_at_most size call 1 (λ w stood changes at. by w at call is other)

@@ -18,7 +18,8 @@ one_at_most true = omega arith
 one_at_most false = omega arith
 
 -- extents that name a source are charged
-naming_charged : (w : World) (source : ℕ) (extents : List Extent) → 32 * naming source extents ≤ sum_by (extent_charge w spaces.Heap) extents
+naming_charged : (w : World) (source : ℕ) (extents : List Extent) →
+    32 * naming source extents ≤ sum_by (extent_charge w spaces.Heap) extents
 naming_charged w source [] = omega arith
 naming_charged w source (e ∷ extents) =
     let rest = naming_charged w source extents in
@@ -31,7 +32,8 @@ kept_charge : (b : Bool) (uses charge : ℕ) → 32 * uses ≤ charge → 32 * c
 kept_charge true uses charge le = le
 kept_charge false uses charge le = omega arith
 
-uses_charged : (w : World) (source : ℕ) (acct : Acct) (thing : Thing) → 32 * uses_in source acct thing ≤ thing_charge w acct spaces.Heap thing
+uses_charged : (w : World) (source : ℕ) (acct : Acct) (thing : Thing) →
+    32 * uses_in source acct thing ≤ thing_charge w acct spaces.Heap thing
 uses_charged w source acct (kinds.Object z) =
     kept_charge (is_same_account acct z.account) (naming source z.extents) (object_charge w spaces.Heap z)
     (let extents = naming_charged w source z.extents in omega (arith, extents))

@@ -19,10 +19,11 @@ use Rattle.sdr_model.specs.declared.things.Thing.{Thing}
 use Rattle.sdr_model.specs.declared.things.Thing.TheVariants as things
 use Rattle.sdr_model.specs.declared.zco.ZcoObject.{ZcoObject}
 use Rattle.sdr_world_text.specs.AccountText.{account_line}
-use Rattle.sdr_world_text.specs.Example.{bundle_things, bundle_world, mixed_things, mixed_world}
+use Rattle.sdr_audit.specs.Example.{bundle_things, bundle_world}
+use Rattle.sdr_world_text.specs.Example.{mixed_things, mixed_world}
 use Rattle.sdr_world_text.specs.ThingText.{thing_on, raw_on, source_on}
 use Rattle.sdr_world_text.specs.WorldText.{blocks_line, heap_line, queues_text, world_text}
-use Rattle.sdr_world_text.specs.declared.census.Census.{Census}
+use Rattle.sdr_check.specs.declared.census.Census.{Census}
 
 -- The text of a world, where its things are listed so, and looked up so.
 module _ (listed : List (ℕ × Thing)) (at : ℕ → Option Thing) where
@@ -48,7 +49,8 @@ module _ (listed : List (ℕ × Thing)) (at : ℕ → Option Thing) where
   thing_by w addr (things.Raw bytes) =
       raw_on (decimal addr) bytes (unwrap_or (option_map (λ e. e.0) (find (λ e. names_raw addr e.1) listed)) 0)
   thing_by w addr (things.Source source) =
-      source_on (decimal addr) source (sum_by (λ e. uses_in addr accts.Inbound e.1) listed) (sum_by (λ e. uses_in addr accts.Outbound e.1) listed)
+      source_on (decimal addr) source (sum_by (λ e. uses_in addr accts.Inbound e.1) listed)
+      (sum_by (λ e. uses_in addr accts.Outbound e.1) listed)
   thing_by w addr thing = thing_on w addr thing
 
   abbrev text_by : World → Census → List ℕ

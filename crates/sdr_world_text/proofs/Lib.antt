@@ -1,4 +1,5 @@
 pub mod ChargeLemmas
 pub mod ExampleLemmas
 pub mod PartLemmas
+pub mod SmallLemmas
 pub mod TiedLemmas

@@ -1,5 +1,5 @@
--- Two small worlds: a bundle whose bytes are a file's, and one with a thing of each other kind.
-use Rattle.std.specs.Prelude.{ℕ, List, [], ◌∷◌, codes, false, true}
+-- A small world with things of most kinds, and what its heap and that of the bundle are made of.
+use Rattle.std.specs.Prelude.{ℕ, List, [], ◌∷◌, false, true}
 use Rattle.std.specs.FinMap as finite
 use Rattle.sdr_base.specs.declared.account.Acct.TheVariants as accts
 use Rattle.sdr_model.specs.Accounts.{fresh_accounts}
@@ -8,38 +8,13 @@ use Rattle.sdr_model.specs.declared.accounts.Ticket.{Ticket}
 use Rattle.sdr_model.specs.declared.things.Thing.{Thing}
 use Rattle.sdr_model.specs.declared.things.Thing.TheVariants as things
 use Rattle.sdr_model.specs.declared.zco.Subject.TheVariants as subjects
-use Rattle.sdr_world_text.specs.declared.census.Census.{Census}
+use Rattle.sdr_check.specs.declared.census.Census.{Census}
 
--- the string hello, a list that names it, ten bytes of the file data.bin, and an outbound object of these bytes behind the header H1:
-abbrev pub bundle_things : List (ℕ × Thing)
-bundle_things =
-    (2056, things.Text (codes "hello"))
-    ∷ (2072, things.List (record { user = 7; elements = record { block = 2112; datum = 2056 } ∷ [] }))
-    ∷ (2216, things.Source (record { subject = subjects.File (codes "data.bin"); length = 10; flagged = false }))
-    ∷ (
-      2280,
-      things.Object (record {
-        account = accts.Outbound;
-        headers = record { block = 2400; text = codes "H1:" } ∷ [];
-        extents = record { block = 2360; source = 2216; offset = 0; length = 10 } ∷ [];
-        trailers = [];
-        part = record { offset = 0; length = 10 };
-      }),
-    )
-    ∷ []
-
--- these things, and the list under the name mail, of type 3, in a heap of 1,024 lines
-abbrev pub bundle_world : World
-bundle_world = record (fresh_world 32768) {
-  things = finite.from_sorted bundle_things;
-  names = record { block = 2152; name = codes "mail"; kind = 3; object = 2072 } ∷ [];
-}
-
--- what that heap is made of: a string, a list and its element, a name, a source, an object, its header and its extent
+-- what the heap of the bundle is made of: a string, a list and its element, a name, a source, an object, its header and its extent
 abbrev pub bundle_census : Census
 bundle_census = record { size = 65536; low = 2416; high = 65536; used = 8; small = 0; large = 0 }
 
--- a ticket that was granted, of which some is left, and one that waits
+-- a ticket that was granted, of whose heap space less is left than was asked
 abbrev pub granted_ticket : Ticket
 granted_ticket = record {
   block = 2056;
@@ -51,6 +26,7 @@ granted_ticket = record {
   granted = true;
 }
 
+-- a ticket that waits
 abbrev pub waiting_ticket : Ticket
 waiting_ticket = record {
   block = 2160;

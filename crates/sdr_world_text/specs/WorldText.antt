@@ -10,7 +10,7 @@ use Rattle.sdr_model.specs.World.{World}
 use Rattle.sdr_text.specs.Refused.{field_on}
 use Rattle.sdr_world_text.specs.AccountText.{account_line, names_text, tickets_text}
 use Rattle.sdr_world_text.specs.ThingText.{HasSmallWire, things_text}
-use Rattle.sdr_world_text.specs.declared.census.Census.{Census}
+use Rattle.sdr_check.specs.declared.census.Census.{Census}
 
 -- the bytes of the heap region, and where its unassigned space begins and ends
 abbrev pub heap_line : Census → List ℕ

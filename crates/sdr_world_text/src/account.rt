@@ -33,8 +33,8 @@ fn add_occupied(line: &mut Line, space: Space, occupied: u64, most: u64)
     line.field(most);
 }
 
-/// Writes the line of an account, of which so much is occupied, and may be: whole, or a part of it from the front where the sink
-/// fails.
+/// Writes the line of an account, of which so much is occupied, and may be: whole, or a part of it
+/// from the front where the sink fails.
 pub fn write_account<K: Sink>(
     out: &mut K,
     acct: Acct,
@@ -88,7 +88,8 @@ fn write_ticket<K: Sink>(out: &mut K, acct: Acct, ticket: &Ticket) -> Result<(),
     write_all(out, line.as_slice())
 }
 
-/// Writes the lines of the tickets in the queue of an account, in its order: whole, or a part from the front where the sink fails.
+/// Writes the lines of the tickets in the queue of an account, in its order: whole, or a part from
+/// the front where the sink fails.
 pub fn write_tickets<K: Sink>(out: &mut K, acct: Acct, tickets: &[Ticket]) -> Result<(), SinkFault>
     ensures ok { OnOk result (Appends (K.taken out.old) (K.taken out.new)
         (tickets_text acct tickets.now)) }
@@ -120,7 +121,8 @@ fn write_name<K: Sink>(out: &mut K, entry: &Name) -> Result<(), SinkFault>
     write_literal(out, front, entry.name.as_slice(), end.as_slice())
 }
 
-/// Writes the lines of the catalogue, oldest entry first: whole, or a part from the front where the sink fails.
+/// Writes the lines of the catalogue, oldest entry first: whole, or a part from the front where the
+/// sink fails.
 pub fn write_names<K: Sink>(out: &mut K, entries: &[Name]) -> Result<(), SinkFault>
     ensures ok { OnOk result (Appends (K.taken out.old) (K.taken out.new)
         (names_text entries.now)) }

@@ -1,10 +1,11 @@
 // How small worlds are printed.
 ghost use Rattle.std.specs.Prelude.{◌≡◌, ◌++◌, codes};
-ghost use Rattle.sdr_world_text.specs.Example.{bundle_census, bundle_world, mixed_census, mixed_world};
+ghost use Rattle.sdr_audit.specs.Example.{bundle_world};
+ghost use Rattle.sdr_world_text.specs.Example.{bundle_census, mixed_census, mixed_world};
 ghost use Rattle.sdr_world_text.specs.WorldText.{world_text};
 
-/// A law: the world of a string, a list, a name, a source and an object in a heap of 1,024 lines is printed just so. It
-/// does nothing.
+/// A law: the world of a string, a list, a name, a source and an object in a heap of 1,024 lines is
+/// printed just so. It does nothing.
 pub fn bundle_is_printed_so()
     ensures { world_text bundle_world bundle_census
         ≡ codes "heap 65536 low 2416 high 65536\n"
@@ -18,8 +19,8 @@ pub fn bundle_is_printed_so()
         ++ codes "blocks 8 small 0 large 0\n" }
 {}
 
-/// A law: a world with tickets in both queues, a raw object that a source names, a table and a hash is printed just so.
-/// It does nothing.
+/// A law: a world with tickets in both queues, a raw object that a source names, a table and a hash
+/// is printed just so. It does nothing.
 pub fn mixed_world_is_printed_so()
     ensures { world_text mixed_world mixed_census
         ≡ codes "heap 65536 low 2768 high 63488\n"

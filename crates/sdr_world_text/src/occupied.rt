@@ -118,8 +118,8 @@ fn occupancy(world: &World, acct: Acct, space: Space) -> u64
     bytes
 }
 
-/// What is occupied in an account of a world, below 2^64 bytes of each space. It goes over the things once for each space, and takes
-/// no memory.
+/// What is occupied in an account of a world, below 2^64 bytes of each space. It goes over the
+/// things once for each space, and takes no memory.
 pub fn occupancies(world: &World, acct: Acct) -> Amounts
     requires { (space : Space) → occupancy world.now acct space < 2 ^ 64 }
     ensures { result ≡ occupancies world.now acct }

@@ -234,8 +234,8 @@ fn add_object(line: &mut Line, z: &ZcoObject)
     line.field(z.part.length);
 }
 
-/// Writes the line of a thing of a world at an address, of which it was counted what ties it to others: whole, or a part of it from
-/// the front where the sink fails.
+/// Writes the line of a thing of a world at an address, of which it was counted what ties it to
+/// others: whole, or a part of it from the front where the sink fails.
 pub fn write_thing<K: Sink>(
     out: &mut K,
     tied: &Tied,

@@ -14,8 +14,8 @@ use sdr_model::{Extent, Thing, World, ZcoObject, ZcoSource};
 use std::alloc::Global;
 use std::collections::BTreeMap;
 
-/// What ties the things of a world to each other: of each raw object the source that names it, and of each source how many extents
-/// of each account name it.
+/// What ties the things of a world to each other: of each raw object the source that names it, and
+/// of each source how many extents of each account name it.
 #[derive(Drop)]
 pub struct Tied {
     /// By raw object, the source that names it.
@@ -92,8 +92,9 @@ impl Tied {
         }
     }
 
-    /// Goes over a world's things, each of which fewer than 2^63 extents of an account name. It is linear in them, times a logarithm, and takes
-    /// memory for each source, and each raw object that one names.
+    /// Goes over a world's things, each of which fewer than 2^63 extents of an account name. It is
+    /// linear in things and extents, times a logarithm, and takes memory for each source that an
+    /// extent names, and for each raw object that a source names.
     pub fn of(alloc: Global, world: &World) -> Result<Tied, NoMemory>
         requires few { (source : ℕ) (acct : Acct) → count_of world.now source acct < 2 ^ 63 }
         ensures { IfOk result (TellsTies world.now) }

@@ -9,11 +9,11 @@ ghost use Rattle.sdr_world_text.specs.Tied.{TellsTies};
 ghost use Rattle.sdr_world_text.specs.WorldText.{HasSmallSums, account_text, blocks_line, front_text, heap_line, queues_text, world_text};
 
 use crate::account::{write_account, write_names, write_tickets};
-use crate::census::Census;
 use crate::occupied::occupancies;
 use crate::thing::write_thing;
 use crate::tied::Tied;
 use sdr_base::{Acct, NoMemory, Sink, SinkFault, write_all};
+use sdr_check::Census;
 use sdr_model::World;
 use sdr_text::Line;
 use std::alloc::Global;
@@ -169,10 +169,11 @@ fn write_counted<K: Sink>(
     write_blocks(out, census)
 }
 
-/// Writes the text of a world in a heap region, as it is made. What is occupied of each space, and the bytes of each
-/// object on the wire, have to be below 2^64. Before anything is written it takes memory for each source that an extent
-/// names, and for each raw object that a source names. It goes over the things a fixed number of times, with a look-up
-/// for each of them and for each extent.
+/// Writes the text of a world in a heap region, as it is made: whole, or a part of it from the
+/// front where the sink fails. What is occupied of each space, and the bytes of each object on the wire,
+/// have to be below 2^64. Before anything is written it takes memory for each source that an extent
+/// names, and for each raw object that a source names. It goes over the things a fixed number of
+/// times, with a look-up for each of them and for each extent.
 pub fn write_world<K: Sink>(
     alloc: Global,
     out: &mut K,

@@ -7,7 +7,8 @@ use Rattle.sdr_world_text.proofs.world.write_things.Given as goal
 
 abbrev pub invariant-loop-addr : goal.invariant-loop-addr
 invariant-loop-addr g l = record {
-  goes : GoesOut (g.K.Sink.taken l.fn.out) (g.K.Sink.taken l.out) (things_text l.fn.world (map.entries l.fn.world.things)) (things_text l.fn.world l.rest);
+  goes : GoesOut (g.K.Sink.taken l.fn.out) (g.K.Sink.taken l.out) (things_text l.fn.world (map.entries l.fn.world.things))
+      (things_text l.fn.world l.rest);
   later : g.K.Sink.faults l.fn.out ≤ g.K.Sink.faults l.out;
   small : All (λ e. HasSmallWire e.1) l.rest;
 }

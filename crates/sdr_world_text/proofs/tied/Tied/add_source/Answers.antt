@@ -5,8 +5,8 @@ use Rattle.sdr_world_text.proofs.tied.Tied.add_source.Goals as goal
 pub returns-in_ok-insert : goal.returns-in_ok-insert
 returns-in_ok-insert c = record {
   told = λ things told.
-      told_first things c.args.addr c.args.source.now c.args.self.now told c.in-Some.raw c.insert.new.self (sym c.raw.ensures ∙ c.in-Some.is)
-      (sym c.contains_key.ensures ∙ c.if-not-contains_key.true) c.in_ok-insert.ensures.updates.0;
+      told_first things c.args.addr c.args.source.now c.args.self.now told c.in-Some.raw c.insert.new.self
+      (sym c.raw.ensures ∙ c.in-Some.is) (sym c.contains_key.ensures ∙ c.if-not-contains_key.true) c.in_ok-insert.ensures.updates.0;
 }
 
 pub returns-else-not-contains_key : goal.returns-else-not-contains_key
