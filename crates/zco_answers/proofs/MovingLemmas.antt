@@ -52,7 +52,7 @@ abbrev pub entries_at : Ties → ℕ → Option Thing → Entries
 entries_at ties addr None = []
 entries_at ties addr (Some thing) = thing_entries ties addr thing
 
-section_at : (ties : Ties) (m : Things) (addr : ℕ) (was now : Option Thing) → finite.get m addr ≡ was →
+pub section_at : (ties : Ties) (m : Things) (addr : ℕ) (was now : Option Thing) → finite.get m addr ≡ was →
     Swaps (section (thing_entries ties) m) (section (thing_entries ties) (with_at m addr now)) (entries_at ties addr was)
     (entries_at ties addr now)
 section_at ties m addr None None is = record {

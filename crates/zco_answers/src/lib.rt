@@ -7,6 +7,7 @@
 
 mod answering;
 mod capsules;
+mod destroying;
 mod objects;
 
 pub use answering::{answer, is_object_call};
