@@ -47,7 +47,7 @@ use Rattle.sdr_model.specs.declared.things.Thing.TheVariants as things
 use Rattle.sdr_model.specs.declared.zco.ZcoObject.{ZcoObject}
 use Rattle.zco_acct.specs.Words.{occupied_in}
 use Rattle.zco_answers.proofs.ChargeLemmas.{stays}
-use Rattle.zco_answers.proofs.DestroyKept.{sources, used, with_all}
+use Rattle.zco_answers.proofs.DestroyKept.{keeps_sources, sources, used}
 use Rattle.zco_answers.proofs.GoneLosses.{lost_charge, lost_fields, lost_fits}
 use Rattle.zco_answers.proofs.GoneMoves.{charge_same, destroyed_same}
 use Rattle.zco_answers.proofs.GoneTies.{left_things, lost_is, lost_world}
@@ -91,7 +91,7 @@ module _ (old : Heap) (w : World) (unmoved : old.moves ≡ []) (s : HeapStandsFo
     after = record (with_served lost z.account) { shown = [] }
 
     pub keeps : KeepsSources old.blocks addr (object_row z) rows
-    keeps = (with_all old w s served small addr z at.there).keeps
+    keeps = keeps_sources old w s served small addr z at.there
 
     destroy_row : ByRow w (record { moves = gave (destroy_blocks w addr z); after = after; reply = replies.Done }) (calls.Destroy addr)
     destroy_row =

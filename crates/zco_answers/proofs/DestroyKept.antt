@@ -6,7 +6,7 @@ use Rattle.sdr_answers.proofs.ListLemmas.{IsSmall}
 use Rattle.sdr_answers.specs.Answering.{IsServed}
 use Rattle.sdr_audit.specs.Rows.{extent_row, object_row}
 use Rattle.sdr_audit.specs.Standing.{HeapStandsFor, other_entries}
-use Rattle.sdr_base.proofs.StandingLemmas.{focused, moved_back, swaps_after}
+use Rattle.sdr_base.proofs.StandingLemmas.{moved, moved_back}
 use Rattle.sdr_base.specs.Entries.{Entries, Stands}
 use Rattle.sdr_base.specs.Objects.{Heap}
 use Rattle.sdr_base.specs.ZcoObjects.{ExtentRow, object_entries}
@@ -89,38 +89,49 @@ module _ (heap : Heap) (w : World) (s : HeapStandsFor heap w) (served : IsServed
   named : AreNamed z.account extents sources
   named = record { there = all_there z.extents used.are.found; counted = all_counted used.sources }
 
-  -- the object is kept with them, and with the queue of its account
-  pub with_all : SomeWithAll heap addr
-  with_all =
-      let acct = z.account in
-      let ts = tickets_of w.accounts acct in
-      let swap = queue_swap w acct ts in
-      let k = queue_kept acct s (tickets_kept served) in
+  -- the blocks beside those of the object, of its sources and of the queue of its account
+  abbrev behind : Entries
+  behind =
+      let swap = queue_swap w z.account (tickets_of w.accounts z.account) in
+      beside w addr z there served.whole.fits used.sources used.are ++ (swap.before ++ swap.behind)
+
+  -- the object is kept with its sources
+  pub keeps_sources : KeepsSources heap.blocks addr (object_row z) sources
+  keeps_sources =
+      let swap = queue_swap w z.account (tickets_of w.accounts z.account) in
       let object = object_entries addr (object_row z) in
       let own = object ++ sources_entries sources in
       let rest = beside w addr z there served.whole.fits used.sources used.are in
-      let queue = queue_entries acct ts in
-      let behind = rest ++ (swap.before ++ swap.behind) in
+      let queue = queue_entries z.account (tickets_of w.accounts z.account) in
       let first : Stands heap.blocks ((own ++ rest) ++ other_entries w) =
       subst (λ (es : Entries). Stands heap.blocks es) (sym (append_assoc own rest (other_entries w)))
       (own_first w addr z there served.whole.fits used.sources used.are s.blocks) in
       let front : Stands heap.blocks (queue ++ (((own ++ rest) ++ swap.before) ++ swap.behind)) =
-      focused (swaps_after (own ++ rest) swap) first in
+      moved ((own ++ rest) ++ swap.before) queue swap.behind
+      (subst (λ (es : Entries). Stands heap.blocks es)
+      (ap (λ (es : Entries). (own ++ rest) ++ es) swap.was
+      ∙ sym (append_assoc (own ++ rest) swap.before (queue ++ swap.behind))) first) in
       let line : ((own ++ rest) ++ swap.before) ++ swap.behind ≡ own ++ behind =
       append_assoc (own ++ rest) swap.before swap.behind ∙ append_assoc own rest (swap.before ++ swap.behind) in
       let stands : Stands heap.blocks (own ++ (queue ++ behind)) =
       moved_back own queue behind (subst (λ (es : Entries). Stands heap.blocks (queue ++ es)) line front) in
       record {
+        rest = queue ++ behind;
+        stands = subst (λ (es : Entries). Stands heap.blocks es)
+            (append_assoc object (sources_entries sources) (queue ++ behind)) stands;
+        fits = object_fits heap w s served small addr z there;
+        named = named;
+      }
+
+  -- and with the queue of its account
+  pub with_all : SomeWithAll heap addr
+  unfolding keeps_sources
+  with_all =
+      let k = queue_kept z.account s (tickets_kept served) in record {
         row = object_row z;
         sources = sources;
-        tickets = ts;
-        keeps = record {
-          rest = queue ++ behind;
-          stands = subst (λ (es : Entries). Stands heap.blocks es)
-              (append_assoc object (sources_entries sources) (queue ++ behind)) stands;
-          fits = object_fits heap w s served small addr z there;
-          named = named;
-        };
+        tickets = tickets_of w.accounts z.account;
+        keeps = keeps_sources;
         behind = behind;
         whole = refl;
         first = k.first;

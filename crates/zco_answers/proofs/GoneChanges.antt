@@ -24,6 +24,7 @@ use Rattle.sdr_model.specs.Valid.{FitTogether}
 use Rattle.sdr_model.specs.World.{World, thing_at}
 use Rattle.sdr_model.specs.Zco.{as_object, count_of, is_of_raw, naming, owned_raw, raw_of, source_on, taken_over}
 use Rattle.sdr_model.specs.declared.things.Thing.TheVariants as things
+use Rattle.sdr_model.specs.declared.zco.Extent.{Extent}
 use Rattle.sdr_model.specs.declared.zco.Subject.{Subject}
 use Rattle.sdr_model.specs.declared.zco.Subject.TheVariants as subjects
 use Rattle.sdr_model.specs.declared.zco.ZcoObject.{ZcoObject}
@@ -73,6 +74,14 @@ module _ (v : World) (a : ℕ) (s : ZcoSource) (bytes : List ℕ) (fits : FitTog
       by (subjects.Obj raw) is here =
           λ i. at i ++ (raw_stands raw here (ap (is_of_raw raw) is ∙ eq-eqb raw raw refl) i ++ [])
 
+-- the blocks of all that extents name
+pub was_all : (w : World) (all : List Extent) → FitTogether w → (vs : List (UsedSource w all)) →
+    all_at (ties_of w) w.things (all_keys w all vs) ≡ sources_entries (map (named_of w all) vs)
+was_all w all fits [] = refl
+was_all w all fits (u ∷ vs) =
+    flat_map-append (at_key (ties_of w) w.things) (keys_at w all u.addr u.source) (all_keys w all vs)
+    ∙ (λ i. tied_stands w u.addr u.source u.bytes fits u.there u.raw i ++ was_all w all fits vs i)
+
 -- an object of a world, and the sources that its extents name
 module _ (w : World) (addr : ℕ) (z : ZcoObject) (there : thing_at w addr ≡ Some (things.Object z)) (fits : FitTogether w)
     (us : List (UsedSource w z.extents)) (are : AreUsed w z.extents z.extents us) (fits' : FitTogether (lost_world w addr z)) where
@@ -87,13 +96,6 @@ module _ (w : World) (addr : ℕ) (z : ZcoObject) (there : thing_at w addr ≡ S
 
   abbrev sources : List NamedSource
   sources = map (named_of w z.extents) us
-
-  pub was_all : (vs : List (UsedSource w z.extents)) →
-      all_at (ties_of w) w.things (all_keys w z.extents vs) ≡ sources_entries (map (named_of w z.extents) vs)
-  was_all [] = refl
-  was_all (u ∷ vs) =
-      flat_map-append (at_key (ties_of w) w.things) (keys_at w z.extents u.addr u.source) (all_keys w z.extents vs)
-      ∙ (λ i. tied_stands w u.addr u.source u.bytes fits u.there u.raw i ++ was_all vs i)
 
   -- a source counts what is left of its extents
   less_is : (q : ℕ) (s : ZcoSource) → less_uses z.account (rows.naming q extents) (counted_in w q s) ≡ counted_in lost q s

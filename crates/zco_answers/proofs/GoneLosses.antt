@@ -84,6 +84,7 @@ module _ (w : World) (addr : ℕ) (z : ZcoObject) (there : thing_at w addr ≡ S
 
     -- and its account is charged less by what it charged
     pub lost_charge : MovesCharge w.things (left_things w addr z) z.account nothing (λ space. object_charge (of w.things) space z)
+    unfolding drops
     lost_charge =
         let one : MovesCharge w.things (lose w.things addr) z.account nothing (λ space. object_charge (of w.things) space z) =
         object_moves w.things addr z.account (Some z) None nothing (λ space. object_charge (of w.things) space z) there refl tt

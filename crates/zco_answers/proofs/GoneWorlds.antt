@@ -57,7 +57,7 @@ module _ (w : World) (addr : ℕ) (z : ZcoObject) (there : thing_at w addr ≡ S
   out : {b : Blocks} → Changes b b (section (thing_entries (ties_of w)) w.things) (own ++ beside)
   out {b} =
       let was : all_at (ties_of w) w.things (addr ∷ keys) ≡ own =
-      λ i. entries_at (ties_of w) addr (there i) ++ was_all w addr z there fits us are us i in
+      λ i. entries_at (ties_of w) addr (there i) ++ was_all w z.extents fits us i in
       subst (λ (es : Entries). Changes b b (section (thing_entries (ties_of w)) w.things) (es ++ beside)) was
       (all_out (ties_of w) w.things (addr ∷ keys) distinct)
 
