@@ -122,7 +122,7 @@ returns-clause-works g c =
 
 pub returns-in_err-expect_kind-clause-works : goal.returns-in_err-expect_kind-clause-works
 returns-in_err-expect_kind-clause-works g c =
-    let p = err_from_is_err_and c.from_residual-in_err-expect_kind.result c.from_residual-in_err-expect_kind.ensures.1 in
+    let p = err_from_is_err_and c.from_residual.result c.from_residual.ensures.1 in
     λ w stands served.
     rw (p.1, p.2) (works_stopped _ (works_more (looks_works c.in_err-expect_kind.ensures.looks) (omega arith)))
 
