@@ -1,5 +1,5 @@
 -- An object that is destroyed, as a step.
-use Rattle.std.proofs.Common.{◌≡◌, ◌∙◌, ◌+◌, ◌*◌, ◌≤◌, ℕ, List, [], ◌∷◌, ◌++◌, map, Option, Some, None, false, true≢false, inl, length, refl, sym, ap, subst, arith, length-append}
+use Rattle.std.proofs.Common.{◌≡◌, ◌∙◌, ◌+◌, ◌*◌, ◌≤◌, ℕ, List, [], ◌∷◌, ◌++◌, map, Option, true≢false, length, refl, sym, ap, subst, arith, length-append}
 use Rattle.std.proofs.lemmas.List.{length-map}
 use Rattle.std.specs.Option.{option_map_or}
 use Rattle.std.specs.Prelude.{All}
@@ -8,12 +8,10 @@ use Rattle.sdr_answers.proofs.RowLemmas.{HasMoves, gave_has, gave_takes, misname
 use Rattle.sdr_answers.specs.Answering.{Aim, Answered, IsRefused, IsServed}
 use Rattle.sdr_audit.specs.Rows.{object_row}
 use Rattle.sdr_audit.specs.Standing.{HeapStandsFor, entries_of, with_taken_marked}
-use Rattle.sdr_base.specs.Blocks.{IsKind}
 use Rattle.sdr_base.specs.Entries.{Changes}
 use Rattle.sdr_base.specs.Objects.{Heap, Misses, OnlyUnmoved}
 use Rattle.sdr_base.specs.ZcoObjects.{ExtentRow, capsule_addr}
 use Rattle.sdr_base.specs.declared.account.Acct.{Acct}
-use Rattle.sdr_base.specs.declared.account.Amounts.{Amounts}
 use Rattle.sdr_base.specs.declared.kind.Kind.TheVariants as kinds
 use Rattle.sdr_base.specs.declared.kind.Space.{Space}
 use Rattle.sdr_base.specs.declared.moves.Move.{Move}
@@ -36,14 +34,12 @@ use Rattle.sdr_model.specs.ObjectSteps.{destroy_blocks}
 use Rattle.sdr_model.specs.Queue.{with_served}
 use Rattle.sdr_model.specs.RowMoves.{destroyed_blocks}
 use Rattle.sdr_model.specs.Rows.{ByRow}
-use Rattle.sdr_model.specs.Steps.{Outcome, gave, taken_addresses, without_thing}
-use Rattle.sdr_model.specs.Things.{Things}
+use Rattle.sdr_model.specs.Steps.{gave, taken_addresses, without_thing}
 use Rattle.sdr_model.specs.Valid.{FitTogether}
-use Rattle.sdr_model.specs.World.{World, thing_at}
+use Rattle.sdr_model.specs.World.{World}
 use Rattle.sdr_model.specs.Zco.{as_object, object_at}
 use Rattle.sdr_model.specs.declared.answer.Reply.TheVariants as replies
 use Rattle.sdr_model.specs.declared.call.Call.TheVariants as calls
-use Rattle.sdr_model.specs.declared.things.Thing.TheVariants as things
 use Rattle.sdr_model.specs.declared.zco.ZcoObject.{ZcoObject}
 use Rattle.zco_acct.specs.Words.{occupied_in}
 use Rattle.zco_answers.proofs.ChargeLemmas.{stays}

@@ -1,5 +1,5 @@
 -- An object of a world, kept in its blocks with the sources that its extents name and with the queue of its account.
-use Rattle.std.proofs.Common.{◌≡◌, ◌∙◌, ◌+◌, ◌*◌, ◌/◌, ◌≤◌, ℕ, List, [], ◌∷◌, ◌++◌, map, Bool, true, false, Option, Some, None, length, refl, sym, ap, subst, arith, append_assoc, length-append}
+use Rattle.std.proofs.Common.{◌≡◌, ◌∙◌, ◌+◌, ◌≤◌, ℕ, List, [], ◌∷◌, ◌++◌, map, true, Some, refl, sym, ap, subst, arith, append_assoc}
 use Rattle.std.proofs.lemmas.List.Elements.{All-cons, All-nil}
 use Rattle.std.specs.Prelude.{All, if◌then◌else◌}
 use Rattle.sdr_answers.proofs.ListLemmas.{IsSmall}
@@ -34,7 +34,7 @@ use Rattle.zco_obj.specs.Destroying.{KeepsSources}
 use Rattle.zco_obj.specs.Gone as rows
 use Rattle.zco_obj.specs.Gone.{NamedSource, sources_entries}
 use Rattle.zco_obj.specs.Uses.{AreNamed, CountsUses, IsThere}
-use Rattle.zco_ref.specs.Kept.{CountedSource, count_in}
+use Rattle.zco_ref.specs.Kept.{count_in}
 use Rattle.zco_served.proofs.SourceLemmas.{counted_in, source_stands}
 
 -- in a heap that stands for a world in which calls are served, an object

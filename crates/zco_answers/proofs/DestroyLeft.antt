@@ -1,14 +1,13 @@
 -- An object that is kept with its sources and the queue of its account: how many blocks go with it, and the queue that is left.
-use Rattle.std.proofs.Common.{◌≡◌, ◌∙◌, ◌+◌, ◌*◌, ◌/◌, ◌≤◌, ◌==◌, ◌&&◌, ℕ, List, [], ◌∷◌, ◌++◌, map, Bool, true, false, Option, Some, None, length, refl, sym, ap, subst, arith, append_assoc, length-append}
+use Rattle.std.proofs.Common.{◌≡◌, ◌∙◌, ◌+◌, ◌*◌, ◌/◌, ◌≤◌, ◌==◌, ◌&&◌, ℕ, List, [], ◌∷◌, ◌++◌, map, Bool, true, false, Option, Some, None, length, sym, ap, subst, arith, append_assoc, length-append}
 use Rattle.std.proofs.lemmas.List.{length-map}
 use Rattle.std.specs.Prelude.{if◌then◌else◌}
-use Rattle.sdr_answers.proofs.ListLemmas.{IsSmall}
 use Rattle.sdr_base.proofs.LinkedLemmas.{length-linked}
 use Rattle.sdr_base.proofs.StandingLemmas.{moved}
 use Rattle.sdr_base.specs.Entries.{Entries, Few, Stands}
 use Rattle.sdr_base.specs.Making.{gave, with_moves}
 use Rattle.sdr_base.specs.Objects.{Heap}
-use Rattle.sdr_base.specs.ZcoObjects.{ExtentRow, ObjectRow, capsule_addr, capsule_block, capsule_entries, extent_addr, extent_block, extent_entries, object_entries}
+use Rattle.sdr_base.specs.ZcoObjects.{ExtentRow, capsule_addr, capsule_block, capsule_entries, extent_addr, extent_block, extent_entries, object_entries}
 use Rattle.sdr_base.specs.declared.account.Acct.{Acct}
 use Rattle.sdr_base.specs.declared.medium.Medium.{Medium}
 use Rattle.sdr_base.specs.declared.medium.Medium.TheVariants as media

@@ -1,39 +1,33 @@
 -- What the blocks of a world become where an object goes, with what goes with its extents.
-use Rattle.std.proofs.Common.{◌≡◌, ◌≢◌, ◌∙◌, ◌+◌, ◌-◌, ℕ, List, [], ◌∷◌, ◌++◌, map, Bool, true, false, Option, Some, None, eq-eqb, refl, sym, ap, subst, arith, append_assoc, append-nil}
+use Rattle.std.proofs.Common.{◌≡◌, ◌∙◌, ◌+◌, ◌-◌, ℕ, List, [], ◌∷◌, ◌++◌, map, Bool, true, false, Option, Some, None, eq-eqb, refl, sym, ap, subst, arith}
 use Rattle.std.proofs.lemmas.List.Concat.{flat_map-append}
 use Rattle.std.specs.FinMap.{get}
-use Rattle.std.specs.List.{AllByRecursion, flat_map}
+use Rattle.std.specs.List.{AllByRecursion}
 use Rattle.std.specs.Option.{option_to_list}
 use Rattle.std.specs.Prelude.{if◌then◌else◌}
-use Rattle.sdr_audit.specs.Rows.{extent_row, medium_of, object_row, source_row, subject_number}
-use Rattle.sdr_audit.specs.Standing.{entries_of, other_entries, thing_entries}
+use Rattle.sdr_audit.specs.Rows.{extent_row, medium_of, source_row, subject_number}
 use Rattle.sdr_audit.specs.Ties.{Ties, or_null, ties_of}
-use Rattle.sdr_base.specs.Blocks.{Blocks}
-use Rattle.sdr_base.specs.Entries.{Changes, Entries, Stands}
+use Rattle.sdr_base.specs.Entries.{Entries}
 use Rattle.sdr_base.specs.Raws.{raw_entries}
-use Rattle.sdr_base.specs.Section.{section}
-use Rattle.sdr_base.specs.ZcoObjects.{ExtentRow, object_entries}
+use Rattle.sdr_base.specs.ZcoObjects.{ExtentRow}
 use Rattle.sdr_base.specs.declared.account.Acct.{Acct}
 use Rattle.sdr_base.specs.declared.account.Acct.TheVariants as accts
-use Rattle.sdr_laws.proofs.GoneLaws.{change_first, without}
 use Rattle.sdr_laws.proofs.GoneLemmas.{AreApart}
 use Rattle.sdr_model.specs.Accounts.{is_same_account}
-use Rattle.sdr_model.specs.Gone.{gone_things}
 use Rattle.sdr_model.specs.Things.{Things}
 use Rattle.sdr_model.specs.Valid.{FitTogether}
 use Rattle.sdr_model.specs.World.{World, thing_at}
-use Rattle.sdr_model.specs.Zco.{as_object, count_of, is_of_raw, naming, owned_raw, raw_of, source_on, taken_over}
+use Rattle.sdr_model.specs.Zco.{as_object, count_of, is_of_raw, naming, owned_raw, raw_of, taken_over}
 use Rattle.sdr_model.specs.declared.things.Thing.TheVariants as things
 use Rattle.sdr_model.specs.declared.zco.Extent.{Extent}
 use Rattle.sdr_model.specs.declared.zco.Subject.{Subject}
 use Rattle.sdr_model.specs.declared.zco.Subject.TheVariants as subjects
 use Rattle.sdr_model.specs.declared.zco.ZcoObject.{ZcoObject}
 use Rattle.sdr_model.specs.declared.zco.ZcoSource.{ZcoSource}
-use Rattle.zco_answers.proofs.DropLemmas.{framed}
-use Rattle.zco_answers.proofs.GoneKeys.{all_part, all_split, each_key, key_owner, key_things, keys_distinct, owner_of, raw_apart, stays_apart}
-use Rattle.zco_answers.proofs.GoneMaps.{AreDistinct, all_at, all_back, all_out, all_without, changes_then, none_there, section_same}
+use Rattle.zco_answers.proofs.GoneKeys.{all_split, key_owner, key_things, owner_of, raw_apart, stays_apart}
+use Rattle.zco_answers.proofs.GoneMaps.{all_at}
 use Rattle.zco_answers.proofs.GoneMoves.{goes_told, naming_rows}
-use Rattle.zco_answers.proofs.GoneTies.{counts_less, lost_at, lost_world, named_no_more, source_away, tied_alike}
+use Rattle.zco_answers.proofs.GoneTies.{counts_less, lost_at, lost_world, named_no_more, source_away}
 use Rattle.zco_answers.proofs.GoneUses.{AreUsed, UsedSource, all_gone, all_keys, gone_at, goes, keys_at, named_of}
 use Rattle.zco_answers.proofs.MovingLemmas.{entries_at}
 use Rattle.zco_obj.specs.Gone as rows

@@ -1,11 +1,9 @@
 -- The sources that extents name, and the raw objects that they are of, stand at addresses that differ.
-use Rattle.std.proofs.Common.{◌≡◌, ◌≢◌, ◌∙◌, ℕ, List, [], ◌∷◌, ◌++◌, map, Bool, true, false, true≢false, Option, Some, None, eq-eqb, refl, sym, ap, subst}
+use Rattle.std.proofs.Common.{◌≡◌, ◌≢◌, ◌∙◌, ℕ, List, [], ◌∷◌, ◌++◌, Bool, true, false, true≢false, Option, Some, None, eq-eqb, refl, sym, ap, subst}
 use Rattle.std.proofs.lemmas.Bool.{eqb-true}
-use Rattle.std.specs.FinMap.{get, remove as lose}
-use Rattle.std.specs.List.{AllByRecursion, flat_map}
+use Rattle.std.specs.List.{AllByRecursion}
 use Rattle.std.specs.Option.{option_to_list}
 use Rattle.std.specs.Prelude.{if◌then◌else◌}
-use Rattle.sdr_laws.proofs.GoneLaws.{without}
 use Rattle.sdr_laws.proofs.GoneLemmas.{AreApart}
 use Rattle.sdr_laws.proofs.SourceViews.{by_addr}
 use Rattle.sdr_model.specs.Valid.{FitTogether}
@@ -16,9 +14,8 @@ use Rattle.sdr_model.specs.declared.things.Thing.TheVariants as things
 use Rattle.sdr_model.specs.declared.zco.Extent.{Extent}
 use Rattle.sdr_model.specs.declared.zco.Subject.{Subject}
 use Rattle.sdr_model.specs.declared.zco.Subject.TheVariants as subjects
-use Rattle.sdr_model.specs.declared.zco.ZcoObject.{ZcoObject}
 use Rattle.sdr_model.specs.declared.zco.ZcoSource.{ZcoSource}
-use Rattle.zco_answers.proofs.GoneMaps.{AreDistinct, none_there}
+use Rattle.zco_answers.proofs.GoneMaps.{AreDistinct}
 use Rattle.zco_answers.proofs.GoneUses.{UsedSource, addresses, all_gone, all_keys, gone_at, goes, keys_at}
 use Rattle.zco_served.proofs.NamedLemmas.{named_at}
 use Rattle.zco_served.proofs.SourceLemmas.{IsRawOf}

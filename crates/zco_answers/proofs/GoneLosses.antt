@@ -1,9 +1,7 @@
 -- What sources, extents and charges come to where an object goes, with what goes with its extents.
-use Rattle.std.proofs.Common.{◌≡◌, ◌∙◌, ◌+◌, ◌≤◌, ℕ, List, [], Option, Some, None, refl, sym, ap, subst, arith}
+use Rattle.std.proofs.Common.{◌≡◌, ◌∙◌, ℕ, List, [], Some, None, refl, sym, ap, subst, arith}
 use Rattle.std.specs.FinMap.{remove as lose}
 use Rattle.sdr_answers.proofs.RowLemmas.{gave_fresh}
-use Rattle.sdr_base.specs.declared.account.Acct.{Acct}
-use Rattle.sdr_base.specs.declared.kind.Space.{Space}
 use Rattle.sdr_laws.proofs.ChargeLemmas.{things_charge}
 use Rattle.sdr_laws.proofs.ChargeMoves.{MovesCharge, SameCharge, before_same, object_moves}
 use Rattle.sdr_laws.proofs.GoneLaws.{AllGone}

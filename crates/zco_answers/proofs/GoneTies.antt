@@ -1,10 +1,10 @@
 -- How things are tied once an object went, and what goes with its extents.
-use Rattle.std.proofs.Common.{◌≡◌, ◌≢◌, ◌∙◌, ◌+◌, ℕ, ◌==◌, List, [], ◌∷◌, ◌++◌, map, Bool, true, false, true≢false, cond, Option, Some, None, eq-eqb, refl, sym, ap, subst, arith}
+use Rattle.std.proofs.Common.{◌≡◌, ◌≢◌, ◌∙◌, ◌+◌, ℕ, ◌==◌, List, [], ◌∷◌, map, Bool, true, false, cond, Option, Some, None, refl, sym, ap, subst, arith}
 use Rattle.std.proofs.lemmas.Bool.{ne_eqb}
 use Rattle.std.proofs.lemmas.List.Sums.{sum_by-cons}
 use Rattle.std.specs.FinMap.{get, remove as lose}
 use Rattle.std.specs.List.{AllByRecursion}
-use Rattle.std.specs.Prelude.{if◌then◌else◌, sum_by}
+use Rattle.std.specs.Prelude.{if◌then◌else◌}
 use Rattle.sdr_answers.proofs.EntryLemmas.{source_there}
 use Rattle.sdr_audit.specs.Rows.{source_row}
 use Rattle.sdr_audit.specs.Standing.{thing_entries}
@@ -17,7 +17,7 @@ use Rattle.sdr_laws.proofs.DistinctLemmas.{weight}
 use Rattle.sdr_laws.proofs.GoneLaws.{gone_apart, without}
 use Rattle.sdr_laws.proofs.GoneLemmas.{AreApart}
 use Rattle.sdr_laws.proofs.HashShapes.{neither}
-use Rattle.sdr_laws.proofs.SourceViews.{apart_at, by_addr, fits_from, here_at, sum_by-with_at}
+use Rattle.sdr_laws.proofs.SourceViews.{apart_at, by_addr, fits_from, sum_by-with_at}
 use Rattle.sdr_model.proofs.SumLemmas.{counted_at}
 use Rattle.sdr_model.specs.Accounts.{is_same_account}
 use Rattle.sdr_model.specs.Gone.{gone_things, names_source, without_things}
@@ -32,7 +32,7 @@ use Rattle.sdr_model.specs.declared.zco.Extent.{Extent}
 use Rattle.sdr_model.specs.declared.zco.ZcoObject.{ZcoObject}
 use Rattle.sdr_model.specs.declared.zco.ZcoSource.{ZcoSource}
 use Rattle.zco_answers.proofs.GoneKeys.{all_part, all_split, each_key, key_things, source_apart}
-use Rattle.zco_answers.proofs.GoneMaps.{here_gone, none_later, still_at, was_at}
+use Rattle.zco_answers.proofs.GoneMaps.{here_gone, still_at, was_at}
 use Rattle.zco_answers.proofs.GoneUses.{AreUsed, UsedSource, all_gone, all_keys, keys_at, named_of}
 use Rattle.zco_obj.specs.Gone as rows
 use Rattle.zco_obj.specs.Gone.{NamedSource}

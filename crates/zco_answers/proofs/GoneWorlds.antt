@@ -1,5 +1,5 @@
 -- The blocks of a world with an object in front, and what they become where it goes.
-use Rattle.std.proofs.Common.{◌≡◌, ◌≢◌, ◌∙◌, ℕ, List, [], ◌∷◌, ◌++◌, map, Option, Some, None, refl, sym, ap, subst, append_assoc, append-nil}
+use Rattle.std.proofs.Common.{◌≡◌, ◌≢◌, ◌∙◌, ℕ, List, [], ◌∷◌, ◌++◌, map, Some, None, sym, ap, subst, append_assoc, append-nil}
 use Rattle.std.specs.FinMap.{get, remove as lose}
 use Rattle.std.specs.List.{AllByRecursion}
 use Rattle.sdr_audit.specs.Rows.{extent_row, object_row}
