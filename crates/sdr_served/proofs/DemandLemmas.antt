@@ -21,6 +21,7 @@ use Rattle.sdr_model.specs.World.{World, thing_at}
 use Rattle.sdr_model.specs.declared.call.Call.{Call}
 use Rattle.sdr_model.specs.declared.call.Call.TheVariants as calls
 use Rattle.sdr_answers.specs.Answering.{IsServed}
+use Rattle.zco_answers.proofs.DemandLemmas.{enough as objects_enough}
 use Rattle.zco_granted.proofs.DemandLemmas.{enough as tickets_enough}
 use Rattle.sdr_served.specs.Serving.{built, call_lines}
 
@@ -151,6 +152,13 @@ enough d heap w call o is s served small row answered =
         tickets_enough d w (calls.Request acct file bulk heap coarse fine) o refl there answered
     by (calls.Awarded number) is there moves = tickets_enough d w (calls.Awarded number) o refl there answered
     by (calls.Shred number) is there moves = tickets_enough d w (calls.Shred number) o refl there answered
+    by (calls.Create acct ticket) is there moves = objects_enough d w (calls.Create acct ticket) o refl there answered
+    by (calls.PrependHeader addr ticket text) is there moves = objects_enough d w (calls.PrependHeader addr ticket text) o refl there answered
+    by (calls.AppendTrailer addr ticket text) is there moves = objects_enough d w (calls.AppendTrailer addr ticket text) o refl there answered
+    by (calls.DiscardFirstHeader addr) is there moves = objects_enough d w (calls.DiscardFirstHeader addr) o refl there answered
+    by (calls.DiscardLastTrailer addr) is there moves = objects_enough d w (calls.DiscardLastTrailer addr) o refl there answered
+    by (calls.ZcoLength addr) is there moves = objects_enough d w (calls.ZcoLength addr) o refl there answered
+    by (calls.SourceLength addr) is there moves = objects_enough d w (calls.SourceLength addr) o refl there answered
     by c is there moves = absurd (true≢false (sym is))
 
 -- a call that reads touches none
@@ -212,6 +220,13 @@ reading_lines heap w (calls.SetMaximum acct space value) is reads = absurd (true
 reading_lines heap w (calls.Request acct file bulk heap_bytes coarse fine) is reads = absurd (true≢false (sym reads))
 reading_lines heap w (calls.Awarded number) is reads = refl
 reading_lines heap w (calls.Shred number) is reads = absurd (true≢false (sym reads))
+reading_lines heap w (calls.Create acct ticket) is reads = absurd (true≢false (sym reads))
+reading_lines heap w (calls.PrependHeader addr ticket text) is reads = absurd (true≢false (sym reads))
+reading_lines heap w (calls.AppendTrailer addr ticket text) is reads = absurd (true≢false (sym reads))
+reading_lines heap w (calls.DiscardFirstHeader addr) is reads = absurd (true≢false (sym reads))
+reading_lines heap w (calls.DiscardLastTrailer addr) is reads = absurd (true≢false (sym reads))
+reading_lines heap w (calls.ZcoLength addr) is reads = refl
+reading_lines heap w (calls.SourceLength addr) is reads = refl
 reading_lines heap w call is reads = absurd (true≢false (sym is))
 
 -- no call takes back what was asked

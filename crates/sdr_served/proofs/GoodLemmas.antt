@@ -10,6 +10,7 @@ use Rattle.sdr_answers.proofs.TextLemmas.{text_is_at}
 use Rattle.sdr_answers.specs.Answering as answers
 use Rattle.sdr_answers.specs.Answering.{IsServed}
 use Rattle.sdr_served.specs.Serving.{IsGood}
+use Rattle.zco_answers.proofs.GoodLemmas.{good_of as objects_good}
 use Rattle.zco_granted.proofs.GoodLemmas.{good_of as tickets_good}
 use Rattle.zco_served.proofs.GoodLemmas.{good_of as sources_good}
 use Rattle.sdr_audit.specs.Rows.{hash_row, list_row, name_row, table_row}
@@ -51,10 +52,11 @@ things_good heap w s served small = record {
   names = record { names = map name_row w.names; keeps = names_kept heap w s served };
 }
 
--- so are sources and queues
+-- so are sources, queues and objects
 pub good_of : (heap : Heap) (w : World) → HeapStandsFor heap w → IsServed w → IsSmall heap → IsGood heap
 good_of heap w s served small = record {
   things = things_good heap w s served small;
   sources = sources_good heap w s served small;
   tickets = tickets_good heap w s served;
+  objects = objects_good heap w s served small;
 }

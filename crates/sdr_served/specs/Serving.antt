@@ -5,6 +5,8 @@ use Rattle.sdr_answers.specs.Answering.{is_free_call, is_hash_call, is_list_call
 use Rattle.sdr_base.specs.Objects.{Heap}
 use Rattle.sdr_model.specs.World.{World}
 use Rattle.sdr_model.specs.declared.call.Call.{Call}
+use Rattle.zco_answers.specs.Answering as objects
+use Rattle.zco_answers.specs.Answering.{is_object_call}
 use Rattle.zco_granted.specs.Answering as tickets
 use Rattle.zco_granted.specs.Answering.{is_account_call}
 use Rattle.zco_served.specs.Answering as sources
@@ -14,17 +16,20 @@ use Rattle.zco_served.specs.Answering.{is_source_call}
 abbrev pub built : Call → Bool
 built call =
     is_raw_call call || is_free_call call || is_string_call call || is_list_call call || is_table_call call || is_hash_call call
-    || is_name_call call || is_source_call call || is_account_call call
+    || is_name_call call || is_source_call call || is_account_call call || is_object_call call
 
 -- so many lines a call that is served touches at most on this heap, which stands for the world
 abbrev pub call_lines : Heap → World → Call → ℕ
 call_lines heap w call =
     if is_source_call call then sources.call_lines call
     else if is_account_call call then tickets.call_lines w call
+    else if is_object_call call then objects.call_lines w call
     else answers.call_lines heap call
 
--- what is of a kind is kept, sources and the raw objects that they name too, and the queues of both accounts
+-- what is of a kind is kept, sources and the raw objects that they name too, the queues of both accounts, and objects with their
+-- accounts' queues
 pub record IsGood (heap : Heap) : Type 0 where
   pub things : answers.IsGood heap
   pub sources : sources.IsGood heap
   pub tickets : tickets.IsGood heap
+  pub objects : objects.IsGood heap

@@ -8,6 +8,7 @@ ghost use Rattle.sdr_base.specs.Works.{Works};
 ghost use Rattle.sdr_model.specs.Fields.{FitsCall};
 ghost use Rattle.sdr_model.specs.World.{World};
 ghost use Rattle.sdr_served.specs.Serving.{IsGood, built, call_lines};
+ghost use Rattle.zco_answers.specs.Answering.{is_object_call};
 ghost use Rattle.zco_granted.specs.Answering.{is_account_call};
 ghost use Rattle.zco_served.specs.Answering.{is_source_call};
 
@@ -19,6 +20,7 @@ use sdr_answers::{
 use sdr_base::{Objects, Stop};
 use sdr_model::{Call, Reply};
 use zco_acct::{Notice, Notify};
+use zco_answers::is_object_call;
 use zco_granted::is_account_call;
 use zco_served::is_source_call;
 
@@ -35,9 +37,10 @@ pub fn built(call: &Call) -> bool
         || is_name_call(call)
         || is_source_call(call)
         || is_account_call(call)
+        || is_object_call(call)
 }
 
-// Answers a call that is served, but one on sources, accounts or tickets.
+// Answers a call that is served, but one on sources, accounts, tickets or zero-copy objects.
 fn answer_other<O: Objects>(o: &mut O, call: &Call, page: &mut Page) -> Result<Reply, Stop>
     requires kept { KeepsSome (O.keeps o.old) }
     requires room { (O.heap o.old).size / 4 + 4 ≤ (O.heap o.old).spare }
@@ -46,6 +49,7 @@ fn answer_other<O: Objects>(o: &mut O, call: &Call, page: &mut Page) -> Result<R
     requires built { built call.now ≡ true }
     requires no_source { is_source_call call.now ≡ false }
     requires no_account { is_account_call call.now ≡ false }
+    requires no_object { is_object_call call.now ≡ false }
     ensures comes { Comes call.now (O.heap o.old) (O.heap o.new) page.old page.new result }
     ensures works { Works O.HasHeap
         (answers.call_lines (O.heap o.old) call.now) o.old o.new result }
@@ -94,6 +98,9 @@ pub fn answer<O: Objects, F: Notify>(
     }
     if is_account_call(call) {
         return zco_granted::answer(o, call, notice, page);
+    }
+    if is_object_call(call) {
+        return zco_answers::answer(o, call, notice, page);
     }
     answer_other(o, call, page)
 }

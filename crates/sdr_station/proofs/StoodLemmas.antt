@@ -1,5 +1,5 @@
 -- A world that a heap has stood for.
-use Rattle.std.proofs.Common.{◌≡◌, ◌≤◌, ◌*◌, ℕ, List, Option, Some, refl, length, subst, arith}
+use Rattle.std.proofs.Common.{◌≡◌, ◌≤◌, ◌+◌, ◌*◌, ℕ, List, Option, Some, refl, length, subst, arith}
 use Rattle.std.proofs.lemmas.List.{length-map}
 use Rattle.std.specs.Prelude.{IfSome}
 use Rattle.sdr_answers.proofs.ListLemmas.{IsSmall, few_elements}
@@ -19,8 +19,10 @@ use Rattle.sdr_model.specs.declared.things.Element.{Element}
 use Rattle.sdr_model.specs.declared.things.HashEntry.{HashEntry}
 use Rattle.sdr_model.specs.declared.things.Thing.{Thing}
 use Rattle.sdr_model.specs.declared.things.Thing.TheVariants as things
+use Rattle.sdr_model.specs.declared.zco.ZcoObject.{ZcoObject}
 use Rattle.sdr_served.proofs.HashLemmas.{few_entries}
 use Rattle.sdr_station.specs.Grounded.{HasStood, StandsWithin, heap_in}
+use Rattle.zco_answers.proofs.FewLemmas.{few_blocks}
 
 -- a heap region that keeps a heap is of no more bytes than are allowed, with few blocks in use
 pub small_in : {D : Type 0} (h : Held (Opened D)) {pools : Pools} → KeepsRegion h.size h.cells.bytes pools → IsSmall (heap_in h)
@@ -57,3 +59,8 @@ entries_few size w addr s = by (thing_at w addr) refl
         let same = length-map hash.entries (λ (e : HashEntry). e.block) in
         omega (arith, few, same, s.same)
     by found is = omega arith
+
+-- and so has an object parts, beside its own block
+pub parts_few : (size : ℕ) (w : World) (addr : ℕ) (z : ZcoObject) → HasStood size w → thing_at w addr ≡ Some (things.Object z)
+    → 16 * (1 + length z.headers + length z.extents + length z.trailers) ≤ size
+parts_few size w addr z s there = let few = few_blocks s.heap w addr z s.stands s.few there in omega (arith, few, s.same)

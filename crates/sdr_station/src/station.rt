@@ -53,13 +53,15 @@ pub fn most_moves(call: &Call, size: u64) -> u64
     ensures most { MovesAtMost size call.now result }
     ensures few { result ≤ size / 4 + 4 }
 {
-    if let Call::ListDestroy(_) | Call::HashDestroy(_) = call {
-        return size / 16 + 1;
-    }
     if call.is_reading() {
         return 0;
     }
-    1
+    match call {
+        Call::ListDestroy(_) | Call::HashDestroy(_) => size / 16 + 1,
+        Call::Destroy(_) => 3 * (size / 16) + 1,
+        Call::AppendExtent(_, _, _, _, _) => 2,
+        _ => 1,
+    }
 }
 
 impl<D: Disk, F: Notify + Drop> Model for Station<D, F> {

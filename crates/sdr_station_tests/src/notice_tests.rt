@@ -2,7 +2,7 @@
 ghost use Rattle.std.specs.Prelude.{◌≡◌, true};
 ghost use Rattle.sdr_served.specs.Serving.{built};
 
-use crate::steps::formatted;
+use crate::disks::formatted;
 use sdr_base::{Acct, Amounts, Space};
 use sdr_disk::MemoryDisk;
 use sdr_model::amounts::are_within;

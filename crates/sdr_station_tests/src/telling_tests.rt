@@ -1,30 +1,45 @@
 // What a station tells beside its answers.
-use crate::steps::Step::{Begin, End, Malloc};
-use crate::steps::{Said, Step, opened, wrong_step};
+use crate::disks::formatted;
 use sdr_base::{Move, Refusal, Stop};
+use sdr_disk::MemoryDisk;
 use sdr_model::{Call, Reply};
-use sdr_station::Closed;
+use sdr_station::{Closed, Station};
 use std::alloc::Global;
+use zco_acct::{Compares, Notice};
 
-// A raw object of five bytes, in its own transaction.
-const MADE: [(Step, Said); 3] = [
-    (Begin, Said::Depth(1)),
-    (Malloc(5), Said::Replied(Reply::At { addr: 2056 })),
-    (End, Said::Closed(Closed::Ended)),
-];
+// The room for moves that is told of a new object, what a look says, the answers of a transaction that makes the object and
+// whether that is its only move, and how many lines were put back.
+type Seen = (
+    Result<u64, Stop>,
+    Result<bool, Stop>,
+    Option<(Reply, Closed)>,
+    bool,
+    u64,
+);
 
-// The room for moves that is told of a new object, its only move, what a look says, and how many lines were put back.
-type Seen = (Result<u64, Stop>, bool, Result<bool, Stop>, u64);
-
-fn seen(alloc: Global) -> Option<Seen> {
-    let mut station = opened(alloc)?;
-    let look = station.look(3);
-    let room = station.room_for(&Call::Malloc(5));
-    if wrong_step(&mut station, &MADE).is_some() {
+// What a station answers to a transaction that makes a raw object of five bytes. `None`: it is stopped.
+fn made(station: &mut Station<MemoryDisk, Compares>) -> Option<(Reply, Closed)> {
+    station.begin().ok()?;
+    if station.depth() == 0 {
         return None;
     }
+    let reply = station.call(&Call::Malloc(5), &mut [0; 4096]);
+    if station.depth() == 0 {
+        return None;
+    }
+    Some((reply, station.end().ok()?))
+}
+
+fn seen(alloc: Global) -> Option<Seen> {
+    let mut station = match Station::open(alloc, formatted(alloc)?, Notice::new(Compares)) {
+        Ok(station) => station,
+        Err(_) => return None,
+    };
+    let look = station.look(3);
+    let room = station.room_for(&Call::Malloc(5));
+    let answers = made(&mut station);
     let moves = station.moves() == TAKEN.as_slice();
-    Some((room, moves, look, station.restored()))
+    Some((room, look, answers, moves, station.restored()))
 }
 
 const TAKEN: [Move; 1] = [Move::Took {
@@ -35,5 +50,6 @@ const TAKEN: [Move; 1] = [Move::Took {
 #[test]
 fn a_station_tells_its_moves_their_room_and_that_no_ticket_is_there(rt: HostRuntime) {
     let look = Err(Stop::Refused(Refusal::BadTicket { ticket: 3 }));
-    assert_eq!(rt; seen(rt.alloc()), Some((Ok(1), true, look, 0)));
+    let answers = Some((Reply::At { addr: 2056 }, Closed::Ended));
+    assert_eq!(rt; seen(rt.alloc()), Some((Ok(1), look, answers, true, 0)));
 }

@@ -2,27 +2,28 @@
 use Rattle.std.proofs.Common.{◌≡◌, ◌∙◌, ◌≤◌, ◌+◌, ℕ, List, [], true, true≢false, length, inl, refl, sym, ap, arith}
 use Rattle.std.proofs.lemmas.List.{length-map}
 use Rattle.std.specs.Option.{option_map_or}
-use Rattle.std.specs.Prelude.{Option, None, Some, slice_get, slice_index}
+use Rattle.std.specs.Prelude.{Option, None, Some, is_some, slice_get, slice_index, if◌then◌else◌}
 use Rattle.sdr_base.specs.declared.moves.Move.{Move}
 use Rattle.sdr_base.specs.declared.moves.Move.TheVariants.{Gave}
 use Rattle.sdr_base.specs.declared.refusal.Refusal.{Refusal}
 use Rattle.sdr_laws.proofs.StepLemmas.{moves_are_the_rows}
-use Rattle.sdr_lock.specs.Demand.{Demand, bytes_taken, demand_after, grants_between, most_lines}
+use Rattle.sdr_lock.specs.Demand.{Demand, bytes_taken, bytes_written, demand_after, grants_between, most_lines}
 use Rattle.sdr_model.specs.Gone.{gone_things, without_things}
 use Rattle.sdr_model.specs.ObjectSteps as object
 use Rattle.sdr_model.specs.Queue.{with_served}
 use Rattle.sdr_model.specs.Reading.{is_reading}
-use Rattle.sdr_model.specs.RowMoves.{destroyed_blocks, row_moves}
+use Rattle.sdr_model.specs.RowMoves.{append_moves, destroyed_blocks, row_moves}
 use Rattle.sdr_model.specs.Rows.{ByRow}
 use Rattle.sdr_model.specs.Step.{is_answer}
 use Rattle.sdr_model.specs.Steps.{Does, On, Outcome, Refuses, gave, taken_addresses, without_thing}
 use Rattle.sdr_model.specs.World.{World}
-use Rattle.sdr_model.specs.Zco.{object_at}
+use Rattle.sdr_model.specs.Zco.{object_at, source_at}
 use Rattle.sdr_model.specs.declared.answer.Reply.TheVariants as replies
 use Rattle.sdr_model.specs.declared.call.Call.{Call}
 use Rattle.sdr_model.specs.declared.call.Call.TheVariants as calls
 use Rattle.sdr_model.specs.declared.zco.Capsule.{Capsule}
 use Rattle.sdr_model.specs.declared.zco.ZcoObject.{ZcoObject}
+use Rattle.sdr_model.specs.declared.zco.ZcoSource.{ZcoSource}
 use Rattle.zco_answers.specs.Answering.{call_lines, is_object_call, left_with, left_without}
 
 -- what is refused is no answer
@@ -72,6 +73,17 @@ has_gone w addr o row answered = by (object_at w addr) refl row
     by None is row = absurd (unrefused row answered)
     by (Some z) is row = row.1 ∙ ap (λ (x : Option ZcoObject). record (left x) { shown = [] }) (sym is)
 
+-- one block or two were taken for an extent
+append_enough : (d : Demand) (w : World) (call : Call) (o : Outcome) (named : Option ZcoSource) (at : ℕ → ℕ) →
+    bytes_written call ≡ 0 → o.moves ≡ append_moves named at →
+    most_lines d + (if is_some named then 42 else 73) ≤ most_lines (demand_after d w call o)
+append_enough d w call o None at none moves =
+    let two : length o.moves ≡ 2 = ap (λ (ms : List Move). length ms) moves in
+    let need : bytes_taken o.moves ≡ 80 = ap bytes_taken moves in omega (arith, two, need, none)
+append_enough d w call o (Some source) at none moves =
+    let one : length o.moves ≡ 1 = ap (λ (ms : List Move). length ms) moves in
+    let need : bytes_taken o.moves ≡ 32 = ap bytes_taken moves in omega (arith, one, need, none)
+
 -- a call that is answered by its row asks for as many lines as it touches
 pub enough : (d : Demand) (w : World) (call : Call) (o : Outcome) → is_object_call call ≡ true → ByRow w o call →
     is_answer o.reply ≡ true → most_lines d + call_lines w call ≤ most_lines (demand_after d w call o)
@@ -84,6 +96,8 @@ enough d w call o is row answered = by call is row (moves_are_the_rows w o.after
         most_lines d + call_lines w c ≤ most_lines (demand_after d w c o)
     by (calls.Create acct ticket) is row moves =
         let one : length o.moves ≡ 1 = ap (λ (ms : List Move). length ms) moves in omega (arith, one)
+    by (calls.AppendExtent addr ticket named offset bytes) is row moves =
+        append_enough d w (calls.AppendExtent addr ticket named offset bytes) o (source_at w named) at refl moves
     by (calls.PrependHeader addr ticket text) is row moves =
         let one : length o.moves ≡ 1 = ap (λ (ms : List Move). length ms) moves in
         let need : bytes_taken o.moves ≡ 8 + length text + 0 = ap bytes_taken moves in omega (arith, one, need)
@@ -110,6 +124,7 @@ enough d w call o is row answered = by call is row (moves_are_the_rows w o.after
 -- a call that reads touches none
 pub reading_lines : (w : World) (call : Call) → is_reading call ≡ true → call_lines w call ≡ 0
 reading_lines w (calls.Create acct ticket) reads = absurd (true≢false (sym reads))
+reading_lines w (calls.AppendExtent addr ticket named offset bytes) reads = absurd (true≢false (sym reads))
 reading_lines w (calls.PrependHeader addr ticket text) reads = absurd (true≢false (sym reads))
 reading_lines w (calls.AppendTrailer addr ticket text) reads = absurd (true≢false (sym reads))
 reading_lines w (calls.DiscardFirstHeader addr) reads = absurd (true≢false (sym reads))

@@ -6,7 +6,7 @@ use Rattle.std.specs.Prelude.{All}
 use Rattle.sdr_answers.proofs.ListLemmas.{IsSmall}
 use Rattle.sdr_answers.proofs.RowLemmas.{HasMoves, gave_has, gave_takes, misnamed_refused}
 use Rattle.sdr_answers.specs.Answering.{Aim, Answered, IsRefused, IsServed}
-use Rattle.sdr_audit.specs.Rows.{object_row}
+use Rattle.sdr_audit.specs.Rows.{extent_row, object_row}
 use Rattle.sdr_audit.specs.Standing.{HeapStandsFor, entries_of, with_taken_marked}
 use Rattle.sdr_base.specs.Entries.{Changes}
 use Rattle.sdr_base.specs.Objects.{Heap, Misses, OnlyUnmoved}
@@ -41,15 +41,17 @@ use Rattle.sdr_model.specs.Zco.{as_object, object_at}
 use Rattle.sdr_model.specs.declared.answer.Reply.TheVariants as replies
 use Rattle.sdr_model.specs.declared.call.Call.TheVariants as calls
 use Rattle.sdr_model.specs.declared.zco.ZcoObject.{ZcoObject}
+use Rattle.zco_acct.specs.Kept.{queue_entries}
 use Rattle.zco_acct.specs.Words.{occupied_in}
 use Rattle.zco_answers.proofs.ChargeLemmas.{stays}
+use Rattle.zco_answers.proofs.DropLemmas.{framed}
 use Rattle.zco_answers.proofs.DestroyKept.{keeps_sources, sources, used}
 use Rattle.zco_answers.proofs.GoneLosses.{lost_charge, lost_fields, lost_fits}
 use Rattle.zco_answers.proofs.GoneMoves.{charge_same, destroyed_same}
 use Rattle.zco_answers.proofs.GoneTies.{left_things, lost_is, lost_world}
-use Rattle.zco_answers.proofs.GoneWorlds.{world_changes}
+use Rattle.zco_answers.proofs.GoneWorlds.{beside, left_first, own_blocks, own_first}
 use Rattle.zco_answers.proofs.MovedLemmas.{moved_stands}
-use Rattle.zco_answers.proofs.MovingLemmas.{moved}
+use Rattle.zco_answers.proofs.MovingLemmas.{both_alike, moved}
 use Rattle.zco_answers.proofs.ObjectLemmas.{IsObjectAt, no_object, object_is_at, object_kept}
 use Rattle.zco_answers.proofs.PayingLemmas.{freed_occupied}
 use Rattle.zco_answers.specs.Answering.{call_lines, grants_of}
@@ -57,7 +59,7 @@ use Rattle.zco_granted.proofs.AccountLemmas.{unmarked}
 use Rattle.zco_granted.proofs.ComingLemmas.{log_full}
 use Rattle.zco_granted.specs.Answering.{KeepsTickets, Serves}
 use Rattle.zco_obj.specs.Destroying.{DestroysObject, DestroyStops, KeepsSources, ObjectGone, charges_of, gone_object, gone_parts, parts_lines}
-use Rattle.zco_obj.specs.Gone.{NamedSource, going_before, gone_blocks, source_at}
+use Rattle.zco_obj.specs.Gone.{NamedSource, going_before, gone_blocks, source_at, sources_left}
 use Rattle.zco_obj.specs.Reading.{Tells}
 
 -- each extent goes itself
@@ -110,26 +112,30 @@ module _ (old : Heap) (w : World) (unmoved : old.moves ≡ []) (s : HeapStandsFo
 
     amounts_same : charges_of (object_row z) rows ≡ amounts_by frees
     amounts_same =
-        let u = used old w s served small addr z at.there in
+        let u = used w addr z served.whole.fits at.there in
         λ i. amounts_by (λ space. charge_same w z u.sources u.are.found space i)
 
     -- the blocks that go
     pub blocks_same : destroy_blocks w addr z ≡ gone_object addr (object_row z) rows
     blocks_same =
-        let u = used old w s served small addr z at.there in destroyed_same w z u.sources u.are.found addr
+        let u = used w addr z served.whole.fits at.there in destroyed_same w z u.sources u.are.found addr
 
     -- the heap stands for the world without it
     pub lost_stands : {mid : Heap} → ObjectGone addr (object_row z) rows old mid → HeapStandsFor mid lost
     lost_stands {mid} g =
-        let u = used old w s served small addr z at.there in
+        let u = used w addr z served.whole.fits at.there in
         let acct = z.account in
         let ts = tickets_of w.accounts acct in
         let m = left_things w addr z in
         let charges : MovesCharge w.things m acct nothing frees = lost_charge w addr z at.there served.whole.fits in
         let moves = gave (gone_object addr (object_row z) rows) in
+        let own = own_blocks w addr z at.there served.whole.fits u.sources u.are in
+        let left = sources_left z.account (map extent_row z.extents) rows in
         let changes : Changes old.blocks mid.blocks (entries_of w) (entries_of (moved w m acct ts)) =
-        subst (λ (v : World). Changes old.blocks mid.blocks (entries_of w) (entries_of v)) (stays lost acct)
-        (world_changes w addr z at.there served.whole.fits u.sources u.are fits g.changes) in
+        both_alike w m acct ts own left (beside w addr z at.there served.whole.fits u.sources u.are)
+        (own_first w addr z at.there served.whole.fits u.sources u.are)
+        (left_first w addr z at.there served.whole.fits u.sources u.are fits)
+        (framed own left (queue_entries acct ts) g.changes) in
         let stood : HeapStandsFor mid (with_taken_marked (moved w m acct ts) moves) =
         moved_stands w m acct ts (minus (occupied_in old acct) (charges_of (object_row z) rows)) charges.other
         (ap (minus (occupied_in old acct)) amounts_same ∙ freed_occupied acct s m frees charges)

@@ -17,21 +17,22 @@ use Rattle.sdr_model.specs.Charges.{bytes_charge, extent_charge, object_bytes, o
 use Rattle.sdr_model.specs.Gone.{gone_blocks, gone_with, is_passing, names_source, source_blocks}
 use Rattle.sdr_model.specs.ObjectSteps.{destroy_blocks}
 use Rattle.sdr_model.specs.World.{World}
-use Rattle.sdr_model.specs.Zco.{as_source, naming, owned_raw, source_at, space_of, taken_over, uses_of}
+use Rattle.sdr_model.specs.Zco.{as_source, naming, owned_raw, source_at, taken_over, uses_of}
 use Rattle.sdr_model.specs.declared.zco.Capsule.{Capsule}
 use Rattle.sdr_model.specs.declared.zco.Extent.{Extent}
 use Rattle.sdr_model.specs.declared.zco.Subject.{Subject}
 use Rattle.sdr_model.specs.declared.zco.Subject.TheVariants as subjects
 use Rattle.sdr_model.specs.declared.zco.ZcoObject.{ZcoObject}
 use Rattle.sdr_model.specs.declared.zco.ZcoSource.{ZcoSource}
+use Rattle.zco_answers.proofs.AppendLemmas.{same_space}
 use Rattle.zco_answers.proofs.GoneUses.{IsFound, UsedSource, goes, itself, named_later, named_of, some_naming}
-use Rattle.zco_obj.specs.Amounts.{charge_of, medium_space}
+use Rattle.zco_obj.specs.Amounts.{charge_of}
 use Rattle.zco_obj.specs.Destroying.{capsule_charge, gone_object}
 use Rattle.zco_obj.specs.Gone as rows
 use Rattle.zco_obj.specs.Gone.{NamedSource}
 use Rattle.zco_ref.specs.Going as ref
 
--- the medium of a subject tells whether a raw object was taken over, what goes with the source, and where its bytes are
+-- the medium of a subject tells whether a raw object was taken over, and what goes with the source
 pub passing_told : (s : ZcoSource) → ref.is_passing (medium_of s.subject) s.flagged ≡ is_passing s
 passing_told s = ap (λ (b : Bool). b || s.flagged) (by s.subject)
   where
@@ -47,12 +48,6 @@ gone_told addr (subjects.File path) = refl
 gone_told addr (subjects.Bulk item) = refl
 gone_told addr (subjects.Heap raw) = refl
 gone_told addr (subjects.Obj raw) = refl
-
-space_told : (subject : Subject) → medium_space (medium_of subject) ≡ space_of subject
-space_told (subjects.File path) = refl
-space_told (subjects.Bulk item) = refl
-space_told (subjects.Heap raw) = refl
-space_told (subjects.Obj raw) = refl
 
 -- the rows of extents name a source as often
 pub naming_rows : (q : ℕ) (es : List Extent) → rows.naming q (map extent_row es) ≡ naming q es
@@ -136,7 +131,7 @@ module _ (w : World) (all : List Extent) where
         rows.extent_charge sources space (extent_row e) ≡ extent_charge w space e
     extent_same space e f =
         ap (λ (o : Option NamedSource). bytes_charge (rows.space_in o) e.length space) f.is
-        ∙ ap (λ (of : Space). bytes_charge of e.length space) (space_told f.used.source.subject)
+        ∙ ap (λ (of : Space). bytes_charge of e.length space) (same_space f.used.source.subject)
         ∙ ap (λ (o : Option ZcoSource). bytes_charge (space_in o) e.length space)
         (sym (ap (source_at w) (sym f.here) ∙ ap as_source f.used.there))
 

@@ -6,13 +6,9 @@ use Rattle.std.specs.FinMap.{get, remove as lose}
 use Rattle.std.specs.List.{AllByRecursion}
 use Rattle.std.specs.Prelude.{if◌then◌else◌}
 use Rattle.sdr_answers.proofs.EntryLemmas.{source_there}
-use Rattle.sdr_audit.specs.Rows.{source_row}
 use Rattle.sdr_audit.specs.Standing.{thing_entries}
 use Rattle.sdr_audit.specs.Ties.{or_null, ties_of}
-use Rattle.sdr_base.specs.Raws.{raw_entries}
-use Rattle.sdr_base.specs.Sources.{source_entries}
 use Rattle.sdr_base.specs.declared.account.Acct.{Acct}
-use Rattle.sdr_base.specs.declared.account.Acct.TheVariants as accts
 use Rattle.sdr_laws.proofs.DistinctLemmas.{weight}
 use Rattle.sdr_laws.proofs.GoneLaws.{gone_apart, without}
 use Rattle.sdr_laws.proofs.GoneLemmas.{AreApart}
@@ -31,6 +27,7 @@ use Rattle.sdr_model.specs.declared.things.Thing.TheVariants as things
 use Rattle.sdr_model.specs.declared.zco.Extent.{Extent}
 use Rattle.sdr_model.specs.declared.zco.ZcoObject.{ZcoObject}
 use Rattle.sdr_model.specs.declared.zco.ZcoSource.{ZcoSource}
+use Rattle.zco_answers.proofs.AppendLemmas.{written_alike}
 use Rattle.zco_answers.proofs.GoneKeys.{all_part, all_split, each_key, key_things, source_apart}
 use Rattle.zco_answers.proofs.GoneMaps.{here_gone, still_at, was_at}
 use Rattle.zco_answers.proofs.GoneUses.{AreUsed, UsedSource, all_gone, all_keys, keys_at, named_of}
@@ -181,14 +178,9 @@ module _ (w : World) (addr : ℕ) (z : ZcoObject) (there : thing_at w addr ≡ S
 
     -- so things are tied alike but at theirs
     pub tied_alike : (q : ℕ) (x : Thing) → AreApart q keys → thing_entries (ties_of w) q x ≡ thing_entries (ties_of lost) q x
-    tied_alike q (things.Raw bytes) apart = ap (λ (o : Option ℕ). raw_entries q (or_null o) bytes) (sym (source_on_same q apart))
-    tied_alike q (things.Source s) apart =
-        λ i. source_entries q (counts_same q accts.Inbound apart i) (counts_same q accts.Outbound apart i) (source_row s)
-    tied_alike q (things.Text text) apart = refl
-    tied_alike q (things.List list) apart = refl
-    tied_alike q (things.Table table) apart = refl
-    tied_alike q (things.Hash hash) apart = refl
-    tied_alike q (things.Object object) apart = refl
+    tied_alike q x apart =
+        written_alike (ties_of w) (ties_of lost) q x (ap or_null (sym (source_on_same q apart)))
+        (λ acct. counts_same q acct apart)
 
     -- a raw object of one that stays is named by it, and one of a source that went by none
     pub named_still : (raw a : ℕ) (s : ZcoSource) → thing_at lost a ≡ Some (things.Source s) → is_of_raw raw s.subject ≡ true →

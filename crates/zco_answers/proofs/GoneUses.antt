@@ -5,26 +5,24 @@ use Rattle.std.proofs.lemmas.List.Sums.{sum_by-cons}
 use Rattle.std.specs.List.{flat_map}
 use Rattle.std.specs.Option.{option_to_list}
 use Rattle.std.specs.Prelude.{if◌then◌else◌}
-use Rattle.sdr_answers.proofs.ListLemmas.{IsSmall}
-use Rattle.sdr_answers.specs.Answering.{IsServed}
-use Rattle.sdr_audit.specs.Standing.{HeapStandsFor}
-use Rattle.sdr_base.specs.Objects.{Heap}
 use Rattle.sdr_laws.proofs.DistinctLemmas.{weight}
 use Rattle.sdr_laws.proofs.GoneLemmas.{AreApart}
 use Rattle.sdr_laws.proofs.HashShapes.{neither}
-use Rattle.sdr_laws.proofs.SourceViews.{AllLie, by_addr}
-use Rattle.sdr_laws.proofs.ThingLemmas.{source_is}
+use Rattle.sdr_laws.proofs.SourceViews.{AllLie, by_addr, fits_from}
+use Rattle.sdr_laws.proofs.ThingLemmas.{raw_is, source_is}
 use Rattle.sdr_model.specs.Gone.{gone_things, gone_with, is_passing, names_source, source_blocks}
-use Rattle.sdr_model.specs.Valid.{LiesInside}
-use Rattle.sdr_model.specs.World.{World, thing_at}
+use Rattle.sdr_model.specs.Valid.{FitTogether, HasBytes, HasSubject, LiesInside}
+use Rattle.sdr_model.specs.World.{World, as_raw, thing_at}
 use Rattle.sdr_model.specs.Zco.{naming, owned_raw, raw_of, source_at, uses_of}
 use Rattle.sdr_model.specs.declared.things.Thing.TheVariants as things
 use Rattle.sdr_model.specs.declared.zco.Extent.{Extent}
+use Rattle.sdr_model.specs.declared.zco.Subject.{Subject}
+use Rattle.sdr_model.specs.declared.zco.Subject.TheVariants as subjects
 use Rattle.sdr_model.specs.declared.zco.ZcoSource.{ZcoSource}
 use Rattle.zco_answers.proofs.GoneMaps.{AreDistinct}
 use Rattle.zco_obj.specs.Gone as rows
 use Rattle.zco_obj.specs.Gone.{NamedSource}
-use Rattle.zco_served.proofs.SourceLemmas.{IsRawOf, counted_in, source_tied}
+use Rattle.zco_served.proofs.SourceLemmas.{IsRawOf, counted_in}
 
 -- an extent names its source, and those behind it theirs
 pub itself : (e : Extent) (es : List Extent) → names_source e.source (e ∷ es) ≡ true
@@ -52,6 +50,24 @@ some_naming q (e ∷ es) named = by (some_naming q es) (e.source == q) refl name
     by others true is rest = omega (arith, sum_by-cons (λ (x : Extent). weight (x.source == q)) e es, ap weight is)
     by others false is rest =
         omega (arith, others rest, sum_by-cons (λ (x : Extent). weight (x.source == q)) e es, ap weight is)
+
+-- the bytes that are there
+text_of : (length : ℕ) (o : Option (List ℕ)) → HasBytes length o → (text : List ℕ) × (o ≡ Some text)
+text_of length None has = absurd has
+text_of length (Some text) has = (text, refl)
+
+-- the raw object of a subject is there, where it is one
+record HasRaw (w : World) (subject : Subject) : Type 0 where
+  bytes : List ℕ
+  raw : IsRawOf w subject bytes
+
+raw_bytes : (w : World) (length : ℕ) (subject : Subject) → HasSubject w length subject → HasRaw w subject
+raw_bytes w length (subjects.File path) has = record { bytes = []; raw = tt }
+raw_bytes w length (subjects.Bulk item) has = record { bytes = []; raw = tt }
+raw_bytes w length (subjects.Heap raw) has =
+    let t = text_of length (as_raw (thing_at w raw)) has in record { bytes = t.0; raw = raw_is (thing_at w raw) t.0 t.1 }
+raw_bytes w length (subjects.Obj raw) has =
+    let t = text_of length (as_raw (thing_at w raw)) has in record { bytes = t.0; raw = raw_is (thing_at w raw) t.0 t.1 }
 
 -- of a world and extents that go
 module _ (w : World) (all : List Extent) where
@@ -174,8 +190,8 @@ module _ (w : World) (all : List Extent) where
         };
       }
 
-  -- in a heap that stands for the world
-  module _ (heap : Heap) (s : HeapStandsFor heap w) (served : IsServed w) (small : IsSmall heap) where
+  -- in a world whose sources and extents fit each other
+  module _ (fits : FitTogether w) where
     pub used_by : (es : List Extent) → AllLie w.things es → ((q : ℕ) → names_source q es ≡ true → names_source q all ≡ true) →
         UsedBy es
     used_by [] lie part = record {
@@ -191,14 +207,13 @@ module _ (w : World) (all : List Extent) where
         by true named o is inside u = again e es named u
         by false none None is inside u = absurd inside
         by false none (Some source) is inside u =
-            let there = source_is (thing_at w e.source) source is in
-            let tied = source_tied heap w e.source source s served small there in
+            let raw = raw_bytes w source.length source.subject ((fits_from w fits).subjects e.source source is) in
             one_more e es
             (record {
               addr = e.source;
               source = source;
-              bytes = tied.bytes;
-              there = there;
-              raw = tied.raw;
+              bytes = raw.bytes;
+              there = source_is (thing_at w e.source) source is;
+              raw = raw.raw;
               some = part e.source (itself e es);
             }) refl (last_with e es source is none) none u

@@ -1,12 +1,11 @@
 -- The blocks of a world with an object in front, and what they become where it goes.
-use Rattle.std.proofs.Common.{◌≡◌, ◌≢◌, ◌∙◌, ℕ, List, [], ◌∷◌, ◌++◌, map, Some, None, sym, ap, subst, append_assoc, append-nil}
+use Rattle.std.proofs.Common.{◌≡◌, ◌≢◌, ◌∙◌, ℕ, List, [], ◌∷◌, ◌++◌, map, Some, None, sym, ap, subst}
 use Rattle.std.specs.FinMap.{get, remove as lose}
 use Rattle.std.specs.List.{AllByRecursion}
 use Rattle.sdr_audit.specs.Rows.{extent_row, object_row}
-use Rattle.sdr_audit.specs.Standing.{entries_of, other_entries, thing_entries}
+use Rattle.sdr_audit.specs.Standing.{thing_entries}
 use Rattle.sdr_audit.specs.Ties.{ties_of}
-use Rattle.sdr_base.specs.Blocks.{Blocks}
-use Rattle.sdr_base.specs.Entries.{Changes, Entries, Stands}
+use Rattle.sdr_base.specs.Entries.{Entries}
 use Rattle.sdr_base.specs.Section.{section}
 use Rattle.sdr_base.specs.ZcoObjects.{object_entries}
 use Rattle.sdr_laws.proofs.GoneLaws.{change_first, without}
@@ -17,10 +16,10 @@ use Rattle.sdr_model.specs.Valid.{FitTogether}
 use Rattle.sdr_model.specs.World.{World, thing_at}
 use Rattle.sdr_model.specs.declared.things.Thing.TheVariants as things
 use Rattle.sdr_model.specs.declared.zco.ZcoObject.{ZcoObject}
-use Rattle.zco_answers.proofs.DropLemmas.{framed}
+use Rattle.zco_answers.proofs.AlikeLemmas.{StandAlike, section_alike}
 use Rattle.zco_answers.proofs.GoneChanges.{left_all, was_all}
 use Rattle.zco_answers.proofs.GoneKeys.{all_part, each_key, key_things, keys_distinct}
-use Rattle.zco_answers.proofs.GoneMaps.{AreDistinct, all_at, all_back, all_out, all_without, changes_then, none_there, section_same}
+use Rattle.zco_answers.proofs.GoneMaps.{AreDistinct, all_at, all_out, all_without, none_there, there_apart}
 use Rattle.zco_answers.proofs.GoneTies.{addr_apart, lost_none, lost_world, source_away, tied_alike}
 use Rattle.zco_answers.proofs.GoneUses.{AreUsed, UsedSource, all_gone, all_keys, named_of}
 use Rattle.zco_answers.proofs.MovingLemmas.{entries_at}
@@ -37,8 +36,8 @@ module _ (w : World) (addr : ℕ) (z : ZcoObject) (there : thing_at w addr ≡ S
   keys = all_keys w z.extents us
 
   -- their blocks
-  abbrev pub own : Entries
-  own = object_entries addr (object_row z) ++ sources_entries (map (named_of w z.extents) us)
+  abbrev pub own_blocks : Entries
+  own_blocks = object_entries addr (object_row z) ++ sources_entries (map (named_of w z.extents) us)
 
   -- the things beside them, and their blocks
   abbrev pub others : Things
@@ -54,21 +53,13 @@ module _ (w : World) (addr : ℕ) (z : ZcoObject) (there : thing_at w addr ≡ S
     keys_distinct w z.extents fits us are.distinct,
   )
 
-  out : {b : Blocks} → Changes b b (section (thing_entries (ties_of w)) w.things) (own ++ beside)
-  out {b} =
-      let was : all_at (ties_of w) w.things (addr ∷ keys) ≡ own =
+  -- may stand in front of all others
+  pub own_first : StandAlike (section (thing_entries (ties_of w)) w.things) (own_blocks ++ beside)
+  own_first =
+      let was : all_at (ties_of w) w.things (addr ∷ keys) ≡ own_blocks =
       λ i. entries_at (ties_of w) addr (there i) ++ was_all w z.extents fits us i in
-      subst (λ (es : Entries). Changes b b (section (thing_entries (ties_of w)) w.things) (es ++ beside)) was
+      subst (λ (es : Entries). StandAlike (section (thing_entries (ties_of w)) w.things) (es ++ beside)) was
       (all_out (ties_of w) w.things (addr ∷ keys) distinct)
-
-  -- stand in front of all others
-  pub own_first : {b : Blocks} → Stands b (entries_of w) → Stands b (own ++ (beside ++ other_entries w))
-  own_first {b} s =
-      let all = section (thing_entries (ties_of w)) w.things in
-      subst (λ (es : Entries). Stands b es)
-      (append-nil ((own ++ beside) ++ other_entries w) ∙ append_assoc own beside (other_entries w))
-      ((framed all (own ++ beside) (other_entries w) out).kept []
-      (subst (λ (es : Entries). Stands b es) (sym (append-nil (entries_of w))) s))
 
   -- where sources and extents still fit each other
   module _ (fits' : FitTogether (lost_world w addr z)) where
@@ -93,21 +84,15 @@ module _ (w : World) (addr : ℕ) (z : ZcoObject) (there : thing_at w addr ≡ S
     beside_same : section (thing_entries (ties_of lost)) (without lost.things keys) ≡ beside
     beside_same =
         ap (section (thing_entries (ties_of lost))) others_left
-        ∙ sym (section_same (ties_of w) (ties_of lost) keys (tied_alike w addr z there fits us are fits') others
-        (none_there (lose w.things addr) keys))
+        ∙ sym (section_alike (thing_entries (ties_of w)) (thing_entries (ties_of lost)) others
+        (λ q x is.
+        tied_alike w addr z there fits us are fits' q x
+        (there_apart others keys q x (none_there (lose w.things addr) keys) is)))
 
-    back : {b : Blocks} → Changes b b (sources_left z.account (map extent_row z.extents) (map (named_of w z.extents) us) ++ beside)
-        (section (thing_entries (ties_of lost)) lost.things)
-    back {b} =
+    -- so may what is left of the sources in the world without it
+    pub left_first : StandAlike (section (thing_entries (ties_of lost)) lost.things)
+        (sources_left z.account (map extent_row z.extents) (map (named_of w z.extents) us) ++ beside)
+    left_first =
         let left = left_all w addr z there fits us are fits' us gone_none in
-        subst (λ (es : Entries). Changes b b es (section (thing_entries (ties_of lost)) lost.things))
-        (λ i. left i ++ beside_same i) (all_back (ties_of lost) lost.things keys distinct.1)
-
-    -- so the world's blocks become those of the world without it
-    pub world_changes : {b b' : Blocks} →
-        Changes b b' own (sources_left z.account (map extent_row z.extents) (map (named_of w z.extents) us)) →
-        Changes b b' (entries_of w) (entries_of lost)
-    world_changes {b} {b'} c =
-        let left = sources_left z.account (map extent_row z.extents) (map (named_of w z.extents) us) in
-        framed (section (thing_entries (ties_of w)) w.things) (section (thing_entries (ties_of lost)) lost.things) (other_entries w)
-        (changes_then out (changes_then (framed own left beside c) back))
+        subst (λ (es : Entries). StandAlike (section (thing_entries (ties_of lost)) lost.things) es)
+        (λ i. left i ++ beside_same i) (all_out (ties_of lost) lost.things keys distinct.1)

@@ -1,3 +1,5 @@
+pub mod FewLemmas
+pub mod AlikeLemmas
 pub mod ObjectLemmas
 mod ReadingCalls
 pub mod MovingLemmas
@@ -7,6 +9,12 @@ pub mod PayingLemmas
 mod CreateCalls
 pub mod TextLemmas
 mod CapsuleCalls
+pub mod AppendLemmas
+pub mod AppendSources
+mod AppendSourceCalls
+pub mod AppendRaws
+mod AppendRawCalls
+mod AppendCalls
 pub mod LosingLemmas
 pub mod DropLemmas
 mod DiscardCalls
@@ -21,5 +29,6 @@ pub mod GoneChanges
 pub mod GoneWorlds
 pub mod GoneLosses
 pub mod DestroyKept
+pub mod DestroyedFew
 pub mod DestroyLeft
 mod DestroyCalls

@@ -24,6 +24,7 @@ use Rattle.sdr_model.specs.World.{World, thing_at}
 use Rattle.sdr_model.specs.declared.accounts.Ticket.{Ticket}
 use Rattle.sdr_model.specs.declared.things.Thing.{Thing}
 use Rattle.zco_acct.specs.Kept.{queue_entries}
+use Rattle.zco_answers.proofs.AlikeLemmas.{StandAlike, is_alike, was_alike}
 use Rattle.zco_granted.proofs.AccountLemmas.{account_with, world_with}
 use Rattle.zco_granted.proofs.QueueLemmas.{same_entries}
 
@@ -52,7 +53,7 @@ abbrev pub entries_at : Ties → ℕ → Option Thing → Entries
 entries_at ties addr None = []
 entries_at ties addr (Some thing) = thing_entries ties addr thing
 
-pub section_at : (ties : Ties) (m : Things) (addr : ℕ) (was now : Option Thing) → finite.get m addr ≡ was →
+section_at : (ties : Ties) (m : Things) (addr : ℕ) (was now : Option Thing) → finite.get m addr ≡ was →
     Swaps (section (thing_entries ties) m) (section (thing_entries ties) (with_at m addr now)) (entries_at ties addr was)
     (entries_at ties addr now)
 section_at ties m addr None None is = record {
@@ -109,31 +110,44 @@ queue_swap w acct ts =
 abbrev pub moved : World → Things → Acct → List Ticket → World
 moved w m acct ts = world_with (record w { things = m }) acct (account_with w acct ts) w.accounts.next
 
--- its blocks, where a part of the things and the queue change
+-- its blocks, where some that may stand in front of the other things' and the queue change
+pub both_alike : {b b' : Blocks} (w : World) (m : Things) (acct : Acct) (ts : List Ticket) (part part' rest : Entries) →
+    StandAlike (section (thing_entries (ties_of w)) w.things) (part ++ rest) →
+    StandAlike (section (thing_entries (ties_of (record w { things = m }))) m) (part' ++ rest) →
+    Changes b b' (part ++ queue_entries acct (tickets_of w.accounts acct)) (part' ++ queue_entries acct ts) →
+    Changes b b' (entries_of w) (entries_of (moved w m acct ts))
+both_alike {b} {b'} w m acct ts part part' rest was now changes = record { kept = λ tail s. by acct tail s changes }
+  where
+    part_swap : Swaps (part ++ rest) (part' ++ rest) part part'
+    part_swap = record { before = []; behind = rest; was = refl; is = refl }
+
+    first : (tail : Entries) → Stands b (entries_of w ++ tail) → Stands b ((part ++ rest) ++ (other_entries w ++ tail))
+    first tail s =
+        was.forth b (other_entries w ++ tail)
+        (subst (λ (es : Entries). Stands b es)
+        (append_assoc (section (thing_entries (ties_of w)) w.things) (other_entries w) tail) s)
+
+    last : (others tail : Entries) → Stands b' ((part' ++ rest) ++ (others ++ tail)) →
+        Stands b' ((section (thing_entries (ties_of (record w { things = m }))) m ++ others) ++ tail)
+    last others tail s =
+        subst (λ (es : Entries). Stands b' es)
+        (sym (append_assoc (section (thing_entries (ties_of (record w { things = m }))) m) others tail))
+        (now.back b' (others ++ tail) s)
+
+    by : (a : Acct) (tail : Entries) → Stands b (entries_of w ++ tail) →
+        Changes b b' (part ++ queue_entries a (tickets_of w.accounts a)) (part' ++ queue_entries a ts) →
+        Stands b' (entries_of (moved w m a ts) ++ tail)
+    by accts.Inbound tail s changes =
+        last (other_entries (moved w m accts.Inbound ts)) tail
+        (stands_swapped_two (first tail s) part_swap (swaps_before tail (queue_swap w accts.Inbound ts)) changes)
+    by accts.Outbound tail s changes =
+        last (other_entries (moved w m accts.Outbound ts)) tail
+        (stands_swapped_two (first tail s) part_swap (swaps_before tail (queue_swap w accts.Outbound ts)) changes)
+
+-- so it is where a part of the things and the queue change
 pub both_change : {b b' : Blocks} {was now : Entries} (w : World) (m : Things) (acct : Acct) (ts : List Ticket) →
     Swaps (section (thing_entries (ties_of w)) w.things) (section (thing_entries (ties_of (record w { things = m }))) m) was now →
     Changes b b' (was ++ queue_entries acct (tickets_of w.accounts acct)) (now ++ queue_entries acct ts) →
     Changes b b' (entries_of w) (entries_of (moved w m acct ts))
-both_change {b} {b'} {was} {now} w m acct ts swap changes = record { kept = λ rest s. by acct rest s swap changes }
-  where
-    by : (a : Acct) (rest : Entries) → Stands b (entries_of w ++ rest) →
-        Swaps (section (thing_entries (ties_of w)) w.things)
-        (section (thing_entries (ties_of (record w { things = m }))) m) was now →
-        Changes b b' (was ++ queue_entries a (tickets_of w.accounts a)) (now ++ queue_entries a ts) →
-        Stands b' (entries_of (moved w m a ts) ++ rest)
-    by accts.Inbound rest s swap changes =
-        subst (λ (es : Entries). Stands b' es)
-        (sym (append_assoc (section (thing_entries (ties_of (record w { things = m }))) m)
-        (other_entries (moved w m accts.Inbound ts)) rest))
-        (stands_swapped_two
-        (subst (λ (es : Entries). Stands b es)
-        (append_assoc (section (thing_entries (ties_of w)) w.things) (other_entries w) rest) s) swap
-        (swaps_before rest (queue_swap w accts.Inbound ts)) changes)
-    by accts.Outbound rest s swap changes =
-        subst (λ (es : Entries). Stands b' es)
-        (sym (append_assoc (section (thing_entries (ties_of (record w { things = m }))) m)
-        (other_entries (moved w m accts.Outbound ts)) rest))
-        (stands_swapped_two
-        (subst (λ (es : Entries). Stands b es)
-        (append_assoc (section (thing_entries (ties_of w)) w.things) (other_entries w) rest) s) swap
-        (swaps_before rest (queue_swap w accts.Outbound ts)) changes)
+both_change {was = was} {now = now} w m acct ts swap changes =
+    both_alike w m acct ts was now (swap.before ++ swap.behind) (was_alike swap) (is_alike swap) changes

@@ -1,7 +1,8 @@
 -- Objects of a world in blocks, alone and together with the queue of their account.
-use Rattle.std.proofs.Common.{◌≡◌, ◌∙◌, ◌+◌, ◌≤◌, ◌<◌, ◌^◌, ◌++◌, ℕ, List, [], ◌∷◌, Option, Some, None, map, refl, ap, subst, arith}
-use Rattle.std.proofs.lemmas.List.{length-append}
+use Rattle.std.proofs.Common.{◌≡◌, ◌∙◌, ◌+◌, ◌≤◌, ◌<◌, ◌^◌, ◌++◌, ℕ, List, [], ◌∷◌, Option, Some, None, map, refl, ap, subst, arith, append_assoc}
+use Rattle.std.proofs.lemmas.List.{length-map}
 use Rattle.std.proofs.lemmas.List.Elements.{All-cons, All-nil, recursion_from_All}
+use Rattle.std.specs.FinMap as finite
 use Rattle.std.specs.List.{AllByRecursion}
 use Rattle.std.specs.Prelude.{All, IfSome}
 use Rattle.sdr_answers.proofs.KindLemmas.{own_in_use, thing_is_at}
@@ -9,12 +10,13 @@ use Rattle.sdr_answers.proofs.ListLemmas.{IsSmall}
 use Rattle.sdr_answers.specs.Answering.{IsServed}
 use Rattle.sdr_audit.proofs.ChangeLemmas.{apart}
 use Rattle.sdr_audit.specs.Rows.{capsule_row, extent_row, object_row}
-use Rattle.sdr_audit.specs.Standing.{HeapStandsFor}
-use Rattle.sdr_audit.specs.Ties.{TieAlike}
-use Rattle.sdr_base.proofs.LinkedLemmas.{length-linked}
+use Rattle.sdr_audit.specs.Standing.{HeapStandsFor, other_entries, thing_entries}
+use Rattle.sdr_audit.specs.Ties.{ties_of}
 use Rattle.sdr_base.specs.Blocks.{IsKind}
+use Rattle.sdr_base.specs.Entries.{Entries, Swaps}
 use Rattle.sdr_base.specs.Objects.{Heap}
-use Rattle.sdr_base.specs.ZcoObjects.{capsule_addr, capsule_block, capsule_entries, extent_addr, extent_block, extent_entries, object_entries}
+use Rattle.sdr_base.specs.Section.{section}
+use Rattle.sdr_base.specs.ZcoObjects.{object_entries}
 use Rattle.sdr_base.specs.declared.kind.Kind.TheVariants as kinds
 use Rattle.sdr_laws.proofs.SourceViews.{fits_from}
 use Rattle.sdr_laws.proofs.ThingLemmas.{source_is}
@@ -32,9 +34,12 @@ use Rattle.sdr_model.specs.declared.zco.Capsule.{Capsule}
 use Rattle.sdr_model.specs.declared.zco.Extent.{Extent}
 use Rattle.sdr_model.specs.declared.zco.ZcoObject.{ZcoObject}
 use Rattle.sdr_model.specs.declared.zco.ZcoSource.{ZcoSource}
-use Rattle.zco_answers.proofs.MovingLemmas.{both_focused, queue_swap, things_swap}
+use Rattle.zco_answers.proofs.AlikeLemmas.{StandAlike, one_first}
+use Rattle.zco_answers.proofs.FewLemmas.{few_blocks}
+use Rattle.zco_answers.proofs.MovingLemmas.{both_focused, queue_swap}
 use Rattle.zco_granted.proofs.ComingLemmas.{tickets_kept}
 use Rattle.zco_granted.proofs.QueueLemmas.{queue_kept}
+use Rattle.zco_obj.specs.Beside.{KeepsBeside}
 use Rattle.zco_obj.specs.Kept.{CapsuleFits, ExtentFits, KeepsObject, KeepsWithQueue, ObjectFits, parts_of}
 
 -- the rows of headers and trailers fit
@@ -58,7 +63,7 @@ pub record IsObjectAt (w : World) (addr : ℕ) : Type 0 where
 -- in a heap that stands for a world in which calls are served
 module _ (heap : Heap) (w : World) (s : HeapStandsFor heap w) (served : IsServed w) (small : IsSmall heap) where
   -- each source is short
-  short_source : (q : ℕ) (source : ZcoSource) → source_at w q ≡ Some source → source.length ≤ longest_source
+  pub short_source : (q : ℕ) (source : ZcoSource) → source_at w q ≡ Some source → source.length ≤ longest_source
   short_source q source is =
       let valid = subst (λ (o : Option Thing). IfSome o IsValidThing) (source_is (thing_at w q) source is)
       (served.whole.valid.things q) in
@@ -85,23 +90,15 @@ module _ (heap : Heap) (w : World) (s : HeapStandsFor heap w) (served : IsServed
   -- an object has few parts
   few_parts : (addr : ℕ) (z : ZcoObject) → thing_at w addr ≡ Some (things.Object z) → parts_of (object_row z) < 2 ^ 22
   few_parts addr z there =
-      let row = object_row z in
-      let a = apart addr (things.Object z) s there in
-      let headers = capsule_entries row.headers in
-      let extents = extent_entries row.extents in
-      let trailers = capsule_entries row.trailers in
-      let all = small.few.few (object_entries addr row ++ a.rest) a.stands in
+      let few = few_blocks heap w addr z s small.few there in
       let most = small.small in
       omega (
         arith,
-        all,
+        few,
         most,
-        length-append (headers ++ extents ++ trailers) a.rest,
-        length-append (headers ++ extents) trailers,
-        length-append headers extents,
-        length-linked capsule_addr capsule_block 0 0 row.headers,
-        length-linked extent_addr extent_block 0 0 row.extents,
-        length-linked capsule_addr capsule_block 0 0 row.trailers,
+        length-map z.headers capsule_row,
+        length-map z.extents extent_row,
+        length-map z.trailers capsule_row,
       )
 
   -- its numbers fit
@@ -150,21 +147,35 @@ no_object heap w addr s valid other = by (thing_at w addr) refl
     by None at = refl
     by (Some thing) at = refl
 
--- an object is kept together with the queue of its account
+-- an object is kept together with the queue of its account, and beside it what may stand behind it before all other things
+pub object_beside : (heap : Heap) (w : World) (addr : ℕ) (z : ZcoObject) → HeapStandsFor heap w → IsServed w → IsSmall heap →
+    thing_at w addr ≡ Some (things.Object z) → (es rest : Entries) →
+    StandAlike (section (thing_entries (ties_of w)) w.things) (object_entries addr (object_row z) ++ (es ++ rest)) →
+    KeepsBeside heap addr (object_row z) (tickets_of w.accounts z.account) es
+object_beside heap w addr z s served small there es rest alike =
+    let ts = tickets_of w.accounts z.account in
+    let k = queue_kept z.account s (tickets_kept served) in
+    let queue = queue_swap w z.account ts in
+    let own = object_entries addr (object_row z) in
+    let first : Swaps (own ++ (es ++ rest)) (own ++ (es ++ rest)) own own =
+    record { before = []; behind = es ++ rest; was = refl; is = refl } in
+    record {
+      keeps = record {
+        rest = _;
+        stands = both_focused first queue (alike.forth heap.blocks (other_entries w) s.blocks);
+        fits = object_fits heap w s served small addr z there;
+        first = k.first;
+        last = k.last;
+        tickets_fit = k.fits;
+      };
+      behind = rest ++ (queue.before ++ queue.behind);
+      whole = append_assoc (es ++ rest) queue.before queue.behind ∙ append_assoc es rest (queue.before ++ queue.behind);
+    }
+
+-- so it is kept together with the queue
 pub object_with_queue : (heap : Heap) (w : World) (addr : ℕ) (z : ZcoObject) → HeapStandsFor heap w → IsServed w → IsSmall heap →
     thing_at w addr ≡ Some (things.Object z) →
     KeepsWithQueue heap addr (object_row z) (tickets_of w.accounts z.account)
 object_with_queue heap w addr z s served small there =
-    let ts = tickets_of w.accounts z.account in
-    let k = queue_kept z.account s (tickets_kept served) in
-    let alike : TieAlike (Some (things.Object z)) (Some (things.Object z)) =
-    record { raws = λ raw. refl; sources = λ source acct. refl } in
-    record {
-      rest = _;
-      stands = both_focused (things_swap w addr (Some (things.Object z)) (Some (things.Object z)) there alike)
-          (queue_swap w z.account ts) s.blocks;
-      fits = object_fits heap w s served small addr z there;
-      first = k.first;
-      last = k.last;
-      tickets_fit = k.fits;
-    }
+    (object_beside heap w addr z s served small there [] (section (thing_entries (ties_of w)) (finite.remove w.things addr))
+    (one_first (thing_entries (ties_of w)) w.things addr (things.Object z) there)).keeps

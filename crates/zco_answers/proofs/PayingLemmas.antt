@@ -1,5 +1,5 @@
 -- What a heap that stands for a world comes to where an account is charged, or given back, for its objects.
-use Rattle.std.proofs.Common.{◌≡◌, ◌∙◌, ◌+◌, ◌++◌, ℕ, List, [], ◌∷◌, false, true≢false, inr, refl, sym, ap, arith}
+use Rattle.std.proofs.Common.{◌≡◌, ◌∙◌, ◌+◌, ◌++◌, ◌⊎◌, ℕ, List, [], ◌∷◌, false, true, true≢false, inl, inr, refl, sym, ap, arith}
 use Rattle.sdr_answers.proofs.RowLemmas.{TakesAim}
 use Rattle.sdr_answers.specs.Answering.{IsRefused}
 use Rattle.sdr_audit.specs.Standing.{HeapStandsFor, entries_of, with_taken_marked}
@@ -22,8 +22,12 @@ use Rattle.sdr_model.specs.Accounts.{tickets_of}
 use Rattle.sdr_model.specs.Amounts.{amount, amounts_by, minus}
 use Rattle.sdr_model.specs.Charges.{left_in, occupancy}
 use Rattle.sdr_model.specs.Reading.{is_reading}
+use Rattle.sdr_model.specs.Rows.{ByRow}
+use Rattle.sdr_model.specs.Step.{Stops, is_answer}
 use Rattle.sdr_model.specs.Things.{Things}
 use Rattle.sdr_model.specs.World.{World}
+use Rattle.sdr_model.specs.declared.answer.Reply.{Reply}
+use Rattle.sdr_model.specs.declared.answer.Reply.TheVariants as replies
 use Rattle.sdr_model.specs.declared.call.Call.{Call}
 use Rattle.zco_acct.specs.Charges.{charged}
 use Rattle.zco_acct.specs.Refusals.{charge_refusal}
@@ -34,7 +38,8 @@ use Rattle.zco_answers.proofs.MovingLemmas.{moved}
 use Rattle.zco_granted.proofs.OccupiedLemmas.{occupied_with}
 use Rattle.zco_granted.proofs.QueueLemmas.{maxima_are, occupied_is}
 use Rattle.zco_obj.proofs.OccupancyLaws.{occupied_charged}
-use Rattle.zco_obj.specs.Charging.{LacksRoom, Pays, occupied_then, refusal_in}
+use Rattle.zco_obj.specs.AppendStops.{LacksRooms, LacksSecond}
+use Rattle.zco_obj.specs.Charging.{LacksBlock, LacksRoom, Pays, occupied_then, refusal_in}
 
 -- a heap that stands for a world
 module _ {heap : Heap} {w : World} (acct : Acct) (s : HeapStandsFor heap w) where
@@ -120,3 +125,54 @@ room_refused w call need old new was (refusals.LogFull lines room) changing aim 
   gave = refl;
 }
 room_refused w call need old new was refusal changing aim unmoved s = absurd s
+
+-- the row of a call would answer it with two moves that take blocks of these needs, wherever they are
+pub record TakesTwo (w : World) (call : Call) (first second : ℕ) : Type 0 where
+  pub after : ℕ → ℕ → World
+  pub reply : Reply
+  pub row : (addr next : ℕ) →
+      ByRow w (record { moves = Took first addr ∷ Took second next ∷ []; after = after addr next; reply = reply }) call
+  pub answered : is_answer reply ≡ true
+
+-- so is one that wants two blocks
+pub rooms_refused : (w : World) (call : Call) (first second : ℕ) (old new : Heap) (was : List ℕ) (refusal : Refusal) →
+    is_reading call ≡ false → TakesTwo w call first second → old.moves ≡ [] →
+    LacksRooms first second old new (stops.Refused refusal) → IsRefused w call old new was was refusal
+rooms_refused w call first second old new was (refusals.NoBlock missing) changing aim unmoved s =
+    record { step = inr (by s); left = λ reads. absurd (true≢false (sym reads ∙ changing)); gave = refl }
+  where
+    by : LacksBlock first missing old new ⊎ LacksSecond first second missing old new →
+        Stops w (record { moves = new.moves; after = w; reply = replies.Refused (refusals.NoBlock missing) }) call
+    by (inl l) = record {
+      aim = _;
+      row = aim.row 0 0;
+      answered = aim.answered;
+      stopped = record {
+        done = [];
+        addr = 0;
+        rest = Took second 0 ∷ [];
+        whole = sym (ap (λ (n : ℕ). Took n 0 ∷ Took second 0 ∷ []) l.is);
+        short = l.moves ∙ ap (λ (ms : List Move). ms ++ Short first ∷ []) unmoved ∙ sym (ap (λ (n : ℕ). Short n ∷ []) l.is);
+      };
+      same = refl;
+    }
+    by (inr l) = record {
+      aim = _;
+      row = aim.row l.addr 0;
+      answered = aim.answered;
+      stopped = record {
+        done = Took first l.addr ∷ [];
+        addr = 0;
+        rest = [];
+        whole = sym (ap (λ (n : ℕ). Took first l.addr ∷ Took n 0 ∷ []) l.is);
+        short = l.moves ∙ ap (λ (ms : List Move). ms ++ (Took first l.addr ∷ Short second ∷ [])) unmoved
+            ∙ sym (ap (λ (n : ℕ). Took first l.addr ∷ Short n ∷ []) l.is);
+      };
+      same = refl;
+    }
+rooms_refused w call first second old new was (refusals.LogFull lines room) changing aim unmoved s = record {
+  step = (record { to = _; row = aim.row 0 0; answered = aim.answered }, changing);
+  left = λ reads. absurd (true≢false (sym reads ∙ changing));
+  gave = refl;
+}
+rooms_refused w call first second old new was refusal changing aim unmoved s = absurd s

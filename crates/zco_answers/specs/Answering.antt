@@ -1,5 +1,5 @@
 -- The calls on zero-copy objects, and what they ask for of a heap.
-use Rattle.std.specs.Prelude.{◌+◌, ◌*◌, ◌/◌, ℕ, Bool, true, false, length}
+use Rattle.std.specs.Prelude.{◌+◌, ◌*◌, ◌/◌, ℕ, Bool, true, false, length, is_some, if◌then◌else◌}
 use Rattle.std.specs.Option.{option_map_or}
 use Rattle.sdr_base.specs.Objects.{Heap}
 use Rattle.sdr_lock.specs.Demand.{grants_between}
@@ -9,25 +9,29 @@ use Rattle.sdr_model.specs.Queue.{with_served}
 use Rattle.sdr_model.specs.RowMoves.{destroyed_blocks}
 use Rattle.sdr_model.specs.Steps.{without_thing}
 use Rattle.sdr_model.specs.World.{World}
-use Rattle.sdr_model.specs.Zco.{object_at}
+use Rattle.sdr_model.specs.Zco.{object_at, source_at}
 use Rattle.sdr_model.specs.declared.call.Call.{Call}
 use Rattle.sdr_model.specs.declared.call.Call.TheVariants as calls
 use Rattle.sdr_model.specs.declared.zco.ZcoObject.{ZcoObject}
 use Rattle.zco_answers.specs.Destroying.{IsWithAll}
 use Rattle.zco_granted.specs.Answering as tickets
+use Rattle.zco_obj.specs.Beside.{IsWithRaw, IsWithSource}
 use Rattle.zco_obj.specs.Kept.{IsObject, IsWithQueue}
 
--- What is of the kind of objects is kept, alone, together with the queue of its account, and with its sources too; and so are
--- the queues.
+-- What is of the kind of objects is kept: alone; together with the queue of its account; so with whatever is of the kind of
+-- sources or of raw objects beside it; and so with all sources that its extents name. And the queues are kept.
 pub record IsGood (heap : Heap) : Type 0 where
   pub queues : tickets.IsGood heap
   pub objects : (addr : ℕ) → IsObject heap.blocks addr
   pub with_queues : (addr : ℕ) → IsWithQueue heap addr
+  pub with_sources : (addr source : ℕ) → IsWithSource heap addr source
+  pub with_raws : (addr raw : ℕ) → IsWithRaw heap addr raw
   pub with_all : (addr : ℕ) → IsWithAll heap addr
 
 -- whether the call is one on zero-copy objects
 abbrev pub is_object_call : Call → Bool
 is_object_call (calls.Create acct ticket) = true
+is_object_call (calls.AppendExtent object ticket named offset bytes) = true
 is_object_call (calls.PrependHeader object ticket text) = true
 is_object_call (calls.AppendTrailer object ticket text) = true
 is_object_call (calls.DiscardFirstHeader object) = true
@@ -64,6 +68,7 @@ grants_of w call = grants_between w (left_by w call)
 -- that goes where an object is destroyed
 abbrev pub call_lines : World → Call → ℕ
 call_lines w (calls.Create acct ticket) = 34
+call_lines w (calls.AppendExtent object ticket named offset bytes) = if is_some (source_at w named) then 42 else 73
 call_lines w (calls.PrependHeader object ticket text) = 35 + (8 + length text) / 32
 call_lines w (calls.AppendTrailer object ticket text) = 35 + (8 + length text) / 32
 call_lines w (calls.DiscardFirstHeader object) = 31 + 32 * grants_of w (calls.DiscardFirstHeader object)

@@ -8,6 +8,7 @@ ghost use Rattle.sdr_model.specs.Fields.{FitsCall};
 ghost use Rattle.sdr_model.specs.World.{World};
 ghost use Rattle.zco_answers.specs.Answering.{IsGood, call_lines, is_object_call};
 
+use crate::appending::append_extent;
 use crate::capsules::{append_trailer, discard_first_header, discard_last_trailer, prepend_header};
 use crate::destroying::destroy;
 use crate::objects::{create, length, source_length};
@@ -23,6 +24,7 @@ pub fn is_object_call(call: &Call) -> bool
     matches!(
         call,
         Call::Create(_, _)
+            | Call::AppendExtent(_, _, _, _, _)
             | Call::PrependHeader(_, _, _)
             | Call::AppendTrailer(_, _, _)
             | Call::DiscardFirstHeader(_)
@@ -52,6 +54,9 @@ pub fn answer<O: Objects, F: Notify>(
 {
     match call {
         Call::Create(acct, ticket) => create(o, *acct, *ticket, page),
+        Call::AppendExtent(object, ticket, named, offset, bytes) => {
+            append_extent(o, *object, *ticket, *named, *offset, *bytes, page)
+        }
         Call::PrependHeader(object, ticket, text) => {
             prepend_header(o, *object, *ticket, text.as_slice(), page)
         }

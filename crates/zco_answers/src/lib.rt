@@ -2,11 +2,12 @@
 //!
 //! 1. Each call is a step of the machine on the world that the blocks stand for, whatever that has.
 //! 2. A call that takes from an object serves its account's queue itself: that is part of its step.
-//! 3. Objects, the sources that their extents name, and the queues of their accounts are kept
-//!    wherever a heap stands for such a world.
+//! 3. Objects are kept, with the queues of their accounts, with what they name and with what they
+//!    may name, wherever a heap stands for such a world.
 #![tactic(auto)]
 
 mod answering;
+mod appending;
 mod capsules;
 mod destroying;
 mod objects;

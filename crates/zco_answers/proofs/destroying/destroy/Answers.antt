@@ -11,7 +11,7 @@ use Rattle.sdr_base.specs.declared.kind.Kind.TheVariants as kinds
 use Rattle.sdr_model.specs.declared.answer.Reply.TheVariants as replies
 use Rattle.sdr_model.specs.declared.call.Call.TheVariants as calls
 use Rattle.zco_answers.proofs.DestroyCalls.{destroyed, gone, keeps, lines_enough, lost, lost_keeps, lost_stands, misnamed, object, rows, undestroyed, unserved}
-use Rattle.zco_answers.proofs.DestroyLeft.{alone, queue_left, with_sources}
+use Rattle.zco_answers.proofs.DestroyLeft.{alone, queue_left, sources_kept, with_sources}
 use Rattle.zco_answers.proofs.ObjectLemmas.{object_is_at}
 use Rattle.zco_obj.specs.Destroying.{DestroyStops}
 use Rattle.zco_answers.proofs.destroying.destroy.Goals as goal
@@ -57,6 +57,12 @@ returns-in_err-destroy-clause-comes g c =
     comes_stopped call old new page c.in_err-destroy.field-0.0 (DestroyStops c.args.object old new) stops
     (λ w refusal stands served m. undestroyed old w c.requires.unmoved stands served small c.args.object new page refusal m) in
     search rules
+
+pub serve-requires-clause-kept : goal.serve-requires-clause-kept
+serve-requires-clause-kept g c =
+    let k = c.requires.object c.in_ok-expect_kind.ensures.found in
+    let works = rw (c.account.ensures.looks.same, c.expect_kind.ensures.looks.same) at c.in_ok-destroy.ensures.works in
+    (works k.row k.sources (sources_kept k)).kept
 
 pub serve-requires-clause-queue : goal.serve-requires-clause-queue
 serve-requires-clause-queue g c =

@@ -1,6 +1,0 @@
-mod OneListLemmas
-mod StringLemmas
-mod TableLemmas
-mod HashLemmas
-mod NameLemmas
-mod RawLemmas

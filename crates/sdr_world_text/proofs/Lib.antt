@@ -1,0 +1,4 @@
+pub mod ChargeLemmas
+pub mod ExampleLemmas
+pub mod PartLemmas
+pub mod TiedLemmas
