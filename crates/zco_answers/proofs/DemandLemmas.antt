@@ -1,26 +1,30 @@
 -- How many lines a call may touch by what it asks.
 use Rattle.std.proofs.Common.{◌≡◌, ◌∙◌, ◌≤◌, ◌+◌, ℕ, List, [], true, true≢false, length, inl, refl, sym, ap, arith}
+use Rattle.std.proofs.lemmas.List.{length-map}
 use Rattle.std.specs.Option.{option_map_or}
 use Rattle.std.specs.Prelude.{Option, None, Some, is_some, slice_get, slice_index, if◌then◌else◌}
 use Rattle.sdr_base.specs.declared.moves.Move.{Move}
+use Rattle.sdr_base.specs.declared.moves.Move.TheVariants.{Gave}
 use Rattle.sdr_base.specs.declared.refusal.Refusal.{Refusal}
 use Rattle.sdr_laws.proofs.StepLemmas.{moves_are_the_rows}
 use Rattle.sdr_lock.specs.Demand.{Demand, bytes_taken, bytes_written, demand_after, grants_between, most_lines}
+use Rattle.sdr_model.specs.Gone.{gone_things, without_things}
 use Rattle.sdr_model.specs.ObjectSteps as object
 use Rattle.sdr_model.specs.Queue.{with_served}
 use Rattle.sdr_model.specs.Reading.{is_reading}
-use Rattle.sdr_model.specs.RowMoves.{append_moves, row_moves}
+use Rattle.sdr_model.specs.RowMoves.{append_moves, destroyed_blocks, row_moves}
 use Rattle.sdr_model.specs.Rows.{ByRow}
 use Rattle.sdr_model.specs.Step.{is_answer}
-use Rattle.sdr_model.specs.Steps.{Outcome, On, Refuses, taken_addresses}
+use Rattle.sdr_model.specs.Steps.{Does, On, Outcome, Refuses, gave, taken_addresses, without_thing}
 use Rattle.sdr_model.specs.World.{World}
 use Rattle.sdr_model.specs.Zco.{object_at, source_at}
+use Rattle.sdr_model.specs.declared.answer.Reply.TheVariants as replies
 use Rattle.sdr_model.specs.declared.call.Call.{Call}
 use Rattle.sdr_model.specs.declared.call.Call.TheVariants as calls
 use Rattle.sdr_model.specs.declared.zco.Capsule.{Capsule}
 use Rattle.sdr_model.specs.declared.zco.ZcoObject.{ZcoObject}
 use Rattle.sdr_model.specs.declared.zco.ZcoSource.{ZcoSource}
-use Rattle.zco_answers.specs.Answering.{call_lines, is_object_call, left_with}
+use Rattle.zco_answers.specs.Answering.{call_lines, is_object_call, left_with, left_without}
 
 -- what is refused is no answer
 unrefused : {w : World} {o : Outcome} {refusal : Refusal} → Refuses w o refusal → is_answer o.reply ≡ true → ⊥
@@ -51,6 +55,23 @@ has_lost w addr pick without o row answered = by (object_at w addr) refl row
         On w o addr x (λ z. object.Discards w o addr z (pick z) (without z)) → HasLost w addr without o
     by None is row = absurd (unrefused row answered)
     by (Some z) is row = picked z is (pick z) row
+
+-- an object went
+has_gone : (w : World) (addr : ℕ) (o : Outcome) → object.Destroy w o addr → is_answer o.reply ≡ true →
+    o.after ≡ record (left_without w addr) { shown = [] }
+has_gone w addr o row answered = by (object_at w addr) refl row
+  where
+    left : Option ZcoObject → World
+    left x =
+        option_map_or
+        (λ z. with_served (without_thing (without_things w (gone_things w z.extents z.extents)) addr) z.account) x w
+
+    by : (x : Option ZcoObject) → object_at w addr ≡ x →
+        On w o addr x (λ z. Does o (gave (object.destroy_blocks w addr z))
+        (with_served (without_thing (without_things w (gone_things w z.extents z.extents)) addr) z.account) replies.Done) →
+        o.after ≡ record (left_without w addr) { shown = [] }
+    by None is row = absurd (unrefused row answered)
+    by (Some z) is row = row.1 ∙ ap (λ (x : Option ZcoObject). record (left x) { shown = [] }) (sym is)
 
 -- one block or two were taken for an extent
 append_enough : (d : Demand) (w : World) (call : Call) (o : Outcome) (named : Option ZcoSource) (at : ℕ → ℕ) →
@@ -93,6 +114,11 @@ enough d w call o is row answered = by call is row (moves_are_the_rows w o.after
         let grants = ap (grants_between w) l.after in omega (arith, one, grants)
     by (calls.ZcoLength addr) is row moves = omega arith
     by (calls.SourceLength addr) is row moves = omega arith
+    by (calls.Destroy addr) is row moves =
+        let blocks = destroyed_blocks w addr (object_at w addr) in
+        let many : length o.moves ≡ length (gave blocks) = ap (λ (ms : List Move). length ms) moves in
+        let same = length-map blocks (λ (a : ℕ). Gave a) in
+        let grants = ap (grants_between w) (has_gone w addr o row answered) in omega (arith, many, same, grants)
     by c is row moves = absurd (true≢false (sym is))
 
 -- a call that reads touches none
@@ -103,4 +129,5 @@ reading_lines w (calls.PrependHeader addr ticket text) reads = absurd (true≢fa
 reading_lines w (calls.AppendTrailer addr ticket text) reads = absurd (true≢false (sym reads))
 reading_lines w (calls.DiscardFirstHeader addr) reads = absurd (true≢false (sym reads))
 reading_lines w (calls.DiscardLastTrailer addr) reads = absurd (true≢false (sym reads))
+reading_lines w (calls.Destroy addr) reads = absurd (true≢false (sym reads))
 reading_lines w call reads = refl

@@ -7,6 +7,7 @@ use Rattle.sdr_base.specs.Objects.{Heap}
 use Rattle.sdr_model.specs.World.{World}
 use Rattle.zco_answers.proofs.AppendRaws.{with_raw}
 use Rattle.zco_answers.proofs.AppendSources.{with_source}
+use Rattle.zco_answers.proofs.DestroyKept.{with_all}
 use Rattle.zco_answers.proofs.ObjectLemmas.{object_is_at, object_kept, object_with_queue}
 use Rattle.zco_answers.specs.Answering.{IsGood}
 use Rattle.zco_granted.proofs.GoodLemmas as tickets
@@ -26,4 +27,6 @@ good_of heap w s served small = record {
       };
   with_sources = λ addr source. with_source heap w s served small addr source;
   with_raws = λ addr raw. with_raw heap w s served small addr raw;
+  with_all = λ addr kind.
+      let at = object_is_at heap w addr s served kind in with_all heap w s served small addr at.object at.there;
 }

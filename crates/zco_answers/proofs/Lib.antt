@@ -20,3 +20,15 @@ pub mod DropLemmas
 mod DiscardCalls
 pub mod GoodLemmas
 pub mod DemandLemmas
+pub mod GoneMaps
+pub mod GoneUses
+pub mod GoneMoves
+pub mod GoneKeys
+pub mod GoneTies
+pub mod GoneChanges
+pub mod GoneWorlds
+pub mod GoneLosses
+pub mod DestroyKept
+pub mod DestroyedFew
+pub mod DestroyLeft
+mod DestroyCalls

@@ -10,6 +10,7 @@ ghost use Rattle.zco_answers.specs.Answering.{IsGood, call_lines, is_object_call
 
 use crate::appending::append_extent;
 use crate::capsules::{append_trailer, discard_first_header, discard_last_trailer, prepend_header};
+use crate::destroying::destroy;
 use crate::objects::{create, length, source_length};
 use sdr_answers::Page;
 use sdr_base::{Objects, Stop};
@@ -30,6 +31,7 @@ pub fn is_object_call(call: &Call) -> bool
             | Call::DiscardLastTrailer(_)
             | Call::ZcoLength(_)
             | Call::SourceLength(_)
+            | Call::Destroy(_)
     )
 }
 
@@ -65,6 +67,7 @@ pub fn answer<O: Objects, F: Notify>(
         Call::DiscardLastTrailer(object) => discard_last_trailer(o, *object, notice, page),
         Call::ZcoLength(object) => length(o, *object, page),
         Call::SourceLength(object) => source_length(o, *object, page),
+        Call::Destroy(object) => destroy(o, *object, notice, page),
         _ => unreachable!(),
     }
 }

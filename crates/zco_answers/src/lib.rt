@@ -2,13 +2,14 @@
 //!
 //! 1. Each call is a step of the machine on the world that the blocks stand for, whatever that has.
 //! 2. A call that takes from an object serves its account's queue itself: that is part of its step.
-//! 3. Objects are kept, with the queues of their accounts and with what they may name, wherever a heap
-//!    stands for such a world.
+//! 3. Objects are kept, with the queues of their accounts, with what they name and with what they
+//!    may name, wherever a heap stands for such a world.
 #![tactic(auto)]
 
 mod answering;
 mod appending;
 mod capsules;
+mod destroying;
 mod objects;
 
 pub use answering::{answer, is_object_call};
