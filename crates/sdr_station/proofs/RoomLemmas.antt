@@ -102,18 +102,32 @@ one_more size addr addrs few =
     let split = length-append addrs (addr ∷ []) in
     omega (arith, few, all, split)
 
--- a list or a hash that goes has a move for each element or entry, and one for itself
+-- a list that goes has a move for each element, and one for itself
+moves_list : (size list : ℕ) → MovesAtMost size (calls.ListDestroy list) (size / 16 + 1)
+moves_list size list = moves_at_most size (calls.ListDestroy list) (size / 16 + 1) (λ w stood changes at.
+    one_more size list (elements_in (as_list (thing_at w list))) (elements_few size w list stood))
+
+-- so has a hash for its entries
+moves_hash : (size hash : ℕ) → MovesAtMost size (calls.HashDestroy hash) (size / 16 + 1)
+moves_hash size hash = moves_at_most size (calls.HashDestroy hash) (size / 16 + 1) (λ w stood changes at.
+    one_more size hash (entries_in (as_hash (thing_at w hash))) (entries_few size w hash stood))
+
+-- and an object for each block that goes with it
+moves_object : (size object : ℕ) → MovesAtMost size (calls.Destroy object) (size / 16 + 1)
+moves_object size object = moves_at_most size (calls.Destroy object) (size / 16 + 1) (λ w stood changes at.
+    let gone = destroyed_blocks w object (object_at w object) in
+    let few = gone_few size w object stood in
+    let all = length-map gone (λ (a : ℕ). Gave a) in
+    omega (arith, few, all))
+
+-- so whichever of them goes has so many at most
 pub moves_destroy : (size : ℕ) (call : Call)
-    → ((list : ℕ) × (call ≡ calls.ListDestroy list)) ⊎ ((hash : ℕ) × (call ≡ calls.HashDestroy hash))
+    → ((list : ℕ) × (call ≡ calls.ListDestroy list)) ⊎ (((hash : ℕ) × (call ≡ calls.HashDestroy hash))
+    ⊎ ((object : ℕ) × (call ≡ calls.Destroy object)))
     → MovesAtMost size call (size / 16 + 1)
-moves_destroy size call (inl l) =
-    subst (λ call. MovesAtMost size call (size / 16 + 1)) (sym l.1)
-    (moves_at_most size (calls.ListDestroy l.0) (size / 16 + 1) (λ w stood changes at.
-    one_more size l.0 (elements_in (as_list (thing_at w l.0))) (elements_few size w l.0 stood)))
-moves_destroy size call (inr h) =
-    subst (λ call. MovesAtMost size call (size / 16 + 1)) (sym h.1)
-    (moves_at_most size (calls.HashDestroy h.0) (size / 16 + 1) (λ w stood changes at.
-    one_more size h.0 (entries_in (as_hash (thing_at w h.0))) (entries_few size w h.0 stood)))
+moves_destroy size call (inl l) = subst (λ call. MovesAtMost size call (size / 16 + 1)) (sym l.1) (moves_list size l.0)
+moves_destroy size call (inr (inl h)) = subst (λ call. MovesAtMost size call (size / 16 + 1)) (sym h.1) (moves_hash size h.0)
+moves_destroy size call (inr (inr z)) = subst (λ call. MovesAtMost size call (size / 16 + 1)) (sym z.1) (moves_object size z.0)
 
 -- a name that goes has one at most
 one_name : (found : Option Name) → length (gave (block_of found)) ≤ 1
@@ -160,14 +174,6 @@ moves_append size object ticket named offset bytes =
     by : (at : ℕ → ℕ) (found : Option ZcoSource) → length (append_moves found at) ≤ 2
     by at None = omega arith
     by at (Some source) = omega arith
-
--- an object that goes has a move for each block that goes with it
-pub moves_object : (size object : ℕ) → MovesAtMost size (calls.Destroy object) (size / 16 + 1)
-moves_object size object = moves_at_most size (calls.Destroy object) (size / 16 + 1) (λ w stood changes at.
-    let gone = destroyed_blocks w object (object_at w object) in
-    let few = gone_few size w object stood in
-    let all = length-map gone (λ (a : ℕ). Gave a) in
-    omega (arith, few, all))
 
 -- whether it is none of those that may have more
 abbrev pub IsOther : Call → Type 0
