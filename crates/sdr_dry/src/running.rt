@@ -231,6 +231,36 @@ fn run_on<M: Media, K: Sink>(
     Ok(())
 }
 
+// Makes the steps of a script in order, on a machine before any event, and then the leaves at the end of the input, which print
+// nothing.
+fn run_through<M: Media, K: Sink>(
+    alloc: Global,
+    plain: &mut Plain,
+    media: &mut M,
+    script: &[Step],
+    out: &mut K,
+) -> Result<(), RunError>
+    requires few { length script.now ≤ 1_048_577 }
+    requires plain { plain.old ≡ first_plain (daemons_of script.now) }
+    requires daemons { length plain.old.roll.daemons ≤ 256 }
+    ensures ok { OnOk result (
+        SomeRun (media_change M.told M.faults M.short media.old media.new) script.now (λ rest text.
+        (rest ≡ []) × Appends (K.taken out.old) (K.taken out.new) text)) }
+    ensures memory { result ≡ Err RunError.NoMemory →
+        SomeRun (media_change M.told M.faults M.short media.old media.new) script.now (λ rest text.
+        Appends (K.taken out.old) (K.taken out.new) text) }
+    ensures output { result ≡ Err RunError.Output →
+        SomeRun (media_change M.told M.faults M.short media.old media.new) script.now (λ rest text.
+        AppendsPart (K.taken out.old) (K.taken out.new) text) }
+    ensures later { K.faults out.old ≤ K.faults out.new }
+    ensures cause { result ≡ Err RunError.Output → Rose (K.faults out.old) (K.faults out.new) }
+{
+    let mut bindings = Bindings::new(alloc);
+    run_on(alloc, plain, media, &mut bindings, script, out)?;
+    plain.leave_all(Leave::Done)?;
+    Ok(())
+}
+
 /// Makes the steps of a script in order, on a plain machine of the daemons that it names, and prints
 /// the line of each answer. Media are asked for the bytes that lie with them.
 pub fn run<M: Media, K: Sink>(
@@ -254,15 +284,5 @@ pub fn run<M: Media, K: Sink>(
 {
     let daemons = daemons_of(alloc, script)?;
     let mut plain = Plain::new(alloc, daemons.as_slice())?;
-    run_on(
-        alloc,
-        &mut plain,
-        media,
-        &mut Bindings::new(alloc),
-        script,
-        out,
-    )?;
-    // The leaves at the end of the input print nothing.
-    plain.leave_all(Leave::Done)?;
-    Ok(())
+    run_through(alloc, &mut plain, media, script, out)
 }

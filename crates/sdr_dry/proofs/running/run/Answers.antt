@@ -1,4 +1,4 @@
-use Rattle.sdr_dry.proofs.ScheduleLemmas.{some_none, some_weaker}
+use Rattle.sdr_dry.proofs.ScheduleLemmas.{some_none}
 use Rattle.sdr_dry.proofs.running.run.Goals as goal
 
 pub returns-in_err-daemons-clause-memory : goal.returns-in_err-daemons-clause-memory
@@ -6,7 +6,3 @@ returns-in_err-daemons-clause-memory g c is = some_none _ _ _
 
 pub returns-in_err-plain-clause-memory : goal.returns-in_err-plain-clause-memory
 returns-in_err-plain-clause-memory g c is = some_none _ _ _
-
-pub returns-in_err-leave_all-clause-memory : goal.returns-in_err-leave_all-clause-memory
-returns-in_err-leave_all-clause-memory g c is =
-    some_weaker _ _ _ _ (λ rest text done. done.1) c.in_ok-run_on.ensures.ok
