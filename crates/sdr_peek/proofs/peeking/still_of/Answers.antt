@@ -1,4 +1,4 @@
-use Rattle.std.proofs.Common.{◌∙◌, ap, arith, length}
+use Rattle.std.proofs.Common.{◌∙◌, arith}
 use Rattle.sdr_image.proofs.OpeningLemmas.{heap_of-read}
 use Rattle.sdr_peek.proofs.peeking.still_of.Goals as goal
 
