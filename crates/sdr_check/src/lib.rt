@@ -5,7 +5,7 @@
 //! 1. Its structure: control words, blocks, start bits, lists of free blocks, and contents (`sdr_region`).
 //! 2. Who owns each block; what blocks and control words count; and the queues of tickets (`sdr_count`).
 //!
-//! `check` tells the first place that is wrong by the check that found it, or takes a census of the blocks, and `read_world` makes the
+//! `check_structure` takes the first step alone. `check` tells the first place that is wrong by the check that found it, or takes a census of the blocks, and `read_world` makes the
 //! world in memory for which a region stands that passes. Such a region isn't wrong anywhere (`right_regions_are_not_wrong`), and no
 //! world stands for one in which something is wrong.
 #![tactic(auto)]
@@ -22,3 +22,4 @@ pub use checking::check;
 pub use error::{AuditError, Why};
 pub use laws::right_regions_are_not_wrong;
 pub use reading::read_world;
+pub use structure::check_structure;

@@ -1,15 +1,12 @@
 -- Sums of charges.
-use Rattle.std.proofs.Common.{◌≡◌, ◌≤◌, ◌<◌, ◌+◌, ◌*◌, ◌/◌, ◌-◌, ◌^◌, ℕ, List, drop, cond, Bool, get_or, length, min, sum_by, take, arith, ap, ◌∙◌, refl, length-drop, length-take}
-use Rattle.std.specs.Prelude.{Option, None, Some}
+use Rattle.std.proofs.Common.{◌≡◌, ◌<◌, ◌+◌, ◌*◌, ◌-◌, ◌^◌, ℕ, List, get_or, length, sum_by, take, arith, ap, ◌∙◌}
 use Rattle.std.proofs.lemmas.List.FromFn.{sum_by-map-range_with_len_more}
 use Rattle.std.proofs.lemmas.List.Sums.{sum_by_more}
-use Rattle.sdr_base.specs.Blocks.{Block}
 use Rattle.sdr_base.specs.Cells.{IsRegionSize}
 use Rattle.sdr_base.specs.KeptHeap.{block_in}
 use Rattle.sdr_base.specs.declared.account.Acct.{Acct}
 use Rattle.sdr_base.specs.declared.kind.Space.{Space}
 use Rattle.sdr_base.specs.declared.kind.Space.TheVariants as spaces
-use Rattle.sdr_count.specs.Counts.{is_object_of}
 use Rattle.sdr_keys.specs.Places.{places}
 use Rattle.sdr_count.specs.Occupied.{capsule_charge, charge_at, charges_by, extent_charge, left_at, space_of}
 use Rattle.sdr_model.specs.Amounts.{in_space}

@@ -1,5 +1,5 @@
 -- Where no count is found wrong, each is right, and the other way round.
-use Rattle.std.proofs.Common.{◌≡◌, ◌≤◌, ◌*◌, ◌+◌, ◌-◌, ◌==◌, ◌&&◌, ◌||◌, ℕ, Bool, true, false, not, cond, List, [], ◌∷◌, length, map, sum_by, arith, ap, ◌∙◌, refl, sym}
+use Rattle.std.proofs.Common.{◌≡◌, ◌≤◌, ◌*◌, ◌+◌, ◌-◌, ◌==◌, ◌&&◌, ◌||◌, ℕ, Bool, true, false, not, cond, List, [], ◌∷◌, length, sum_by, ap, refl}
 use Rattle.std.specs.Prelude.{find, nat_le, Option, None, Some}
 use Rattle.std.specs.Option.{option_map}
 use Rattle.sdr_base.specs.Blocks.{Block}
@@ -19,7 +19,7 @@ use Rattle.sdr_keys.proofs.KeyedLemmas.{keyed, keyed_not_wrong}
 use Rattle.sdr_keys.proofs.PlacesLemmas.{all_pass, both_none, either_none, found_none}
 use Rattle.sdr_keys.specs.Keyed.{wrong_key}
 use Rattle.sdr_keys.specs.Members.{members}
-use Rattle.sdr_keys.specs.Places.{first_failing, first_some, places}
+use Rattle.sdr_keys.specs.Places.{first_failing, places}
 use Rattle.sdr_owner.specs.Rules.{names_raw}
 use Rattle.sdr_owner.specs.View.{View, is_kind, length_of, view_in, word_of}
 use Rattle.sdr_owner.specs.declared.owner.Owner.TheVariants as owners

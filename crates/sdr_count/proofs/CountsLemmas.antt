@@ -1,21 +1,16 @@
 -- Counts of extents.
-use Rattle.std.proofs.Common.{◌≡◌, ◌≤◌, ◌<◌, ◌+◌, ◌-◌, ◌*◌, ◌/◌, ◌^◌, ◌==◌, ℕ, List, [], ◌∷◌, ◌++◌, drop, cond, Bool, true, false, not, get_or, length, min, sum_by, take, count_by, arith, ap, ◌∙◌, refl, sym, inl, inr}
-use Rattle.std.specs.Prelude.{find, map, Option, None, Some}
-use Rattle.std.specs.Option.{option_or}
-use Rattle.std.specs.List.{All, range_with_len}
+use Rattle.std.proofs.Common.{◌≡◌, ◌≤◌, ◌<◌, ◌+◌, ◌-◌, ◌*◌, ◌^◌, ℕ, List, [], ◌∷◌, ◌++◌, drop, cond, Bool, get_or, length, min, sum_by, take, count_by, arith, ap, ◌∙◌, sym, inl, inr}
+use Rattle.std.specs.List.{All}
 use Rattle.std.proofs.lemmas.Bool.{cases_Bool}
-use Rattle.std.proofs.lemmas.List.FromFn.{length-map-range_with_len, map-range_with_len_more, sum_by-map-range_with_len_more, take-map-range_with_len}
-use Rattle.std.proofs.lemmas.List.Folds.{find-append}
-use Rattle.std.proofs.lemmas.List.{take-append-drop}
+use Rattle.std.proofs.lemmas.List.FromFn.{length-map-range_with_len, sum_by-map-range_with_len_more}
 use Rattle.std.proofs.lemmas.List.Elements.{All-cons, All-nil}
 use Rattle.std.proofs.lemmas.List.Sums.{count_by-le-length, sum_by-le}
 use Rattle.std.proofs.lemmas.Nat.{mul-le}
 use Rattle.std.proofs.Math.Seq.{take-append_seam}
-use Rattle.sdr_base.specs.Cells.{IsRegionSize}
 use Rattle.sdr_base.specs.declared.account.Acct.{Acct}
 use Rattle.sdr_count.specs.Counts.{count_of, is_object_of, names, uses_at}
 use Rattle.sdr_keys.specs.Places.{places}
-use Rattle.sdr_keys.specs.Members.{followed, members}
+use Rattle.sdr_keys.specs.Members.{members}
 use Rattle.sdr_count.specs.Numbers.{AreTold}
 use Rattle.sdr_keys.proofs.MembersLemmas.{length-followed}
 use Rattle.sdr_owner.specs.Chains.{first_of}

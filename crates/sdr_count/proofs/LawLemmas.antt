@@ -1,16 +1,9 @@
 -- A region whose owners, counts and queues are right isn't wrong, and another is so at one place alone.
-use Rattle.std.proofs.Common.{◌≡◌, ◌*◌, ◌/◌, ℕ, Bool, true, false, not, cond, List, [], ◌∷◌, length, ap, ◌∙◌, refl, sym, inl, inr}
-use Rattle.std.specs.Prelude.{find, Option, None, Some}
-use Rattle.std.specs.Option.{option_map, option_or}
-use Rattle.sdr_base.specs.declared.account.Acct.{Acct}
-use Rattle.sdr_base.specs.declared.account.Acct.TheVariants as accts
-use Rattle.sdr_base.specs.declared.kind.Space.{Space}
+use Rattle.std.proofs.Common.{◌≡◌, ◌/◌, ℕ, List, length, ◌∙◌, refl, sym, inl, inr}
+use Rattle.std.specs.Prelude.{None, Some}
 use Rattle.sdr_count.specs.Checked.{IsRightRegion, IsWrongFirst}
 use Rattle.sdr_count.proofs.CountedLemmas.{counted_not_wrong}
 use Rattle.sdr_count.specs.Counted.{IsCounted, wrong_count}
-use Rattle.sdr_count.specs.Counts.{keeps_counts}
-use Rattle.sdr_keys.specs.Places.{places}
-use Rattle.sdr_count.specs.Occupied.{all_spaces, occupancy_word, tells_occupancy}
 use Rattle.sdr_count.specs.Queues.{AreLawful, IsWrongQueue}
 use Rattle.sdr_count.specs.declared.error.Why.{Why}
 use Rattle.sdr_count.specs.declared.error.Why.TheVariants as whys

@@ -1,7 +1,6 @@
 -- The order of tickets in a queue.
-use Rattle.std.proofs.Common.{◌≡◌, ◌<◌, ◌+◌, ◌-◌, ◌==◌, ◌&&◌, ◌||◌, ◌⊎◌, ℕ, Bool, true, false, not, zero, suc, List, get_or, length, map, arith, ap, ◌∙◌, refl, sym, subst, inl, inr}
-use Rattle.std.specs.Prelude.{AllPairs}
-use Rattle.std.proofs.lemmas.Bool.{and_from, and_parts, both_ways, cases_Bool, eq-eqb, eqb-true, lt-ltb, ltb-true, not_from_false}
+use Rattle.std.proofs.Common.{◌≡◌, ◌<◌, ◌+◌, ◌-◌, ◌==◌, ◌||◌, ◌⊎◌, ℕ, Bool, true, false, not, zero, suc, List, get_or, length, arith, ap, ◌∙◌, refl, sym, subst, inl, inr}
+use Rattle.std.proofs.lemmas.Bool.{and_from, and_parts, both_ways, eq-eqb, eqb-true, lt-ltb, ltb-true}
 use Rattle.sdr_count.specs.Queues.{goes_before}
 use Rattle.sdr_model.specs.Valid.{may_precede}
 use Rattle.sdr_model.specs.declared.accounts.Ticket.{Ticket}

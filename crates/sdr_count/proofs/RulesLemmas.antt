@@ -1,8 +1,7 @@
 -- The first of some rules that a block breaks.
-use Rattle.std.proofs.Common.{◌≡◌, ◌<◌, ◌+◌, ℕ, zero, suc, List, [], ◌∷◌, get_or, length, map, take, arith, ap, ◌∙◌, refl, sym}
+use Rattle.std.proofs.Common.{◌≡◌, ◌<◌, ◌+◌, ℕ, zero, suc, List, [], ◌∷◌, get_or, length, map, take, arith, ap, ◌∙◌, refl}
 use Rattle.std.specs.Prelude.{Option, None, Some}
 use Rattle.std.specs.Option.{option_or}
-use Rattle.std.proofs.lemmas.List.{map-append, take_more}
 use Rattle.sdr_keys.proofs.PlacesLemmas.{both_none, either_none}
 use Rattle.sdr_keys.specs.Places.{first_some}
 

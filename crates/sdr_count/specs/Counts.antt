@@ -1,6 +1,5 @@
 -- How many extents of an account's objects name a source.
-use Rattle.std.specs.Prelude.{◌==◌, ◌*◌, ◌&&◌, ◌||◌, ℕ, Bool, not, cond, List, map, sum_by, count_by}
-use Rattle.std.specs.List.{range_with_len}
+use Rattle.std.specs.Prelude.{◌==◌, ◌&&◌, ◌||◌, ℕ, Bool, not, cond, sum_by, count_by}
 use Rattle.sdr_base.specs.ZcoObjects.{account_number}
 use Rattle.sdr_base.specs.declared.account.Acct.{Acct}
 use Rattle.sdr_base.specs.declared.account.Acct.TheVariants as accts
@@ -8,7 +7,6 @@ use Rattle.sdr_base.specs.declared.kind.Kind.TheVariants as kinds
 use Rattle.sdr_base.specs.declared.layout.extent.TheConstants as extent
 use Rattle.sdr_base.specs.declared.layout.object.TheConstants as object
 use Rattle.sdr_base.specs.declared.layout.source.TheConstants as source
-use Rattle.sdr_base.specs.declared.line.TheConstants.{WORD}
 use Rattle.sdr_keys.specs.Members.{members}
 use Rattle.sdr_keys.specs.Places.{places}
 use Rattle.sdr_owner.specs.View.{View, is_kind, word_of}

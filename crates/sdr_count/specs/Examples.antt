@@ -1,5 +1,5 @@
 -- A small heap with a bundle in it, and what its blocks tell.
-use Rattle.std.specs.Prelude.{ℕ, List, [], ◌∷◌, cond, ◌==◌, false, true}
+use Rattle.std.specs.Prelude.{ℕ, [], ◌∷◌, cond, ◌==◌, false, true}
 use Rattle.sdr_base.specs.Entries.{Entries, at}
 use Rattle.sdr_base.specs.Sources.{source_block}
 use Rattle.sdr_base.specs.Tickets.{TicketRow, ticket_block}

@@ -11,7 +11,7 @@
 //! 5. The queues of tickets keep their law, the inbound one first (`check_queues`).
 //!
 //! The blocks of a chain are those to which its links lead; where the owners are right, these are the chain's, and each step is linear
-//! (`chains_are_members` in `sdr_keys`). `check_things` reads a region of any cells once, checks its owners, and takes these steps;
+//! (`chains_are_members` in `sdr_keys`). `check_copy` checks a region's owners, and takes these steps;
 //! it tells the first place that is wrong. A region that passes isn't wrong anywhere (`right_regions_are_not_wrong`), and another is
 //! wrong first at one place alone (`one_place_is_wrong_first`). A small bundle, counted: `a_bundle_is_counted`.
 #![tactic(auto)]
@@ -28,9 +28,9 @@ mod queues;
 mod rules;
 mod tickets;
 
-pub use audit::{Damage, check_copy, check_things};
+pub use audit::{Damage, check_copy};
 pub use check::check_counts;
-pub use error::{AuditError, Why};
+pub use error::Why;
 pub use examples::a_bundle_is_counted;
 pub use laws::{one_place_is_wrong_first, right_regions_are_not_wrong};
 pub use queues::check_queues;

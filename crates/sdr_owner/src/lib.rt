@@ -8,7 +8,7 @@
 //!    for the last block is right (`check_chains`).
 //! 2. Extents, sources and raw objects name one another, and each block that only stands in chains was reached (`check_rules`).
 //!
-//! `check_owners` takes both steps over a copy of the region, and tells the first place that is wrong. A heap that passes isn't
+//! `check_owners` takes both steps over a region in memory, and tells the first place that is wrong. A heap that passes isn't
 //! wrong anywhere (`owned_heaps_are_not_wrong`), and another is wrong first at one place alone (`one_place_is_wrong_first`). The
 //! blocks that keep a row of things make a chain (`linked_rows_make_chains`), and a right chain's are such (`chains_are_linked_rows`),
 //! where each is that of what is read of it, as it is in the form of its kind (`chained_blocks_read_back`).
@@ -26,8 +26,8 @@ mod owners;
 mod region;
 mod rules;
 
-pub use check::{check_owners, check_region};
-pub use error::{OwnerError, Wrong};
+pub use check::check_owners;
+pub use error::Wrong;
 pub use examples::small_heaps_are_wrong_so;
 pub use laws::{one_place_is_wrong_first, owned_heaps_are_not_wrong};
 pub use linking::{chained_blocks_read_back, chains_are_linked_rows, linked_rows_make_chains};

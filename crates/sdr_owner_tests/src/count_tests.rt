@@ -1,6 +1,6 @@
 // What is wrong first with the counts and queues in a small heap, where some words are changed.
 use crate::regions::{Word, checked};
-use sdr_count::{AuditError, Why};
+use sdr_count::Why;
 use std::alloc::Global;
 
 /// Words that are changed, and the place that is told then.
@@ -9,8 +9,7 @@ type Row = (&'static [Word], u64);
 // The first row that is told otherwise.
 fn wrong_row(alloc: Global, words: &[Word], why: Why, rows: &[Row]) -> Option<usize> {
     for (number, (changes, place)) in rows.iter().enumerate() {
-        let wanted = AuditError::Damaged { place: *place, why };
-        if checked(alloc, words, changes) != Some(Err(wanted)) {
+        if checked(alloc, words, changes) != Some(Err((*place, why))) {
             return Some(number);
         }
     }

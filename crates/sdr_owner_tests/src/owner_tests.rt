@@ -1,6 +1,5 @@
 // What is wrong first with the owners in a small heap, where some words are changed.
 use crate::regions::{Word, audited};
-use sdr_owner::OwnerError;
 use std::alloc::Global;
 
 /// Words that are changed, and the place that is told then.
@@ -9,8 +8,7 @@ type Row = (&'static [Word], u64);
 // The first row that is told otherwise.
 fn wrong_row(alloc: Global, words: &[Word], rows: &[Row]) -> Option<usize> {
     for (number, (changes, place)) in rows.iter().enumerate() {
-        let wanted = OwnerError::Damaged { place: *place };
-        if audited(alloc, words, changes) != Some(Err(wanted)) {
+        if audited(alloc, words, changes) != Some(Err(*place)) {
             return Some(number);
         }
     }

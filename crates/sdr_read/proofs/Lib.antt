@@ -24,6 +24,5 @@ pub mod QueueLemmas
 pub mod ToldWalkLemmas
 pub mod ToldPoolsLemmas
 pub mod PutLemmas
-pub mod RowsLemmas
 pub mod InsertLemmas
 pub mod ReadyLemmas

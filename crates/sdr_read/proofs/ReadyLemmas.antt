@@ -20,7 +20,7 @@ use Rattle.sdr_read.proofs.OccupiedLemmas.{all_so}
 use Rattle.sdr_read.proofs.OwnLemmas.{IsAudited}
 use Rattle.sdr_read.proofs.RegionLemmas.{audited}
 use Rattle.sdr_read.proofs.ValidLemmas.{thing_valid}
-use Rattle.sdr_read.specs.Made.{AreInBuckets, AreShort, AreTyped, IsShort, IsTyped}
+use Rattle.sdr_read.specs.Made.{AreShort, AreTyped, IsShort, IsTyped}
 use Rattle.sdr_read.specs.Standing.{IsCounted}
 use Rattle.sdr_read.specs.Told.{name_told, thing_told, world_told}
 
@@ -46,10 +46,6 @@ module _ (bytes : List ℕ) (c : IsCounted bytes) where
   -- each thing keeps its limits
   pub things_valid : (addr : ℕ) → IfSome (thing_told (view_in bytes) (length bytes / 8) addr) IsValidThing
   things_valid addr = thing_valid (view_in bytes) (length bytes / 8) heap_audited heap_fitting addr
-
-  -- each entry of a hash is in its bucket
-  pub entries_placed : (addr : ℕ) → is_kind kinds.Hash (block_in bytes addr) ≡ true → AreInBuckets (view_in bytes) (length bytes / 8) addr
-  entries_placed addr is = (heap_fitting.hashes addr is).buckets
 
   -- types of names fit their numbers
   pub names_typed : AreTyped (view_in bytes) (length bytes / 8)

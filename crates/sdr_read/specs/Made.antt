@@ -1,4 +1,4 @@
--- What lets a world be made of a heap: numbers that fit their types, and entries of hashes in their buckets.
+-- What lets a world be made of a heap: numbers that fit their types.
 use Rattle.std.specs.Prelude.{◌≡◌, ◌<◌, ◌^◌, ◌++◌, ℕ, List, All, Option, None, Some}
 use Rattle.std.specs.FinMap as finite
 use Rattle.sdr_base.specs.declared.account.Acct.{Acct}
@@ -30,18 +30,6 @@ pub record IsTyped (heap : View) (addr : ℕ) : Type 0 where
 -- those of all entries do
 abbrev pub AreTyped : View → ℕ → Type 0
 AreTyped heap words = All (IsTyped heap) (catalogue heap words)
-
--- each entry of the hash at an address stands in its bucket
-abbrev pub AreInBuckets : View → ℕ → ℕ → Type 0
-AreInBuckets heap words addr =
-    (bucket : ℕ) → bucket < (hash_told heap words addr).buckets →
-    All (λ e. bucket_of (hash_told heap words addr).buckets e.key ≡ bucket) (bucket_told heap words addr bucket)
-
--- These entries are put behind those of a hash, where they are all of one bucket, and those in the hash are of lower ones.
-abbrev pub PutsBehind : List HashEntry → Hash → Hash → Type 0
-PutsBehind entries old new =
-    (bucket : ℕ) → All (λ e. bucket_of old.buckets e.key < bucket) old.entries →
-    All (λ e. bucket_of old.buckets e.key ≡ bucket) entries → new ≡ record old { entries = old.entries ++ entries }
 
 -- things, and the one at an address, if one stands there
 abbrev pub with_told : Option Thing → ℕ → Things → Things

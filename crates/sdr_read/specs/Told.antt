@@ -79,6 +79,10 @@ entry_told heap addr = record {
 abbrev pub bucket_told : View → ℕ → ℕ → ℕ → List HashEntry
 bucket_told heap words addr bucket = map (entry_told heap) (members heap words (owners.Bucket addr (hash.WORDS + bucket)))
 
+-- the entries in its first so many buckets, by bucket
+abbrev pub entries_up_to : View → ℕ → ℕ → ℕ → List HashEntry
+entries_up_to heap words addr buckets = flat_map (bucket_told heap words addr) (range_with_len 0 buckets)
+
 -- the hash at an address: the bytes of a key, the count of its buckets, and the entries, bucket by bucket
 abbrev pub hash_told : View → ℕ → ℕ → Hash
 hash_told heap words addr =
@@ -86,7 +90,7 @@ hash_told heap words addr =
     record {
       key_length = word_of (heap.blocks addr) hash.KEY_LENGTH;
       buckets = buckets;
-      entries = flat_map (bucket_told heap words addr) (range_with_len 0 buckets);
+      entries = entries_up_to heap words addr buckets;
     }
 
 -- what a source's bytes are: those of a file with a path, of a bulk item, of a raw object that it owns, or of one that it only names

@@ -1,12 +1,11 @@
 // The things of a heap.
-ghost use Rattle.std.specs.Prelude.{◌≡◌, ◌/◌, length, map, true, IfOk, IfSome, OnOk};
+ghost use Rattle.std.specs.Prelude.{◌≡◌, ◌≤◌, ◌/◌, ◌++◌, length, map, IfOk, IfSome, OnOk};
 ghost use Rattle.sdr_base.specs.Cells.{IsRegionSize};
 ghost use Rattle.sdr_base.specs.KeptHeap.{block_in};
 ghost use Rattle.sdr_base.specs.declared.line.TheConstants.{WORD};
 ghost use Rattle.sdr_model.specs.Valid.{IsValidHash, IsValidTable, IsValidThing};
-ghost use Rattle.sdr_owner.specs.View.{is_kind, view_in};
-ghost use Rattle.sdr_read.specs.Made.{AreInBuckets, PutsBehind};
-ghost use Rattle.sdr_read.specs.Told.{element_told, entry_told, hash_told, list_told, table_told, thing_told};
+ghost use Rattle.sdr_owner.specs.View.{view_in};
+ghost use Rattle.sdr_read.specs.Told.{element_told, entries_up_to, entry_told, hash_told, list_told, table_told, thing_told};
 
 use crate::blocks::{behind, behind_words, bytes_of};
 use crate::zco::{object_in, source_in};
@@ -51,15 +50,13 @@ fn table_in(alloc: Global, heap: &[u8], addr: Addr) -> Result<SdrTable, NoMemory
     requires valid { IsValidTable (table_told (block_in heap.now addr)) }
     ensures { IfOk result (λ rows. rows ≡ table_told (block_in heap.now addr)) }
 {
-    let rows = word(heap, addr, table::ROWS);
-    let size = word(heap, addr, table::SIZE);
-    let bytes = behind_words(heap, addr, table::WORDS);
-    let mut made = SdrTable::new(alloc, word(heap, addr, table::USER), rows, size)?;
-    for row in 0..rows {
-        let place = (size * row) as usize;
-        made.set_row(row, &bytes[place..place + size as usize]);
-    }
-    Ok(made)
+    let bytes = Bytes::copied(alloc, behind_words(heap, addr, table::WORDS))?;
+    Ok(SdrTable::of(
+        word(heap, addr, table::USER),
+        word(heap, addr, table::ROWS),
+        word(heap, addr, table::SIZE),
+        bytes,
+    ))
 }
 
 // The entry of a hash at an address.
@@ -74,54 +71,63 @@ fn entry_at(alloc: Global, heap: &[u8], addr: Addr) -> Result<HashEntry, NoMemor
     })
 }
 
-// Puts the entries at these addresses, which are those of a bucket, behind those of lower buckets. The last one goes first, since each
-// is put in front of its bucket.
-fn put_bucket(
+// Puts the entries at these addresses behind others.
+fn put_entries(
     alloc: Global,
     heap: &[u8],
-    made: &mut SdrHash,
+    entries: &mut Items<HashEntry>,
     addrs: &[Addr],
 ) -> Result<(), NoMemory>
     requires region { IsRegionSize (length heap.now) }
-    ensures { OnOk result (PutsBehind (map (entry_told (view_in heap.now)) addrs.now)
-        made.old made.new) }
+    ensures { OnOk result
+        (entries.new ≡ entries.old ++ map (entry_told (view_in heap.now)) addrs.now) }
 {
-    let mut left = addrs;
-    while let Some((addr, before)) = left.split_last() {
-        made.insert(entry_at(alloc, heap, *addr)?)?;
-        left = before;
+    for addr in addrs {
+        entries.push(entry_at(alloc, heap, *addr)?)?;
     }
     Ok(())
 }
 
-// The hash at an address, which keeps the limits, and has each entry in its bucket. It is linear in the entries, but for moving those
-// of a bucket up as each is put in front.
-fn hash_in(alloc: Global, heap: &[u8], addr: Addr) -> Result<SdrHash, NoMemory>
+// The entries in the first so many buckets of the hash at an address, by bucket.
+fn entries_in(
+    alloc: Global,
+    heap: &[u8],
+    addr: Addr,
+    buckets: u64,
+) -> Result<Items<HashEntry>, NoMemory>
     requires region { IsRegionSize (length heap.now) }
-    requires valid { IsValidHash (hash_told (view_in heap.now) (length heap.now / WORD) addr) }
-    requires placed { AreInBuckets (view_in heap.now) (length heap.now / WORD) addr }
-    ensures { IfOk result (λ made. made
-        ≡ hash_told (view_in heap.now) (length heap.now / WORD) addr) }
+    requires few { buckets ≤ 256 }
+    ensures { IfOk result (λ entries. entries ≡ entries_up_to (view_in heap.now)
+        (length heap.now / WORD) addr buckets) }
 {
-    let buckets = word(heap, addr, hash::BUCKETS);
-    let mut made = SdrHash::new(alloc, word(heap, addr, hash::KEY_LENGTH), buckets);
+    let mut entries = Items::new(alloc);
     for bucket in 0..buckets {
         let owner = Owner::Bucket {
             hash: addr,
             front: hash::WORDS + bucket,
         };
-        put_bucket(alloc, heap, &mut made, &members(alloc, heap, owner)?)?;
+        put_entries(alloc, heap, &mut entries, &members(alloc, heap, owner)?)?;
     }
-    Ok(made)
+    Ok(entries)
 }
 
-/// The thing at an address, which keeps the limits, and if it is a hash, has each entry in its bucket. `None` where none stands there.
+// The hash at an address, which keeps the limits.
+fn hash_in(alloc: Global, heap: &[u8], addr: Addr) -> Result<SdrHash, NoMemory>
+    requires region { IsRegionSize (length heap.now) }
+    requires valid { IsValidHash (hash_told (view_in heap.now) (length heap.now / WORD) addr) }
+    ensures { IfOk result (λ made. made
+        ≡ hash_told (view_in heap.now) (length heap.now / WORD) addr) }
+{
+    let buckets = word(heap, addr, hash::BUCKETS);
+    let entries = entries_in(alloc, heap, addr, buckets)?;
+    Ok(SdrHash::of(word(heap, addr, hash::KEY_LENGTH), buckets, entries))
+}
+
+/// The thing at an address, which keeps the limits. `None` where none stands there.
 pub fn thing_in(alloc: Global, heap: &[u8], addr: Addr) -> Result<Option<Thing>, NoMemory>
     requires region { IsRegionSize (length heap.now) }
     requires valid { IfSome (thing_told (view_in heap.now) (length heap.now / WORD) addr)
         IsValidThing }
-    requires placed { is_kind Kind.Hash (block_in heap.now addr) ≡ true →
-        AreInBuckets (view_in heap.now) (length heap.now / WORD) addr }
     ensures { IfOk result (λ thing. thing
         ≡ thing_told (view_in heap.now) (length heap.now / WORD) addr) }
 {

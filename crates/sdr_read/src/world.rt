@@ -1,12 +1,11 @@
 // The world of a heap.
-ghost use Rattle.std.specs.Prelude.{◌≡◌, ◌/◌, length, true, IfOk, IfSome, OnOk};
+ghost use Rattle.std.specs.Prelude.{◌≡◌, ◌/◌, length, IfOk, IfSome, OnOk};
 ghost use Rattle.std.specs.FinMap as finite;
 ghost use Rattle.sdr_base.specs.Cells.{IsRegionSize};
-ghost use Rattle.sdr_base.specs.KeptHeap.{block_in};
 ghost use Rattle.sdr_base.specs.declared.line.TheConstants.{WORD};
 ghost use Rattle.sdr_model.specs.Valid.{IsValidThing};
-ghost use Rattle.sdr_owner.specs.View.{is_kind, view_in};
-ghost use Rattle.sdr_read.specs.Made.{AreInBuckets, with_told};
+ghost use Rattle.sdr_owner.specs.View.{view_in};
+ghost use Rattle.sdr_read.specs.Made.{with_told};
 ghost use Rattle.sdr_read.specs.Standing.{IsCounted};
 ghost use Rattle.sdr_read.specs.Told.{thing_told, world_of};
 
@@ -28,8 +27,6 @@ fn put_thing(
     requires region { IsRegionSize (length heap.now) }
     requires valid { IfSome (thing_told (view_in heap.now) (length heap.now / WORD) addr)
         IsValidThing }
-    requires placed { is_kind Kind.Hash (block_in heap.now addr) ≡ true →
-        AreInBuckets (view_in heap.now) (length heap.now / WORD) addr }
     ensures { OnOk result (finite.from_entries things.new.entries
         ≡ with_told (thing_told (view_in heap.now) (length heap.now / WORD) addr) addr
         (finite.from_entries things.old.entries)) }
@@ -53,8 +50,8 @@ fn things_in(alloc: Global, heap: &[u8]) -> Result<BTreeMap<u64, Thing>, NoMemor
     Ok(things)
 }
 
-/// The world that a heap region in memory tells, which passes the audit up to its queues. It is linear in the region, but for entries
-/// of a hash, of which those of a bucket are moved up as each is put in front, and for things, which are put into a tree.
+/// The world that a heap region in memory tells, which passes the audit up to its queues. It is linear in the region, but
+/// for things, which are put into a tree.
 pub fn world_in(alloc: Global, heap: &[u8]) -> Result<World, NoMemory>
     requires counted { IsCounted heap.now }
     ensures { IfOk result (λ w. w ≡ world_of heap.now) }

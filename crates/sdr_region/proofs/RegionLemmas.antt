@@ -1,16 +1,13 @@
 -- The steps of an audit together.
-use Rattle.std.proofs.Common.{ℕ, List, length, sym, subst}
-use Rattle.std.specs.Prelude.{Ok, Err, IfErr, OnOk, Result}
-use Rattle.sdr_base.specs.Cells.{IsRegionSize}
-use Rattle.sdr_base.specs.KeptHeap.{KeepsSomeHeap}
+use Rattle.std.proofs.Common.{ℕ, List, sym, subst}
+use Rattle.std.specs.Prelude.{Ok, Err, IfErr, Result}
 use Rattle.sdr_base.specs.Pools.{PoolBlock}
-use Rattle.sdr_region.proofs.KeptLemmas.{keeps_blocks}
 use Rattle.sdr_region.specs.Auditing.{DamagedBy}
 use Rattle.sdr_region.specs.Bits.{BitsAreRight}
-use Rattle.sdr_region.specs.Content.{ContentIsRight, IsWrongContent}
+use Rattle.sdr_region.specs.Content.{IsWrongContent}
 use Rattle.sdr_region.specs.Control.{ControlIsRight}
 use Rattle.sdr_region.specs.Free.{AreListed, IsWrongFree}
-use Rattle.sdr_region.specs.Region.{IsSoundRegion, IsWrongFirst, TellsFirst}
+use Rattle.sdr_region.specs.Region.{IsWrongFirst, TellsFirst}
 use Rattle.sdr_region.specs.Walk.{AreBlocks}
 use Rattle.sdr_region.specs.Walked.{AllFound}
 use Rattle.sdr_region.specs.declared.error.AuditError.{AuditError}
@@ -56,25 +53,3 @@ module _ (bytes : List ℕ) (told : List Spot) (control : ControlIsRight bytes) 
       })
   content_tells (Err errors.DiskFault) damaged = tt
   content_tells (Err errors.Failed) damaged = tt
-
-  -- where nothing is wrong the region is sound
-  pub sound_then : (result : Result (Unit {0}) AuditError) → OnOk result (OfBlocks ContentIsRight bytes) → OnOk result (IsSoundRegion bytes)
-  sound_then (Ok value) content = record {
-    small = found.small;
-    large = found.large;
-    sound = record {
-      control = control;
-      blocks = found.blocks;
-      bits = bits found.small found.large found.blocks;
-      free = free found.small found.large found.blocks;
-      content = content found.small found.large found.blocks;
-    };
-  }
-  sound_then (Err error) content = tt
-
--- and keeps a heap
-pub kept_then : (bytes : List ℕ) → IsRegionSize (length bytes) → (result : Result (Unit {0}) AuditError) → OnOk result (IsSoundRegion bytes) → OnOk result (KeepsSomeHeap bytes)
-kept_then bytes region (Ok value) is =
-    let k = keeps_blocks bytes is.small is.large region is.sound in
-    record { pools = k.pools; keeps = k.keeps }
-kept_then bytes region (Err error) is = tt

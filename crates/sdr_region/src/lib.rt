@@ -8,9 +8,9 @@
 //! 4. The lists of free blocks reach each free block once, in the list of its words or of its order (`check_free`).
 //! 5. What stands in each block in use is as its kind asks (`check_content`).
 //!
-//! `check_region` takes all steps in this order. A region that passes them isn't wrong by any (`sound_regions_are_not_wrong`), and
-//! keeps a heap (`sound_regions_keep_heaps`); and where bytes keep one whose control words and contents are right, they pass
-//! (`kept_heaps_are_sound`).
+//! They are taken in this order, each on a region that passed those before. A region that passes all isn't wrong by any
+//! (`sound_regions_are_not_wrong`), and keeps a heap (`sound_regions_keep_heaps`); and where bytes keep one whose control words and
+//! contents are right, they pass (`kept_heaps_are_sound`).
 #![tactic(auto)]
 
 mod bits;
@@ -31,7 +31,5 @@ pub use content::check_content;
 pub use control::{Edges, check_control};
 pub use error::{AuditError, Why};
 pub use free::check_free;
-pub use region::{
-    check_region, kept_heaps_are_sound, sound_regions_are_not_wrong, sound_regions_keep_heaps,
-};
+pub use region::{kept_heaps_are_sound, sound_regions_are_not_wrong, sound_regions_keep_heaps};
 pub use spot::Spot;

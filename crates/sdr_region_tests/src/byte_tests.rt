@@ -1,9 +1,9 @@
 // A small heap with one byte changed.
 ghost use Rattle.std.specs.Prelude.{◌≤◌, ◌<◌};
 
-use crate::regions::{HEAP, LINES, region};
+use crate::regions::{HEAP, LINES, region, structure_of};
 use sdr_base::{Cells, Stop};
-use sdr_region::{AuditError, check_region};
+use sdr_region::AuditError;
 use std::alloc::Global;
 
 // Changes the byte at a place. One that lies behind the region stays out.
@@ -24,9 +24,9 @@ fn is_told(alloc: Global, place: u64, by: u8) -> bool {
     if spoil(&mut cells, place, by).is_err() {
         return false;
     }
-    match check_region(alloc, &mut cells) {
-        Ok(Ok(())) => true,
-        Ok(Err(AuditError::Damaged { place, .. })) => place < 2048,
+    match structure_of(alloc, &mut cells) {
+        Some(Ok(())) => true,
+        Some(Err(AuditError::Damaged { place, .. })) => place < 2048,
         _ => false,
     }
 }

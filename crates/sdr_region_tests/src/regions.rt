@@ -3,7 +3,8 @@ ghost use Rattle.std.specs.Prelude.{◌≤◌};
 ghost use Rattle.sdr_base.specs.declared.line.TheConstants.{LEAST_LINES, MOST_LINES};
 
 use sdr_base::{Cells, MemoryCells, Stop, WORD, write_number};
-use sdr_region::{AuditError, check_region};
+use sdr_check::check_structure;
+use sdr_region::{AuditError, Spot};
 use std::alloc::Global;
 
 /// A word in a region: its place in bytes, and the number in it.
@@ -38,6 +39,16 @@ pub fn region(alloc: Global, lines: u64, words: &[Word], changes: &[Word]) -> Op
     Some(cells)
 }
 
+/// What an audit of the structure of a region comes to. `None`: there is no memory for it.
+pub fn structure_of(alloc: Global, cells: &mut MemoryCells) -> Option<Result<(), AuditError>> {
+    let words = (cells.size() / WORD) as usize;
+    let mut spots = vec![in alloc; Spot::Nothing; words].ok()?;
+    match check_structure(cells, &mut spots) {
+        Ok(_) => Some(Ok(())),
+        Err(error) => Some(Err(error)),
+    }
+}
+
 /// What an audit of such a region comes to. `None`: there is no memory for the region, or for the audit.
 pub fn audited(
     alloc: Global,
@@ -49,7 +60,7 @@ pub fn audited(
     requires most { lines ≤ MOST_LINES }
 {
     let mut cells = region(alloc, lines, words, changes)?;
-    check_region(alloc, &mut cells).ok()
+    structure_of(alloc, &mut cells)
 }
 
 /// The lines of the small heap.

@@ -1,4 +1,4 @@
-use Rattle.std.proofs.Common.{◌≤◌, ◌*◌, ◌/◌, ◌∙◌, ℕ, length, arith, sym}
+use Rattle.std.proofs.Common.{◌/◌, ◌∙◌, ℕ, length, arith, sym}
 use Rattle.sdr_count.proofs.CountedLemmas.{counted}
 use Rattle.sdr_count.proofs.check.check_counts.Goals as goal
 

@@ -1,4 +1,4 @@
-use Rattle.std.proofs.Common.{◌≡◌, ◌+◌, ◌∙◌, ◌/◌, ◌==◌, ℕ, Bool, true, false, cond, List, length, count_by, arith, ap, sym}
+use Rattle.std.proofs.Common.{◌+◌, ◌∙◌, ◌/◌, ℕ, Bool, cond, length, count_by, arith, ap, sym}
 use Rattle.sdr_count.proofs.CountsLemmas.{told_same}
 use Rattle.sdr_count.specs.Counts.{names, uses_at}
 use Rattle.sdr_keys.specs.Members.{members}

@@ -1,4 +1,4 @@
-use Rattle.std.proofs.Common.{◌≡◌, ◌+◌, ◌*◌, ◌∙◌, ◌/◌, ℕ, List, length, sum_by, arith, ap, refl, subst, sym}
+use Rattle.std.proofs.Common.{◌≡◌, ◌+◌, ◌*◌, ◌∙◌, ◌/◌, ℕ, List, length, sum_by, arith, ap, subst, sym}
 use Rattle.sdr_count.proofs.CountsLemmas.{uses_push, whole_slice}
 use Rattle.sdr_count.specs.Counts.{uses_at}
 use Rattle.sdr_keys.specs.Places.{places}

@@ -1,4 +1,4 @@
-use Rattle.std.proofs.Common.{◌≡◌, ◌<◌, ◌∙◌, ◌/◌, ℕ, length, arith, ap, sym}
+use Rattle.std.proofs.Common.{◌<◌, ◌∙◌, ◌/◌, ℕ, length, arith, sym}
 use Rattle.std.proofs.lemmas.List.{get_or_read}
 use Rattle.sdr_base.specs.declared.account.Acct.TheVariants as accts
 use Rattle.sdr_count.proofs.CountsLemmas.{told_exact}

@@ -1,4 +1,4 @@
-use Rattle.std.proofs.Common.{◌≡◌, ◌+◌, ◌*◌, ◌∙◌, ◌/◌, ℕ, List, length, sum_by, arith, ap, sym}
+use Rattle.std.proofs.Common.{◌≡◌, ◌+◌, ◌*◌, ◌∙◌, ◌/◌, ℕ, length, sum_by, arith, ap, sym}
 use Rattle.sdr_base.specs.declared.kind.Space.{Space}
 use Rattle.sdr_count.proofs.ChargesLemmas.{charge_more, charges_same}
 use Rattle.sdr_keys.specs.Places.{places}

@@ -1,4 +1,4 @@
-use Rattle.std.proofs.Common.{◌≡◌, ◌+◌, ◌∙◌, ◌/◌, ℕ, Bool, cond, List, length, sum_by, arith, ap, sym}
+use Rattle.std.proofs.Common.{◌+◌, ◌∙◌, ◌/◌, ℕ, Bool, cond, length, sum_by, arith, ap, sym}
 use Rattle.sdr_base.specs.declared.kind.Space.{Space}
 use Rattle.sdr_base.specs.declared.kind.Space.TheVariants as spaces
 use Rattle.sdr_count.proofs.ChargesLemmas.{charges_same}

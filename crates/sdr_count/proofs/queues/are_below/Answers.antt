@@ -1,4 +1,4 @@
-use Rattle.std.proofs.Common.{◌≡◌, ◌≤◌, ◌<◌, ◌∙◌, ℕ, List, true, false, get_or, arith, ap, refl, subst, sym}
+use Rattle.std.proofs.Common.{◌<◌, ℕ, arith, refl, subst, sym}
 use Rattle.std.specs.List.{All}
 use Rattle.std.proofs.lemmas.Bool.{false≢true}
 use Rattle.sdr_count.proofs.QueuesLemmas.{all_of, numbers_at, one_of}

@@ -1,4 +1,4 @@
-use Rattle.std.proofs.Common.{◌≡◌, ◌∙◌, true, false, get_or, arith, refl, sym}
+use Rattle.std.proofs.Common.{◌≡◌, ◌∙◌, true, get_or, arith, refl, sym}
 use Rattle.std.proofs.lemmas.Bool.{both_ways, false≢true}
 use Rattle.sdr_count.proofs.QueuesLemmas.{all_of, one_more, one_of}
 use Rattle.sdr_count.specs.Queues.{is_left_rightly, ticket_at}

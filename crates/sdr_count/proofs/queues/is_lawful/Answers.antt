@@ -1,4 +1,4 @@
-use Rattle.std.proofs.Common.{◌≡◌, ◌∙◌, ◌/◌, ℕ, length, sym}
+use Rattle.std.proofs.Common.{◌∙◌, ◌/◌, ℕ, length}
 use Rattle.std.proofs.lemmas.Bool.{both_ways, false≢true}
 use Rattle.sdr_count.proofs.QueuesLemmas.{lawful, lawful_apart, lawful_queue, numbers_are}
 use Rattle.sdr_owner.specs.View.{view_in}

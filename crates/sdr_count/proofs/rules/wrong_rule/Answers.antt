@@ -1,4 +1,4 @@
-use Rattle.std.proofs.Common.{◌≡◌, ◌/◌, ◌∙◌, ℕ, List, length, sym}
+use Rattle.std.proofs.Common.{◌/◌, ◌∙◌, ℕ, List, length, sym}
 use Rattle.std.specs.Prelude.{Option}
 use Rattle.sdr_count.proofs.RulesLemmas.{none_more, some_here}
 use Rattle.sdr_count.specs.Rules.{all_rules, keeps}

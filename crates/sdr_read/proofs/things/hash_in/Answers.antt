@@ -1,14 +1,15 @@
-use Rattle.std.proofs.Common.{◌/◌, ◌∙◌, ◌<◌, List, ℕ, length, map, subst}
+use Rattle.std.proofs.Common.{◌/◌, List, ℕ, length, subst, sym}
+use Rattle.sdr_model.specs.Hashes.{AreByBucket}
+use Rattle.sdr_model.specs.declared.things.HashEntry.{HashEntry}
 use Rattle.sdr_owner.specs.View.{view_in}
-use Rattle.sdr_read.proofs.PutLemmas.{hash_more}
-use Rattle.sdr_read.specs.Made.{PutsBehind}
-use Rattle.sdr_read.specs.Told.{entry_told}
+use Rattle.sdr_read.proofs.PutLemmas.{by_bucket}
+use Rattle.sdr_read.specs.Told.{entries_up_to, hash_told}
 use Rattle.sdr_read.proofs.things.hash_in.Goals as goal
 
-pub loop-bucket-preserved : goal.loop-bucket-preserved
-loop-bucket-preserved c =
+pub of-requires-clause-by_bucket : goal.of-requires-clause-by_bucket
+of-requires-clause-by_bucket c =
     let heap = view_in c.args.heap.now in
-    hash_more heap (length c.args.heap.now / 8) c.args.addr c.requires.placed c.loop-bucket.bucket c.loop-bucket.made c.put_bucket.new.made
-    (subst (λ (n : ℕ). c.loop-bucket.bucket < n) c.word-buckets.ensures c.loop-bucket-test.true) c.loop-bucket.invariant
-    (subst (λ (l : List ℕ). PutsBehind (map (entry_told heap) l) c.loop-bucket.made c.put_bucket.new.made)
-    (c.deref.ensures.value ∙ c.in_ok-members.ensures) c.in_ok-put_bucket.ensures)
+    let words = length c.args.heap.now / 8 in
+    subst (λ (es : List HashEntry). AreByBucket c.word-buckets.result es) (sym c.in_ok-entries.ensures)
+    (subst (λ (n : ℕ). AreByBucket n (entries_up_to heap words c.args.addr n)) (sym c.word-buckets.ensures)
+    (by_bucket (hash_told heap words c.args.addr) c.requires.valid))

@@ -4,7 +4,7 @@ use Rattle.std.specs.Ordering.{nat_cmp}
 use Rattle.sdr_model.specs.Things.{Things}
 use Rattle.sdr_owner.specs.View.{view_in}
 use Rattle.sdr_read.proofs.InsertLemmas.{told_all, told_more}
-use Rattle.sdr_read.proofs.ReadyLemmas.{entries_placed, things_valid}
+use Rattle.sdr_read.proofs.ReadyLemmas.{things_valid}
 use Rattle.sdr_read.proofs.RowLemmas.{row}
 use Rattle.sdr_read.specs.Made.{with_told}
 use Rattle.sdr_read.specs.Told.{thing_told}
@@ -12,9 +12,6 @@ use Rattle.sdr_read.proofs.world.things_in.Goals as goal
 
 pub put_thing-requires-clause-valid : goal.put_thing-requires-clause-valid
 put_thing-requires-clause-valid c = things_valid c.args.heap.now c.requires.counted (8 * c.loop-number.number)
-
-pub put_thing-requires-clause-placed : goal.put_thing-requires-clause-placed
-put_thing-requires-clause-placed c = entries_placed c.args.heap.now c.requires.counted (8 * c.loop-number.number)
 
 pub loop-number-preserved : goal.loop-number-preserved
 loop-number-preserved c =
