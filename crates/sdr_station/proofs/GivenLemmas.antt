@@ -1,6 +1,6 @@
 -- The bytes that the row of a served call gives.
 use Rattle.std.proofs.Common.{◌≡◌, ◌∙◌, ◌≤◌, ◌+◌, ◌*◌, ◌==◌, ◌++◌, ◌∷◌, ℕ, List, [], Bool, true, false, true≢false, Option, None, Some, MatchBool, length, take, min, nat_lt, nat_le, position, refl, sym, ap, subst, arith}
-use Rattle.std.specs.Prelude.{IfSome, get_or, is_some, slice_get}
+use Rattle.std.specs.Prelude.{◌||◌, IfSome, get_or, is_some, slice_get}
 use Rattle.std.proofs.lemmas.Bool.{ltb-false}
 use Rattle.std.proofs.lemmas.Bool.Decides.{nat_tests}
 use Rattle.std.proofs.lemmas.List.{length-take-le}
@@ -11,32 +11,42 @@ use Rattle.sdr_base.proofs.PartsLemmas.{length-part}
 use Rattle.sdr_base.specs.Parts.{part}
 use Rattle.sdr_base.specs.Kinds.{kind_number}
 use Rattle.sdr_base.specs.declared.kind.Kind.TheVariants as kinds
+use Rattle.sdr_base.specs.declared.kind.Space.{Space}
+use Rattle.sdr_base.specs.declared.kind.Space.TheVariants as spaces
+use Rattle.sdr_base.specs.declared.moves.Move.{Move}
 use Rattle.sdr_base.specs.declared.refusal.Refusal.{Refusal}
 use Rattle.sdr_base.specs.declared.refusal.Refusal.TheVariants as refusals
 use Rattle.sdr_lock.proofs.StepLemmas.{from_option, from_test}
 use Rattle.sdr_lock.specs.Transaction.{bytes_given}
 use Rattle.sdr_model.proofs.FewLemmas.{in_takes_one}
 use Rattle.sdr_model.proofs.TableLemmas.{row-within}
+use Rattle.sdr_base.specs.declared.account.Acct.{Acct}
 use Rattle.sdr_base.specs.declared.account.Amounts.{Amounts}
 use Rattle.sdr_model.specs.AccountSteps.{pending_of}
-use Rattle.sdr_model.specs.Accounts.{account_of, most_amount}
-use Rattle.sdr_model.specs.Amounts.{amount, first_above}
+use Rattle.sdr_model.specs.Accounts.{account_of, most_amount, pending_in, tickets_of}
+use Rattle.sdr_model.specs.Amounts.{amount, amounts_by, first_above, in_space, minus}
+use Rattle.sdr_model.specs.Charges.{bytes_charge, capsule_bytes, object_bytes, rooms}
+use Rattle.sdr_model.specs.Charging.{Charges, grant_left, no_space, with_used}
 use Rattle.sdr_model.specs.HashSteps.{OnHash, OnKey, as_hash, has_key, is_no_count, is_no_key_length, value_at}
 use Rattle.sdr_model.specs.Hashes.{Hash}
-use Rattle.sdr_model.specs.Limits.{is_no_name, is_no_path, longest_key, longest_name, longest_path, longest_raw, longest_read, longest_source, longest_string, most_buckets}
+use Rattle.sdr_model.specs.Limits.{is_no_capsule, is_no_name, is_no_path, longest_capsule, longest_key, longest_name, longest_path, longest_raw, longest_read, longest_source, longest_string, most_buckets}
 use Rattle.sdr_model.specs.ListSteps.{as_list}
 use Rattle.sdr_model.specs.NameSteps.{OnName}
 use Rattle.sdr_model.specs.Names.{name_of}
+use Rattle.sdr_model.specs.ObjectSteps.{AddsCapsule, last_capsule, raw_append_moves, with_extent, with_header, with_object, with_trailer}
+use Rattle.sdr_model.specs.Queue.{barrier}
 use Rattle.sdr_model.specs.RawSteps.{FreesThing}
 use Rattle.sdr_model.specs.Rows.{ByRow}
-use Rattle.sdr_model.specs.Steps.{On, Outcome, Reads, Refuses}
+use Rattle.sdr_model.specs.Steps.{DoesWith, On, Outcome, Reads, RefusedFor, Refuses, Takes, taken_at, with_thing}
 use Rattle.sdr_model.specs.TableSteps.{as_table}
 use Rattle.sdr_model.specs.Tables.{Table}
 use Rattle.sdr_model.specs.Valid.{IsBetween, IsValidTable, IsValidThing, names_of}
 use Rattle.sdr_model.specs.Whole.{IsWhole}
 use Rattle.sdr_model.specs.World.{World, as_raw, as_text, block_at, is_marked, misnamed, spot_of, thing_at}
-use Rattle.sdr_model.specs.SourceSteps.{OnUnnamed}
-use Rattle.sdr_model.specs.Zco.{owned_raw, source_at, source_on, uses_of}
+use Rattle.sdr_model.specs.SourceSteps.{OnUnnamed, new_source}
+use Rattle.sdr_model.specs.Things.{capsule_need, extent_need, object_need}
+use Rattle.sdr_model.specs.Zco.{empty_object, object_at, owned_raw, source_at, source_on, space_of, uses_of}
+use Rattle.sdr_model.specs.declared.accounts.Pending.{Pending}
 use Rattle.sdr_model.specs.declared.answer.Answer.TheVariants as answers
 use Rattle.sdr_model.specs.declared.answer.Reply.{Reply}
 use Rattle.sdr_model.specs.declared.answer.Reply.TheVariants as replies
@@ -45,6 +55,9 @@ use Rattle.sdr_model.specs.declared.call.Call.TheVariants as calls
 use Rattle.sdr_model.specs.declared.name.Name.{Name}
 use Rattle.sdr_model.specs.declared.things.Thing.{Thing}
 use Rattle.sdr_model.specs.declared.things.Thing.TheVariants as things
+use Rattle.sdr_model.specs.declared.zco.Capsule.{Capsule}
+use Rattle.sdr_model.specs.declared.zco.Subject.TheVariants as subjects
+use Rattle.sdr_model.specs.declared.zco.ZcoObject.{ZcoObject}
 use Rattle.sdr_station.specs.Giving.{bytes_told}
 
 -- an outcome is refused, or gives no bytes, or gives as many as it tells, up to a count
@@ -163,6 +176,43 @@ module _ (w : World) (o : Outcome) where
   on_unnamed : {P : Type 0} {most : ℕ} (raw : ℕ) → OnUnnamed w o raw P → (P → Given o most) → Given o most
   on_unnamed raw h f =
       from_option (source_on w raw) h (λ _ h. f h) (λ source _ h. refused (refusals.InUse raw (uses_of w source)) h)
+
+  -- a charge that is allowed gives what goes on gives
+  charged : {most : ℕ} (acct : Acct) (number : ℕ) (charge : Space → ℕ) (goes : World → Type 0) → Charges w o acct number charge goes
+      → ((used : World) → goes used → Given o most) → Given o most
+  charged {most} acct number charge goes h f =
+      from_test (number == 0) h (λ _ h. on_used None h) (λ _ h.
+      from_option (pending_in w.accounts acct number) h (λ _ h. refused (refusals.BadTicket number) h) (λ p _ h.
+      where_so p.ticket.granted (refusals.NotAwarded number) h (λ h. on_used (Some p) h)))
+    where
+      on_used : (p : Option Pending)
+          → RefusedFor w o (barrier (minus (amounts_by charge) (grant_left p)) (tickets_of w.accounts acct)) (λ t. refusals.Queue t.number)
+          (RefusedFor w o (first_above (minus (amounts_by charge) (grant_left p)) (rooms w acct))
+          (no_space w acct (minus (amounts_by charge) (grant_left p))) (goes (with_used w p (amounts_by charge))))
+          → Given o most
+      on_used p h =
+          let uncovered = minus (amounts_by charge) (grant_left p) in
+          from_option (barrier uncovered (tickets_of w.accounts acct)) h (λ _ h.
+          from_option (first_above uncovered (rooms w acct)) h (λ _ h. f (with_used w p (amounts_by charge)) h)
+          (λ space _ h. refused (no_space w acct uncovered space) h))
+          (λ t _ h. refused (refusals.Queue t.number) h)
+
+  -- so do blocks that are taken
+  takes : {most : ℕ} (need : ℕ) (next : ℕ → World) (reply : ℕ → Reply) → Takes w o need next reply
+      → ((addr : ℕ) → bytes_told (reply addr) ≡ None) → Given o most
+  takes need next reply h untold = in_takes_one o.moves _ _ h (λ addr p. shows_none p.0 p.1 refl (untold addr))
+
+  does : {most : ℕ} (moves : (ℕ → ℕ) → List Move) (next : (ℕ → ℕ) → World) (reply : (ℕ → ℕ) → Reply) → DoesWith w o moves next reply
+      → bytes_told (reply (taken_at o.moves)) ≡ None → Given o most
+  does moves next reply h untold = shows_none h.1 h.2 refl untold
+
+  capsule : {most : ℕ} (addr number : ℕ) (text : List ℕ) (with_capsule : ZcoObject → Capsule → ZcoObject)
+      → AddsCapsule w o addr number text with_capsule → Given o most
+  capsule addr number text with_capsule h = on addr (object_at w addr) h (λ z _ h.
+      unless (is_no_capsule (length text)) (refusals.BadLength (length text) longest_capsule) h (λ _ h.
+      charged z.account number (in_space spaces.Heap (capsule_bytes (length text))) _ h (λ used h.
+      takes (capsule_need (length text)) (λ block. with_object used addr (with_capsule z (record { block = block; text = text })))
+      (λ block. replies.Done) h (λ block. refl))))
 
   frees : (addr : ℕ) (raw text : Option (List ℕ)) → FreesThing w o addr raw text → Given o 0
   frees addr None None h = refused (misnamed w addr) h
@@ -319,4 +369,32 @@ module _ (w : World) (o : Outcome) where
   given_row (calls.Shred ticket) is whole h =
       from_option (pending_of w ticket) h (λ _ h. refused (refusals.BadTicket ticket) h)
       (λ p _ h. shows_none h.1 h.2 refl refl)
+  given_row (calls.Create acct number) is whole h =
+      charged acct number (in_space spaces.Heap object_bytes) _ h (λ used h.
+      takes object_need (λ addr. with_object used addr (empty_object acct)) (λ addr. replies.At addr) h (λ addr. refl))
+  given_row (calls.AppendExtent addr number named offset bytes) is whole h = on addr (object_at w addr) h (λ z _ h.
+      from_option (source_at w named) h (λ _ h. on named (as_raw (thing_at w named)) h (λ text _ h.
+      on_unnamed named h (λ h.
+      unless (bytes == 0 || nat_lt (length text) (offset + bytes)) (refusals.BadRange offset bytes (length text)) h (λ _ h.
+      charged z.account number (bytes_charge spaces.Heap bytes) _ h (λ used h.
+      does raw_append_moves
+      (λ at. with_object (with_thing used (at 0) (things.Source (new_source (subjects.Heap named) (length text)))) addr
+      (with_extent z (record { block = at 1; source = at 0; offset = offset; length = bytes })))
+      (λ at. replies.Done) h refl)))))
+      (λ s _ h.
+      unless s.flagged refusals.NotFound h (λ _ h.
+      unless (bytes == 0 || nat_lt s.length (offset + bytes)) (refusals.BadRange offset bytes s.length) h (λ _ h.
+      charged z.account number (bytes_charge (space_of s.subject) bytes) _ h (λ used h.
+      takes extent_need (λ block. with_object used addr
+      (with_extent z (record { block = block; source = named; offset = offset; length = bytes })))
+      (λ block. replies.Done) h (λ block. refl))))))
+  given_row (calls.PrependHeader addr number text) is whole h = capsule addr number text with_header h
+  given_row (calls.AppendTrailer addr number text) is whole h = capsule addr number text with_trailer h
+  given_row (calls.DiscardFirstHeader addr) is whole h = on addr (object_at w addr) h (λ z _ h.
+      from_option (slice_get z.headers 0) h (λ _ h. refused refusals.NoCapsule h) (λ c _ h. shows_none h.1 h.2 refl refl))
+  given_row (calls.DiscardLastTrailer addr) is whole h = on addr (object_at w addr) h (λ z _ h.
+      from_option (last_capsule z.trailers) h (λ _ h. refused refusals.NoCapsule h) (λ c _ h. shows_none h.1 h.2 refl refl))
+  given_row (calls.ZcoLength addr) is whole h = on addr (object_at w addr) h (λ z _ h. shows_none h.1 h.2 refl refl)
+  given_row (calls.SourceLength addr) is whole h = on addr (object_at w addr) h (λ z _ h. shows_none h.1 h.2 refl refl)
+  given_row (calls.Destroy addr) is whole h = on addr (object_at w addr) h (λ z _ h. shows_none h.1 h.2 refl refl)
   given_row call is whole h = absurd (true≢false (sym is))

@@ -1,8 +1,7 @@
 -- How many moves a served call has.
 use Rattle.std.proofs.Common.{◌≡◌, ◌==◌, ◌≤◌, ◌+◌, ◌*◌, ◌/◌, ◌++◌, ◌∷◌, ◌⊎◌, ℕ, List, [], Bool, cond, Option, None, Some, false, true, true≢false, inl, inr, refl, sym, ap, ◌∙◌, length, length-append, position, subst, arith}
 use Rattle.std.proofs.lemmas.List.{length-map}
-use Rattle.std.specs.Option.{option_to_list}
-use Rattle.std.specs.Prelude.{slice_get, slice_index, if◌then◌else◌}
+use Rattle.std.specs.Prelude.{slice_get, slice_index, ⊤}
 use Rattle.sdr_base.specs.declared.moves.Move.{Move}
 use Rattle.sdr_base.specs.declared.moves.Move.TheVariants.{Gave}
 use Rattle.sdr_base.specs.declared.refusal.Refusal.TheVariants as refusals
@@ -14,7 +13,6 @@ use Rattle.sdr_model.specs.Reading.{is_reading}
 use Rattle.sdr_model.specs.HashSteps.{as_hash, has_key}
 use Rattle.sdr_model.specs.Hashes.{Hash}
 use Rattle.sdr_model.specs.AccountSteps.{pending_of}
-use Rattle.sdr_model.specs.Gone.{gone_blocks, gone_with, is_last_use, is_passing, source_blocks}
 use Rattle.sdr_model.specs.ObjectSteps.{last_capsule}
 use Rattle.sdr_model.specs.RowMoves.{append_moves, block_of, block_of_capsule, block_of_ticket, destroyed_blocks, elements_in, entries_in, first_header, keyed_at, keyed_in, last_trailer, row_moves}
 use Rattle.sdr_model.specs.Names.{name_of}
@@ -22,21 +20,18 @@ use Rattle.sdr_model.specs.Rows.{ByRow}
 use Rattle.sdr_model.specs.Step.{StopsWith}
 use Rattle.sdr_model.specs.Steps.{Outcome, gave, taken_addresses}
 use Rattle.sdr_model.specs.World.{World, thing_at}
-use Rattle.sdr_model.specs.Zco.{as_object, object_at, owned_raw, source_at, uses_of}
+use Rattle.sdr_model.specs.Zco.{object_at, source_at, uses_of}
 use Rattle.sdr_model.specs.declared.accounts.Pending.{Pending}
 use Rattle.sdr_model.specs.declared.answer.Reply.{Reply}
 use Rattle.sdr_model.specs.declared.answer.Reply.TheVariants as replies
 use Rattle.sdr_model.specs.declared.call.Call.{Call}
 use Rattle.sdr_model.specs.declared.call.Call.TheVariants as calls
 use Rattle.sdr_model.specs.declared.name.Name.{Name}
-use Rattle.sdr_model.specs.declared.things.Thing.{Thing}
-use Rattle.sdr_model.specs.declared.things.Thing.TheVariants as things
 use Rattle.sdr_model.specs.declared.zco.Capsule.{Capsule}
-use Rattle.sdr_model.specs.declared.zco.Extent.{Extent}
 use Rattle.sdr_model.specs.declared.zco.ZcoObject.{ZcoObject}
 use Rattle.sdr_model.specs.declared.zco.ZcoSource.{ZcoSource}
 use Rattle.sdr_served.specs.Serving.{built}
-use Rattle.sdr_station.proofs.StoodLemmas.{elements_few, entries_few, parts_few}
+use Rattle.sdr_station.proofs.StoodLemmas.{elements_few, entries_few, gone_few}
 use Rattle.sdr_station.specs.Grounded.{HasStood}
 use Rattle.sdr_station.specs.Rooming.{MovesAtMost}
 
@@ -107,18 +102,32 @@ one_more size addr addrs few =
     let split = length-append addrs (addr ∷ []) in
     omega (arith, few, all, split)
 
--- a list or a hash that goes has a move for each element or entry, and one for itself
+-- a list that goes has a move for each element, and one for itself
+moves_list : (size list : ℕ) → MovesAtMost size (calls.ListDestroy list) (size / 16 + 1)
+moves_list size list = moves_at_most size (calls.ListDestroy list) (size / 16 + 1) (λ w stood changes at.
+    one_more size list (elements_in (as_list (thing_at w list))) (elements_few size w list stood))
+
+-- so has a hash for its entries
+moves_hash : (size hash : ℕ) → MovesAtMost size (calls.HashDestroy hash) (size / 16 + 1)
+moves_hash size hash = moves_at_most size (calls.HashDestroy hash) (size / 16 + 1) (λ w stood changes at.
+    one_more size hash (entries_in (as_hash (thing_at w hash))) (entries_few size w hash stood))
+
+-- and an object for each block that goes with it
+moves_object : (size object : ℕ) → MovesAtMost size (calls.Destroy object) (size / 16 + 1)
+moves_object size object = moves_at_most size (calls.Destroy object) (size / 16 + 1) (λ w stood changes at.
+    let gone = destroyed_blocks w object (object_at w object) in
+    let few = gone_few size w object stood in
+    let all = length-map gone (λ (a : ℕ). Gave a) in
+    omega (arith, few, all))
+
+-- so whichever of them goes has so many at most
 pub moves_destroy : (size : ℕ) (call : Call)
-    → ((list : ℕ) × (call ≡ calls.ListDestroy list)) ⊎ ((hash : ℕ) × (call ≡ calls.HashDestroy hash))
+    → ((list : ℕ) × (call ≡ calls.ListDestroy list)) ⊎ (((hash : ℕ) × (call ≡ calls.HashDestroy hash))
+    ⊎ ((object : ℕ) × (call ≡ calls.Destroy object)))
     → MovesAtMost size call (size / 16 + 1)
-moves_destroy size call (inl l) =
-    subst (λ call. MovesAtMost size call (size / 16 + 1)) (sym l.1)
-    (moves_at_most size (calls.ListDestroy l.0) (size / 16 + 1) (λ w stood changes at.
-    one_more size l.0 (elements_in (as_list (thing_at w l.0))) (elements_few size w l.0 stood)))
-moves_destroy size call (inr h) =
-    subst (λ call. MovesAtMost size call (size / 16 + 1)) (sym h.1)
-    (moves_at_most size (calls.HashDestroy h.0) (size / 16 + 1) (λ w stood changes at.
-    one_more size h.0 (entries_in (as_hash (thing_at w h.0))) (entries_few size w h.0 stood)))
+moves_destroy size call (inl l) = subst (λ call. MovesAtMost size call (size / 16 + 1)) (sym l.1) (moves_list size l.0)
+moves_destroy size call (inr (inl h)) = subst (λ call. MovesAtMost size call (size / 16 + 1)) (sym h.1) (moves_hash size h.0)
+moves_destroy size call (inr (inr z)) = subst (λ call. MovesAtMost size call (size / 16 + 1)) (sym z.1) (moves_object size z.0)
 
 -- a name that goes has one at most
 one_name : (found : Option Name) → length (gave (block_of found)) ≤ 1
@@ -165,59 +174,6 @@ moves_append size object ticket named offset bytes =
     by : (at : ℕ → ℕ) (found : Option ZcoSource) → length (append_moves found at) ≤ 2
     by at None = omega arith
     by at (Some source) = omega arith
-
--- with an extent go a source and a raw object at most
-two_with : (raw : Option ℕ) (source : ℕ) → length (option_to_list raw ++ source ∷ []) ≤ 2
-two_with None source = omega arith
-two_with (Some raw) source = omega arith
-
-source_with : (addr : ℕ) (found : Option ZcoSource) → length (source_blocks addr found) ≤ 2
-source_with addr None = omega arith
-source_with addr (Some source) = by (is_passing source)
-  where
-    by : (goes : Bool) → length (if goes then option_to_list (owned_raw source) ++ addr ∷ [] else []) ≤ 2
-    by true = two_with (owned_raw source) addr
-    by false = omega arith
-
-extent_with : (w : World) (all later : List Extent) (e : Extent) → length (gone_with w all later e) ≤ 2
-extent_with w all later e = by (is_last_use w all later e)
-  where
-    by : (last : Bool) → length (if last then source_blocks e.source (source_at w e.source) else []) ≤ 2
-    by true = source_with e.source (source_at w e.source)
-    by false = omega arith
-
--- so three blocks at most for each
-three_each : (w : World) (all es : List Extent) → length (gone_blocks w all es) ≤ 3 * length es
-three_each w all [] = omega arith
-three_each w all (e ∷ es) =
-    let rest = three_each w all es in
-    let here = extent_with w all es e in
-    let split = length-append (gone_with w all es e) (e.block ∷ gone_blocks w all es) in
-    omega (arith, rest, here, split)
-
--- an object that goes has a move for each block of it, and for what goes with its extents
-pub moves_object : (size object : ℕ) → MovesAtMost size (calls.Destroy object) (3 * (size / 16) + 1)
-moves_object size object =
-    moves_at_most size (calls.Destroy object) (3 * (size / 16) + 1) (λ w stood changes at. by w stood (thing_at w object) refl)
-  where
-    by : (w : World) → HasStood size w → (found : Option Thing) → thing_at w object ≡ found →
-        length (gave (destroyed_blocks w object (as_object found))) ≤ 3 * (size / 16) + 1
-    by w stood (Some (things.Object z)) is =
-        let block = λ (c : Capsule). c.block in
-        let few = parts_few size w object z stood is in
-        let gone = three_each w z.extents z.extents in
-        omega (
-          arith,
-          few,
-          gone,
-          length-map (destroyed_blocks w object (Some z)) (λ (a : ℕ). Gave a),
-          length-append (map block z.headers) (gone_blocks w z.extents z.extents ++ map block z.trailers ++ object ∷ []),
-          length-append (gone_blocks w z.extents z.extents) (map block z.trailers ++ object ∷ []),
-          length-append (map block z.trailers) (object ∷ []),
-          length-map z.headers block,
-          length-map z.trailers block,
-        )
-    by w stood found is = omega arith
 
 -- whether it is none of those that may have more
 abbrev pub IsOther : Call → Type 0

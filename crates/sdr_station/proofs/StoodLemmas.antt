@@ -1,5 +1,5 @@
 -- A world that a heap has stood for.
-use Rattle.std.proofs.Common.{◌≡◌, ◌≤◌, ◌+◌, ◌*◌, ℕ, List, Option, Some, refl, length, subst, arith}
+use Rattle.std.proofs.Common.{◌≡◌, ◌≤◌, ◌*◌, ℕ, List, Option, Some, refl, length, subst, arith}
 use Rattle.std.proofs.lemmas.List.{length-map}
 use Rattle.std.specs.Prelude.{IfSome}
 use Rattle.sdr_answers.proofs.ListLemmas.{IsSmall, few_elements}
@@ -12,17 +12,17 @@ use Rattle.sdr_image.specs.Opened.{Opened}
 use Rattle.sdr_lock.specs.Ground.{State}
 use Rattle.sdr_model.specs.ListSteps.{as_list}
 use Rattle.sdr_model.specs.HashSteps.{as_hash}
-use Rattle.sdr_model.specs.RowMoves.{elements_in, entries_in}
+use Rattle.sdr_model.specs.RowMoves.{destroyed_blocks, elements_in, entries_in}
 use Rattle.sdr_model.specs.Valid.{IsValidThing}
 use Rattle.sdr_model.specs.World.{World, thing_at}
+use Rattle.sdr_model.specs.Zco.{as_object, object_at}
 use Rattle.sdr_model.specs.declared.things.Element.{Element}
 use Rattle.sdr_model.specs.declared.things.HashEntry.{HashEntry}
 use Rattle.sdr_model.specs.declared.things.Thing.{Thing}
 use Rattle.sdr_model.specs.declared.things.Thing.TheVariants as things
-use Rattle.sdr_model.specs.declared.zco.ZcoObject.{ZcoObject}
 use Rattle.sdr_served.proofs.HashLemmas.{few_entries}
 use Rattle.sdr_station.specs.Grounded.{HasStood, StandsWithin, heap_in}
-use Rattle.zco_answers.proofs.FewLemmas.{few_blocks}
+use Rattle.zco_answers.proofs.DestroyedFew.{destroyed_few}
 
 -- a heap region that keeps a heap is of no more bytes than are allowed, with few blocks in use
 pub small_in : {D : Type 0} (h : Held (Opened D)) {pools : Pools} → KeepsRegion h.size h.cells.bytes pools → IsSmall (heap_in h)
@@ -60,7 +60,10 @@ entries_few size w addr s = by (thing_at w addr) refl
         omega (arith, few, same, s.same)
     by found is = omega arith
 
--- and so has an object parts, beside its own block
-pub parts_few : (size : ℕ) (w : World) (addr : ℕ) (z : ZcoObject) → HasStood size w → thing_at w addr ≡ Some (things.Object z)
-    → 16 * (1 + length z.headers + length z.extents + length z.trailers) ≤ size
-parts_few size w addr z s there = let few = few_blocks s.heap w addr z s.stands s.few there in omega (arith, few, s.same)
+-- and an object takes at most one block for 16 bytes with it
+pub gone_few : (size : ℕ) (w : World) (addr : ℕ) → HasStood size w → 16 * length (destroyed_blocks w addr (object_at w addr)) ≤ size
+gone_few size w addr s = by (thing_at w addr) refl
+  where
+    by : (found : Option Thing) → thing_at w addr ≡ found → 16 * length (destroyed_blocks w addr (as_object found)) ≤ size
+    by (Some (things.Object z)) is = let few = destroyed_few s.heap w addr z s.stands s.whole.fits s.few is in omega (arith, few, s.same)
+    by found is = omega arith

@@ -57,8 +57,7 @@ pub fn most_moves(call: &Call, size: u64) -> u64
         return 0;
     }
     match call {
-        Call::ListDestroy(_) | Call::HashDestroy(_) => size / 16 + 1,
-        Call::Destroy(_) => 3 * (size / 16) + 1,
+        Call::ListDestroy(_) | Call::HashDestroy(_) | Call::Destroy(_) => size / 16 + 1,
         Call::AppendExtent(_, _, _, _, _) => 2,
         _ => 1,
     }
