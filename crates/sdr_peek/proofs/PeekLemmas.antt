@@ -12,8 +12,9 @@ use Rattle.sdr_image.specs.Opening.{OnNotFormatted}
 use Rattle.sdr_image.specs.declared.error.ImageError.{ImageError}
 use Rattle.sdr_image.specs.declared.error.ImageError.TheVariants as errors
 use Rattle.sdr_log.specs.Calls.{GivesNone, IsFramed}
+use Rattle.sdr_log.proofs.LogLemmas.{put_back_of-closed}
 use Rattle.sdr_log.specs.Frame.{disk_bytes, frame_of, heap_place}
-use Rattle.sdr_log.specs.Log.{heap_of, log_of, put_back_in, put_back_of, read_log}
+use Rattle.sdr_log.specs.Log.{first_gate, heap_of, log_of, put_back_in, put_back_of, read_log}
 use Rattle.sdr_log.specs.Logged.{Gives}
 use Rattle.sdr_log.specs.declared.frame.Frame.{Frame}
 use Rattle.sdr_peek.specs.Peeking.{IsCopied}
@@ -86,3 +87,10 @@ if_none (Ok s) P Q then p = tt
 if_none (Err errors.NotFormatted) P Q then p = then p
 if_none (Err errors.DiskFault) P Q then p = tt
 if_none (Err errors.NoMemory) P Q then p = tt
+
+-- where no batch is open, the heap region is what the disk gives
+pub heap_closed : (told : Option (List ℕ)) (size : ℕ) (f : Frame) (x heap : List ℕ) → IsLong told size → IsFramed size told f → told ≡ Some x
+    → first_gate x ≡ 0 → heap ≡ heap_of f x → put_back_of x ≡ Some heap
+heap_closed told size f x heap long framed is gate region =
+    put_back_of-closed f x (framed.head x is) (omega (arith, framed.limits.least_log)) (omega (arith, framed.fits, told_long told size x long is)) gate
+    ∙ ap Some (sym region)
