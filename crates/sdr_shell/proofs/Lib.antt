@@ -1,4 +1,6 @@
 pub mod FreshLemmas
+pub mod RecoverLemmas
 pub mod ReplayLemmas
 pub mod ScriptRead
+pub mod ShutLemmas
 pub mod StillLemmas

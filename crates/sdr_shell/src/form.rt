@@ -16,6 +16,8 @@ pub enum Form {
     Dry,
     /// `replay`: runs the schedule of the input on the heap of the disk.
     Replay,
+    /// `recover`: puts back the heap of the disk.
+    Recover,
     /// `format L H`: makes an empty heap of the disk, with so many lines of log and of heap.
     Format { frame: Frame },
 }
@@ -53,6 +55,7 @@ pub fn form_of(words: &[RcStr]) -> Option<Form>
     match words {
         [word] if word.as_str() == "dry" => Some(Form::Dry),
         [word] if word.as_str() == "replay" => Some(Form::Replay),
+        [word] if word.as_str() == "recover" => Some(Form::Recover),
         [word, log, heap] if word.as_str() == "format" => {
             let frame = frame_of(log.as_bytes(), heap.as_bytes())?;
             Some(Form::Format { frame })

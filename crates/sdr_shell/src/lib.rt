@@ -13,7 +13,9 @@ mod form;
 mod formatting;
 mod last_line;
 mod outcome;
+mod recovering;
 mod replaying;
+mod shutting;
 mod status;
 mod top_call;
 
