@@ -1,4 +1,5 @@
 pub mod FreshLemmas
+pub mod InspectLemmas
 pub mod RecoverLemmas
 pub mod ReplayLemmas
 pub mod ScriptRead

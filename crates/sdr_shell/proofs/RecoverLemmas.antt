@@ -8,7 +8,7 @@ use Rattle.sdr_disk.specs.Told.{IfTold}
 use Rattle.sdr_disk.specs.declared.disk.Disk.{Ghosts as DiskGhosts}
 use Rattle.sdr_image.specs.Opening.{MayBeOpened}
 use Rattle.sdr_log.specs.Logged.{GivesSame}
-use Rattle.sdr_shell.proofs.ShutLemmas.{by_shut, by_world, shut_status}
+use Rattle.sdr_shell.proofs.ShutLemmas.{by_shut, by_world, shut_not_usage, shut_status}
 use Rattle.sdr_shell.specs.Answers.{Seen, Wrote}
 use Rattle.sdr_shell.specs.Recovering.{AnswersRecover, IsRecovered, RecoversTo, line_recovered}
 use Rattle.sdr_shell.specs.Shutting.{line_shut, status_shut}
@@ -83,7 +83,4 @@ pub never_usage : {D : Type 0} (d : DiskGhosts D) (status : ℕ) (disk disk' : D
     → status ≡ USAGE → ⊥
 never_usage d status disk disk' sink sink' (RecoversTo.done count is so text) usage = omega (arith, is, usage)
 never_usage d status disk disk' sink sink' (RecoversTo.unwritten count is so rose text) usage = omega (arith, is, usage)
-never_usage d status disk disk' sink sink' (RecoversTo.shut errors.NotFormatted is so text) usage = omega (arith, is, usage)
-never_usage d status disk disk' sink sink' (RecoversTo.shut (errors.Damaged place why) is so text) usage = omega (arith, is, usage)
-never_usage d status disk disk' sink sink' (RecoversTo.shut errors.DiskFault is so text) usage = omega (arith, is, usage)
-never_usage d status disk disk' sink sink' (RecoversTo.shut errors.NoMemory is so text) usage = omega (arith, is, usage)
+never_usage d status disk disk' sink sink' (RecoversTo.shut why is so text) usage = shut_not_usage why status is usage

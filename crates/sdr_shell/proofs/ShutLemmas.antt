@@ -1,11 +1,11 @@
 -- The status of a heap that is opened or not, by the heap that the disk gives.
-use Rattle.std.proofs.Common.{◌≡◌, ◌⊎◌, ℕ, List, Option, None, Some, inl, inr, subst}
+use Rattle.std.proofs.Common.{◌≡◌, ◌⊎◌, ℕ, List, Option, None, Some, inl, inr, subst, arith}
 use Rattle.sdr_audit.specs.Standing.{StandsForWhole}
 use Rattle.sdr_base.specs.Causes.{Rose}
 use Rattle.sdr_log.specs.Log.{put_back_of}
 use Rattle.sdr_shell.specs.Recovering.{GivesWorld, IsByHeap}
 use Rattle.sdr_shell.specs.Shutting.{status_shut}
-use Rattle.sdr_shell.specs.declared.status.TheConstants.{DONE, NOT_FORMATTED, DAMAGED, NO_MEMORY}
+use Rattle.sdr_shell.specs.declared.status.TheConstants.{DONE, USAGE, NOT_FORMATTED, DAMAGED, NO_MEMORY}
 use Rattle.sdr_station.specs.Opening.{ExplainsOpen}
 use Rattle.sdr_station.specs.declared.error.OpenError.{OpenError}
 use Rattle.sdr_station.specs.declared.error.OpenError.TheVariants as errors
@@ -57,3 +57,10 @@ shut_status errors.NotFormatted status before now told sound tells explained = i
 shut_status (errors.Damaged place why) status before now told sound tells explained = inr (inr (inl tells))
 shut_status errors.DiskFault status before now told sound tells explained = absurd (sound explained)
 shut_status errors.NoMemory status before now told sound tells explained = inr (inr (inr tells))
+
+-- it is never that of words which are no form
+pub shut_not_usage : (why : OpenError) (status : ℕ) → status ≡ status_shut why → status ≡ USAGE → ⊥
+shut_not_usage errors.NotFormatted status is usage = omega (arith, is, usage)
+shut_not_usage (errors.Damaged place why) status is usage = omega (arith, is, usage)
+shut_not_usage errors.DiskFault status is usage = omega (arith, is, usage)
+shut_not_usage errors.NoMemory status is usage = omega (arith, is, usage)

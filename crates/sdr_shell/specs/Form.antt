@@ -29,7 +29,8 @@ abbrev pub form_of : List (RcStr Global) → Option Form
 form_of (word ∷ []) =
     if pointwise nat_eq (rc_str_bytes word) (codes "dry") then Some forms.Dry
     else (if pointwise nat_eq (rc_str_bytes word) (codes "replay") then Some forms.Replay
-    else (if pointwise nat_eq (rc_str_bytes word) (codes "recover") then Some forms.Recover else None))
+    else (if pointwise nat_eq (rc_str_bytes word) (codes "recover") then Some forms.Recover
+    else (if pointwise nat_eq (rc_str_bytes word) (codes "inspect") then Some forms.Inspect else None)))
 form_of (word ∷ log ∷ heap ∷ []) =
     if pointwise nat_eq (rc_str_bytes word) (codes "format")
     then format_of (frame_of (number_of (rc_str_bytes log)) (number_of (rc_str_bytes heap)))
@@ -45,4 +46,5 @@ OnFormat form P = ⊤
 abbrev pub opens_heap : Option Form → Bool
 opens_heap (Some forms.Replay) = true
 opens_heap (Some forms.Recover) = true
+opens_heap (Some forms.Inspect) = true
 opens_heap form = false

@@ -1,6 +1,7 @@
 pub mod Answers
 pub mod Form
 pub mod Formatting
+pub mod Inspecting
 pub mod Recovering
 pub mod Replaying
 pub mod Shutting

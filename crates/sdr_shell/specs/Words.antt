@@ -9,6 +9,7 @@ use Rattle.sdr_disk.specs.Pending.{IsSynced}
 use Rattle.sdr_disk.specs.declared.disk.Disk.{Ghosts as DiskGhosts}
 use Rattle.sdr_shell.specs.Answers.{AnswersDry, AnswersFormat, Wrote, seen}
 use Rattle.sdr_shell.specs.Form.{OnFormat, form_of, opens_heap}
+use Rattle.sdr_shell.specs.Inspecting.{AnswersInspect}
 use Rattle.sdr_shell.specs.Recovering.{AnswersRecover}
 use Rattle.sdr_shell.specs.Replaying.{AnswersReplay}
 use Rattle.sdr_shell.specs.Formatting.{HasFormatted, LeavesDisk}
@@ -49,6 +50,10 @@ pub record AnswersWords {D M S K : Type 0} (d : DiskGhosts D) (m : MediaGhosts M
   pub recover :
       form_of words ≡ Some forms.Recover → (input' ≡ input)
       × AnswersRecover d result.status disk result.disk (seen k.taken k.faults output) (seen k.taken k.faults output')
+  -- `inspect` reads no input, and answers by the world that it shows
+  pub inspect :
+      form_of words ≡ Some forms.Inspect → (input' ≡ input)
+      × AnswersInspect d result.status disk result.disk (seen k.taken k.faults output) (seen k.taken k.faults output')
   -- only `replay` keeps a journal
   pub given : (form_of words ≢ Some forms.Replay) → result.journal ≡ []
   -- media tell the same, and no count of theirs falls

@@ -18,6 +18,8 @@ pub enum Form {
     Replay,
     /// `recover`: puts back the heap of the disk.
     Recover,
+    /// `inspect`: prints the world of the heap; the disk is only read.
+    Inspect,
     /// `format L H`: makes an empty heap of the disk, with so many lines of log and of heap.
     Format { frame: Frame },
 }
@@ -56,6 +58,7 @@ pub fn form_of(words: &[RcStr]) -> Option<Form>
         [word] if word.as_str() == "dry" => Some(Form::Dry),
         [word] if word.as_str() == "replay" => Some(Form::Replay),
         [word] if word.as_str() == "recover" => Some(Form::Recover),
+        [word] if word.as_str() == "inspect" => Some(Form::Inspect),
         [word, log, heap] if word.as_str() == "format" => {
             let frame = frame_of(log.as_bytes(), heap.as_bytes())?;
             Some(Form::Format { frame })

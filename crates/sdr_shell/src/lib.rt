@@ -11,6 +11,7 @@
 mod commands;
 mod form;
 mod formatting;
+mod inspecting;
 mod last_line;
 mod outcome;
 mod recovering;

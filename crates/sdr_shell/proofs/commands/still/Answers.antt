@@ -1,11 +1,13 @@
-use Rattle.std.proofs.Common.{rules, ◌≡◌, Some, refl, sym, subst}
+use Rattle.std.proofs.Common.{rules, ◌≡◌, ◌∙◌, Some, ap, is_some, refl, sym, subst}
 use Rattle.sdr_disk.specs.Pending.{IsSynced}
 use Rattle.sdr_shell.specs.Formatting.{HasFormatted}
 use Rattle.sdr_shell.specs.Answers.{AnswersDry, AnswersFormat, seen}
 use Rattle.sdr_dry.specs.Schedule.{media_change}
 use Rattle.sdr_shell.specs.Form.{form_of, OnFormat}
-use Rattle.sdr_shell.specs.declared.form.Form.TheVariants.{Dry, Format, Recover, Replay}
+use Rattle.sdr_shell.specs.declared.form.Form.TheVariants.{Dry, Format, Inspect, Recover, Replay}
+use Rattle.sdr_shell.specs.Inspecting.{AnswersInspect}
 use Rattle.sdr_shell.specs.Recovering.{AnswersRecover}
+use Rattle.sdr_shell.proofs.InspectLemmas as inspection
 use Rattle.sdr_shell.proofs.RecoverLemmas as recovery
 use Rattle.sdr_shell.proofs.ReplayLemmas.{never_usage}
 use Rattle.sdr_shell.proofs.StillLemmas.{dry_completes, format_completes, not_run, on_form}
@@ -44,6 +46,7 @@ returns-in-Some-Dry g c =
       );
       replay = search rules;
       recover = search rules;
+      inspect = search rules;
       format = on_form _ Dry _ form tt;
       synced = on_form _ Dry _ form tt;
       counts = search rules;
@@ -82,6 +85,7 @@ returns-in-Some-Format g c =
       dry = search rules;
       replay = search rules;
       recover = search rules;
+      inspect = search rules;
       format = subst (λ o. OnFormat o (λ frame. (c.args.input.now ≡ c.args.input.now) × AnswersFormat c.outcome-in-Some-Format.result.status frame (g.D.Disk.size c.args.disk)
           disk (seen g.D.Disk.bytes g.D.Disk.faults c.outcome-in-Some-Format.result.disk) sink sink')) (sym form) (
             refl,
@@ -110,6 +114,7 @@ returns-in-Some-Replay g c =
       dry = search rules;
       replay = λ _. e.answers;
       recover = search rules;
+      inspect = search rules;
       format = on_form _ Replay _ form tt;
       synced = on_form _ Replay _ form tt;
       counts = search rules;
@@ -137,6 +142,7 @@ returns-in-Some-Recover g c =
       dry = search rules;
       replay = search rules;
       recover = λ _. (refl, answers);
+      inspect = search rules;
       format = on_form _ Recover _ form tt;
       synced = on_form _ Recover _ form tt;
       counts = search rules;
@@ -145,4 +151,32 @@ returns-in-Some-Recover g c =
       unread = search rules;
       same = search rules;
       told = search rules;
+    }
+
+pub returns-in-Some-Inspect : goal.returns-in-Some-Inspect
+returns-in-Some-Inspect g c =
+    let sink = seen g.K.Sink.taken g.K.Sink.faults c.args.output.now in
+    let sink' = seen g.K.Sink.taken g.K.Sink.faults c.inspect_disk-status.new.output in
+    let e = c.inspect_disk-status.ensures in
+    let form : form_of c.args.words.now ≡ Some Inspect = search rules in
+    let status = c.outcome-in-Some-Inspect.ensures.status in
+    let kept = c.outcome-in-Some-Inspect.ensures.disk in
+    let answers : AnswersInspect g.D.Disk c.outcome-in-Some-Inspect.result.status c.args.disk c.outcome-in-Some-Inspect.result.disk sink sink' =
+    subst (λ s. AnswersInspect g.D.Disk s c.args.disk c.outcome-in-Some-Inspect.result.disk sink sink') (sym status)
+    (subst (λ d. AnswersInspect g.D.Disk c.inspect_disk-status.result c.args.disk d sink sink') (sym kept) e.answers) in
+    record {
+      usage = (λ is. absurd (inspection.never_usage _ _ _ _ _ _ answers.comes is), λ none. absurd (search rules));
+      usage_text = λ is. absurd (inspection.never_usage _ _ _ _ _ _ answers.comes is);
+      dry = search rules;
+      replay = search rules;
+      recover = search rules;
+      inspect = λ _. (refl, answers);
+      format = on_form _ Inspect _ form tt;
+      synced = on_form _ Inspect _ form tt;
+      counts = search rules;
+      given = search rules;
+      media = search rules;
+      unread = search rules;
+      same = search rules;
+      told = (ap is_some answers.reads.same, ap g.D.Disk.size kept ∙ e.size);
     }
