@@ -41,9 +41,8 @@ impl<F: FileExt + OpenFile> FileDisk<F> {
         }
     }
 
-    /// A file as a disk, on which nothing is pending: what an earlier writer left that was never
-    /// synced, as a program does that was killed, is synced first. What isn't a file is an error.
-    pub fn open(file: F) -> io::Result<FileDisk<F>>
+    /// A file as a disk, as it stands. What isn't a file is an error.
+    pub fn view(file: F) -> io::Result<FileDisk<F>>
     where
         F: Drop,
         ensures { IfOk result (λ disk. ⟦<FileDisk<F> as Disk>⟧.faults disk ≡ 0) }
@@ -52,8 +51,19 @@ impl<F: FileExt + OpenFile> FileDisk<F> {
         if !metadata.is_file() {
             return Err(io::Error::from(ErrorKind::InvalidInput));
         }
-        file.sync_all()?;
         Ok(FileDisk::new(file, metadata.len()))
+    }
+
+    /// The same, with nothing pending on it: what an earlier writer left that was never synced, as a
+    /// program does that was killed, is synced first.
+    pub fn open(file: F) -> io::Result<FileDisk<F>>
+    where
+        F: Drop,
+        ensures { IfOk result (λ disk. ⟦<FileDisk<F> as Disk>⟧.faults disk ≡ 0) }
+    {
+        let disk = FileDisk::view(file)?;
+        disk.file.sync_all()?;
+        Ok(disk)
     }
 
     // Counts a fault.

@@ -8,6 +8,6 @@ mod place;
 mod real;
 
 pub use file_disk::FileDisk;
-pub use opening::{make_disk, open_disk};
+pub use opening::{make_disk, open_disk, view_disk};
 pub use place::{Place, place_of};
 pub use real::{StdSink, StdSource};

@@ -94,6 +94,20 @@ pub fn open_disk(rt: &impl Files<File = File>, path: &str) -> io::Result<FileDis
     FileDisk::open(file)
 }
 
+/// Opens a file that is there for reading alone, beside others that read it: each write to the disk
+/// fails. What isn't a file is an error, and so is one that another process may be writing; nothing
+/// waits.
+pub fn view_disk(rt: &impl Files<File = File>, path: &str) -> io::Result<FileDisk<File>>
+    ensures { IfOk result (λ disk. ⟦<FileDisk<File> as Disk>⟧.faults disk ≡ 0) }
+{
+    if !is_file(rt, path)? {
+        return Err(io::Error::from(ErrorKind::NotFound));
+    }
+    let file = File::open(rt, path)?;
+    file.try_lock_shared()?;
+    FileDisk::view(file)
+}
+
 /// Opens a file that has at least so many bytes: it is made, or lengthened with zeros, where it
 /// isn't. The zeros are written, so that no later write has to find a place for them. Its name and
 /// length last before the call returns; where they can't, nothing new is left behind.

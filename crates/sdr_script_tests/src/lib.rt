@@ -8,8 +8,12 @@
 #![tactic(auto)]
 
 #[cfg(test)]
+mod disks;
+#[cfg(test)]
 mod format_tests;
 #[cfg(test)]
 mod machine_tests;
+#[cfg(test)]
+mod recover_tests;
 #[cfg(test)]
 mod replay_tests;

@@ -1,19 +1,12 @@
 // What no clause and no script shows of replays: that they are answered with ample memory, at which call of a disk they come to a
 // fault, at which moment each image of a crash has the old world or the new, and the moments that a journal tells.
-use sdr_base::{Bytes, MemorySink, MemorySource, NoMedia};
-use sdr_disk::{Disk, MemoryDisk, Torn};
-use sdr_image::format;
-use sdr_log::Frame;
+use crate::disks::{HEAP, answered, bytes_of, formatted};
+use sdr_base::{MemorySink, NoMedia};
+use sdr_disk::{MemoryDisk, Torn};
 use sdr_model::Entry;
-use sdr_shell::{DISK_FAULT, DONE, Outcome, still};
+use sdr_shell::{DISK_FAULT, DONE, Outcome};
 use std::alloc::Global;
 use std::ops::Range;
-use std::rc::RcStr;
-
-const FRAME: Frame = Frame {
-    log_lines: 256,
-    heap_lines: 1024,
-};
 
 // A string that is kept, and a begin behind it.
 const SCRIPT: &[u8] = b"1: begin\n1: string \"hello\"\n1: end\n1: begin\n";
@@ -26,14 +19,6 @@ const FAILED: &[u8] = b"1 1 lock 1\n2 1 at 2056\n3 1 disk fault\n4 1 failed\n";
 // Two transactions, of which the second waits for the first.
 const TWO: &[u8] = b"1: begin\n2: begin\n1: string \"hello\"\n1: end\n2: end\n";
 
-// The bytes of a disk with an empty heap.
-fn formatted(alloc: Global) -> Option<Vec<u8>> {
-    let bytes = vec![in alloc; 0; 81_984].ok()?;
-    let mut disk = MemoryDisk::new(bytes, Vec::new(alloc));
-    format(&mut disk, FRAME).ok()?;
-    disk.image_at(disk.now(), Torn::New).ok()
-}
-
 // What a script comes to on a disk of these bytes, whose calls with these numbers fail.
 fn replayed(
     alloc: Global,
@@ -42,15 +27,11 @@ fn replayed(
     script: &[u8],
     output: &mut MemorySink,
 ) -> Option<Outcome<MemoryDisk, NoMedia>> {
-    let mut words = Vec::new(alloc);
-    words.push(RcStr::from_str(alloc, "replay").ok()?).ok()?;
-    let mut input = MemorySource::new(Bytes::copied(alloc, script).ok()?, Vec::new(alloc));
-    let disk = MemoryDisk::new(bytes, failing);
-    Some(still(alloc, &words, disk, NoMedia::new(), &mut input, output))
+    answered(alloc, "replay", bytes, failing, script, output)
 }
 
 // The status of a script on a formatted disk whose call of this number fails, 0 for none, and whether this is printed.
-fn answered(alloc: Global, call: u64, script: &[u8], text: &[u8]) -> Option<(u8, bool, u64)> {
+fn status_of(alloc: Global, call: u64, script: &[u8], text: &[u8]) -> Option<(u8, bool, u64)> {
     let mut output = MemorySink::new(alloc, Vec::new(alloc));
     let failing = vec![in alloc; call; 1].ok()?;
     let outcome = replayed(alloc, formatted(alloc)?, failing, script, &mut output)?;
@@ -60,7 +41,7 @@ fn answered(alloc: Global, call: u64, script: &[u8], text: &[u8]) -> Option<(u8,
 // The first call of a disk after these whose failure comes to something else than this text and a disk fault.
 fn wrong_fault(alloc: Global, begun: u64, end: u64, text: &[u8]) -> Option<Option<u64>> {
     for call in begun..end {
-        let (status, printed, _) = answered(alloc, call, SCRIPT, text)?;
+        let (status, printed, _) = status_of(alloc, call, SCRIPT, text)?;
         if status != DISK_FAULT || !printed {
             return Some(Some(call));
         }
@@ -70,10 +51,10 @@ fn wrong_fault(alloc: Global, begun: u64, end: u64, text: &[u8]) -> Option<Optio
 
 // The calls of an opening fail, then the ten of an end, of which the second is its first sync, and behind those none.
 fn faults(alloc: Global) -> Option<([Option<u64>; 2], (u8, bool))> {
-    let (_, _, opening) = answered(alloc, 0, b"", b"")?;
+    let (_, _, opening) = status_of(alloc, 0, b"", b"")?;
     let first = opening.checked_add(1)?;
     let last = first.checked_add(10)?;
-    let (status, printed, _) = answered(alloc, last, SCRIPT, KEPT)?;
+    let (status, printed, _) = status_of(alloc, last, SCRIPT, KEPT)?;
     Some((
         [
             wrong_fault(alloc, 1, first, b"disk fault\n")?,
@@ -87,14 +68,6 @@ fn faults(alloc: Global) -> Option<([Option<u64>; 2], (u8, bool))> {
 fn a_replay_tells_a_disk_that_fails_at_any_call(rt: HostRuntime) {
     assert_eq!(rt; faults(rt.alloc()), Some(([None; 2], (DONE, true))));
 }
-
-// The bytes of a disk now.
-fn bytes_of(disk: &MemoryDisk) -> Option<Vec<u8>> {
-    disk.image_at(disk.now(), Torn::New).ok()
-}
-
-// Where the heap region begins.
-const HEAP: usize = 16_448;
 
 // Whether an empty script puts back this heap of the disk that a crash leaves.
 fn is_left(alloc: Global, disk: &MemoryDisk, moment: u64, torn: Torn, heap: &[u8]) -> Option<bool> {

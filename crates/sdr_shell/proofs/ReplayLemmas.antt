@@ -15,10 +15,12 @@ use Rattle.sdr_model.specs.declared.journal.Entry.{Entry}
 use Rattle.sdr_model.specs.declared.script.Step.{Step}
 use Rattle.sdr_replay.specs.Playing.{IsPrinted, leave_of}
 use Rattle.sdr_replay.specs.Serving.{first_unserved}
+use Rattle.sdr_shell.proofs.ShutLemmas.{by_shut, shut_status}
 use Rattle.sdr_shell.proofs.StillLemmas.{told_line, told_script, writes_behind}
 use Rattle.sdr_shell.specs.Answers.{Seen, Wrote}
 use Rattle.sdr_replay.specs.Replaying.{IsNotRun}
-use Rattle.sdr_shell.specs.Replaying.{AnswersReplay, ComesTo, HadReplay, HadServed, HadUnserved, IsUntouched, RunsServed, Telling, output_of, status_shut}
+use Rattle.sdr_shell.specs.Replaying.{AnswersReplay, ComesTo, HadReplay, HadServed, HadUnserved, IsUntouched, RunsServed, Telling, output_of}
+use Rattle.sdr_shell.specs.Shutting.{status_shut}
 use Rattle.sdr_shell.specs.Still.{HadBadLine, HadScript, NamesBadLine, Tells, line_refused}
 use Rattle.sdr_shell.specs.declared.replaying.Replayed.{Replayed}
 use Rattle.sdr_shell.specs.declared.status.TheConstants.{DONE, USAGE, INPUT_FAULT, NOT_FORMATTED, DAMAGED, REFUSED_LINE, NO_MEMORY}
@@ -142,14 +144,6 @@ module _ {D : Type 0} (d : DiskGhosts D) (source source' sink sink' : Seen) (dis
   refused_only status bytes told refused (ComesTo.refused is same line) = (same, inr (inl is))
   refused_only status bytes told refused (ComesTo.unheld is same wrote) = (same, inr (inr is))
 
-  -- a status that tells why no script was run, where no disk failed
-  shut_status : (why : OpenError) (status : ℕ) → status ≡ status_shut why → IsNotRun d disk (record { why = why; disk = disk' })
-      → ¬ Rose (d.faults disk) (d.faults disk') → (status ≡ DONE) ⊎ (status ≡ NOT_FORMATTED) ⊎ (status ≡ DAMAGED) ⊎ (status ≡ NO_MEMORY)
-  shut_status errors.NotFormatted status is not no_disk = inr (inl is)
-  shut_status (errors.Damaged place why) status is not no_disk = inr (inr (inl is))
-  shut_status errors.DiskFault status is not no_disk = absurd (no_disk not.why)
-  shut_status errors.NoMemory status is not no_disk = inr (inr (inr is))
-
   completes : (status : ℕ) (bytes : List ℕ) (script : List Step) → source.bytes ≡ Some bytes → input_script bytes ≡ Ok script → first_unserved script ≡ None
       → ¬ Rose source.faults source'.faults → ¬ Rose sink.faults sink'.faults → ¬ Rose (d.faults disk) (d.faults disk')
       → ComesTo d status source source' disk disk' journal sink sink'
@@ -158,23 +152,11 @@ module _ {D : Type 0} (d : DiskGhosts D) (source source' sink sink' : Seen) (dis
   completes status bytes script told ok served no_input no_output no_disk (ComesTo.unwritten is rose whole) = absurd (no_output rose)
   completes status bytes script told ok served no_input no_output no_disk (ComesTo.failed is ran) = absurd (no_disk (ran.ran.leaves.cause ran.failed))
   completes status bytes script told ok served no_input no_output no_disk (ComesTo.starved is ran) = inr (inr (inr is))
-  completes status bytes script told ok served no_input no_output no_disk (ComesTo.shut why is was) = shut_status why status is was.not_run no_disk
+  completes status bytes script told ok served no_input no_output no_disk (ComesTo.shut why is was) = shut_status why status _ _ _ no_disk is was.not_run.why
   completes status bytes script told ok served no_input no_output no_disk (ComesTo.unread is rose same wrote) = absurd (no_input rose)
   completes status bytes script told ok served no_input no_output no_disk (ComesTo.refused is same line) =
       absurd (none_refused source.bytes bytes script told ok served line.line line.input)
   completes status bytes script told ok served no_input no_output no_disk (ComesTo.unheld is same wrote) = inr (inr (inr is))
-
-  -- why no script was run on a disk that gives a heap for which a world stands, where it didn't fail
-  standing_shut : (why : OpenError) (status : ℕ) (x heap : List ℕ) (w : World) (P : Pools) → status ≡ status_shut why
-      → IsNotRun d disk (record { why = why; disk = disk' }) → d.bytes disk ≡ Some x → put_back_of x ≡ Some heap → StandsForWhole heap w P
-      → ¬ Rose (d.faults disk) (d.faults disk') → status ≡ NO_MEMORY
-  standing_shut errors.NotFormatted status x heap w P is not told gives stands no_disk = let none = not.why x told in absurd cc
-  standing_shut (errors.Damaged place why) status x heap w P is not told gives stands no_disk =
-      let damaged = not.why x told in
-      let same : heap ≡ damaged.heap = cc (damaged.gives, gives) in
-      absurd (damaged.none w P (subst (λ (h : List ℕ). StandsForWhole h w P) same stands))
-  standing_shut errors.DiskFault status x heap w P is not told gives stands no_disk = absurd (no_disk not.why)
-  standing_shut errors.NoMemory status x heap w P is not told gives stands no_disk = is
 
   takes_standing : (status : ℕ) (bytes : List ℕ) (script : List Step) → source.bytes ≡ Some bytes → input_script bytes ≡ Ok script → first_unserved script ≡ None
       → (x heap : List ℕ) (w : World) (P : Pools) → d.bytes disk ≡ Some x → put_back_of x ≡ Some heap → StandsForWhole heap w P
@@ -186,7 +168,7 @@ module _ {D : Type 0} (d : DiskGhosts D) (source source' sink sink' : Seen) (dis
       absurd (no_disk (ran.ran.leaves.cause ran.failed))
   takes_standing status bytes script told ok served x heap w P has gives stands no_input no_output no_disk (ComesTo.starved is ran) = inr is
   takes_standing status bytes script told ok served x heap w P has gives stands no_input no_output no_disk (ComesTo.shut why is was) =
-      inr (standing_shut why status x heap w P is was.not_run has gives stands no_disk)
+      (by_shut why status _ _ _ x has no_disk is was.not_run.why).taken heap w P gives stands
   takes_standing status bytes script told ok served x heap w P has gives stands no_input no_output no_disk (ComesTo.unread is rose same wrote) = absurd (no_input rose)
   takes_standing status bytes script told ok served x heap w P has gives stands no_input no_output no_disk (ComesTo.refused is same line) =
       absurd (none_refused source.bytes bytes script told ok served line.line line.input)

@@ -1,5 +1,5 @@
 -- The forms that the words of a command line have.
-use Rattle.std.specs.Prelude.{ℕ, List, [], ◌∷◌, Option, Some, None, codes, nat_eq, if◌then◌else◌, ⊤}
+use Rattle.std.specs.Prelude.{ℕ, Bool, true, false, List, [], ◌∷◌, Option, Some, None, codes, nat_eq, if◌then◌else◌, ⊤}
 use Rattle.std.specs.declared.rc.RcStr.{RcStr}
 use Rattle.std.specs.declared.alloc.Global.{Global}
 use Rattle.std.specs.Cmp.Lexicographic.{pointwise}
@@ -27,9 +27,10 @@ format_of None = None
 -- the form that the words are, if they are one
 abbrev pub form_of : List (RcStr Global) → Option Form
 form_of (word ∷ []) =
-    if pointwise nat_eq (rc_str_bytes word) (codes "dry")
-    then Some forms.Dry
-    else (if pointwise nat_eq (rc_str_bytes word) (codes "replay") then Some forms.Replay else None)
+    if pointwise nat_eq (rc_str_bytes word) (codes "dry") then Some forms.Dry
+    else (if pointwise nat_eq (rc_str_bytes word) (codes "replay") then Some forms.Replay
+    else (if pointwise nat_eq (rc_str_bytes word) (codes "recover") then Some forms.Recover
+    else (if pointwise nat_eq (rc_str_bytes word) (codes "inspect") then Some forms.Inspect else None)))
 form_of (word ∷ log ∷ heap ∷ []) =
     if pointwise nat_eq (rc_str_bytes word) (codes "format")
     then format_of (frame_of (number_of (rc_str_bytes log)) (number_of (rc_str_bytes heap)))
@@ -40,3 +41,10 @@ form_of words = None
 abbrev pub OnFormat : Option Form → (Frame → Type 0) → Type 0
 OnFormat (Some (forms.Format frame)) P = P frame
 OnFormat form P = ⊤
+
+-- whether the form opens the heap of the disk
+abbrev pub opens_heap : Option Form → Bool
+opens_heap (Some forms.Replay) = true
+opens_heap (Some forms.Recover) = true
+opens_heap (Some forms.Inspect) = true
+opens_heap form = false

@@ -2,8 +2,6 @@
 use Rattle.std.specs.Prelude.{◌≡◌, ◌≤◌, ℕ, Bool, List, [], ◌++◌, ◌⊎◌, Option, None, Some, IsOk, IsErr, Ok, codes, decimal, true, false}
 use Rattle.std.specs.Io.KnownBytes.{Appends, IsAtEnd}
 use Rattle.sdr_audit.specs.Standing.{StandsForWhole}
-use Rattle.sdr_check.specs.declared.error.Why.{Why}
-use Rattle.sdr_check.specs.declared.error.Why.TheVariants as whys
 use Rattle.sdr_base.specs.Causes.{Rose}
 use Rattle.sdr_base.specs.Pools.{Pools}
 use Rattle.sdr_base.specs.Written.{AppendsPart}
@@ -24,43 +22,18 @@ use Rattle.sdr_replay.specs.Replaying.{IsNotRun, LeavesJournal, ReplaysOn}
 use Rattle.sdr_replay.specs.Serving.{first_unserved}
 use Rattle.sdr_replay.specs.declared.playing.Ran.{Ran}
 use Rattle.sdr_shell.specs.Answers.{Seen, Wrote}
+use Rattle.sdr_shell.specs.Shutting.{line_shut, status_shut}
 use Rattle.sdr_shell.specs.Still.{HadBadLine, HadScript, line_refused}
 use Rattle.sdr_shell.specs.declared.replaying.Replayed.{Replayed}
 use Rattle.sdr_shell.specs.declared.status.TheConstants.{DONE, INPUT_FAULT, OUTPUT_FAULT, DISK_FAULT, NOT_FORMATTED, DAMAGED, REFUSED_LINE, NO_MEMORY}
 use Rattle.sdr_station.specs.Grounded.{Grounded}
 use Rattle.sdr_station.specs.Opening.{IsOpen, first_on}
 use Rattle.sdr_station.specs.declared.error.OpenError.{OpenError}
-use Rattle.sdr_station.specs.declared.error.OpenError.TheVariants as errors
 use Rattle.sdr_words.specs.Script.{input_script}
 
 -- what is seen of an output
 abbrev pub output_of : Seen → Output
 output_of sink = record { taken = sink.bytes; faults = sink.faults }
-
--- what is wrong at a place, in a word
-abbrev pub why_text : Why → List ℕ
-why_text whys.Control = codes "control"
-why_text whys.Block = codes "block"
-why_text whys.Bits = codes "bits"
-why_text whys.Free = codes "free"
-why_text whys.Content = codes "content"
-why_text whys.Owner = codes "owner"
-why_text whys.Count = codes "count"
-why_text whys.Queue = codes "queue"
-
--- the last line where a heap isn't opened
-abbrev pub line_shut : OpenError → List ℕ
-line_shut errors.NotFormatted = codes "not formatted\n"
-line_shut (errors.Damaged place why) = codes "damaged " ++ decimal place ++ codes " " ++ why_text why ++ codes "\n"
-line_shut errors.DiskFault = codes "disk fault\n"
-line_shut errors.NoMemory = codes "no memory\n"
-
--- the status that tells so
-abbrev pub status_shut : OpenError → ℕ
-status_shut errors.NotFormatted = NOT_FORMATTED
-status_shut (errors.Damaged place why) = DAMAGED
-status_shut errors.DiskFault = DISK_FAULT
-status_shut errors.NoMemory = NO_MEMORY
 
 -- The source's input spelled a script, all of whose calls are served.
 pub record HadServed (left : Option (List ℕ)) : Type 0 where

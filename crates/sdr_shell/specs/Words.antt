@@ -1,5 +1,5 @@
 -- What the public calls answer to the words of a command line.
-use Rattle.std.specs.Prelude.{◌≡◌, ◌≢◌, ◌≤◌, ◌+◌, ◌↔◌, List, [], None, Some, codes, is_some}
+use Rattle.std.specs.Prelude.{◌≡◌, ◌≢◌, ◌≤◌, ◌+◌, ◌↔◌, List, [], None, Some, codes, false, is_some}
 use Rattle.std.specs.declared.alloc.Global.{Global}
 use Rattle.std.specs.declared.rc.RcStr.{RcStr}
 use Rattle.sdr_base.specs.declared.media.Media.{Ghosts as MediaGhosts}
@@ -8,7 +8,9 @@ use Rattle.sdr_base.specs.declared.source.Source.{Ghosts as SourceGhosts}
 use Rattle.sdr_disk.specs.Pending.{IsSynced}
 use Rattle.sdr_disk.specs.declared.disk.Disk.{Ghosts as DiskGhosts}
 use Rattle.sdr_shell.specs.Answers.{AnswersDry, AnswersFormat, Wrote, seen}
-use Rattle.sdr_shell.specs.Form.{OnFormat, form_of}
+use Rattle.sdr_shell.specs.Form.{OnFormat, form_of, opens_heap}
+use Rattle.sdr_shell.specs.Inspecting.{AnswersInspect}
+use Rattle.sdr_shell.specs.Recovering.{AnswersRecover}
 use Rattle.sdr_shell.specs.Replaying.{AnswersReplay}
 use Rattle.sdr_shell.specs.Formatting.{HasFormatted, LeavesDisk}
 use Rattle.sdr_dry.specs.Schedule.{HaveFailed, media_change}
@@ -44,13 +46,21 @@ pub record AnswersWords {D M S K : Type 0} (d : DiskGhosts D) (m : MediaGhosts M
       form_of words ≡ Some forms.Replay
       → AnswersReplay d result.status (seen s.left s.faults input) (seen s.left s.faults input') disk result.disk result.journal
       (seen k.taken k.faults output) (seen k.taken k.faults output')
+  -- `recover` reads no input, and answers by what it puts back
+  pub recover :
+      form_of words ≡ Some forms.Recover → (input' ≡ input)
+      × AnswersRecover d result.status disk result.disk (seen k.taken k.faults output) (seen k.taken k.faults output')
+  -- `inspect` reads no input, and answers by the world that it shows
+  pub inspect :
+      form_of words ≡ Some forms.Inspect → (input' ≡ input)
+      × AnswersInspect d result.status disk result.disk (seen k.taken k.faults output) (seen k.taken k.faults output')
   -- only `replay` keeps a journal
   pub given : (form_of words ≢ Some forms.Replay) → result.journal ≡ []
   -- media tell the same, and no count of theirs falls
   pub media : HaveFailed 0 0 (media_change m.told m.faults m.short files result.media)
   -- only `dry` reads media
   pub unread : (form_of words ≢ Some forms.Dry) → result.media ≡ files
-  -- by these statuses the disk is as it was, but for what `replay` says of them
-  pub same : (form_of words ≢ Some forms.Replay) → LeavesDisk result.status → result.disk ≡ disk
+  -- by these statuses the disk is as it was, where the words ask for no heap to be opened
+  pub same : opens_heap (form_of words) ≡ false → LeavesDisk result.status → result.disk ≡ disk
   -- the disk tells its bytes as before, and keeps its size
   pub told : (is_some (d.bytes result.disk) ≡ is_some (d.bytes disk)) × (d.size result.disk ≡ d.size disk)

@@ -14,7 +14,9 @@ ghost use Rattle.sdr_shell.specs.Words.{AnswersWords};
 use crate::Outcome;
 use crate::form::{Form, form_of};
 use crate::formatting::format_disk;
+use crate::inspecting::inspect_disk;
 use crate::last_line::last_line;
+use crate::recovering::{Recovered, recover_disk};
 use crate::replaying::{Replayed, replay_input};
 use crate::status::{
     DISK_FAULT, DONE, INPUT_FAULT, NO_MEMORY, OUTPUT_FAULT, REFUSED_LINE, TOO_SMALL, USAGE,
@@ -180,6 +182,14 @@ pub fn still<D: Disk, M: Media, S: Source, K: Sink>(
                 disk,
                 media,
             }
+        }
+        Some(Form::Recover) => {
+            let Recovered { status, disk } = recover_disk(alloc, disk, output);
+            outcome(alloc, status, disk, media)
+        }
+        Some(Form::Inspect) => {
+            let status = inspect_disk(alloc, &mut disk, output);
+            outcome(alloc, status, disk, media)
         }
         Some(Form::Format { frame }) => {
             let status = format_disk(frame, &mut disk, output);

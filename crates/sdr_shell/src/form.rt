@@ -16,6 +16,10 @@ pub enum Form {
     Dry,
     /// `replay`: runs the schedule of the input on the heap of the disk.
     Replay,
+    /// `recover`: puts back the heap of the disk.
+    Recover,
+    /// `inspect`: prints the world of the heap; the disk is only read.
+    Inspect,
     /// `format L H`: makes an empty heap of the disk, with so many lines of log and of heap.
     Format { frame: Frame },
 }
@@ -53,6 +57,8 @@ pub fn form_of(words: &[RcStr]) -> Option<Form>
     match words {
         [word] if word.as_str() == "dry" => Some(Form::Dry),
         [word] if word.as_str() == "replay" => Some(Form::Replay),
+        [word] if word.as_str() == "recover" => Some(Form::Recover),
+        [word] if word.as_str() == "inspect" => Some(Form::Inspect),
         [word, log, heap] if word.as_str() == "format" => {
             let frame = frame_of(log.as_bytes(), heap.as_bytes())?;
             Some(Form::Format { frame })

@@ -8,10 +8,11 @@ ghost use Rattle.sdr_image.specs.declared.error.FormatError.TheVariants as error
 ghost use Rattle.sdr_log.specs.Frame.{IsInLimits, disk_bytes};
 ghost use Rattle.sdr_shell.specs.Formatting.{line_formatted, line_too_small, IsFormatted, HasFormatted, IsFormatStatus};
 ghost use Rattle.sdr_shell.specs.Still.{WritesOut};
+ghost use Rattle.sdr_shell.specs.declared.status.TheConstants.{DONE, OUTPUT_FAULT};
 
-use crate::last_line::last_line;
-use crate::status::{DISK_FAULT, DONE, OUTPUT_FAULT, TOO_SMALL};
-use sdr_base::{Sink, write_all};
+use crate::last_line::{last_line, print_line};
+use crate::status::{DISK_FAULT, TOO_SMALL};
+use sdr_base::Sink;
 use sdr_disk::Disk;
 use sdr_image::{FormatError, format};
 use sdr_log::Frame;
@@ -33,10 +34,7 @@ fn tell_formatted<K: Sink>(output: &mut K, frame: Frame) -> u8
     text.push(b" ");
     text.number(frame.heap_lines);
     text.push(b"\n");
-    match write_all(output, text.as_slice()) {
-        Ok(()) => DONE,
-        Err(_) => OUTPUT_FAULT,
-    }
+    print_line(output, text.as_slice())
 }
 
 // Tells how many bytes the regions take, and how many the disk has.

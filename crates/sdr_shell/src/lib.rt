@@ -11,9 +11,12 @@
 mod commands;
 mod form;
 mod formatting;
+mod inspecting;
 mod last_line;
 mod outcome;
+mod recovering;
 mod replaying;
+mod shutting;
 mod status;
 mod top_call;
 

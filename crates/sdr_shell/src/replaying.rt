@@ -5,20 +5,16 @@ ghost use Rattle.sdr_log.specs.Calls.{KeepsDisk};
 ghost use Rattle.sdr_replay.specs.Replaying.{IsSettled};
 ghost use Rattle.sdr_replay.specs.Serving.{IsServed};
 ghost use Rattle.sdr_shell.specs.Answers.{Wrote, seen};
-ghost use Rattle.sdr_shell.specs.Replaying.{AnswersReplay, RunsServed, TellsRan, line_shut, status_shut, why_text};
+ghost use Rattle.sdr_shell.specs.Replaying.{AnswersReplay, RunsServed, TellsRan};
 
 use crate::commands::{refuse_line, tell};
 use crate::last_line::last_line;
-use crate::status::{
-    DAMAGED, DISK_FAULT, DONE, NO_MEMORY, NOT_FORMATTED, OUTPUT_FAULT, REFUSED_LINE,
-};
+use crate::shutting::tell_shut;
+use crate::status::{DISK_FAULT, DONE, NO_MEMORY, OUTPUT_FAULT, REFUSED_LINE};
 use sdr_base::{Sink, Source};
-use sdr_check::Why;
 use sdr_disk::Disk;
 use sdr_model::{Journal, Step};
 use sdr_replay::{Ran, first_unserved, replay};
-use sdr_station::OpenError;
-use sdr_text::Line;
 use sdr_words::read_script;
 use std::alloc::Global;
 
@@ -29,55 +25,6 @@ pub struct Replayed<D> {
     /// The entries by rising lock number.
     pub journal: Journal,
     pub disk: D,
-}
-
-// What is wrong at a place, in a word.
-fn why_text(why: Why) -> &'static [u8]
-    ensures { result.now ≡ why_text why }
-{
-    match why {
-        Why::Control => b"control",
-        Why::Block => b"block",
-        Why::Bits => b"bits",
-        Why::Free => b"free",
-        Why::Content => b"content",
-        Why::Owner => b"owner",
-        Why::Count => b"count",
-        Why::Queue => b"queue",
-    }
-}
-
-// Tells why a heap wasn't opened.
-fn tell_shut<K: Sink>(why: OpenError, output: &mut K) -> u8
-    ensures status { result ≡ status_shut why }
-    ensures written { Wrote (seen K.taken K.faults output.old) (seen K.taken K.faults output.new)
-        (line_shut why) }
-    ensures later { K.faults output.old ≤ K.faults output.new }
-{
-    match why {
-        OpenError::NotFormatted => {
-            last_line(output, b"not formatted\n");
-            NOT_FORMATTED
-        }
-        OpenError::Damaged { place, why } => {
-            let mut text = Line::new();
-            text.push(b"damaged ");
-            text.number(place);
-            text.push(b" ");
-            text.push(why_text(why));
-            text.push(b"\n");
-            last_line(output, text.as_slice());
-            DAMAGED
-        }
-        OpenError::DiskFault => {
-            last_line(output, b"disk fault\n");
-            DISK_FAULT
-        }
-        OpenError::NoMemory => {
-            last_line(output, b"no memory\n");
-            NO_MEMORY
-        }
-    }
 }
 
 // Tells what a run came to: what stopped it, if anything did.

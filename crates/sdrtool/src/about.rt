@@ -10,11 +10,14 @@ use sdr_shell::{DONE, OUTPUT_FAULT};
 pub const VERSION: &str = "sdrtool 0.1.0\n";
 
 pub const HELP: &str = "\
-sdrtool formats a heap on a disk, and runs the script of its daemons on it.
+sdrtool formats a heap on a disk, runs the script of its daemons on it, and
+puts it back after a power loss.
 
     sdrtool DISK format L H      makes an empty heap of the disk: L lines of log
                                  (2 to 65536), H lines of heap (32 to 262144)
     sdrtool DISK replay < SCRIPT runs the script on the heap of the disk
+    sdrtool DISK recover         puts back what a power loss cut short, and says
+                                 how many lines that were
     sdrtool DISK dry < SCRIPT    runs the script on a machine with no disk
     sdrtool --help
     sdrtool --version
@@ -45,6 +48,8 @@ An example: a disk of 81984 bytes has 256 lines of log and 1024 of heap.
     formatted 256 1024
     $ echo '1: begin' | sdrtool heap.disk replay
     1 1 lock 1
+    $ sdrtool heap.disk recover
+    recovered 0 lines
 
 So far a heap is taken only as it was formatted, and the calls on objects
 aren't served: replay refuses the first such line.

@@ -1,11 +1,11 @@
-//! `sdrtool` makes an empty heap of a disk (`format`), and runs the script of its daemons on it (`replay`) or on a
-//! machine without one (`dry`).
+//! `sdrtool` makes an empty heap of a disk (`format`), runs the script of its daemons on it (`replay`) or on a
+//! machine without one (`dry`), and puts it back after a power loss (`recover`).
 //!
 //! 1. The first word says which disk: `-` an empty one in memory, `PATH` a file, `PATH=N` a file that
 //!    is made, or lengthened with zero bytes, to N bytes. A file that can't be opened, lengthened or
 //!    locked, and what isn't a file, ends the program with status 1.
 //! 2. The other words go to the top call, whose status the program ends with. Where they are no form,
-//!    `PATH=N` makes no file.
+//!    `PATH=N` makes no file. `inspect` opens its file for reading alone, beside others that read it.
 //! 3. Files and bulk items are those of the current folder.
 //! 4. `--help` and `--version`, alone, are answered without a disk.
 #![tactic(auto)]
@@ -20,7 +20,7 @@ mod about;
 use crate::about::{HELP, VERSION, print};
 use sdr_base::{Media, NoGate, NoMemory, Sink, Source};
 use sdr_disk::{Disk, MemoryDisk};
-use sdr_files::{FileDisk, Place, StdSink, StdSource, make_disk, open_disk, place_of};
+use sdr_files::{FileDisk, Place, StdSink, StdSource, make_disk, open_disk, place_of, view_disk};
 use sdr_media::FolderMedia;
 use sdr_shell::{NO_MEMORY, is_form, top};
 use std::alloc::Global;
@@ -117,6 +117,11 @@ fn answer_in_memory<
     answer(rt, form, disk, media, input, output)
 }
 
+// Whether the form reads the disk alone.
+fn only_reads(form: &[RcStr]) -> bool {
+    matches!(form, [word] if word.as_str() == "inspect")
+}
+
 // The status of a command line.
 fn run<
     R: Threads + Wait + Sync + AllocGlobal + Eprint + Files<File = File>,
@@ -130,6 +135,9 @@ fn run<
         [word] if word.as_str() == "--version" => print(output, VERSION),
         [disk, form @ ..] => match place_of(disk.as_str()) {
             Place::Memory => answer_in_memory(rt, form, media, input, output),
+            Place::File { path } | Place::Sized { path, .. } if only_reads(form) => {
+                answer_on_file(rt, form, view_disk(rt, path), media, input, output)
+            }
             Place::File { path } => {
                 answer_on_file(rt, form, open_disk(rt, path), media, input, output)
             }

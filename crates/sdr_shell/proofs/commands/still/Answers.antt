@@ -1,10 +1,14 @@
-use Rattle.std.proofs.Common.{rules, ◌≡◌, Some, refl, sym, subst}
+use Rattle.std.proofs.Common.{rules, ◌≡◌, ◌∙◌, Some, ap, is_some, refl, sym, subst}
 use Rattle.sdr_disk.specs.Pending.{IsSynced}
 use Rattle.sdr_shell.specs.Formatting.{HasFormatted}
 use Rattle.sdr_shell.specs.Answers.{AnswersDry, AnswersFormat, seen}
 use Rattle.sdr_dry.specs.Schedule.{media_change}
 use Rattle.sdr_shell.specs.Form.{form_of, OnFormat}
-use Rattle.sdr_shell.specs.declared.form.Form.TheVariants.{Dry, Format, Replay}
+use Rattle.sdr_shell.specs.declared.form.Form.TheVariants.{Dry, Format, Inspect, Recover, Replay}
+use Rattle.sdr_shell.specs.Inspecting.{AnswersInspect}
+use Rattle.sdr_shell.specs.Recovering.{AnswersRecover}
+use Rattle.sdr_shell.proofs.InspectLemmas as inspection
+use Rattle.sdr_shell.proofs.RecoverLemmas as recovery
 use Rattle.sdr_shell.proofs.ReplayLemmas.{never_usage}
 use Rattle.sdr_shell.proofs.StillLemmas.{dry_completes, format_completes, not_run, on_form}
 use Rattle.sdr_shell.proofs.commands.still.Goals as goal
@@ -41,6 +45,8 @@ returns-in-Some-Dry g c =
             (media_change g.M.Media.told g.M.Media.faults g.M.Media.short c.args.media m) sink sink') (sym c.outcome.ensures.media) answers),
       );
       replay = search rules;
+      recover = search rules;
+      inspect = search rules;
       format = on_form _ Dry _ form tt;
       synced = on_form _ Dry _ form tt;
       counts = search rules;
@@ -78,6 +84,8 @@ returns-in-Some-Format g c =
       usage_text = search rules;
       dry = search rules;
       replay = search rules;
+      recover = search rules;
+      inspect = search rules;
       format = subst (λ o. OnFormat o (λ frame. (c.args.input.now ≡ c.args.input.now) × AnswersFormat c.outcome-in-Some-Format.result.status frame (g.D.Disk.size c.args.disk)
           disk (seen g.D.Disk.bytes g.D.Disk.faults c.outcome-in-Some-Format.result.disk) sink sink')) (sym form) (
             refl,
@@ -105,12 +113,70 @@ returns-in-Some-Replay g c =
       usage_text = λ is. absurd (never_usage _ _ _ _ _ _ _ _ _ e.answers.comes is);
       dry = search rules;
       replay = λ _. e.answers;
+      recover = search rules;
+      inspect = search rules;
       format = on_form _ Replay _ form tt;
       synced = on_form _ Replay _ form tt;
       counts = search rules;
       given = λ other. absurd (other form);
       media = search rules;
       unread = search rules;
-      same = λ other _. absurd (other form);
+      same = search rules;
       told = (e.keeps.tells, e.keeps.size);
+    }
+
+pub returns-in-Some-Recover : goal.returns-in-Some-Recover
+returns-in-Some-Recover g c =
+    let sink = seen g.K.Sink.taken g.K.Sink.faults c.args.output.now in
+    let sink' = seen g.K.Sink.taken g.K.Sink.faults c.recover_disk-status.new.output in
+    let e = c.recover_disk-status.ensures in
+    let form : form_of c.args.words.now ≡ Some Recover = search rules in
+    let status = c.outcome-in-Some-Recover.ensures.status in
+    let kept = c.outcome-in-Some-Recover.ensures.disk in
+    let answers : AnswersRecover g.D.Disk c.outcome-in-Some-Recover.result.status c.args.disk c.outcome-in-Some-Recover.result.disk sink sink' =
+    subst (λ s. AnswersRecover g.D.Disk s c.args.disk c.outcome-in-Some-Recover.result.disk sink sink') (sym status)
+    (subst (λ d. AnswersRecover g.D.Disk c.recover_disk-status.result.status c.args.disk d sink sink') (sym kept) e.answers) in
+    record {
+      usage = (λ is. absurd (recovery.never_usage _ _ _ _ _ _ answers.comes is), λ none. absurd (search rules));
+      usage_text = λ is. absurd (recovery.never_usage _ _ _ _ _ _ answers.comes is);
+      dry = search rules;
+      replay = search rules;
+      recover = λ _. (refl, answers);
+      inspect = search rules;
+      format = on_form _ Recover _ form tt;
+      synced = on_form _ Recover _ form tt;
+      counts = search rules;
+      given = search rules;
+      media = search rules;
+      unread = search rules;
+      same = search rules;
+      told = search rules;
+    }
+
+pub returns-in-Some-Inspect : goal.returns-in-Some-Inspect
+returns-in-Some-Inspect g c =
+    let sink = seen g.K.Sink.taken g.K.Sink.faults c.args.output.now in
+    let sink' = seen g.K.Sink.taken g.K.Sink.faults c.inspect_disk-status.new.output in
+    let e = c.inspect_disk-status.ensures in
+    let form : form_of c.args.words.now ≡ Some Inspect = search rules in
+    let status = c.outcome-in-Some-Inspect.ensures.status in
+    let kept = c.outcome-in-Some-Inspect.ensures.disk in
+    let answers : AnswersInspect g.D.Disk c.outcome-in-Some-Inspect.result.status c.args.disk c.outcome-in-Some-Inspect.result.disk sink sink' =
+    subst (λ s. AnswersInspect g.D.Disk s c.args.disk c.outcome-in-Some-Inspect.result.disk sink sink') (sym status)
+    (subst (λ d. AnswersInspect g.D.Disk c.inspect_disk-status.result c.args.disk d sink sink') (sym kept) e.answers) in
+    record {
+      usage = (λ is. absurd (inspection.never_usage _ _ _ _ _ _ answers.comes is), λ none. absurd (search rules));
+      usage_text = λ is. absurd (inspection.never_usage _ _ _ _ _ _ answers.comes is);
+      dry = search rules;
+      replay = search rules;
+      recover = search rules;
+      inspect = λ _. (refl, answers);
+      format = on_form _ Inspect _ form tt;
+      synced = on_form _ Inspect _ form tt;
+      counts = search rules;
+      given = search rules;
+      media = search rules;
+      unread = search rules;
+      same = search rules;
+      told = (ap is_some answers.reads.same, ap g.D.Disk.size kept ∙ e.size);
     }

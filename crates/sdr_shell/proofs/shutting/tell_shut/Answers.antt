@@ -1,8 +1,8 @@
 use Rattle.std.proofs.Common.{sym, subst}
 use Rattle.sdr_shell.specs.Answers.{Wrote, seen}
-use Rattle.sdr_shell.specs.Replaying.{line_shut}
+use Rattle.sdr_shell.specs.Shutting.{line_shut}
 use Rattle.sdr_station.specs.declared.error.OpenError.{OpenError}
-use Rattle.sdr_shell.proofs.replaying.tell_shut.Goals as goal
+use Rattle.sdr_shell.proofs.shutting.tell_shut.Goals as goal
 
 pub returns-in-NotFormatted-clause-written : goal.returns-in-NotFormatted-clause-written
 returns-in-NotFormatted-clause-written g c =

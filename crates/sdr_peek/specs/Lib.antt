@@ -1,0 +1,2 @@
+pub mod Peeking
+pub mod Still

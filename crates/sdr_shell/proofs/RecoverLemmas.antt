@@ -1,0 +1,86 @@
+-- What a recovery answers follows from what it came to.
+use Rattle.std.proofs.Common.{◌≡◌, ◌⊎◌, ℕ, inl, inr, subst, sym, arith}
+use Rattle.std.specs.Io.KnownBytes.{Appends}
+use Rattle.sdr_base.specs.Causes.{Rose}
+use Rattle.sdr_base.specs.Written.{AppendsPart}
+use Rattle.sdr_disk.specs.Moments.{AtEach}
+use Rattle.sdr_disk.specs.Told.{IfTold}
+use Rattle.sdr_disk.specs.declared.disk.Disk.{Ghosts as DiskGhosts}
+use Rattle.sdr_image.specs.Opening.{MayBeOpened}
+use Rattle.sdr_log.specs.Logged.{GivesSame}
+use Rattle.sdr_shell.proofs.ShutLemmas.{by_shut, by_world, shut_not_usage, shut_status}
+use Rattle.sdr_shell.specs.Answers.{Seen, Wrote}
+use Rattle.sdr_shell.specs.Recovering.{AnswersRecover, IsRecovered, RecoversTo, line_recovered}
+use Rattle.sdr_shell.specs.Shutting.{line_shut, status_shut}
+use Rattle.sdr_shell.specs.declared.status.TheConstants.{DONE, OUTPUT_FAULT, USAGE}
+use Rattle.sdr_station.specs.Grounded.{Grounded}
+use Rattle.sdr_station.specs.Opening.{ExplainsOpen, IsOpen, LeavesBytes, first_on}
+use Rattle.sdr_station.specs.declared.error.OpenError.TheVariants as errors
+use Rattle.sdr_station.specs.declared.error.Shut.{Shut}
+
+-- a heap that was opened is put back
+pub opened_recovered : {D : Type 0} (d : DiskGhosts D) (disk : D) (g : Grounded D) → IsOpen d.bytes d.moment d.may_leave disk g
+    → IsRecovered d disk g.heap.cells.disk g.restored
+opened_recovered d disk g o = record {
+  frame = g.heap.cells.frame;
+  back = o.back;
+  world = λ x told. record {
+    heap = g.heap.cells.begun;
+    gives = o.gives x told;
+    world = (first_on g).world;
+    pools = o.memory.before.pools;
+    stands = o.memory.before.stands;
+  };
+  synced = λ may x told. ((o.stands may).rests o.sound x told).rest.only;
+}
+
+-- what a recovery came to gives its answers
+pub recover_answers : {D : Type 0} (d : DiskGhosts D) (status : ℕ) (disk disk' : D) (sink sink' : Seen) → RecoversTo d status disk disk' sink sink'
+    → IfTold (d.bytes disk) (λ x. MayBeOpened x (d.may_leave disk (d.moment disk)) → AtEach d.moment d.may_leave disk disk' (GivesSame x))
+    → AnswersRecover d status disk disk' sink sink'
+recover_answers d status disk disk' sink sink' comes moments = record {
+  comes = comes;
+  any_moment = moments;
+  complete = λ no_disk no_sink. elim comes [
+    | RecoversTo.done count is so text ↦ inl is
+    | RecoversTo.unwritten count is so rose text ↦ absurd (no_sink rose)
+    | RecoversTo.shut why is so text ↦ shut_status why status _ _ _ no_disk is so.explained
+  ];
+  exact = λ no_disk no_sink x told. elim comes [
+    | RecoversTo.done count is so text ↦ by_world status x is (so.world x told)
+    | RecoversTo.unwritten count is so rose text ↦ absurd (no_sink rose)
+    | RecoversTo.shut why is so text ↦ by_shut why status _ _ _ x told no_disk is so.explained
+  ];
+}
+
+-- a heap that was opened answers so, where the line that tells of it was written, or the output failed
+pub opened_answers : {D : Type 0} (d : DiskGhosts D) (status : ℕ) (disk disk' : D) (sink sink' : Seen) (g : Grounded D) (count : ℕ)
+    → count ≡ g.restored → disk' ≡ g.heap.cells.disk → IsOpen d.bytes d.moment d.may_leave disk g
+    → IfTold (d.bytes disk) (λ x. MayBeOpened x (d.may_leave disk (d.moment disk))
+    → AtEach d.moment d.may_leave disk g.heap.cells.disk (GivesSame x))
+    → (status ≡ DONE) ⊎ (status ≡ OUTPUT_FAULT)
+    → (status ≡ DONE → Appends sink.bytes sink'.bytes (line_recovered count))
+    → (status ≡ OUTPUT_FAULT → AppendsPart sink.bytes sink'.bytes (line_recovered count))
+    → (status ≡ OUTPUT_FAULT → Rose sink.faults sink'.faults) → AnswersRecover d status disk disk' sink sink'
+opened_answers {D} d status disk disk' sink sink' g count count_is same opened moments known text part rose =
+    let back = subst (λ (n : ℕ). IsRecovered d disk g.heap.cells.disk n) (sym count_is) (opened_recovered d disk g opened) in
+    subst (λ (n : D). AnswersRecover d status disk n sink sink') (sym same)
+    (recover_answers d status disk g.heap.cells.disk sink sink' (elim known [
+      | inl is ↦ RecoversTo.done count is back (text is)
+      | inr is ↦ RecoversTo.unwritten count is back (rose is) (part is)
+    ]) moments)
+
+-- one that wasn't opened answers so, where the last line tells why
+pub shut_answers : {D : Type 0} (d : DiskGhosts D) (status : ℕ) (disk : D) (shut : Shut D) (sink sink' : Seen) → status ≡ status_shut shut.why
+    → ExplainsOpen (d.bytes disk) (d.faults disk) (d.faults shut.disk) shut.why → LeavesBytes (d.bytes disk) (d.bytes shut.disk) shut.why
+    → IfTold (d.bytes disk) (λ x. MayBeOpened x (d.may_leave disk (d.moment disk)) → AtEach d.moment d.may_leave disk shut.disk (GivesSame x))
+    → Wrote sink sink' (line_shut shut.why) → AnswersRecover d status disk shut.disk sink sink'
+shut_answers d status disk shut sink sink' is explained bytes moments written =
+    recover_answers d status disk shut.disk sink sink' (RecoversTo.shut shut.why is (record { explained = explained; bytes = bytes }) written) moments
+
+-- no recovery answers that the words are no form
+pub never_usage : {D : Type 0} (d : DiskGhosts D) (status : ℕ) (disk disk' : D) (sink sink' : Seen) → RecoversTo d status disk disk' sink sink'
+    → status ≡ USAGE → ⊥
+never_usage d status disk disk' sink sink' (RecoversTo.done count is so text) usage = omega (arith, is, usage)
+never_usage d status disk disk' sink sink' (RecoversTo.unwritten count is so rose text) usage = omega (arith, is, usage)
+never_usage d status disk disk' sink sink' (RecoversTo.shut why is so text) usage = shut_not_usage why status is usage
