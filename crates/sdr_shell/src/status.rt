@@ -18,7 +18,7 @@ pub const DISK_FAULT: u8 = 5;
 /// The disk gives no heap.
 pub const NOT_FORMATTED: u8 = 6;
 
-/// No world is known to stand for the heap that the disk gives.
+/// No world stands for the heap that the disk gives.
 pub const DAMAGED: u8 = 7;
 
 /// A line of the script is refused, before anything runs.

@@ -16,6 +16,8 @@ puts it back after a power loss.
     sdrtool DISK format L H      makes an empty heap of the disk: L lines of log
                                  (2 to 65536), H lines of heap (32 to 262144)
     sdrtool DISK replay < SCRIPT runs the script on the heap of the disk
+    sdrtool DISK inspect         prints the world that the disk keeps: accounts,
+                                 tickets, names and things; the disk is only read
     sdrtool DISK recover         puts back what a power loss cut short, and says
                                  how many lines that were
     sdrtool DISK dry < SCRIPT    runs the script on a machine with no disk
@@ -48,6 +50,11 @@ An example: a disk of 81984 bytes has 256 lines of log and 1024 of heap.
     formatted 256 1024
     $ echo '1: begin' | sdrtool heap.disk replay
     1 1 lock 1
+    $ sdrtool heap.disk inspect
+    heap 65536 low 2048 high 65536
+    account in file 0 1099511627776 bulk 0 1099511627776 heap 0 32768
+    account out file 0 1099511627776 bulk 0 1099511627776 heap 0 32768
+    blocks 0 small 0 large 0
     $ sdrtool heap.disk recover
     recovered 0 lines
 
