@@ -24,7 +24,7 @@ use Rattle.sdr_shell.proofs.ShutLemmas.{by_shut, by_world, shut_not_usage, shut_
 use Rattle.sdr_shell.specs.Answers.{Seen, Wrote}
 use Rattle.sdr_shell.specs.Inspecting.{AnswersInspect, GivesThis, HasShown, InspectsTo}
 use Rattle.sdr_shell.specs.Recovering.{GivesWorld}
-use Rattle.sdr_shell.specs.Shutting.{line_shut, status_shut}
+use Rattle.sdr_shell.specs.Shutting.{line_shut}
 use Rattle.sdr_shell.specs.declared.status.TheConstants.{DONE, USAGE, OUTPUT_FAULT, NO_MEMORY}
 use Rattle.sdr_station.specs.Opening.{ExplainsOpen, IsOfAudit}
 use Rattle.sdr_station.specs.declared.error.OpenError.{OpenError}

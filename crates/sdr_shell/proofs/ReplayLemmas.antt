@@ -1,5 +1,5 @@
 -- What a replay answers follows from what it came to.
-use Rattle.std.proofs.Common.{◌≡◌, ◌∙◌, ◌≤◌, ◌/◌, ◌⊎◌, ℕ, List, [], ◌++◌, Bool, true, false, not, true≢false, Option, None, Some, Ok, Err, IsErr, refl, sym, ap, subst, inl, inr, arith, length}
+use Rattle.std.proofs.Common.{◌≡◌, ◌≤◌, ◌⊎◌, ℕ, List, [], ◌++◌, Bool, true, false, not, true≢false, Option, None, Some, Ok, IsErr, refl, sym, subst, inl, inr, arith}
 use Rattle.std.specs.Prelude.{codes}
 use Rattle.std.specs.Io.KnownBytes.{Appends, IsAtEnd}
 use Rattle.sdr_audit.specs.Standing.{StandsForWhole}
@@ -18,13 +18,10 @@ use Rattle.sdr_replay.specs.Serving.{first_unserved}
 use Rattle.sdr_shell.proofs.ShutLemmas.{by_shut, shut_status}
 use Rattle.sdr_shell.proofs.StillLemmas.{told_line, told_script, writes_behind}
 use Rattle.sdr_shell.specs.Answers.{Seen, Wrote}
-use Rattle.sdr_replay.specs.Replaying.{IsNotRun}
 use Rattle.sdr_shell.specs.Replaying.{AnswersReplay, ComesTo, HadReplay, HadServed, HadUnserved, IsUntouched, RunsServed, Telling, output_of}
-use Rattle.sdr_shell.specs.Shutting.{status_shut}
 use Rattle.sdr_shell.specs.Still.{HadBadLine, HadScript, NamesBadLine, Tells, line_refused}
 use Rattle.sdr_shell.specs.declared.replaying.Replayed.{Replayed}
 use Rattle.sdr_shell.specs.declared.status.TheConstants.{DONE, USAGE, INPUT_FAULT, NOT_FORMATTED, DAMAGED, REFUSED_LINE, NO_MEMORY}
-use Rattle.sdr_station.specs.declared.error.OpenError.{OpenError}
 use Rattle.sdr_station.specs.declared.error.OpenError.TheVariants as errors
 use Rattle.sdr_text.proofs.TextLemmas.{part_front}
 use Rattle.sdr_words.specs.Script.{input_script}

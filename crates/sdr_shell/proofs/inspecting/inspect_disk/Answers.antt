@@ -1,4 +1,3 @@
-use Rattle.std.proofs.Common.{rules}
 use Rattle.sdr_shell.proofs.InspectLemmas.{inspect_answers, shown_answers}
 use Rattle.sdr_shell.specs.Answers.{seen}
 use Rattle.sdr_shell.specs.Inspecting.{InspectsTo}

@@ -1,4 +1,3 @@
-use Rattle.std.proofs.Common.{rules}
 use Rattle.sdr_shell.specs.Answers.{seen}
 use Rattle.sdr_shell.proofs.RecoverLemmas.{opened_answers, shut_answers}
 use Rattle.sdr_shell.proofs.recovering.recover_disk.Goals as goal
