@@ -44,7 +44,7 @@ fn grow<O: Objects>(o: &mut O, object: Addr, bytes: u64) -> Result<(), Stop>
 }
 
 // Links an extent behind an object's last one, or as its first where that is 0.
-fn link_extent<O: Objects>(o: &mut O, object: Addr, last: Addr, added: Addr) -> Result<(), Stop>
+pub fn link_extent<O: Objects>(o: &mut O, object: Addr, last: Addr, added: Addr) -> Result<(), Stop>
     requires kept { KeepsSome (O.keeps o.old) }
     requires object { UsesRange (O.heap o.old).blocks object 0 72 }
     requires last { last ≢ 0 → UsesRange (O.heap o.old).blocks last 0 32 }

@@ -26,7 +26,10 @@ mod summing;
 
 pub use adding::{append_trailer, prepend_header};
 pub use appending::append_extent;
+pub use charging::{extent_amounts, heap_amounts};
 pub use destroying::destroy;
 pub use discarding::{discard_first_header, discard_last_trailer};
-pub use object::{account, create};
-pub use summing::{length, source_length};
+pub use extent::{Piece, link_extent};
+pub use object::{OBJECT_BYTES, account, create};
+pub use seeing::{SeenExtent, SeenSource, TOO_MANY_PARTS, see_extent, see_source};
+pub use summing::{extents_length, length, source_length};
