@@ -30,6 +30,6 @@ pub use charging::{extent_amounts, heap_amounts};
 pub use destroying::destroy;
 pub use discarding::{discard_first_header, discard_last_trailer};
 pub use extent::{Piece, link_extent};
-pub use object::{OBJECT_BYTES, account, create};
+pub use object::{OBJECT_BYTES, account, create, make_object};
 pub use seeing::{SeenExtent, SeenSource, TOO_MANY_PARTS, see_extent, see_source};
 pub use summing::{extents_length, length, source_length};
