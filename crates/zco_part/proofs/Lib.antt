@@ -1,1 +1,10 @@
 mod DelimitLemmas
+mod LinkLemmas
+mod WholeLemmas
+mod WalkLemmas
+mod ChargeLemmas
+mod SourceLemmas
+mod CopyLemmas
+mod AskedLemmas
+mod CloneLemmas
+mod RowsOfParts
