@@ -4,7 +4,7 @@ use Rattle.std.specs.Prelude.{All, Option}
 use Rattle.std.proofs.lemmas.List.Elements.{All-cons, All-head, All-nil, All-tail, All-weaker}
 use Rattle.sdr_base.specs.Blocks.{Blocks, IsKind}
 use Rattle.sdr_base.specs.Entries.{Changes, Entries, Stands, times}
-use Rattle.sdr_base.specs.Linked.{linked}
+use Rattle.sdr_base.specs.Linked.{first_of, linked}
 use Rattle.sdr_base.specs.Making.{MakesThing}
 use Rattle.sdr_base.specs.Objects.{AreFirstOf, Heap, OnlyFault, OnlyShort, TookNoMore}
 use Rattle.sdr_base.specs.Sources.{SourceRow}
@@ -25,6 +25,7 @@ use Rattle.zco_acct.specs.Charges.{ChargesAccount, ChargeStops, charged}
 use Rattle.zco_acct.specs.Kept.{KeepsQueue, SomeQueue, queue_entries}
 use Rattle.zco_acct.specs.Refusals.{Refuses}
 use Rattle.zco_obj.specs.Charging.{IsFree, refusal_in}
+use Rattle.zco_obj.specs.Extents.{extent_of}
 use Rattle.zco_obj.specs.Gone.{NamedSource, sources_entries}
 use Rattle.zco_obj.specs.Making.{empty_row}
 use Rattle.zco_obj.specs.Reading.{Tells}
@@ -58,7 +59,9 @@ placed_there prev (a ∷ as') [] e = absurd (omega (arith, e))
 placed_there prev (a ∷ as') (p ∷ ps) e =
     let Q = λ (x : ℕ). 1 ≤ times x (linked extent_addr extent_block prev 0 (placed (a ∷ as') (p ∷ ps))) in
     let P = λ (x : ℕ). 1 ≤ times x (linked extent_addr extent_block a 0 (placed as' ps)) in
-    All-cons Q a as' (times_head a a _ _ refl)
+    All-cons Q a as'
+    (times_head a a (extent_block prev (first_of extent_addr 0 (placed as' ps)) (extent_of a p))
+    (linked extent_addr extent_block a 0 (placed as' ps)) refl)
     (All-weaker P Q (λ x le. omega (arith, le)) as' (placed_there a as' ps (omega (arith, e))))
 
 -- so they do among the blocks of an object of theirs
@@ -351,7 +354,7 @@ module _ {object number offset bytes : ℕ} {acct : Acct} (seen : Asked) {old : 
               let S' = sources_entries (all_counted row.account ps sources) in
               let R = extent_entries row.extents ++ (head object row ++ (tail object row ++ left k)) in
               let now = (has_copied (left k) (stands_then k)).stands in
-              let then_ = opened object row mid.blocks S (left k) (stands_then k) in
+              let before = opened object row mid.blocks S (left k) (stands_then k) in
               let there = whole_there clone row.account (placed n.addrs ps) a in
               let one = now.once a in
               let x = times-append a own_entries (S' ++ R) in
@@ -361,7 +364,7 @@ module _ {object number offset bytes : ℕ} {acct : Acct} (seen : Asked) {old : 
               let nowhere : times a (S ++ R) ≡ 0 = omega (arith, one, x, y, z, d, there, some) in
               free_before (charge_of k) (queue k)
               (λ e. let null = subst (λ p. times p (own_entries ++ (S' ++ R)) ≡ 0) (sym e) now.null in absurd (omega (arith, null, x, there, some)))
-              small (then_.same a ∙ at-nowhere a (S ++ R) nowhere)
+              small (before.same a ∙ at-nowhere a (S ++ R) nowhere)
 
         pub clones : SomeToClone old object offset bytes → ClonesPart object number offset bytes old new clone
         clones q = record {
