@@ -1,7 +1,7 @@
-mod KeptLemmas
+pub mod KeptLemmas
 mod ChainLemmas
 mod PlaceLemmas
-mod WalkLemmas
+pub mod WalkLemmas
 mod SumLemmas
 mod PartsLemmas
 mod CauseLemmas
@@ -9,7 +9,7 @@ mod ChargeLemmas
 mod CapsuleLemmas
 mod MadeLemmas
 mod DiscardLemmas
-mod ExtentLemmas
+pub mod ExtentLemmas
 mod SourceLemmas
 mod PairLemmas
 mod SourceStopLemmas

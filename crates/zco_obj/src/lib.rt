@@ -26,7 +26,8 @@ mod summing;
 
 pub use adding::{append_trailer, prepend_header};
 pub use appending::append_extent;
-pub use destroying::destroy;
+pub use destroying::{destroy, give_extents};
 pub use discarding::{discard_first_header, discard_last_trailer};
 pub use object::{account, create};
+pub use seeing::{SeenExtent, SeenSource, TOO_MANY_PARTS, see_extent, see_source};
 pub use summing::{length, source_length};
