@@ -1,1 +1,3 @@
 mod FindLemmas
+mod LinkLemmas
+mod CutLaws

@@ -7,5 +7,7 @@
 #![tactic(auto)]
 
 mod finding;
+mod linking;
 
 pub use finding::find_place;
+pub use linking::{cut_extent, link_after, set_ends};
