@@ -1,3 +1,4 @@
 mod FindLemmas
 mod LinkLemmas
 mod CutLaws
+mod CutLemmas

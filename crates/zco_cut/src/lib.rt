@@ -8,6 +8,8 @@
 
 mod finding;
 mod linking;
+mod parting;
 
 pub use finding::find_place;
-pub use linking::{cut_extent, link_after, set_ends};
+pub use linking::{link_after, set_ends};
+pub use parting::{Parted, cut_to};
