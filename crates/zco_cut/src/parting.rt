@@ -1,22 +1,34 @@
 // The extents outside an object's part, linked into a chain of their own, and the others cut to it.
-ghost use Rattle.std.specs.Prelude.{◌≡◌, ◌≤◌, IfErr, IfOk};
+ghost use Rattle.std.specs.Prelude.{◌≡◌, ◌≢◌, ◌<◌, ◌≤◌, IfErr, IfOk};
 ghost use Rattle.sdr_base.specs.Moves.{KeepsSome};
 ghost use Rattle.sdr_base.specs.Objects.{OnlyUnmoved};
 ghost use Rattle.sdr_base.specs.Works.{Works};
 ghost use Rattle.sdr_model.specs.Amounts.{amounts_by, in_space};
-ghost use Rattle.zco_cut.specs.Parting.{CutsTo, NamesSome};
-ghost use Rattle.zco_obj.specs.Walks.{SomeExtent};
+ghost use Rattle.zco_cut.specs.Parting.{CutsEnd, CutsTo, PartsChain, SomeChain, SomeNamed};
 
-use crate::linking::cut_extent;
+use crate::finding::{Place, find_place};
+use crate::linking::{cut_extent, link_after};
 use sdr_base::layout::extent as extent_words;
-use sdr_base::{Addr, Amounts, Objects, Space, Stop, word};
+use sdr_base::{Addr, Amounts, Objects, Space, Stop, check_failed, word};
+use sdr_model::amounts::{NOTHING, plus};
 use zco_obj::{see_extent, see_source};
 
-// The first extent of the chain outside a part, 0 for none, and what is charged less for the others.
+// The first and the last extent in a part, and the first one of the chain outside it, 0 for none;
+// and what is charged less for those that were cut.
 #[derive(Clone, Copy)]
 pub struct Parted {
+    pub first: Addr,
+    pub last: Addr,
     pub out: Addr,
     pub freed: Amounts,
+}
+
+// The last extent in a part, the one behind it, 0 for none, and what is charged less.
+#[derive(Clone, Copy)]
+struct End {
+    last: Addr,
+    next: Addr,
+    freed: Amounts,
 }
 
 // So many bytes of a space.
@@ -46,8 +58,7 @@ fn space_amounts(space: Space, bytes: u64) -> Amounts
 // less.
 pub fn cut_to<O: Objects>(o: &mut O, extent: Addr, from: u64, to: u64) -> Result<Amounts, Stop>
     requires kept { KeepsSome (O.keeps o.old) }
-    requires extent { SomeExtent ((O.heap o.old).blocks extent) }
-    requires source { NamesSome (O.heap o.old).blocks extent }
+    requires extent { SomeNamed (O.heap o.old).blocks extent }
     requires ordered { from ≤ to }
     ensures cut { IfOk result (CutsTo extent from to (O.heap o.old) (O.heap o.new)) }
     ensures refused { IfErr result (OnlyUnmoved (O.heap o.old) (O.heap o.new)) }
@@ -60,4 +71,54 @@ pub fn cut_to<O: Objects>(o: &mut O, extent: Addr, from: u64, to: u64) -> Result
     let bytes = to.min(seen.length) - first;
     cut_extent(o, extent, offset + first, bytes)?;
     Ok(space_amounts(source.space, seen.length - bytes))
+}
+
+// Cuts the extent in which a place lies to its bytes before that, where it has some.
+fn cut_end<O: Objects>(o: &mut O, place: Place) -> Result<End, Stop>
+    requires kept { KeepsSome (O.keeps o.old) }
+    requires extent { place.inside ≢ 0 → SomeNamed (O.heap o.old).blocks place.extent }
+    ensures cut { IfOk result (CutsEnd place (O.heap o.old) (O.heap o.new)) }
+    ensures refused { IfErr result (OnlyUnmoved (O.heap o.old) (O.heap o.new)) }
+    ensures works { Works O.HasHeap 4 o.old o.new result }
+{
+    if place.inside == 0 {
+        check_failed(o)?;
+        return Ok(End {
+            last: place.last,
+            next: place.extent,
+            freed: NOTHING,
+        });
+    }
+    let seen = see_extent(o, place.extent)?;
+    let freed = cut_to(o, place.extent, 0, place.inside)?;
+    Ok(End {
+        last: place.extent,
+        next: seen.next,
+        freed,
+    })
+}
+
+// Cuts a chain of extents to its bytes from one place on and before another, and links those outside
+// into a chain of their own. It is linear in the extents before the end of the part.
+pub fn part_chain<O: Objects>(o: &mut O, first: Addr, from: u64, to: u64) -> Result<Parted, Stop>
+    requires kept { KeepsSome (O.keeps o.old) }
+    requires some { from < to }
+    requires chain { SomeChain (O.heap o.old).blocks first to }
+    ensures parted { IfOk result (PartsChain first from to (O.heap o.old) (O.heap o.new)) }
+    ensures refused { IfErr result (OnlyUnmoved (O.heap o.old) (O.heap o.new)) }
+    ensures works { Works O.HasHeap 12 o.old o.new result }
+{
+    let begin = find_place(o, first, from)?;
+    let place = find_place(o, begin.extent, begin.inside + (to - from))?;
+    let freed = cut_to(o, begin.extent, begin.inside, begin.inside + (to - from))?;
+    let end = cut_end(o, place)?;
+    link_after(o, end.last, 0)?;
+    link_after(o, begin.last, end.next)?;
+    let out = if begin.last == 0 { end.next } else { first };
+    Ok(Parted {
+        first: begin.extent,
+        last: end.last,
+        out,
+        freed: plus(&freed, &end.freed),
+    })
 }
