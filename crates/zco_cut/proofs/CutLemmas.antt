@@ -12,7 +12,7 @@ use Rattle.sdr_base.specs.declared.kind.Space.{Space}
 use Rattle.sdr_model.specs.Amounts.{amounts_by, in_space}
 use Rattle.std.specs.Prelude.{Option}
 use Rattle.zco_cut.specs.Linking.{CutsExtent}
-use Rattle.zco_cut.specs.Parting.{CutsTo, NamesSome}
+use Rattle.zco_cut.specs.Parting.{CutsTo, SomeNamed}
 use Rattle.zco_obj.specs.Sources.{SeesSource}
 use Rattle.zco_obj.specs.Walks.{KeepsExtent, SeesExtent, SomeExtent}
 use Rattle.zco_obj.specs.declared.seeing.SeenExtent.{SeenExtent}
@@ -26,11 +26,13 @@ offset_is {found} {next} {e} k {value} h =
     word_is found kinds.Extent (e.source ∷ e.offset ∷ e.length ∷ next ∷ []) [] 1 value k.block (omega arith)
     (let i = k.fits.inside in omega (arith, i)) h
 
--- its source is there
-pub source_there : (heap : Heap) (extent : ℕ) (seen : SeenExtent) → SeesExtent (heap.blocks extent) seen → SomeExtent (heap.blocks extent) →
-    NamesSome heap.blocks extent → SomeSource (heap.blocks seen.source)
-source_there heap extent seen v some names =
-    subst (λ (a : ℕ). SomeSource (heap.blocks a)) (sym (v.source some.next some.extent some.keeps)) (names.names some.next some.extent some.keeps)
+-- it is there, and its source
+pub extent_there : (heap : Heap) (extent : ℕ) → SomeNamed heap.blocks extent → SomeExtent (heap.blocks extent)
+extent_there heap extent q = record { next = q.next; extent = q.row; keeps = q.keeps }
+
+pub source_there : (heap : Heap) (extent : ℕ) (seen : SeenExtent) → SeesExtent (heap.blocks extent) seen → SomeNamed heap.blocks extent →
+    SomeSource (heap.blocks seen.source)
+source_there heap extent seen v q = subst (λ (a : ℕ). SomeSource (heap.blocks a)) (sym (v.source q.next q.row q.keeps)) q.source
 
 -- its end is no more than a source is long
 pub ends_short : {found : Option Block} (offset : ℕ) (seen : SeenExtent) → SeesExtent found seen → SomeExtent found → HasWord found 1 offset →

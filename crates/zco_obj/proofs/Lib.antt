@@ -18,7 +18,7 @@ mod UseLemmas
 mod ChainGoneLemmas
 mod CapsulesGoneLemmas
 mod CountLemmas
-mod SpotLemmas
+pub mod SpotLemmas
 mod ExtentsGoneLemmas
 mod PartsGoneLemmas
 mod EndLemmas
