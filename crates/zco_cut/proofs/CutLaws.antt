@@ -9,7 +9,7 @@ use Rattle.zco_cut.specs.Cuts.{cut, cut_all, left_out}
 use Rattle.zco_obj.specs.Kept.{extents_length}
 
 -- the bytes of extents
-length-cons : (e : ExtentRow) (es : List ExtentRow) → extents_length (e ∷ es) ≡ e.length + extents_length es
+pub length-cons : (e : ExtentRow) (es : List ExtentRow) → extents_length (e ∷ es) ≡ e.length + extents_length es
 length-cons e es = sum_by-cons (λ (x : ExtentRow). x.length) e es
 
 -- the first one has no byte in the part, or has some
@@ -24,7 +24,7 @@ none_first from to e es none =
       ap (λ (b : Bool). if b then e ∷ out else out) test,
     )
 
-some_first : (from to : ℕ) (e : ExtentRow) (es : List ExtentRow) → 1 ≤ (cut from to e).length →
+pub some_first : (from to : ℕ) (e : ExtentRow) (es : List ExtentRow) → 1 ≤ (cut from to e).length →
     (cut_all from to (e ∷ es) ≡ cut from to e ∷ cut_all (from - e.length) (to - e.length) es)
     × (left_out from to (e ∷ es) ≡ left_out (from - e.length) (to - e.length) es)
 some_first from to e es some =
@@ -66,7 +66,7 @@ empty_part place (e ∷ es) =
     (first.0 ∙ rest.0, first.1 ∙ ap (λ (l : List ExtentRow). e ∷ l) rest.1)
 
 -- an extent with all of its bytes
-whole_cut : (to : ℕ) (e : ExtentRow) → e.length ≤ to → cut 0 to e ≡ e
+pub whole_cut : (to : ℕ) (e : ExtentRow) → e.length ≤ to → cut 0 to e ≡ e
 whole_cut to e le =
     let offset : e.offset + min 0 e.length ≡ e.offset = omega arith in
     let length : min to e.length - min 0 e.length ≡ e.length = omega (arith, le) in
