@@ -54,7 +54,7 @@ pub one_cut : {b b' : Blocks} (from to : ℕ) (before : List ExtentRow) (e : Ext
 one_cut from to before e behind c = changes_swapped (one_of from to before e behind) c
 
 -- those between others become a chain of their own
-module _ {old mid new : Heap} (before : List ExtentRow) (k : ExtentRow) (ks behind : List ExtentRow) where
+module _ (before : List ExtentRow) (k : ExtentRow) (ks behind : List ExtentRow) where
   abbrev kept : List ExtentRow
   kept = k ∷ ks
 
@@ -70,11 +70,11 @@ module _ {old mid new : Heap} (before : List ExtentRow) (k : ExtentRow) (ks behi
       in_two 0 before (kept ++ behind)
       ∙ ap (λ (es : Entries). front k.addr ++ es) (in_two 0 kept behind)
 
-  pub split : LinksAfter (last_of extent_addr 0 kept) 0 old mid →
+  pub split : {old mid new : Heap} → LinksAfter (last_of extent_addr 0 kept) 0 old mid →
       LinksAfter (last_of extent_addr 0 before) (first_of extent_addr 0 behind) mid new →
       Changes old.blocks new.blocks (extent_entries (before ++ (kept ++ behind)))
       (extent_entries kept ++ extent_entries (before ++ behind))
-  split l m =
+  split {old} {mid} {new} l m =
       let next = first_of extent_addr 0 behind in
       let one : Changes old.blocks mid.blocks (front k.addr ++ (middle next ++ extent_entries behind))
       (front k.addr ++ (middle 0 ++ extent_entries behind)) =

@@ -27,8 +27,8 @@ offset_is {found} {next} {e} k {value} h =
     (let i = k.fits.inside in omega (arith, i)) h
 
 -- it is there, and its source
-pub extent_there : {heap : Heap} {extent : ℕ} → SomeNamed heap.blocks extent → SomeExtent (heap.blocks extent)
-extent_there q = record { next = q.next; extent = q.row; keeps = q.keeps }
+pub extent_there : (heap : Heap) (extent : ℕ) → SomeNamed heap.blocks extent → SomeExtent (heap.blocks extent)
+extent_there heap extent q = record { next = q.next; extent = q.row; keeps = q.keeps }
 
 pub source_there : (heap : Heap) (extent : ℕ) (seen : SeenExtent) → SeesExtent (heap.blocks extent) seen → SomeNamed heap.blocks extent →
     SomeSource (heap.blocks seen.source)

@@ -5,3 +5,4 @@ mod CutLemmas
 mod EndLemmas
 mod PartLaws
 mod ChainChanges
+mod PartingLemmas

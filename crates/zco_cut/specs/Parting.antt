@@ -7,6 +7,7 @@ use Rattle.sdr_base.specs.Making.{besides}
 use Rattle.sdr_base.specs.Objects.{Heap}
 use Rattle.sdr_base.specs.ZcoObjects.{ExtentRow, extent_addr, extent_block, extent_entries}
 use Rattle.sdr_base.specs.declared.account.Amounts.{Amounts}
+use Rattle.sdr_base.specs.declared.kind.Space.{Space}
 use Rattle.sdr_model.specs.Amounts.{amounts_by, in_space}
 use Rattle.zco_cut.specs.Cuts.{HaveBytes, cut, cut_all, left_out}
 use Rattle.zco_cut.specs.declared.finding.Place.{Place}

@@ -11,4 +11,4 @@ mod parting;
 
 pub use finding::{Place, find_place};
 pub use linking::{link_after, set_ends};
-pub use parting::{End, cut_end, cut_to};
+pub use parting::{End, Parted, cut_end, cut_to, part_chain};

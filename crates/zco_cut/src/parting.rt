@@ -25,10 +25,10 @@ pub struct Parted {
 
 // The last extent in a part, the one behind it, 0 for none, and what is charged less.
 #[derive(Clone, Copy)]
-struct End {
-    last: Addr,
-    next: Addr,
-    freed: Amounts,
+pub struct End {
+    pub last: Addr,
+    pub next: Addr,
+    pub freed: Amounts,
 }
 
 // So many bytes of a space.
@@ -74,7 +74,7 @@ pub fn cut_to<O: Objects>(o: &mut O, extent: Addr, from: u64, to: u64) -> Result
 }
 
 // Cuts the extent in which a place lies to its bytes before that, where it has some.
-fn cut_end<O: Objects>(o: &mut O, place: Place) -> Result<End, Stop>
+pub fn cut_end<O: Objects>(o: &mut O, place: Place) -> Result<End, Stop>
     requires kept { KeepsSome (O.keeps o.old) }
     requires extent { place.inside ≢ 0 → SomeNamed (O.heap o.old).blocks place.extent }
     ensures cut { IfOk result (CutsEnd place (O.heap o.old) (O.heap o.new)) }

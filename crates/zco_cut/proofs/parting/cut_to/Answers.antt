@@ -6,7 +6,7 @@ use Rattle.zco_obj.proofs.WalkLemmas.{extent_reaches}
 use Rattle.zco_cut.proofs.parting.cut_to.Goals as goal
 
 pub see_extent-requires-clause-extent : goal.see_extent-requires-clause-extent
-see_extent-requires-clause-extent g c = extent_there c.requires.extent
+see_extent-requires-clause-extent g c = extent_there (g.O.HasHeap.heap c.args.o.now) c.args.extent c.requires.extent
 
 pub see_source-requires-clause-source : goal.see_source-requires-clause-source
 see_source-requires-clause-source g c =
@@ -21,7 +21,7 @@ word-requires-clause-inside g c =
 pub overflow_add-offset : goal.overflow_add-offset
 overflow_add-offset g c =
     let h = rw (c.see_source.ensures.looks.same, c.see_extent.ensures.looks.same) at c.in_ok-offset.ensures.given in
-    let short = ends_short c.in_ok-offset.offset c.in_ok-seen.seen c.in_ok-seen.ensures.seen (extent_there c.requires.extent) h in
+    let short = ends_short c.in_ok-offset.offset c.in_ok-seen.seen c.in_ok-seen.ensures.seen (extent_there (g.O.HasHeap.heap c.args.o.now) c.args.extent c.requires.extent) h in
     let first = c.min-first.ensures in omega (arith, short, first)
 
 pub cut_extent-requires-clause-extent : goal.cut_extent-requires-clause-extent
