@@ -1,5 +1,5 @@
 -- An extent is cut.
-use Rattle.std.proofs.Common.{◌≡◌, ◌∙◌, ◌+◌, ◌-◌, ◌≤◌, ◌<◌, ◌^◌, ℕ, [], ◌∷◌, min, refl, sym, ap, subst, arith}
+use Rattle.std.proofs.Common.{◌≡◌, ◌∙◌, ◌+◌, ◌-◌, ◌≤◌, ◌^◌, ℕ, [], ◌∷◌, min, sym, ap, subst, arith}
 use Rattle.sdr_base.proofs.WritingLemmas.{word_is}
 use Rattle.sdr_base.specs.Blocks.{Block}
 use Rattle.sdr_base.specs.Entries.{Changes}
@@ -8,7 +8,6 @@ use Rattle.sdr_base.specs.Words.{HasWord}
 use Rattle.sdr_base.specs.ZcoObjects.{ExtentRow, extent_block}
 use Rattle.sdr_base.specs.declared.account.Amounts.{Amounts}
 use Rattle.sdr_base.specs.declared.kind.Kind.TheVariants as kinds
-use Rattle.sdr_base.specs.declared.kind.Space.{Space}
 use Rattle.sdr_model.specs.Amounts.{amounts_by, in_space}
 use Rattle.std.specs.Prelude.{Option}
 use Rattle.zco_cut.specs.Linking.{CutsExtent}

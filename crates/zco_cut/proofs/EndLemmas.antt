@@ -1,7 +1,7 @@
 -- The end of a part is cut.
-use Rattle.std.proofs.Common.{◌≡◌, ◌≢◌, ℕ, true, false, subst, sym}
+use Rattle.std.proofs.Common.{◌≡◌, ◌≢◌, subst, sym}
 use Rattle.std.proofs.lemmas.Bool.{eq-eqb, ne_eqb}
-use Rattle.std.specs.Prelude.{Bool, MatchBool, ◌==◌}
+use Rattle.std.specs.Prelude.{Bool, MatchBool}
 use Rattle.sdr_base.specs.Objects.{Heap}
 use Rattle.zco_cut.specs.Parting.{CutsEnd, EndsBefore, EndsInside}
 use Rattle.zco_cut.specs.declared.finding.Place.{Place}

@@ -1,5 +1,5 @@
 -- A chain of extents is walked to a place in it.
-use Rattle.std.proofs.Common.{◌≡◌, ◌≢◌, ◌∙◌, ◌+◌, ◌-◌, ◌≤◌, ◌<◌, ◌^◌, ℕ, List, [], ◌∷◌, ◌++◌, length, refl, sym, ap, subst, arith, append_assoc, length-append}
+use Rattle.std.proofs.Common.{◌≡◌, ◌≢◌, ◌∙◌, ◌+◌, ◌-◌, ◌≤◌, ◌<◌, ℕ, List, [], ◌∷◌, ◌++◌, length, refl, sym, ap, arith, append_assoc, length-append}
 use Rattle.std.proofs.lemmas.List.Elements.{All-head, All-tail}
 use Rattle.std.proofs.lemmas.List.Sums.{sum_by_push}
 use Rattle.sdr_base.proofs.LinkedLemmas.{last-append}
@@ -8,7 +8,7 @@ use Rattle.sdr_base.specs.Linked.{first_of, last_of}
 use Rattle.sdr_base.specs.ZcoObjects.{ExtentRow, extent_addr, extent_block}
 use Rattle.zco_cut.specs.Finding.{FindsPlace}
 use Rattle.zco_obj.proofs.KeptLemmas.{first_extent}
-use Rattle.zco_obj.proofs.WalkLemmas.{AtCursor, HasFirst, extent_at, fits_left, has_first, none_at_zero, one_found}
+use Rattle.zco_obj.proofs.WalkLemmas.{HasFirst, fits_left, has_first, none_at_zero, one_found}
 use Rattle.zco_obj.specs.Kept.{ExtentFits, extents_length}
 use Rattle.zco_obj.specs.Walks.{ExtentsAt, KeepsExtent, SeesExtent, SomeExtent}
 use Rattle.zco_obj.specs.declared.seeing.SeenExtent.{SeenExtent}

@@ -1,5 +1,5 @@
 -- The words of extents and objects, set.
-use Rattle.std.proofs.Common.{◌≡◌, ◌≢◌, ◌∙◌, ℕ, List, [], ◌∷◌, ◌++◌, Some, refl, sym, ap, subst, arith}
+use Rattle.std.proofs.Common.{◌≡◌, ◌≢◌, ◌∙◌, ℕ, List, [], ◌∷◌, ◌++◌, Some, sym, ap, subst, arith}
 use Rattle.byteorder.specs.Endian.{big_bytes}
 use Rattle.sdr_base.proofs.HeapLemmas.{heap_blocks}
 use Rattle.sdr_base.proofs.LayoutLemmas.{overwrite-layout}
@@ -11,9 +11,9 @@ use Rattle.sdr_base.specs.Linked.{last_of, linked}
 use Rattle.sdr_base.specs.Making.{besides}
 use Rattle.sdr_base.specs.Objects.{Heap}
 use Rattle.sdr_base.specs.Words.{with_word}
-use Rattle.sdr_base.specs.ZcoObjects.{ExtentRow, ObjectRow, extent_addr, extent_block}
+use Rattle.sdr_base.specs.ZcoObjects.{ExtentRow, extent_addr, extent_block}
 use Rattle.sdr_base.specs.declared.kind.Kind.TheVariants as kinds
-use Rattle.zco_cut.specs.Linking.{CutsExtent, LinksAfter, SetsEnds, with_range}
+use Rattle.zco_cut.specs.Linking.{CutsExtent, LinksAfter, SetsEnds}
 use Rattle.zco_obj.specs.Extents.{extent_ends}
 
 -- an extent was cut

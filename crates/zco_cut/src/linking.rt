@@ -11,12 +11,7 @@ use sdr_base::layout::{extent as extent_words, object as words};
 use sdr_base::{Addr, Objects, Stop, check_failed, set_word};
 
 // Cuts an extent to so many bytes of its source, from a place in that on.
-pub fn cut_extent<O: Objects>(
-    o: &mut O,
-    extent: Addr,
-    offset: u64,
-    length: u64,
-) -> Result<(), Stop>
+pub fn cut_extent<O: Objects>(o: &mut O, extent: Addr, offset: u64, length: u64) -> Result<(), Stop>
     requires kept { KeepsSome (O.keeps o.old) }
     requires extent { UsesRange (O.heap o.old).blocks extent 0 32 }
     ensures cut { OnOk result (CutsExtent extent offset length (O.heap o.old) (O.heap o.new)) }

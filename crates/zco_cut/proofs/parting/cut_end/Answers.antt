@@ -1,7 +1,5 @@
 -- The extent is cut, where some of its bytes lie in the part.
-use Rattle.std.proofs.Common.{refl, arith}
 use Rattle.zco_cut.proofs.CutLemmas.{extent_there}
-use Rattle.zco_cut.proofs.EndLemmas.{ends_before, ends_inside}
 use Rattle.zco_cut.proofs.parting.cut_end.Goals as goal
 
 pub see_extent-requires-clause-extent : goal.see_extent-requires-clause-extent

@@ -1,6 +1,5 @@
 -- The extent and its source are read, and the extent is cut.
 use Rattle.std.proofs.Common.{arith}
-use Rattle.sdr_base.proofs.WorksLemmas.{looks_looks, looks_then, works_ok, works_stopped}
 use Rattle.zco_cut.proofs.CutLemmas.{cuts_to, ends_short, extent_there, source_there}
 use Rattle.zco_obj.proofs.WalkLemmas.{extent_reaches}
 use Rattle.zco_cut.proofs.parting.cut_to.Goals as goal
