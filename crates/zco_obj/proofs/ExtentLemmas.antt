@@ -40,7 +40,7 @@ opened_extents {blocks} object row rest s =
     (append_assoc (H ++ X) T rest ∙ append_assoc H X (T ++ rest)) s)
 
 -- and closed
-closed_extents : {blocks : Blocks} (object : ℕ) (row : ObjectRow) (rest : Entries) →
+pub closed_extents : {blocks : Blocks} (object : ℕ) (row : ObjectRow) (rest : Entries) →
     Stands blocks (spanned object row (first_of extent_addr 0 row.extents) (last_of extent_addr 0 row.extents) row.part_length 0 row.extents
     ++ (capsule_entries row.headers ++ (capsule_entries row.trailers ++ rest))) → Stands blocks (object_entries object row ++ rest)
 closed_extents {blocks} object row rest s =

@@ -1,28 +1,28 @@
-mod KeptLemmas
-mod ChainLemmas
-mod PlaceLemmas
-mod WalkLemmas
-mod SumLemmas
-mod PartsLemmas
-mod CauseLemmas
-mod ChargeLemmas
-mod CapsuleLemmas
-mod MadeLemmas
-mod DiscardLemmas
-mod ExtentLemmas
-mod SourceLemmas
-mod PairLemmas
-mod SourceStopLemmas
-mod RoomLemmas
-mod UseLemmas
-mod ChainGoneLemmas
-mod CapsulesGoneLemmas
-mod CountLemmas
-mod SpotLemmas
-mod ExtentsGoneLemmas
-mod PartsGoneLemmas
-mod EndLemmas
-mod RawLemmas
-mod RawStopLemmas
+pub mod KeptLemmas
+pub mod ChainLemmas
+pub mod PlaceLemmas
+pub mod WalkLemmas
+pub mod SumLemmas
+pub mod PartsLemmas
+pub mod CauseLemmas
+pub mod ChargeLemmas
+pub mod CapsuleLemmas
+pub mod MadeLemmas
+pub mod DiscardLemmas
+pub mod ExtentLemmas
+pub mod SourceLemmas
+pub mod PairLemmas
+pub mod SourceStopLemmas
+pub mod RoomLemmas
+pub mod UseLemmas
+pub mod ChainGoneLemmas
+pub mod CapsulesGoneLemmas
+pub mod CountLemmas
+pub mod SpotLemmas
+pub mod ExtentsGoneLemmas
+pub mod PartsGoneLemmas
+pub mod EndLemmas
+pub mod RawLemmas
+pub mod RawStopLemmas
 pub mod OccupancyLaws
-mod RowsOfExtents
+pub mod RowsOfExtents

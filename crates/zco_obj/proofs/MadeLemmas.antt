@@ -1,10 +1,10 @@
 -- Objects that were made.
 use Rattle.std.proofs.Common.{◌≡◌, ◌+◌, ℕ, List, [], ◌∷◌, ap, ◌∙◌, arith, subst}
 use Rattle.sdr_base.specs.Linked.{linked}
-use Rattle.sdr_base.specs.Making.{Made, besides, with_moves}
+use Rattle.sdr_base.specs.Making.{MakesThing, besides, with_moves}
 use Rattle.sdr_base.specs.Objects.{Heap, OnlyShort}
 use Rattle.sdr_base.specs.Words.{TakesBytes, layout}
-use Rattle.sdr_base.specs.ZcoObjects.{account_number}
+use Rattle.sdr_base.specs.ZcoObjects.{account_number, object_entries}
 use Rattle.sdr_base.specs.declared.account.Acct.{Acct}
 use Rattle.sdr_base.specs.declared.kind.Kind.TheVariants as kinds
 use Rattle.sdr_base.specs.declared.moves.Move.TheVariants.{Took}
@@ -17,7 +17,7 @@ use Rattle.zco_acct.specs.Charges.{ChargesAccount, ChargeStops}
 use Rattle.zco_acct.specs.Kept.{SomeQueue}
 use Rattle.zco_obj.specs.Amounts.{object_amounts}
 use Rattle.zco_obj.specs.Charging.{LacksRoom}
-use Rattle.zco_obj.specs.Making.{CreatesObject, CreateStops}
+use Rattle.zco_obj.specs.Making.{CreatesObject, CreateStops, empty_row}
 use Rattle.zco_obj.proofs.CauseLemmas.{queue_cause}
 use Rattle.zco_obj.proofs.ChargeLemmas.{charged_moves, charged_spare, free_before, lacks_after, none_took, pays}
 
@@ -25,24 +25,33 @@ use Rattle.zco_obj.proofs.ChargeLemmas.{charged_moves, charged_spare, free_befor
 abbrev empty_words : ℕ → List ℕ
 empty_words number = number ∷ 0 ∷ 0 ∷ 0 ∷ 0 ∷ 0 ∷ 0 ∷ 0 ∷ 0 ∷ []
 
--- its block was taken after the charge
-pub creates : {acct : Acct} {number addr : ℕ} {old mid new : Heap} (account : ℕ) → SomeQueue old acct → account ≡ account_number acct →
-    ChargesAccount acct number object_amounts old mid → TakesBytes kinds.Object (layout (empty_words account) []) addr mid new →
-    CreatesObject acct number addr old new
+-- its block was taken
+pub makes_empty : (acct : Acct) {addr : ℕ} {old new : Heap} (account : ℕ) → account ≡ account_number acct →
+    TakesBytes kinds.Object (layout (empty_words account) []) addr old new →
+    MakesThing 72 addr (object_entries addr (empty_row acct)) old new
 unfolding linked
-creates {acct} {number} {addr} {old} {mid} {new} account q e c t =
-    let here : TakesBytes kinds.Object (layout (empty_words (account_number acct)) []) addr mid new =
-    subst (λ (n : ℕ). TakesBytes kinds.Object (layout (empty_words n) []) addr mid new) e t in
-    let made : Made (Took 72 addr ∷ []) mid new =
+makes_empty acct {addr} {old} {new} account e t =
+    let words = empty_words (account_number acct) in
+    let here : TakesBytes kinds.Object (layout words []) addr old new =
+    subst (λ (n : ℕ). TakesBytes kinds.Object (layout (empty_words n) []) addr old new) e t in
     record {
-      all = ap besides here.taken
-          ∙ ap (λ n. besides (with_moves mid (Took n addr ∷ [])))
-          (let l = length-layout (empty_words (account_number acct)) [] in let z : 72 + 0 ≡ 72 = omega arith in l ∙ z);
-    } in
-    record {
-      new_block = free_before c q.keeps here.nonzero here.small here.fresh;
-      pays = λ tickets k. pays c k (taken_makes here).adds.changes made;
+      adds = (taken_makes here).adds;
+      made = record {
+        all =
+            ap besides here.taken
+            ∙ ap (λ n. besides (with_moves old (Took n addr ∷ [])))
+            (let l = length-layout words [] in let z : 72 + 0 ≡ 72 = omega arith in l ∙ z);
+      };
     }
+
+-- it was made after the charge
+pub creates : {acct : Acct} {number addr : ℕ} {old mid new : Heap} → SomeQueue old acct →
+    ChargesAccount acct number object_amounts old mid → MakesThing 72 addr (object_entries addr (empty_row acct)) mid new →
+    CreatesObject acct number addr old new
+creates q c m = record {
+  new_block = free_before c q.keeps m.adds.nonzero m.adds.small m.adds.fresh;
+  pays = λ tickets k. pays c k m.adds.changes m.made;
+}
 
 -- why it isn't made: the account isn't charged
 pub uncharged : (acct : Acct) (number : ℕ) (old new : Heap) (stop : Stop) → SomeQueue old acct →

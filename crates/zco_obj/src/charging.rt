@@ -18,7 +18,7 @@ pub const LONGEST_CAPSULE: u64 = 1024;
 // What an extent charges of heap space for itself, in bytes.
 const EXTENT_BYTES: u64 = 32;
 
-// So many bytes of heap space.
+/// So many bytes of heap space.
 pub fn heap_amounts(bytes: u64) -> Amounts
     ensures { result ≡ heap_amounts bytes }
 {
@@ -29,7 +29,7 @@ pub fn heap_amounts(bytes: u64) -> Amounts
     }
 }
 
-// What an extent of so many bytes charges, which are in this space: its bytes, and its own block.
+/// What an extent of so many bytes charges, which are in this space: its bytes, and its own block.
 pub fn extent_amounts(space: Space, bytes: u64) -> Amounts
     requires short { bytes ≤ longest_source }
     ensures { result ≡ extent_amounts space bytes }
@@ -49,7 +49,7 @@ pub fn extent_amounts(space: Space, bytes: u64) -> Amounts
     }
 }
 
-// What a header or trailer of so many bytes charges of heap space: its words, with the link.
+/// What a header or trailer of so many bytes charges of heap space: its words, with the link.
 pub fn capsule_bytes(bytes: u64) -> u64
     requires short { bytes ≤ LONGEST_CAPSULE }
     ensures { result ≡ capsule_bytes bytes }
@@ -57,7 +57,7 @@ pub fn capsule_bytes(bytes: u64) -> u64
     8 * ((15 + bytes) / 8)
 }
 
-// Charges the account of an object.
+/// Charges the account of an object.
 pub fn charge_object<O: Objects>(
     o: &mut O,
     object: Addr,

@@ -98,8 +98,9 @@ fn give_capsules<O: Objects>(o: &mut O, first: Addr) -> Result<u64, Stop>
     Ok(charged)
 }
 
-// Gives the extents of a chain back, each after what goes with it, and answers what they charged.
-fn give_extents<O: Objects>(o: &mut O, acct: Acct, first: Addr) -> Result<Amounts, Stop>
+/// Gives the extents of a chain back, each after what goes with it, and answers what they charged.
+/// At most their blocks and those of their sources go. It is linear in the extents.
+pub fn give_extents<O: Objects>(o: &mut O, acct: Acct, first: Addr) -> Result<Amounts, Stop>
     requires kept { KeepsSome (O.keeps o.old) }
     requires chain { SomeUses acct (O.heap o.old) first }
     ensures given { IfOk result (GivesExtents acct first (O.heap o.old) (O.heap o.new)) }

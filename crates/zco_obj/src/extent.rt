@@ -12,11 +12,11 @@ use crate::summing::extents_length;
 use sdr_base::layout::{extent as extent_words, object as words};
 use sdr_base::{Addr, Kind, Objects, Stop, check_failed, set_word, take_words, word};
 
-// A part of a source, or of a raw object that a source is to take over.
+/// A part of a source, or of a raw object that a source is to take over.
 #[derive(Clone, Copy)]
 pub struct Piece {
     pub of: Addr,
-    // The first of its bytes there, and how many they are.
+    /// The first of its bytes there, and how many they are.
     pub offset: u64,
     pub bytes: u64,
 }
@@ -43,8 +43,8 @@ fn grow<O: Objects>(o: &mut O, object: Addr, bytes: u64) -> Result<(), Stop>
     }
 }
 
-// Links an extent behind an object's last one, or as its first where that is 0.
-fn link_extent<O: Objects>(o: &mut O, object: Addr, last: Addr, added: Addr) -> Result<(), Stop>
+/// Links an extent behind an object's last one, or as its first where that is 0.
+pub fn link_extent<O: Objects>(o: &mut O, object: Addr, last: Addr, added: Addr) -> Result<(), Stop>
     requires kept { KeepsSome (O.keeps o.old) }
     requires object { UsesRange (O.heap o.old).blocks object 0 72 }
     requires last { last ≢ 0 → UsesRange (O.heap o.old).blocks last 0 32 }

@@ -26,7 +26,13 @@ mod summing;
 
 pub use adding::{append_trailer, prepend_header};
 pub use appending::append_extent;
-pub use destroying::destroy;
+pub use capsule::TEXT_FROM;
+pub use charging::{LONGEST_CAPSULE, capsule_bytes, charge_object, extent_amounts, heap_amounts};
+pub use destroying::{destroy, give_extents};
 pub use discarding::{discard_first_header, discard_last_trailer};
-pub use object::{account, create};
-pub use summing::{length, source_length};
+pub use extent::{Piece, link_extent};
+pub use object::{Firsts, OBJECT_BYTES, account, create, first_parts, make_object};
+pub use seeing::{
+    SeenCapsule, SeenExtent, SeenSource, TOO_MANY_PARTS, see_capsule, see_extent, see_source,
+};
+pub use summing::{extents_length, length, source_length};

@@ -1,12 +1,14 @@
 // An object's own block.
 ghost use Rattle.std.specs.Prelude.{◌≡◌, ◌≤◌, IfOk, IfErr};
 ghost use Rattle.sdr_base.specs.Moves.{KeepsSome};
-ghost use Rattle.sdr_base.specs.Objects.{OnlyFault};
+ghost use Rattle.sdr_base.specs.Making.{MakesThing};
+ghost use Rattle.sdr_base.specs.Objects.{OnlyFault, OnlyShort};
 ghost use Rattle.sdr_base.specs.Works.{Looks, Works};
-ghost use Rattle.sdr_base.specs.ZcoObjects.{account_number};
+ghost use Rattle.sdr_base.specs.ZcoObjects.{account_number, object_entries};
+ghost use Rattle.sdr_model.specs.Charges.{object_bytes};
 ghost use Rattle.zco_acct.specs.Kept.{SomeQueue};
 ghost use Rattle.zco_obj.specs.Kept.{SomeObject};
-ghost use Rattle.zco_obj.specs.Making.{CreatesObject, CreateStops};
+ghost use Rattle.zco_obj.specs.Making.{CreatesObject, CreateStops, empty_row};
 ghost use Rattle.zco_obj.specs.Reading.{Tells, TellsFirsts};
 
 use crate::charging::heap_amounts;
@@ -17,7 +19,7 @@ use zco_acct::charge;
 /// What an object charges of heap space for itself, in bytes.
 pub const OBJECT_BYTES: u64 = 72;
 
-// The first header, extent and trailer of an object, 0 for none.
+/// The first header, extent and trailer of an object, 0 for none.
 #[derive(Clone, Copy)]
 pub struct Firsts {
     pub header: Addr,
@@ -37,6 +39,18 @@ pub fn create<O: Objects>(o: &mut O, acct: Acct, ticket: u64) -> Result<Addr, St
     ensures works { Works O.HasHeap 34 o.old o.new result }
 {
     charge(o, acct, ticket, &heap_amounts(OBJECT_BYTES))?;
+    make_object(o, acct)
+}
+
+/// Makes an object with nothing in it in an account, which isn't charged for it.
+pub fn make_object<O: Objects>(o: &mut O, acct: Acct) -> Result<Addr, Stop>
+    requires kept { KeepsSome (O.keeps o.old) }
+    requires spare { 1 ≤ (O.heap o.old).spare }
+    ensures made { IfOk result (λ object. MakesThing object_bytes object
+        (object_entries object (empty_row acct)) (O.heap o.old) (O.heap o.new)) }
+    ensures refused { IfErr result (OnlyShort object_bytes (O.heap o.old) (O.heap o.new)) }
+    ensures works { Works O.HasHeap 29 o.old o.new result }
+{
     let number = account_number(acct);
     take_words(o, Kind::Object, &[number, 0, 0, 0, 0, 0, 0, 0, 0])
 }
@@ -51,7 +65,7 @@ fn account_number(acct: Acct) -> u64
     }
 }
 
-// The account of an object.
+/// The account of an object.
 pub fn account<O: Objects>(o: &mut O, object: Addr) -> Result<Acct, Stop>
     requires kept { KeepsSome (O.keeps o.old) }
     requires object { SomeObject (O.heap o.old).blocks object }
@@ -67,7 +81,7 @@ pub fn account<O: Objects>(o: &mut O, object: Addr) -> Result<Acct, Stop>
     }
 }
 
-// Where the chains of an object begin.
+/// Where the chains of an object begin.
 pub fn first_parts<O: Objects>(o: &mut O, object: Addr) -> Result<Firsts, Stop>
     requires kept { KeepsSome (O.keeps o.old) }
     requires object { SomeObject (O.heap o.old).blocks object }

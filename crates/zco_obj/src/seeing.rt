@@ -16,14 +16,14 @@ use sdr_base::{Addr, Objects, Space, Stop, check_failed, word};
 /// More parts than an object may have.
 pub const TOO_MANY_PARTS: u64 = 4_194_304;
 
-// The bytes of a header or trailer, and the address of the next one, 0 for none.
+/// The bytes of a header or trailer, and the address of the next one, 0 for none.
 #[derive(Clone, Copy)]
 pub struct SeenCapsule {
     pub bytes: u64,
     pub next: Addr,
 }
 
-// What an extent is of, how many bytes it has, and the address of the next one, 0 for none.
+/// What an extent is of, how many bytes it has, and the address of the next one, 0 for none.
 #[derive(Clone, Copy)]
 pub struct SeenExtent {
     pub source: Addr,
@@ -31,12 +31,12 @@ pub struct SeenExtent {
     pub next: Addr,
 }
 
-// What an extent asks of the source that it is to name.
+/// What an extent asks of the source that it is to name.
 #[derive(Clone, Copy)]
 pub struct SeenSource {
-    // The space that its bytes are in.
+    /// The space that its bytes are in.
     pub space: Space,
-    // Whether it goes with its last extent, and no extent may be added.
+    /// Whether it goes with its last extent, and no extent may be added.
     pub flagged: bool,
     pub bytes: u64,
 }
@@ -48,7 +48,7 @@ pub struct Last {
     pub addr: Addr,
 }
 
-// What the block of a header or trailer says.
+/// What the block of a header or trailer says.
 pub fn see_capsule<O: Objects>(o: &mut O, capsule: Addr) -> Result<SeenCapsule, Stop>
     requires kept { KeepsSome (O.keeps o.old) }
     requires capsule { SomeCapsule ((O.heap o.old).blocks capsule) }
@@ -65,7 +65,7 @@ pub fn see_capsule<O: Objects>(o: &mut O, capsule: Addr) -> Result<SeenCapsule, 
     Ok(SeenCapsule { bytes, next })
 }
 
-// What the block of an extent says.
+/// What the block of an extent says.
 pub fn see_extent<O: Objects>(o: &mut O, extent: Addr) -> Result<SeenExtent, Stop>
     requires kept { KeepsSome (O.keeps o.old) }
     requires extent { SomeExtent ((O.heap o.old).blocks extent) }
@@ -84,7 +84,7 @@ pub fn see_extent<O: Objects>(o: &mut O, extent: Addr) -> Result<SeenExtent, Sto
     })
 }
 
-// What the block of a source says.
+/// What the block of a source says.
 pub fn see_source<O: Objects>(o: &mut O, source: Addr) -> Result<SeenSource, Stop>
     requires kept { KeepsSome (O.keeps o.old) }
     requires source { SomeSource ((O.heap o.old).blocks source) }

@@ -67,7 +67,7 @@ fn capsules_length<O: Objects>(o: &mut O, first: Addr) -> Result<u64, Stop>
     Ok(total)
 }
 
-// The bytes of a chain of extents together.
+/// The bytes of a chain of extents together.
 pub fn extents_length<O: Objects>(o: &mut O, first: Addr) -> Result<u64, Stop>
     requires kept { KeepsSome (O.keeps o.old) }
     requires chain { SomeExtents (O.heap o.old).blocks first }

@@ -21,19 +21,19 @@ pub returns-clause-made : goal.returns-clause-made
 returns-clause-made g c =
     let old = g.O.HasHeap.heap c.args.o.now in
     let mid = g.O.HasHeap.heap c.charge.new.o in
-    let new = g.O.HasHeap.heap c.take_words.new.o in
+    let new = g.O.HasHeap.heap c.make_object.new.o in
     let charged = subst (λ a. ChargesAccount c.args.acct c.args.ticket a old mid) c.heap_amounts.ensures c.in_ok-charge.ensures.charged in
     IfOk-weaker _ _ (λ addr. CreatesObject c.args.acct c.args.ticket addr old new)
-    (λ addr t. creates c.account_number-number.result c.requires.queue c.account_number-number.ensures charged t) c.take_words.ensures.taken
+    (λ addr t. creates c.requires.queue charged t) c.make_object.ensures.made
 
 pub returns-clause-refused : goal.returns-clause-refused
 returns-clause-refused g c =
     let old = g.O.HasHeap.heap c.args.o.now in
     let mid = g.O.HasHeap.heap c.charge.new.o in
-    let new = g.O.HasHeap.heap c.take_words.new.o in
+    let new = g.O.HasHeap.heap c.make_object.new.o in
     let charged = subst (λ a. ChargesAccount c.args.acct c.args.ticket a old mid) c.heap_amounts.ensures c.in_ok-charge.ensures.charged in
     IfErr-weaker _ _ (CreateStops c.args.acct c.args.ticket old new)
-    (λ stop s. roomless c.args.acct c.args.ticket old mid new stop c.requires.queue charged s) c.take_words.ensures.refused
+    (λ stop s. roomless c.args.acct c.args.ticket old mid new stop c.requires.queue charged s) c.make_object.ensures.refused
 
 pub returns-clause-works : goal.returns-clause-works
-returns-clause-works g c = works_more (works_then c.in_ok-charge.ensures.works c.take_words.ensures.works) (omega arith)
+returns-clause-works g c = works_more (works_then c.in_ok-charge.ensures.works c.make_object.ensures.works) (omega arith)

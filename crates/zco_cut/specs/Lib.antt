@@ -1,0 +1,4 @@
+pub mod Cuts
+pub mod Finding
+pub mod Linking
+pub mod Parting
