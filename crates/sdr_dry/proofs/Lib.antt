@@ -1,5 +1,4 @@
 mod GreetingExample
 pub mod GapLemmas
-pub mod GatheringLemmas
 pub mod MediaLemmas
 pub mod ScheduleLemmas

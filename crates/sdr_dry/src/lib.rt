@@ -5,7 +5,6 @@
 //! 3. Behind the last step all daemons make their leaves, which print nothing.
 #![tactic(auto)]
 
-mod media;
 mod running;
 
 pub use running::{RunError, daemons_of, run};

@@ -10,8 +10,8 @@ ghost use Rattle.sdr_model.specs.Pieces.{pieces_told};
 ghost use Rattle.sdr_model.specs.declared.event.Event.{Event};
 ghost use Rattle.sdr_dry.specs.Schedule.{Answers, HaveFailed, IsCaused, Responds, SomeAnswer, SomeLine, SomeRun, SomeStep, all_daemons, answer_line, daemons_of, media_change};
 
-use crate::media::{Gap, gather};
 use sdr_base::{Media, NoMemory, Refusal, Sink, SinkFault};
+use sdr_gather::{Gap, gather};
 use sdr_lock::Came;
 use sdr_model::{Answer, Event, Leave, Piece, Reply, Step};
 use sdr_plain::Plain;

@@ -4,7 +4,7 @@ ghost use Rattle.std.specs.List.{list_any};
 ghost use Rattle.sdr_base.specs.Causes.{Rose};
 ghost use Rattle.sdr_lock.specs.Ground.{lies_with_media};
 ghost use Rattle.sdr_model.specs.Pieces.{piece_length, pieces_told};
-ghost use Rattle.sdr_dry.specs.Gathering.{AddsPiece, AreGathered, GivesPiece, HasGiven, IsGapIn, IsGapOf, OfMedia};
+ghost use Rattle.sdr_gather.specs.Gathering.{AddsPiece, AreGathered, GivesPiece, HasGiven, IsGapIn, IsGapOf, OfMedia};
 
 use sdr_base::{Bytes, Media, MediaFault, NoMemory};
 use sdr_model::Piece;
@@ -24,7 +24,7 @@ pub enum Gap {
 }
 
 impl From<NoMemory> for Gap {
-    ghost use Rattle.sdr_dry.specs.declared.media.Gap.TheVariants as gaps;
+    ghost use Rattle.sdr_gather.specs.declared.gathering.Gap.TheVariants as gaps;
 
     ghost from_gives = { λ _ e. e ≡ gaps.NoMemory };
 
@@ -34,7 +34,7 @@ impl From<NoMemory> for Gap {
 }
 
 impl From<MediaFault> for Gap {
-    ghost use Rattle.sdr_dry.specs.declared.media.Gap.TheVariants as gaps;
+    ghost use Rattle.sdr_gather.specs.declared.gathering.Gap.TheVariants as gaps;
 
     ghost from_gives = { λ _ e. e ≡ gaps.Fault };
 

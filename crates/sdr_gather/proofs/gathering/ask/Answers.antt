@@ -4,9 +4,9 @@ use Rattle.sdr_base.specs.Media.{GivesFrom, file_bytes}
 use Rattle.sdr_lock.specs.Ground.{lies_with_media}
 use Rattle.sdr_model.specs.Pieces.{piece_length}
 use Rattle.sdr_model.specs.declared.piece.Piece.TheVariants as pieces
-use Rattle.sdr_dry.specs.Gathering.{HasGiven, OfMedia}
-use Rattle.sdr_dry.proofs.GatheringLemmas.{fault_of_media, file_read_given, item_read_given, known_given, of_media}
-use Rattle.sdr_dry.proofs.media.ask.Goals as goal
+use Rattle.sdr_gather.specs.Gathering.{HasGiven, OfMedia}
+use Rattle.sdr_gather.proofs.GatheringLemmas.{fault_of_media, file_read_given, item_read_given, known_given, of_media}
+use Rattle.sdr_gather.proofs.gathering.ask.Goals as goal
 
 pub returns-in-Known-clause-had : goal.returns-in-Known-clause-had
 returns-in-Known-clause-had g c =

@@ -1,7 +1,7 @@
 use Rattle.std.proofs.Common.{◌≡◌, ◌≤◌, length}
 use Rattle.sdr_model.specs.Pieces.{pieces_told}
-use Rattle.sdr_dry.specs.Gathering.{Gathering}
-use Rattle.sdr_dry.proofs.media.gather.Given as goal
+use Rattle.sdr_gather.specs.Gathering.{Gathering}
+use Rattle.sdr_gather.proofs.gathering.gather.Given as goal
 
 abbrev pub invariant-loop-piece : goal.invariant-loop-piece
 invariant-loop-piece g l = record {

@@ -7,8 +7,8 @@ use Rattle.sdr_lock.specs.Ground.{lies_with_media}
 use Rattle.sdr_model.specs.Pieces.{bytes_by, media_bytes, piece_length, piece_told, pieces_told}
 use Rattle.sdr_model.specs.Wire.{Spells}
 use Rattle.sdr_model.specs.declared.piece.Piece.{Piece}
-use Rattle.sdr_dry.specs.declared.media.Gap.{Gap}
-use Rattle.sdr_dry.specs.declared.media.Gap.TheVariants as gaps
+use Rattle.sdr_gather.specs.declared.gathering.Gap.{Gap}
+use Rattle.sdr_gather.specs.declared.gathering.Gap.TheVariants as gaps
 
 -- these are the bytes of a piece: those that the world tells, and where media tell, those that they hold
 pub record GivesPiece (told : Option Told) (piece : Piece) (bytes : List ℕ) : Type 0 where

@@ -1,9 +1,9 @@
 use Rattle.std.proofs.Common.{◌≡◌, ◌≤◌, ◌∷◌, [], length, subst, sym, ◌∙◌, arith}
 use Rattle.std.proofs.lemmas.List.{nil_from_length}
 use Rattle.sdr_model.specs.Pieces.{pieces_told}
-use Rattle.sdr_dry.specs.Gathering.{AddsPiece, AreGathered, Gathering}
-use Rattle.sdr_dry.proofs.GatheringLemmas.{gathering-end, gathering-next, rest_fits}
-use Rattle.sdr_dry.proofs.media.gather.Goals as goal
+use Rattle.sdr_gather.specs.Gathering.{AddsPiece, AreGathered, Gathering}
+use Rattle.sdr_gather.proofs.GatheringLemmas.{gathering-end, gathering-next, rest_fits}
+use Rattle.sdr_gather.proofs.gathering.gather.Goals as goal
 
 pub loop-piece-preserved : goal.loop-piece-preserved
 loop-piece-preserved g c =

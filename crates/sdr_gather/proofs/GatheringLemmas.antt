@@ -12,9 +12,9 @@ use Rattle.sdr_model.specs.Pieces.{bytes_by, media_bytes, piece_length, piece_to
 use Rattle.sdr_model.specs.Wire.{Spells, ToldBytes, known, unknown}
 use Rattle.sdr_model.specs.declared.piece.Piece.{Piece}
 use Rattle.sdr_model.specs.declared.piece.Piece.TheVariants as pieces
-use Rattle.sdr_dry.specs.declared.media.Gap.{Gap}
-use Rattle.sdr_dry.specs.declared.media.Gap.TheVariants as gaps
-use Rattle.sdr_dry.specs.Gathering.{AddsPiece, AreGathered, Gathering, HasGiven, IsGapIn, IsGapOf, OfMedia}
+use Rattle.sdr_gather.specs.declared.gathering.Gap.{Gap}
+use Rattle.sdr_gather.specs.declared.gathering.Gap.TheVariants as gaps
+use Rattle.sdr_gather.specs.Gathering.{AddsPiece, AreGathered, Gathering, HasGiven, IsGapIn, IsGapOf, OfMedia}
 
 -- known bytes are spelled by themselves
 pub spells_known : (bytes : List ℕ) → Spells (known bytes) bytes

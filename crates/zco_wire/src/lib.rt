@@ -1,0 +1,22 @@
+//! The bytes of zero-copy objects: those that go out on the wire, and those that came in.
+//!
+//! 1. What is read of an object is the bytes of its headers, of what its extents name, and of its
+//!    trailers, in order, from a place on.
+//! 2. The bytes of an extent lie in a raw object's block, or with media, which are asked once for all
+//!    that a call needs of it. Each byte is copied once, into the caller's buffer.
+//! 3. Where media have fewer bytes than they are asked for, or fail, the call says so, and nothing
+//!    has changed. A reader moves only past bytes that were given.
+#![tactic(auto)]
+
+mod cursor;
+mod extents;
+mod heads;
+mod link;
+mod reader;
+mod receiving;
+mod sending;
+mod source;
+
+pub use reader::{Reader, start_receiving, start_sending};
+pub use receiving::{receive_headers, receive_source, receive_trailers};
+pub use sending::transmit;
