@@ -219,6 +219,22 @@ gathering-end (Some media) all bytes g = record {
   held = sym (append-nil bytes) ∙ g.held;
 }
 
+-- what was gathered of some pieces, and then of the rest of them, was gathered of all
+pub gathering-trans : (told : Option Told) (all mid rest : List Piece) (xs ys : List ℕ) → Gathering told all mid xs
+    → Gathering told mid rest ys → Gathering told all rest (xs ++ ys)
+gathering-trans None all mid rest xs ys g h = record {
+  known = λ more s. subst (Spells (pieces_told all)) (sym (append_assoc xs ys more)) (g.known (ys ++ more) (h.known more s));
+  held = tt;
+  outside = λ lies. g.outside (h.outside lies);
+  first = tt;
+}
+gathering-trans (Some media) all mid rest xs ys g h = record {
+  known = λ more s. subst (Spells (pieces_told all)) (sym (append_assoc xs ys more)) (g.known (ys ++ more) (h.known more s));
+  held = append_assoc xs ys (bytes_by media rest) ∙ ap (λ l. xs ++ l) h.held ∙ g.held;
+  outside = λ lies. g.outside (h.outside lies);
+  first = λ have want s. g.first have want (h.first have want s);
+}
+
 -- why a piece wasn't gathered is why not all were
 module _ (all : List Piece) (piece : Piece) (rest : List Piece) (bytes : List ℕ) (Failed Short : Type 0) where
   pub gathering-gap : (told : Option Told) (gap : Gap) → Gathering told all (piece ∷ rest) bytes

@@ -1,0 +1,4 @@
+pub mod NamingLemmas
+pub mod GoingLemmas
+pub mod StoppingLemmas
+pub mod WalkLemmas

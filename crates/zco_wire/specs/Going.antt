@@ -2,14 +2,14 @@
 use Rattle.std.specs.Prelude.{◌≡◌, ◌≤◌, ◌-◌, ◌+◌, ℕ, List, [], ◌∷◌, ◌++◌, length, take, Option}
 use Rattle.sdr_base.specs.Blocks.{Block, Blocks}
 use Rattle.sdr_base.specs.Media.{Told}
-use Rattle.sdr_base.specs.ZcoObjects.{CapsuleRow, ExtentRow}
+use Rattle.sdr_base.specs.ZcoObjects.{CapsuleRow, ExtentRow, capsule_addr, extent_addr}
 use Rattle.sdr_gather.specs.Gathering.{Gathering}
 use Rattle.sdr_model.specs.Pieces.{cut_pieces}
 use Rattle.sdr_model.specs.declared.piece.Piece.{Piece}
 use Rattle.sdr_model.specs.declared.piece.Piece.TheVariants as pieces
-use Rattle.zco_obj.specs.Walks.{CapsulesAt, KeepsCapsule}
+use Rattle.zco_obj.specs.Walks.{CapsulesAt, KeepsCapsule, Passed}
 use Rattle.zco_obj.specs.declared.extent.Piece.{Piece as Range}
-use Rattle.zco_wire.specs.Naming.{IsNamed, NamesAt, head_pieces}
+use Rattle.zco_wire.specs.Naming.{AreNamed, IsNamed, NamesAt, head_pieces}
 use Rattle.zco_wire.specs.declared.cursor.Cursor.{Cursor}
 
 -- what is to be given of pieces from the cursor on, into a buffer of so many bytes
@@ -42,3 +42,28 @@ pub record GoesOverRange (told : Option Told) (blocks : Blocks) (range : Range) 
 -- whichever pieces a chain of extents names, they were gone over
 pub record GoesOverNamed (told : Option Told) (blocks : Blocks) (first : ℕ) (old new : Cursor) (into into' : List ℕ) : Type 0 where
   pub goes : (extents : List ExtentRow) (named : List Piece) → NamesAt blocks first extents named → Goes told named old new into into'
+
+-- Some first headers or trailers of a chain were gone over, so many, and the address is that of the next one.
+pub record WalkedHeads (told : Option Told) (rows : List CapsuleRow) (head i : ℕ) (old new : Cursor) (into into' : List ℕ) : Type 0 where
+  pub walk : Passed capsule_addr rows head i
+  pub goes : Goes told (head_pieces walk.passed) old new into into'
+
+-- so it is of whichever chain stands there
+pub record WalksHeads (blocks : Blocks) (first head i : ℕ) (old new : Cursor) (into into' : List ℕ) : Type 0 where
+  pub walks : (told : Option Told) (rows : List CapsuleRow) → CapsulesAt blocks first rows
+      → WalkedHeads told rows head i old new into into'
+
+-- What some first extents of a chain name was gone over, so many, and the address is that of the next one.
+pub record WalkedNamed (told : Option Told) (blocks : Blocks) (extents : List ExtentRow) (named : List Piece) (extent i : ℕ) (old new : Cursor)
+    (into into' : List ℕ) : Type 0 where
+  pub walk : Passed extent_addr extents extent i
+  pub done : List Piece
+  pub left : List Piece
+  pub whole : named ≡ done ++ left
+  pub are : AreNamed blocks walk.left left
+  pub goes : Goes told done old new into into'
+
+-- so it is of whichever chain stands there
+pub record WalksNamed (told : Option Told) (blocks : Blocks) (first extent i : ℕ) (old new : Cursor) (into into' : List ℕ) : Type 0 where
+  pub walks : (extents : List ExtentRow) (named : List Piece) → NamesAt blocks first extents named
+      → WalkedNamed told blocks extents named extent i old new into into'
