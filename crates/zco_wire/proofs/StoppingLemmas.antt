@@ -48,9 +48,11 @@ short_later (Some media) now all rest bytes have want e g s =
 
 pub stops_later : {M : Type 0} (m : Ghosts M) (all rest : List Piece) (bytes : List ℕ) (old now new : M) (stop : Stop) →
     Gathering (m.told old) all rest bytes → KeepsTold m old now → StopsPieces m rest now new stop → StopsPieces m all old new stop
-stops_later m all rest bytes old now new (stops.Refused (SourceShort have want)) g k s =
-    (s.0, (g.outside s.1.0, rose_later (m.short old) (m.short now) (m.short new) k.short s.1.1),
-    short_later (m.told old) (m.told now) all rest bytes have want k.told g s.2)
+stops_later m all rest bytes old now new (stops.Refused (SourceShort have want)) g k s = (
+  s.0,
+  (g.outside s.1.0, rose_later (m.short old) (m.short now) (m.short new) k.short s.1.1),
+  short_later (m.told old) (m.told now) all rest bytes have want k.told g s.2,
+)
 stops_later m all rest bytes old now new stops.MediaFault g k s =
     (g.outside s.0, rose_later (m.faults old) (m.faults now) (m.faults new) k.faults s.1)
 stops_later m all rest bytes old now new stop g k s = s
