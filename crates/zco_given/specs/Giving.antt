@@ -49,8 +49,9 @@ asked_by (calls.ReceiveSource addr place count) row named = asked_source place c
 asked_by (calls.ReceiveTrailers addr place count) row named = asked_trailers place count row named
 asked_by call row named = []
 
--- whichever object is kept there, the first bytes of the buffer are what the call asks of it
+-- The object is there, and whichever is kept, the first bytes of the buffer are what the call asks of it.
 pub record ReadsCall (told : Option Told) (blocks : Blocks) (addr : ℕ) (call : Call) (into : List ℕ) (given : ℕ) : Type 0 where
+  pub kind : IsKind (blocks addr) kinds.Object
   pub few : given ≤ length into
   pub gives : (row : ObjectRow) (named : List Piece) → KeepsWire blocks addr row named → AreGathered told (asked_by call row named) (take given into)
 

@@ -1,7 +1,7 @@
 -- Pieces that are gone over, one after another.
 use Rattle.std.proofs.Common.{◌≡◌, ◌≢◌, ◌≤◌, ◌<◌, ◌+◌, ◌-◌, ℕ, Bool, true, false, List, [], ◌∷◌, ◌++◌, Option, length, take, min, cond, refl, sym, ap, ◌∙◌, subst, arith, append_assoc, append-nil, length-append}
 use Rattle.std.specs.Prelude.{◌==◌}
-use Rattle.std.proofs.lemmas.Bool.{eqb-true}
+use Rattle.std.proofs.lemmas.Bool.{eqb-true, ne_eqb}
 use Rattle.std.proofs.lemmas.List.{nil_from_length}
 use Rattle.sdr_base.specs.Media.{Told}
 use Rattle.sdr_gather.specs.Gathering.{AreGathered, Gathering, GivesPiece}
@@ -14,7 +14,20 @@ use Rattle.zco_wire.specs.declared.cursor.Cursor.{Cursor}
 -- no byte is cut
 pub cut_none : (skip : ℕ) (ps : List Piece) → cut_pieces skip 0 ps ≡ []
 cut_none skip [] = refl
-cut_none skip (p ∷ ps) = cut_none (skip - piece_length p) ps
+cut_none skip (p ∷ ps) =
+    let z : min 0 (piece_length p - skip) ≡ 0 = omega arith in
+    ap (λ n. cond (n == 0) (cut_pieces (skip - piece_length p) (0 - n) ps)
+    (piece_part skip n p ∷ cut_pieces (skip - piece_length p) (0 - n) ps)) z
+    ∙ cut_none (skip - piece_length p) ps
+
+-- the first of pieces is cut, where some of its bytes are asked
+pub cut_first : (p : Piece) (skip room count : ℕ) (others : List Piece) → count ≡ min room (piece_length p - skip) → count ≢ 0 →
+    cut_pieces skip room (p ∷ others) ≡ piece_part skip count p ∷ cut_pieces (skip - piece_length p) (room - count) others
+cut_first p skip room count others many nz =
+    ap (λ n. cond (n == 0) (cut_pieces (skip - piece_length p) (room - n) others)
+    (piece_part skip n p ∷ cut_pieces (skip - piece_length p) (room - n) others)) (sym many)
+    ∙ ap (λ b. cond b (cut_pieces (skip - piece_length p) (room - count) others)
+    (piece_part skip count p ∷ cut_pieces (skip - piece_length p) (room - count) others)) (ne_eqb count 0 nz)
 
 -- nothing is gone over
 pub goes_none : (told : Option Told) (at : Cursor) (into : List ℕ) → at.given ≤ length into → Goes told [] at at into into
@@ -67,7 +80,9 @@ pub goes_all : {told : Option Told} {ps : List Piece} {at : Cursor} {into into' 
 goes_all {told} {ps} {at} {into} {into'} place g =
     subst (AreGathered told (cut_pieces place (length into) ps)) (sym g.stand)
     (gathering-end told (cut_pieces place (length into) ps) g.bytes
-    (subst (λ (all : List Piece). Gathering told (cut_pieces place (length into) all) [] g.bytes) (append-nil ps) (g.gathers [])))
+    (subst (λ (all : List Piece). Gathering told (cut_pieces place (length into) all) [] g.bytes) (append-nil ps)
+    (let z : length into - 0 ≡ length into = omega arith in
+    subst (λ n. Gathering told (cut_pieces place n (ps ++ [])) [] g.bytes) z (g.gathers []))))
 
 -- one piece: the part of it that is asked was given
 module _ (told : Option Told) (p : Piece) (at new : Cursor) (into into' bytes : List ℕ) (count : ℕ) (room : at.given ≤ length into)

@@ -6,3 +6,5 @@ pub mod SeeingLemmas
 pub mod SourceLemmas
 pub mod PartLemmas
 pub mod HeadLemmas
+pub mod WireLemmas
+pub mod AnswerLemmas

@@ -84,6 +84,6 @@ pub named_first : {blocks : Blocks} (e : ExtentRow) (es : List ExtentRow) (ps : 
 named_first e es [] a = absurd a
 named_first e es (p ∷ ps) a = record { one = p; others = ps; is = refl; named = a.0; rest = a.1 }
 
-pub named_none : {blocks : Blocks} (ps : List Piece) → AreNamed blocks [] ps → ps ≡ []
-named_none [] a = refl
-named_none (p ∷ ps) a = absurd a
+pub named_none : (blocks : Blocks) (ps : List Piece) → AreNamed blocks [] ps → ps ≡ []
+named_none blocks [] a = refl
+named_none blocks (p ∷ ps) a = absurd a

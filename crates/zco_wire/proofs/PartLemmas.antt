@@ -22,13 +22,17 @@ use Rattle.zco_wire.specs.Naming.{AreNamed, KeepsWire, head_pieces, wire_of}
 use Rattle.zco_wire.specs.Seeing.{SeesPart}
 use Rattle.zco_wire.proofs.NamingLemmas.{named_length}
 
+-- so many bytes from a place on
+abbrev part_of : ℕ → ℕ → Part
+part_of offset length = record { offset = offset; length = length }
+
 -- the words of an object's part
 pub sees_part : {blocks : Blocks} {object : ℕ} (offset length : ℕ) → HasWord (blocks object) 7 offset → HasWord (blocks object) 8 length →
     SeesPart blocks object (record { offset = offset; length = length })
 sees_part offset length a b = record {
   sees = λ row k.
-      ap (λ n. record Part { offset = n; length = length }) (object_word k 7 offset (omega arith) a)
-      ∙ ap (λ n. record Part { offset = row.part_offset; length = n }) (object_word k 8 length (omega arith) b);
+      ap (λ n. part_of n length) (object_word k 7 offset (omega arith) a)
+      ∙ ap (part_of row.part_offset) (object_word k 8 length (omega arith) b);
 }
 
 pub part_small : {blocks : Blocks} {object : ℕ} (offset length : ℕ) → SomeObject blocks object → HasWord (blocks object) 7 offset →
@@ -58,7 +62,7 @@ told-cons : (p : Piece) (ps : List Piece) → length (pieces_told (p ∷ ps)) �
 told-cons p ps = length-append (piece_told p) (pieces_told ps)
 
 told-append : (ps qs : List Piece) → length (pieces_told (ps ++ qs)) ≡ length (pieces_told ps) + length (pieces_told qs)
-told-append [] qs = refl
+told-append [] qs = omega arith
 told-append (p ∷ ps) qs =
     let r = told-append ps qs in let a = told-cons p (ps ++ qs) in let b = told-cons p ps in omega (arith, r, a, b)
 
@@ -72,14 +76,14 @@ heads_most (c ∷ cs) a =
     let m = length-piece_told (pieces.Known c.text) in omega (arith, h, t, s, m)
 
 -- of what extents name
-named_most : {blocks : Blocks} (es : List ExtentRow) (ps : List Piece) → AreNamed blocks es ps → length (pieces_told ps) ≤ 2 ^ 40 * length es
-named_most [] [] a = omega arith
-named_most [] (p ∷ ps) a = absurd a
-named_most (e ∷ es) [] a = absurd a
-named_most (e ∷ es) (p ∷ ps) a =
+named_most : (blocks : Blocks) (es : List ExtentRow) (ps : List Piece) → AreNamed blocks es ps → length (pieces_told ps) ≤ 2 ^ 40 * length es
+named_most blocks [] [] a = omega arith
+named_most blocks [] (p ∷ ps) a = absurd a
+named_most blocks (e ∷ es) [] a = absurd a
+named_most blocks (e ∷ es) (p ∷ ps) a =
     let h = named_length a.0 in
     let i = a.0.ends in
-    let t = named_most es ps a.1 in
+    let t = named_most blocks es ps a.1 in
     let s = told-cons p ps in
     let m = length-piece_told p in omega (arith, h, i, t, s, m)
 
@@ -90,7 +94,7 @@ wire_most {blocks} {object} {row} {named} k =
     let f = k.keeps.fits in
     let few = f.few in
     let h = heads_most row.headers f.headers in
-    let e = named_most row.extents named k.are in
+    let e = named_most blocks row.extents named k.are in
     let t = heads_most row.trailers f.trailers in
     let a = told-append (head_pieces row.headers) (named ++ head_pieces row.trailers) in
     let b = told-append named (head_pieces row.trailers) in omega (arith, few, h, e, t, a, b)
@@ -98,4 +102,4 @@ wire_most {blocks} {object} {row} {named} k =
 pub extents_few : {blocks : Blocks} {object : ℕ} {row : ObjectRow} {named : List Piece} → KeepsWire blocks object row named →
     length (pieces_told named) < 2 ^ 63
 extents_few {blocks} {object} {row} {named} k =
-    let few = k.keeps.fits.few in let e = named_most row.extents named k.are in omega (arith, few, e)
+    let few = k.keeps.fits.few in let e = named_most blocks row.extents named k.are in omega (arith, few, e)

@@ -3,13 +3,11 @@ use Rattle.std.proofs.Common.{◌≡◌, ◌≤◌, ◌+◌, ◌*◌, ◌^◌, �
 use Rattle.std.proofs.lemmas.List.{drop_at, drop-drop, take_all}
 use Rattle.sdr_base.specs.Blocks.{Block, Blocks, HasBytes, Reaches, kind_length}
 use Rattle.sdr_base.specs.Parts.{part}
-use Rattle.sdr_base.specs.Sources.{medium_number}
 use Rattle.sdr_base.specs.Words.{HasWord, layout}
 use Rattle.sdr_base.specs.ZcoObjects.{CapsuleRow, ExtentRow}
 use Rattle.sdr_base.specs.declared.kind.Kind.{Kind}
 use Rattle.sdr_base.specs.declared.kind.Kind.TheVariants as kinds
 use Rattle.sdr_base.specs.declared.medium.Medium.{Medium}
-use Rattle.sdr_base.specs.declared.medium.Medium.TheVariants as media
 use Rattle.sdr_base.proofs.LayoutLemmas.{layout-append, length-layout}
 use Rattle.sdr_base.proofs.WritingLemmas.{word_is}
 use Rattle.zco_obj.specs.Walks.{KeepsCapsule, KeepsExtent, SeesCapsule, SeesExtent, SomeCapsule, SomeExtent}
@@ -17,6 +15,7 @@ use Rattle.zco_obj.specs.declared.extent.Piece.{Piece as Range}
 use Rattle.zco_obj.specs.declared.seeing.SeenCapsule.{SeenCapsule}
 use Rattle.zco_obj.specs.declared.seeing.SeenExtent.{SeenExtent}
 use Rattle.zco_ref.specs.Kept.{CountedSource, KeepsSource}
+use Rattle.zco_ref.specs.Seeing.{IsMediumOf}
 use Rattle.zco_ref.proofs.KeptLemmas.{medium_is, source_words}
 use Rattle.zco_wire.specs.Seeing.{SeesLink, SeesMedium, SeesRaw, is_raw}
 
@@ -26,14 +25,18 @@ offset_is {found} {next} {value} {e} k h =
     word_is found kinds.Extent (e.source ∷ e.offset ∷ e.length ∷ next ∷ []) [] 1 value k.block (omega arith)
     (let i = k.fits.inside in omega (arith, i)) h
 
+-- a range of a source
+abbrev range : ℕ → ℕ → ℕ → Range
+range of offset bytes = record { of = of; offset = offset; bytes = bytes }
+
 -- so its block says the range that it names
 pub sees_link : {found : Option Block} (seen : SeenExtent) (offset : ℕ) → SeesExtent found seen → HasWord found 1 offset →
     SeesLink found (record { range = record { of = seen.source; offset = offset; bytes = seen.length }; next = seen.next })
 sees_link seen offset s h = record {
   range = λ next e k.
-      ap (λ of. record Range { of = of; offset = offset; bytes = seen.length }) (s.source next e k)
-      ∙ ap (λ n. record Range { of = e.source; offset = n; bytes = seen.length }) (offset_is k h)
-      ∙ ap (λ n. record Range { of = e.source; offset = e.offset; bytes = n }) (s.length next e k);
+      ap (λ of. range of offset seen.length) (s.source next e k)
+      ∙ ap (λ n. range e.source n seen.length) (offset_is k h)
+      ∙ ap (range e.source e.offset) (s.length next e k);
   next = s.next;
 }
 
@@ -44,29 +47,11 @@ link_ends seen offset some s h =
     let l = s.length some.next some.extent some.keeps in
     let i = some.keeps.fits.inside in omega (arith, o, l, i)
 
--- a medium by its number
-medium_by : (number : ℕ) (m : Medium) (found : Medium) → number ≡ medium_number m →
-    (number ≡ 1 → found ≡ media.File) → (number ≡ 2 → found ≡ media.Bulk) → (number ≡ 3 → found ≡ media.Heap) →
-    (number ≡ 4 → found ≡ media.Obj) → found ≡ m
-medium_by number media.File found e a b c d = a e
-medium_by number media.Bulk found e a b c d = b e
-medium_by number media.Heap found e a b c d = c e
-medium_by number media.Obj found e a b c d = d e
-
-pub sees_medium : {found : Option Block} (number : ℕ) (m : Medium) → HasWord found 0 number →
-    (number ≡ 1 → m ≡ media.File) → (number ≡ 2 → m ≡ media.Bulk) → (number ≡ 3 → m ≡ media.Heap) →
-    (number ≡ 4 → m ≡ media.Obj) → SeesMedium found m
-sees_medium number m h a b c d = record {
-  sees = λ source k. medium_by number source.row.medium m (medium_is k h) a b c d;
-}
+-- a source's first word is the number of its medium
+pub sees_medium : {found : Option Block} (number : ℕ) (m : Medium) → HasWord found 0 number → IsMediumOf number m → SeesMedium found m
+sees_medium number m h of = record { sees = λ source k. of source.row.medium (medium_is k h) }
 
 -- where the medium is no other, the bytes lie in a raw object
-raw_by : (m : Medium) → (m ≡ media.File → ⊥) → (m ≡ media.Bulk → ⊥) → is_raw m ≡ true
-raw_by media.File a b = absurd (a refl)
-raw_by media.Bulk a b = absurd (b refl)
-raw_by media.Heap a b = refl
-raw_by media.Obj a b = refl
-
 pub sees_raw : {blocks : Blocks} {addr : ℕ} (m : Medium) → SeesMedium (blocks addr) m → is_raw m ≡ true → SeesRaw blocks addr
 sees_raw m s is = record { sees = λ source k. subst (λ (n : Medium). is_raw n ≡ true) (s.sees source k) is }
 

@@ -74,7 +74,7 @@ raw_given {blocks} {range} told addr bytes s h b = record {
       bytes_behind (blocks addr) kinds.Raw (range.of ∷ []) n.bytes 8 range.offset range.bytes bytes found refl b in
       let q : p ≡ pieces.Known bytes =
       n.is ∙ piece_raw n.source.row.medium n.source.row n.bytes range.offset range.bytes is ∙ ap (λ l. pieces.Known l) (sym e) in
-      subst (λ (x : Piece). GivesPiece told x bytes) (sym q) ((known_given told bytes ⊤).whole refl);
+      subst (λ (x : Piece). GivesPiece told x bytes) (sym q) ((known_given told bytes (Unit {0})).whole refl);
 }
 
 -- too few bytes of a piece that lies with media
@@ -85,10 +85,10 @@ module _ {M : Type 0} (m : Ghosts M) (old new : M) (p : Piece) (into : List ℕ)
   both (Some media) had want e f h = (e ∙ h, f)
 
   pub lacks : (stop : Stop) → lies_with_media p ≡ true → length into ≡ piece_length p →
-      (have < length into → Rose (m.short old) (m.short new)) → HasGiven (m.told old) p into have ⊤ → IsShortOf have (length into) stop →
+      (have < length into → Rose (m.short old) (m.short new)) → HasGiven (m.told old) p into have (Unit {0}) → IsShortOf have (length into) stop →
       StopsPiece m p old new stop
   lacks (stops.Refused (SourceShort had want)) lies long rose g lack =
-      (omega (arith, lack.0, lack.1.0, lack.1.1), (lies, rose lack.0), both (m.told old) had want lack.1.0 (lack.1.1 ∙ long) g.held)
+      (omega (arith, lack.0, lack.1, lack.2), (lies, rose lack.0), both (m.told old) had want lack.1 (lack.2 ∙ long) g.held)
   lacks stop lies long rose g lack = absurd lack
 
 -- a range of a file
@@ -101,8 +101,8 @@ module _ {M : Type 0} (m : Ghosts M) (blocks : Blocks) (range : Range) (old new 
       n.is ∙ ap (λ (k : Medium). medium_piece k n.source.row n.bytes range.offset range.bytes) (sym (s.sees n.source n.tied.keeps))
       ∙ ap (λ l. pieces.File l range.offset range.bytes) (sym (is ∙ v.sees n.source n.tied.keeps))
 
-  given : HasGiven (m.told old) (pieces.File path range.offset range.bytes) into have ⊤
-  given = file_given (m.told old) path range.offset range.bytes have into ⊤ gives long few (λ l. tt)
+  given : HasGiven (m.told old) (pieces.File path range.offset range.bytes) into have (Unit {0})
+  given = file_given (m.told old) path range.offset range.bytes have into (Unit {0}) gives long few (λ l. tt)
 
   pub file_gives : length into ≤ have → GivesRange (m.told old) blocks range into
   file_gives whole = record {
@@ -126,8 +126,8 @@ module _ {M : Type 0} (m : Ghosts M) (blocks : Blocks) (range : Range) (old new 
       n.is ∙ ap (λ (k : Medium). medium_piece k n.source.row n.bytes range.offset range.bytes) (sym (s.sees n.source n.tied.keeps))
       ∙ ap (λ i. pieces.Bulk i range.offset range.bytes) (sym (subject_is n.tied.keeps h))
 
-  bulk_given : HasGiven (m.told old) (pieces.Bulk item range.offset range.bytes) into have ⊤
-  bulk_given = item_given (m.told old) item range.offset range.bytes have into ⊤ gives long few (λ l. tt)
+  bulk_given : HasGiven (m.told old) (pieces.Bulk item range.offset range.bytes) into have (Unit {0})
+  bulk_given = item_given (m.told old) item range.offset range.bytes have into (Unit {0}) gives long few (λ l. tt)
 
   pub item_gives : length into ≤ have → GivesRange (m.told old) blocks range into
   item_gives whole = record {

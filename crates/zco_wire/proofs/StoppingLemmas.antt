@@ -1,12 +1,16 @@
 -- Why a read of pieces stops.
-use Rattle.std.proofs.Common.{◌≡◌, ◌≤◌, ◌<◌, ◌||◌, ℕ, Bool, true, List, [], ◌∷◌, ◌++◌, Option, None, Some, refl, sym, ap, ◌∙◌, subst, arith, IfSome, inr}
+use Rattle.std.proofs.Common.{◌≡◌, ◌≤◌, ◌<◌, ◌||◌, ℕ, Bool, true, List, [], ◌∷◌, ◌++◌, Option, None, Some, Result, Ok, Err, refl, sym, ap, ◌∙◌, subst, arith, IfSome, inr}
 use Rattle.std.specs.List.{list_any}
 use Rattle.sdr_base.specs.Causes.{Rose}
 use Rattle.sdr_base.specs.Media.{Told}
+use Rattle.sdr_base.specs.Objects.{OnlyFault}
+use Rattle.sdr_base.specs.Works.{Looks}
+use Rattle.sdr_base.specs.declared.has_heap.HasHeap.{Ghosts as HeapGhosts}
 use Rattle.sdr_base.specs.declared.media.Media.{Ghosts}
 use Rattle.sdr_base.specs.declared.refusal.Refusal.TheVariants.{SourceShort}
 use Rattle.sdr_base.specs.declared.stop.Stop.{Stop}
 use Rattle.sdr_base.specs.declared.stop.Stop.TheVariants as stops
+use Rattle.sdr_base.proofs.WorksLemmas.{looks_ok}
 use Rattle.sdr_base.proofs.WrittenLemmas.{rose_later}
 use Rattle.sdr_gather.specs.Gathering.{Gathering, IsGapIn, OfMedia}
 use Rattle.sdr_gather.specs.declared.gathering.Gap.TheVariants as gaps
@@ -14,7 +18,42 @@ use Rattle.sdr_gather.proofs.GatheringLemmas.{gathering-gap, gathering-start}
 use Rattle.sdr_lock.specs.Agreeing.{IsFirstShort}
 use Rattle.sdr_lock.specs.Ground.{lies_with_media}
 use Rattle.sdr_model.specs.declared.piece.Piece.{Piece}
-use Rattle.zco_wire.specs.Stopping.{KeepsTold, StopsPiece, StopsPieces}
+use Rattle.zco_wire.specs.Stopping.{KeepsTold, StopsPiece, StopsPieces, past_media, past_stop}
+
+-- a call on the heap alone meets no fault of media
+looks_stopped : {T S : Type 0} {m : HeapGhosts S} {a b : S} (stop : Stop) → Looks {T = T} m a b (Err stop) → Looks m a b (past_stop stop)
+looks_stopped (stops.Refused refusal) l = record {
+  same = l.same;
+  kept = l.kept;
+  moved = l.moved;
+  touched = l.touched;
+  quiet = l.quiet;
+  room = record { room = l.room.room; kept = l.room.kept; most = l.room.most; full = l.room.full };
+  cause = record { later = l.cause.later; explained = l.cause.explained };
+}
+looks_stopped stops.DiskFault l = record {
+  same = l.same;
+  kept = l.kept;
+  moved = l.moved;
+  touched = l.touched;
+  quiet = l.quiet;
+  room = record { room = l.room.room; kept = l.room.kept; most = l.room.most; full = l.room.full };
+  cause = record { later = l.cause.later; explained = l.cause.explained };
+}
+looks_stopped stops.MediaFault l = absurd l.cause.explained
+looks_stopped stops.Failed l = record {
+  same = l.same;
+  kept = l.kept;
+  moved = l.moved;
+  touched = l.touched;
+  quiet = l.quiet;
+  room = record { room = l.room.room; kept = l.room.kept; most = l.room.most; full = l.room.full };
+  cause = record { later = l.cause.later; explained = l.cause.explained };
+}
+
+pub looks_past : {T S : Type 0} {m : HeapGhosts S} {a b : S} (r : Result T Stop) → Looks m a b r → Looks m a b (past_media r)
+looks_past (Ok value) l = looks_ok l
+looks_past (Err stop) l = looks_stopped stop l
 
 -- nothing of media changed
 pub told_same : {M : Type 0} (m : Ghosts M) (old : M) → KeepsTold m old old
@@ -56,3 +95,16 @@ stops_later m all rest bytes old now new (stops.Refused (SourceShort have want))
 stops_later m all rest bytes old now new stops.MediaFault g k s =
     (g.outside s.0, rose_later (m.faults old) (m.faults now) (m.faults new) k.faults s.1)
 stops_later m all rest bytes old now new stop g k s = s
+
+-- where the heap failed, nothing is said of pieces
+pub only_fault : {M : Type 0} (m : Ghosts M) (ps : List Piece) (old new : M) (stop : Stop) → OnlyFault stop → StopsPieces m ps old new stop
+only_fault m ps old new (stops.Refused refusal) f = absurd f
+only_fault m ps old new stops.MediaFault f = absurd f
+only_fault m ps old new stops.DiskFault f = tt
+only_fault m ps old new stops.Failed f = tt
+
+pub only_fault_of : {M : Type 0} (m : Ghosts M) (p : Piece) (old new : M) (stop : Stop) → OnlyFault stop → StopsPiece m p old new stop
+only_fault_of m p old new (stops.Refused refusal) f = absurd f
+only_fault_of m p old new stops.MediaFault f = absurd f
+only_fault_of m p old new stops.DiskFault f = tt
+only_fault_of m p old new stops.Failed f = tt

@@ -6,6 +6,7 @@ use Rattle.std.proofs.lemmas.List.Elements.{All-head, All-tail}
 use Rattle.sdr_base.specs.Blocks.{Block, Blocks}
 use Rattle.sdr_base.specs.Linked.{first_of, last_of}
 use Rattle.sdr_base.specs.Media.{Told}
+use Rattle.sdr_base.specs.Objects.{OnlyFault}
 use Rattle.sdr_base.specs.declared.media.Media.{Ghosts}
 use Rattle.sdr_base.specs.declared.stop.Stop.{Stop}
 use Rattle.sdr_gather.specs.Gathering.{Gathering}
@@ -26,7 +27,7 @@ use Rattle.zco_wire.specs.declared.cursor.Cursor.{Cursor}
 use Rattle.zco_wire.specs.declared.link.Link.{Link}
 use Rattle.zco_wire.proofs.GoingLemmas.{goes_full, goes_none, goes_trans}
 use Rattle.zco_wire.proofs.NamingLemmas.{NamedFirst, named_first, named_none}
-use Rattle.zco_wire.proofs.StoppingLemmas.{stops_later}
+use Rattle.zco_wire.proofs.StoppingLemmas.{only_fault, stops_later}
 
 -- the next one of a chain that is walked
 pub record Next {X : Type 0} (P : X → Type 0) (addr : X → ℕ) (block : ℕ → ℕ → X → Block) (xs : List X) (here : Option Block)
@@ -129,23 +130,23 @@ module _ {blocks : Blocks} {first : ℕ} where
     }
 
     -- all were gone over, or what is left has no room
-    pub heads_over : ({rows : List CapsuleRow} (told : Option Told) (c : CapsulesAt blocks first rows) → (w.walks told rows c).walk.left ≡ []) →
+    heads_over : ((rows : List CapsuleRow) (told : Option Told) (c : CapsulesAt blocks first rows) → (w.walks told rows c).walk.left ≡ []) →
         GoesOverHeads blocks first at now into into'
     heads_over none = record {
       goes = λ told rows c.
           let v = w.walks told rows c in
           let all : rows ≡ v.walk.passed =
-          v.walk.whole ∙ ap (λ (l : List CapsuleRow). v.walk.passed ++ l) (none told c) ∙ append-nil v.walk.passed in
+          v.walk.whole ∙ ap (λ (l : List CapsuleRow). v.walk.passed ++ l) (none rows told c) ∙ append-nil v.walk.passed in
           subst (λ (l : List CapsuleRow). Goes told (head_pieces l) at now into into') (sym all) v.goes;
     }
 
     pub heads_at_zero : head ≡ 0 → GoesOverHeads blocks first at now into into'
     heads_at_zero z =
-        heads_over (λ told c. over_at_zero CapsuleFits capsule_addr capsule_block (λ p n x. refl) c (w.walks told _ c).walk z)
+        heads_over (λ rows told c. over_at_zero CapsuleFits capsule_addr capsule_block (λ p n x. refl) c (w.walks told rows c).walk z)
 
     pub heads_at_most : i ≡ 4194304 → GoesOverHeads blocks first at now into into'
     heads_at_most all =
-        heads_over (λ told c. over_at_most CapsuleFits capsule_addr capsule_block (λ p n x. refl) c (w.walks told _ c).walk all)
+        heads_over (λ rows told c. over_at_most CapsuleFits capsule_addr capsule_block (λ p n x. refl) c (w.walks told rows c).walk all)
 
     pub heads_at_full : now.given ≡ length into' → length into' ≡ length into → GoesOverHeads blocks first at now into into'
     heads_at_full full same = record {
@@ -254,24 +255,24 @@ module _ {told : Option Told} {blocks : Blocks} {first : ℕ} where
     }
 
     -- all were gone over, or what is left has no room
-    named_over : ({extents : List ExtentRow} {named : List Piece} (c : NamesAt blocks first extents named) →
+    named_over : ((extents : List ExtentRow) (named : List Piece) (c : NamesAt blocks first extents named) →
         (w.walks extents named c).walk.left ≡ []) → GoesOverNamed told blocks first at now into into'
     named_over none = record {
       goes = λ extents named c.
           let v = w.walks extents named c in
           let left : v.left ≡ [] =
-          named_none v.left (subst (λ (l : List ExtentRow). AreNamed blocks l v.left) (none c) v.are) in
+          named_none blocks v.left (subst (λ (l : List ExtentRow). AreNamed blocks l v.left) (none extents named c) v.are) in
           let all : named ≡ v.done = v.whole ∙ ap (λ (l : List Piece). v.done ++ l) left ∙ append-nil v.done in
           subst (λ (l : List Piece). Goes told l at now into into') (sym all) v.goes;
     }
 
     pub named_at_zero : extent ≡ 0 → GoesOverNamed told blocks first at now into into'
     named_at_zero z =
-        named_over (λ c. over_at_zero ExtentFits extent_addr extent_block (λ p n x. refl) c.chain (w.walks _ _ c).walk z)
+        named_over (λ extents named c. over_at_zero ExtentFits extent_addr extent_block (λ p n x. refl) c.chain (w.walks extents named c).walk z)
 
     pub named_at_most : i ≡ 4194304 → GoesOverNamed told blocks first at now into into'
     named_at_most all =
-        named_over (λ c. over_at_most ExtentFits extent_addr extent_block (λ p n x. refl) c.chain (w.walks _ _ c).walk all)
+        named_over (λ extents named c. over_at_most ExtentFits extent_addr extent_block (λ p n x. refl) c.chain (w.walks extents named c).walk all)
 
     pub named_at_full : now.given ≡ length into' → length into' ≡ length into → GoesOverNamed told blocks first at now into into'
     named_at_full full same = record {
@@ -280,3 +281,8 @@ module _ {told : Option Told} {blocks : Blocks} {first : ℕ} where
           subst (λ (ps : List Piece). Goes told ps at now into into') (sym v.whole)
           (goes_trans v.goes (goes_full told v.left now into' full) same);
     }
+
+-- where the heap failed, nothing is said of what extents name
+pub named_failed : {blocks : Blocks} {room : ℕ} {M : Type 0} (m : Ghosts M) (first : ℕ) (at : Cursor) (old new : M) (stop : Stop) → OnlyFault stop →
+    StopsAtNamed m blocks first at room old new stop
+named_failed {blocks} {room} m first at old new stop f = record { stops = λ extents named c others. only_fault m (ahead at room (named ++ others)) old new stop f }

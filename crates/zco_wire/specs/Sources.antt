@@ -22,6 +22,10 @@ pub record SomePath (found : Option Block) : Type 0 where
   pub keeps : KeepsSource found source
   pub short : length source.row.path ≤ longest_path
 
+-- whichever source is kept there, its path has so many bytes
+pub record TellsPath (found : Option Block) (count : ℕ) : Type 0 where
+  pub tells : (source : CountedSource) → KeepsSource found source → count ≡ length source.row.path
+
 -- whichever source is kept there, the first bytes of the buffer, so many, are its path
 pub record SeesPath (found : Option Block) (into : List ℕ) (count : ℕ) : Type 0 where
   pub few : count ≤ length into

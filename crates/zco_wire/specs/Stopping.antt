@@ -21,11 +21,15 @@ use Rattle.zco_wire.specs.Going.{ahead}
 use Rattle.zco_wire.specs.Naming.{IsNamed, KeepsWire, NamesAt}
 use Rattle.zco_wire.specs.declared.cursor.Cursor.{Cursor}
 
--- An answer as the heap has a part in it: where media failed, it is as where the call was answered.
+-- A stop as the heap has a part in it: where media failed, the heap did as in an answered call.
+abbrev pub past_stop : Stop → Result ⊤ Stop
+past_stop stops.MediaFault = Ok tt
+past_stop stop = Err stop
+
+-- so an answer
 abbrev pub past_media : {T : Type 0} → Result T Stop → Result ⊤ Stop
 past_media (Ok value) = Ok tt
-past_media (Err stops.MediaFault) = Ok tt
-past_media (Err stop) = Err stop
+past_media (Err stop) = past_stop stop
 
 -- media tell what they told, and their counts have not fallen
 pub record KeepsTold {M : Type 0} (m : Ghosts M) (old new : M) : Type 0 where
@@ -79,8 +83,9 @@ abbrev pub ReadStops : {M : Type 0} → Ghosts M → Blocks → ℕ → ℕ → 
 ReadStops m blocks object count asked old new (stops.Refused (BadLength bytes most)) =
     IsKind (blocks object) kinds.Object × (longest_read < count) × (bytes ≡ count) × (most ≡ longest_read)
 ReadStops m blocks object count asked old new (stops.Refused (SourceShort have want)) =
-    StopsObject m blocks object asked old new (stops.Refused (SourceShort have want))
-ReadStops m blocks object count asked old new stops.MediaFault = StopsObject m blocks object asked old new stops.MediaFault
+    IsKind (blocks object) kinds.Object × StopsObject m blocks object asked old new (stops.Refused (SourceShort have want))
+ReadStops m blocks object count asked old new stops.MediaFault =
+    IsKind (blocks object) kinds.Object × StopsObject m blocks object asked old new stops.MediaFault
 ReadStops m blocks object count asked old new stop = Misses (blocks object) object kinds.Object stop
 
 -- a buffer is refused that has more bytes than are given at once

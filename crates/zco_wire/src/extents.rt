@@ -29,6 +29,7 @@ fn read_asked<O: Objects, M: Media>(
         at to into.old into.new) }
     ensures stops { IfErr result (StopsAtRange M.Media (O.heap o.old).blocks range at
         (length into.old) media.old media.new) }
+    ensures room { IfOk result (λ to. to.given ≤ length into.old) }
     ensures same { length into.new ≡ length into.old }
     ensures media { KeepsTold M.Media media.old media.new }
     ensures looks { Looks O.HasHeap o.old o.new (past_media result) }
@@ -66,6 +67,7 @@ pub fn read_extents<O: Objects, M: Media>(
         at to into.old into.new) }
     ensures stops { IfErr result (StopsAtNamed M.Media (O.heap o.old).blocks first at
         (length into.old) media.old media.new) }
+    ensures room { IfOk result (λ to. to.given ≤ length into.old) }
     ensures same { length into.new ≡ length into.old }
     ensures media { KeepsTold M.Media media.old media.new }
     ensures looks { Looks O.HasHeap o.old o.new (past_media result) }
@@ -74,7 +76,11 @@ pub fn read_extents<O: Objects, M: Media>(
     let mut cursor = at;
     let mut extent = first;
     for i in 0..TOO_MANY_PARTS {
-        if extent == 0 || cursor.given == into.len() as u64 {
+        if extent == 0 {
+            break;
+        }
+        let full = cursor.given == into.len() as u64;
+        if full {
             break;
         }
         let link = see_link(o, extent)?;

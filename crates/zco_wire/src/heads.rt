@@ -26,6 +26,7 @@ fn read_head<O: Objects>(
     ensures read { IfOk result (λ to.
         GoesOverHead ((O.heap o.old).blocks head) at to into.old into.new) }
     ensures refused { IfErr result OnlyFault }
+    ensures room { IfOk result (λ to. to.given ≤ length into.old) }
     ensures same { length into.new ≡ length into.old }
     ensures looks { Looks O.HasHeap o.old o.new result }
 {
@@ -51,6 +52,7 @@ pub fn read_heads<O: Objects>(
     ensures read { IfOk result (λ to.
         GoesOverHeads (O.heap o.old).blocks first at to into.old into.new) }
     ensures refused { IfErr result OnlyFault }
+    ensures room { IfOk result (λ to. to.given ≤ length into.old) }
     ensures same { length into.new ≡ length into.old }
     ensures looks { Looks O.HasHeap o.old o.new result }
 {
@@ -58,7 +60,11 @@ pub fn read_heads<O: Objects>(
     let mut cursor = at;
     let mut head = first;
     for i in 0..TOO_MANY_PARTS {
-        if head == 0 || cursor.given == into.len() as u64 {
+        if head == 0 {
+            break;
+        }
+        let full = cursor.given == into.len() as u64;
+        if full {
             break;
         }
         let seen = see_capsule(o, head)?;

@@ -89,8 +89,8 @@ fn read_wire<O: Objects, M: Media>(
         skip: place,
         given: 0,
     };
-    let at = read_heads(o, first.header, begin, into)?;
-    let at = read_extents(o, media, first.extent, at, into)?;
-    let at = read_heads(o, first.trailer, at, into)?;
-    Ok(at.given)
+    let headers = read_heads(o, first.header, begin, into)?;
+    let extents = read_extents(o, media, first.extent, headers, into)?;
+    let trailers = read_heads(o, first.trailer, extents, into)?;
+    Ok(trailers.given)
 }

@@ -5,9 +5,10 @@ ghost use Rattle.sdr_base.specs.Moves.{KeepsSome};
 ghost use Rattle.sdr_base.specs.Objects.{OnlyFault};
 ghost use Rattle.sdr_base.specs.Works.{Looks};
 ghost use Rattle.zco_ref.specs.Kept.{SomeSource};
+ghost use Rattle.zco_ref.specs.Seeing.{IsMediumOf};
 ghost use Rattle.zco_wire.specs.Naming.{SomeNamed};
 ghost use Rattle.zco_wire.specs.Seeing.{SeesMedium, SeesRaw};
-ghost use Rattle.zco_wire.specs.Sources.{GivesRange, IsShortOf, SeesPath, SomePath};
+ghost use Rattle.zco_wire.specs.Sources.{GivesRange, IsShortOf, SeesPath, SomePath, TellsPath};
 ghost use Rattle.zco_wire.specs.Stopping.{KeepsTold, StopsRange, past_media};
 
 use sdr_base::layout::{raw, source as words};
@@ -26,12 +27,20 @@ fn medium<O: Objects>(o: &mut O, source: Addr) -> Result<Medium, Stop>
     ensures refused { IfErr result OnlyFault }
     ensures looks { Looks O.HasHeap o.old o.new result }
 {
-    Ok(match word(o, source, words::MEDIUM)? {
+    let number = word(o, source, words::MEDIUM)?;
+    Ok(medium_of(number))
+}
+
+// The medium of a number in a source's block.
+fn medium_of(number: u64) -> Medium
+    ensures { IsMediumOf number result }
+{
+    match number {
         1 => Medium::File,
         2 => Medium::Bulk,
         3 => Medium::Heap,
         _ => Medium::Obj,
-    })
+    }
 }
 
 // Puts the path of a source at the front of a buffer, and answers how many bytes it has.
@@ -43,12 +52,23 @@ fn see_path<O: Objects>(o: &mut O, source: Addr, into: &mut [u8]) -> Result<u64,
     ensures refused { IfErr result OnlyFault }
     ensures looks { Looks O.HasHeap o.old o.new result }
 {
-    let bytes = match o.kind(source)? {
-        Some((_, all)) => all - PATH_FROM,
-        None => 0,
-    };
+    let bytes = path_length(o, source)?;
     o.get(source, PATH_FROM, &mut into[..bytes as usize])?;
     Ok(bytes)
+}
+
+// How many bytes the path of a source has.
+fn path_length<O: Objects>(o: &mut O, source: Addr) -> Result<u64, Stop>
+    requires kept { KeepsSome (O.keeps o.old) }
+    requires source { SomePath ((O.heap o.old).blocks source) }
+    ensures told { IfOk result (TellsPath ((O.heap o.old).blocks source)) }
+    ensures refused { IfErr result OnlyFault }
+    ensures looks { Looks O.HasHeap o.old o.new result }
+{
+    Ok(match o.kind(source)? {
+        Some((_, all)) => all - PATH_FROM,
+        None => 0,
+    })
 }
 
 // Refuses fewer bytes than were asked of media.
