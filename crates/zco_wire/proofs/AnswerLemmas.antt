@@ -7,7 +7,7 @@ use Rattle.sdr_base.specs.Objects.{Misses, OnlyFault}
 use Rattle.sdr_base.specs.ZcoObjects.{ObjectRow}
 use Rattle.sdr_base.specs.declared.kind.Kind.TheVariants as kinds
 use Rattle.sdr_base.specs.declared.media.Media.{Ghosts}
-use Rattle.sdr_base.specs.declared.refusal.Refusal.TheVariants.{BadAddress, BadLength, SourceShort, WrongKind}
+use Rattle.sdr_base.specs.declared.refusal.Refusal.TheVariants.{BadLength, SourceShort}
 use Rattle.sdr_base.specs.declared.stop.Stop.{Stop}
 use Rattle.sdr_base.specs.declared.stop.Stop.TheVariants as stops
 use Rattle.sdr_gather.specs.Gathering.{AreGathered}

@@ -14,11 +14,11 @@ use Rattle.sdr_model.specs.Pieces.{cut_pieces, piece_length, piece_part}
 use Rattle.sdr_model.specs.declared.piece.Piece.{Piece}
 use Rattle.sdr_model.specs.declared.piece.Piece.TheVariants as pieces
 use Rattle.sdr_model.specs.declared.zco.Part.{Part}
-use Rattle.zco_obj.specs.Walks.{KeepsCapsule, SeesCapsule}
+use Rattle.zco_obj.specs.Walks.{SeesCapsule}
 use Rattle.zco_obj.specs.declared.extent.Piece.{Piece as Range}
 use Rattle.zco_obj.specs.declared.seeing.SeenCapsule.{SeenCapsule}
-use Rattle.zco_wire.specs.Going.{Goes, GoesOverHead, GoesOverRange, ahead}
-use Rattle.zco_wire.specs.Naming.{IsNamed, SomeNamed}
+use Rattle.zco_wire.specs.Going.{GoesOverHead, GoesOverRange, ahead}
+use Rattle.zco_wire.specs.Naming.{SomeNamed}
 use Rattle.zco_wire.specs.Sources.{GivesRange}
 use Rattle.zco_wire.specs.Stopping.{StopsAtRange, StopsPieces, StopsRange}
 use Rattle.zco_wire.specs.declared.cursor.Cursor.{Cursor}

@@ -1,22 +1,19 @@
 -- Ranges of sources as pieces.
-use Rattle.std.proofs.Common.{◌≡◌, ◌≤◌, ◌<◌, ◌+◌, ◌-◌, ◌*◌, ◌^◌, ℕ, List, [], ◌∷◌, ◌++◌, length, map, take, drop, refl, sym, ap, ◌∙◌, subst, arith, length-append}
-use Rattle.std.specs.Prelude.{All, sum_by}
+use Rattle.std.proofs.Common.{◌≡◌, ◌≤◌, ◌+◌, ◌-◌, ℕ, List, [], ◌∷◌, take, drop, refl, ap, ◌∙◌, arith}
 use Rattle.std.proofs.Math.Seq.{drop-drop, take-take}
 use Rattle.std.proofs.lemmas.List.{drop-take}
-use Rattle.std.proofs.lemmas.List.Elements.{All-head, All-tail}
 use Rattle.sdr_base.specs.Blocks.{Blocks}
 use Rattle.sdr_base.specs.Parts.{part}
 use Rattle.sdr_base.specs.Sources.{SourceRow}
-use Rattle.sdr_base.specs.ZcoObjects.{CapsuleRow, ExtentRow, ObjectRow}
+use Rattle.sdr_base.specs.ZcoObjects.{ExtentRow}
 use Rattle.sdr_base.specs.declared.medium.Medium.{Medium}
 use Rattle.sdr_base.specs.declared.medium.Medium.TheVariants as media
 use Rattle.sdr_base.proofs.PartsLemmas.{length-part}
 use Rattle.sdr_model.specs.Pieces.{piece_length, piece_part}
 use Rattle.sdr_model.specs.declared.piece.Piece.{Piece}
 use Rattle.sdr_model.specs.declared.piece.Piece.TheVariants as pieces
-use Rattle.zco_obj.specs.Kept.{CapsuleFits}
 use Rattle.zco_obj.specs.declared.extent.Piece.{Piece as Range}
-use Rattle.zco_wire.specs.Naming.{AreNamed, HasUntil, IsNamed, head_pieces, medium_piece, range_of, source_piece}
+use Rattle.zco_wire.specs.Naming.{AreNamed, HasUntil, IsNamed, medium_piece, range_of}
 
 -- bytes within a part of bytes
 pub part_in_part : (skip count offset all : ℕ) (bytes : List ℕ) → skip + count ≤ all →

@@ -1,9 +1,8 @@
 -- The part of an object, and how far its pieces reach.
-use Rattle.std.proofs.Common.{◌≡◌, ◌≢◌, ◌≤◌, ◌<◌, ◌+◌, ◌-◌, ◌*◌, ◌^◌, ℕ, List, [], ◌∷◌, ◌++◌, Option, length, map, take, drop, min, refl, sym, ap, ◌∙◌, subst, arith, length-append}
-use Rattle.std.specs.Prelude.{All, flat_map}
-use Rattle.std.proofs.lemmas.List.{length-drop, length-map, length-take}
+use Rattle.std.proofs.Common.{◌≡◌, ◌≢◌, ◌≤◌, ◌<◌, ◌+◌, ◌-◌, ◌*◌, ◌^◌, ℕ, List, [], ◌∷◌, ◌++◌, Option, length, drop, ap, ◌∙◌, arith, length-append}
+use Rattle.std.specs.Prelude.{All}
+use Rattle.std.proofs.lemmas.List.{length-drop, length-take}
 use Rattle.std.proofs.lemmas.List.Elements.{All-head, All-tail}
-use Rattle.std.proofs.lemmas.List.Sums.{sum_by-cons}
 use Rattle.sdr_base.specs.Blocks.{Blocks}
 use Rattle.sdr_base.specs.Media.{Told}
 use Rattle.sdr_base.specs.Words.{HasWord}
@@ -12,11 +11,10 @@ use Rattle.sdr_gather.specs.Gathering.{AreGathered}
 use Rattle.sdr_gather.proofs.GatheringLemmas.{length-told}
 use Rattle.sdr_model.proofs.PiecesLemmas.{length-piece_told, pieces_told-cut}
 use Rattle.sdr_model.specs.Pieces.{cut_pieces, piece_told, pieces_told}
-use Rattle.sdr_model.specs.Wire.{some_of}
 use Rattle.sdr_model.specs.declared.piece.Piece.{Piece}
 use Rattle.sdr_model.specs.declared.piece.Piece.TheVariants as pieces
 use Rattle.sdr_model.specs.declared.zco.Part.{Part}
-use Rattle.zco_obj.specs.Kept.{CapsuleFits, ExtentFits, KeepsObject, SomeObject}
+use Rattle.zco_obj.specs.Kept.{CapsuleFits, SomeObject}
 use Rattle.zco_obj.proofs.KeptLemmas.{extents_most, object_word}
 use Rattle.zco_wire.specs.Naming.{AreNamed, KeepsWire, head_pieces, wire_of}
 use Rattle.zco_wire.specs.Seeing.{SeesPart}

@@ -1,6 +1,5 @@
 -- Why a read of pieces stops.
-use Rattle.std.proofs.Common.{◌≡◌, ◌≤◌, ◌<◌, ◌||◌, ℕ, Bool, true, List, [], ◌∷◌, ◌++◌, Option, None, Some, Result, Ok, Err, refl, sym, ap, ◌∙◌, subst, arith, IfSome, inr}
-use Rattle.std.specs.List.{list_any}
+use Rattle.std.proofs.Common.{◌≡◌, ℕ, List, [], ◌∷◌, Option, None, Some, Result, Ok, Err, refl, ◌∙◌, subst, arith, IfSome, inr}
 use Rattle.sdr_base.specs.Causes.{Rose}
 use Rattle.sdr_base.specs.Media.{Told}
 use Rattle.sdr_base.specs.Objects.{OnlyFault}
@@ -12,11 +11,10 @@ use Rattle.sdr_base.specs.declared.stop.Stop.{Stop}
 use Rattle.sdr_base.specs.declared.stop.Stop.TheVariants as stops
 use Rattle.sdr_base.proofs.WorksLemmas.{looks_ok}
 use Rattle.sdr_base.proofs.WrittenLemmas.{rose_later}
-use Rattle.sdr_gather.specs.Gathering.{Gathering, IsGapIn, OfMedia}
+use Rattle.sdr_gather.specs.Gathering.{Gathering}
 use Rattle.sdr_gather.specs.declared.gathering.Gap.TheVariants as gaps
 use Rattle.sdr_gather.proofs.GatheringLemmas.{gathering-gap, gathering-start}
 use Rattle.sdr_lock.specs.Agreeing.{IsFirstShort}
-use Rattle.sdr_lock.specs.Ground.{lies_with_media}
 use Rattle.sdr_model.specs.declared.piece.Piece.{Piece}
 use Rattle.zco_wire.specs.Stopping.{KeepsTold, StopsPiece, StopsPieces, past_media, past_stop}
 

@@ -1,5 +1,5 @@
 -- Chains of headers, of trailers and of extents that are gone over.
-use Rattle.std.proofs.Common.{◌≡◌, ◌≢◌, ◌≤◌, ◌<◌, ◌+◌, ◌^◌, ℕ, List, [], ◌∷◌, ◌++◌, Option, Some, length, map, refl, sym, ap, ◌∙◌, subst, arith, append_assoc, append-nil, length-append}
+use Rattle.std.proofs.Common.{◌≡◌, ◌≢◌, ◌≤◌, ◌+◌, ℕ, List, [], ◌∷◌, ◌++◌, Option, Some, length, refl, sym, ap, ◌∙◌, subst, arith, append_assoc, append-nil, length-append}
 use Rattle.std.specs.Prelude.{All, None}
 use Rattle.std.proofs.lemmas.List.{map-append}
 use Rattle.std.proofs.lemmas.List.Elements.{All-head, All-tail}
@@ -19,8 +19,8 @@ use Rattle.zco_obj.specs.declared.seeing.SeenCapsule.{SeenCapsule}
 use Rattle.zco_obj.proofs.KeptLemmas.{first_capsule, first_extent}
 use Rattle.zco_obj.proofs.WalkLemmas.{fits_left, has_first, none_at_zero, one_found}
 use Rattle.zco_obj.specs.declared.extent.Piece.{Piece as Range}
-use Rattle.zco_wire.specs.Going.{Goes, GoesOverHead, GoesOverHeads, GoesOverNamed, GoesOverRange, WalkedHeads, WalkedNamed, WalksHeads, WalksNamed, ahead}
-use Rattle.zco_wire.specs.Naming.{AreNamed, IsNamed, NamesAt, SomeNamed, head_pieces, range_of}
+use Rattle.zco_wire.specs.Going.{Goes, GoesOverHead, GoesOverHeads, GoesOverNamed, GoesOverRange, WalksHeads, WalksNamed, ahead}
+use Rattle.zco_wire.specs.Naming.{AreNamed, IsNamed, NamesAt, SomeNamed, head_pieces}
 use Rattle.zco_wire.specs.Seeing.{SeesLink}
 use Rattle.zco_wire.specs.Stopping.{KeepsTold, StopsAtNamed, StopsAtRange, StopsPieces}
 use Rattle.zco_wire.specs.declared.cursor.Cursor.{Cursor}

@@ -1,5 +1,5 @@
 -- An object whose bytes are read.
-use Rattle.std.proofs.Common.{◌≡◌, ◌≢◌, ◌≤◌, ◌<◌, ◌+◌, ◌-◌, ◌^◌, ◌∙◌, ℕ, List, [], ◌∷◌, ◌++◌, Option, length, take, refl, sym, ap, subst, arith, append-nil, length-append}
+use Rattle.std.proofs.Common.{◌≡◌, ◌≢◌, ◌≤◌, ◌<◌, ◌+◌, ◌-◌, ◌^◌, ◌∙◌, ℕ, List, [], ◌++◌, Option, length, take, sym, ap, subst, arith, append-nil, length-append}
 use Rattle.std.proofs.lemmas.List.{length-take, take-append-le}
 use Rattle.sdr_base.specs.Blocks.{Blocks}
 use Rattle.sdr_base.specs.Media.{Told}
@@ -10,7 +10,7 @@ use Rattle.sdr_base.specs.Linked.{first_of}
 use Rattle.sdr_base.specs.declared.media.Media.{Ghosts}
 use Rattle.sdr_base.specs.declared.stop.Stop.{Stop}
 use Rattle.sdr_gather.specs.Gathering.{AreGathered, Gathering}
-use Rattle.sdr_model.specs.Pieces.{cut_pieces, pieces_told}
+use Rattle.sdr_model.specs.Pieces.{cut_pieces}
 use Rattle.sdr_model.specs.declared.piece.Piece.{Piece}
 use Rattle.zco_obj.specs.Kept.{KeepsObject, SomeObject}
 use Rattle.zco_obj.specs.Reading.{TellsFirsts}
@@ -19,10 +19,10 @@ use Rattle.zco_obj.specs.declared.linking.Side.TheVariants as sides
 use Rattle.zco_obj.specs.declared.object.Firsts.{Firsts}
 use Rattle.zco_obj.proofs.KeptLemmas.{object_word}
 use Rattle.zco_obj.proofs.PartsLemmas.{extents_at, side_at}
-use Rattle.zco_wire.specs.Going.{Goes, GoesOverHeads, GoesOverNamed, ahead}
+use Rattle.zco_wire.specs.Going.{GoesOverHeads, GoesOverNamed, ahead}
 use Rattle.zco_wire.specs.Naming.{KeepsWire, NamesAt, SomeNames, SomeWire, head_pieces, wire_of}
 use Rattle.zco_wire.specs.Reading.{FillsWith, asked_wire}
-use Rattle.zco_wire.specs.Stopping.{KeepsTold, StopsAtNamed, StopsObject, StopsPieces}
+use Rattle.zco_wire.specs.Stopping.{StopsAtNamed, StopsObject, StopsPieces}
 use Rattle.zco_wire.specs.declared.cursor.Cursor.{Cursor}
 use Rattle.zco_wire.proofs.GoingLemmas.{goes_all, goes_trans}
 use Rattle.zco_wire.proofs.PartLemmas.{extents_few, gathered_ends, wire_most}

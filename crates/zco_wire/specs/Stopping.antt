@@ -1,9 +1,8 @@
 -- Why a read of an object's bytes stops.
-use Rattle.std.specs.Prelude.{◌≡◌, ◌≤◌, ◌<◌, ℕ, List, [], ◌∷◌, ◌++◌, length, Option, Result, Ok, Err, ⊤}
+use Rattle.std.specs.Prelude.{◌≡◌, ◌≤◌, ◌<◌, ℕ, List, ◌∷◌, ◌++◌, Result, Ok, Err, ⊤}
 use Rattle.std.specs.List.{list_any}
 use Rattle.sdr_base.specs.Blocks.{Blocks, IsKind}
 use Rattle.sdr_base.specs.Causes.{Rose}
-use Rattle.sdr_base.specs.Media.{Told}
 use Rattle.sdr_base.specs.Objects.{Misses, OnlyFault}
 use Rattle.sdr_base.specs.ZcoObjects.{ExtentRow, ObjectRow}
 use Rattle.sdr_base.specs.declared.kind.Kind.TheVariants as kinds

@@ -1,8 +1,7 @@
 -- The window of the range is read, unless it has no byte.
-use Rattle.std.proofs.Common.{◌≡◌, ◌∙◌, length, refl, sym, subst, arith, append-nil}
+use Rattle.std.proofs.Common.{◌∙◌, length, arith}
 use Rattle.std.proofs.lemmas.Slice.{take-put_mid}
 use Rattle.std.proofs.lemmas.Result.{err_from_is_err_and}
-use Rattle.sdr_base.proofs.WorksLemmas.{looks_looks}
 use Rattle.zco_wire.proofs.HeadLemmas.{nothing_over, range_failed, range_over, range_stops, slice_long, some_within}
 use Rattle.zco_wire.proofs.StoppingLemmas.{looks_past}
 use Rattle.zco_wire.proofs.extents.read_asked.Goals as goal

@@ -1,5 +1,5 @@
 -- The chain is walked, and what each extent names gone over.
-use Rattle.std.proofs.Common.{◌≡◌, ◌∙◌, refl, sym, arith}
+use Rattle.std.proofs.Common.{◌∙◌, refl, arith}
 use Rattle.std.proofs.lemmas.Result.{err_from_is_err_and}
 use Rattle.sdr_base.proofs.WorksLemmas.{looks_looks, looks_ok, looks_on}
 use Rattle.zco_wire.proofs.StoppingLemmas.{looks_past, told_same, told_then}

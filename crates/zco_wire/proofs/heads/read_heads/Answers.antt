@@ -1,5 +1,5 @@
 -- The chain is walked, and each header or trailer gone over.
-use Rattle.std.proofs.Common.{◌≡◌, ◌∙◌, refl, arith}
+use Rattle.std.proofs.Common.{◌∙◌, refl, arith}
 use Rattle.sdr_base.proofs.WorksLemmas.{looks_looks, looks_ok, looks_on}
 use Rattle.zco_wire.proofs.WalkLemmas.{heads_at_full, heads_at_most, heads_at_zero, heads_on, heads_start, some_head}
 use Rattle.zco_wire.proofs.heads.read_heads.Goals as goal

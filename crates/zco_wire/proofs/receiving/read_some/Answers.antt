@@ -46,8 +46,8 @@ returns-in_err-at-clause-stops g c =
     let s = rw c.word.ensures.looks.same at c.in_err-at.ensures.stops in
     rw (p.1, p.2)
     (some_stops (first_is c.in_ok-first.ensures.given) g.M.Media c.args.place (min (length c.args.into.now) c.args.most) c.args.media.now
-    c.read_extents.new.media _
-    (subst (λ n. StopsAtNamed g.M.Media blocks first (begin_at c.args.place) n c.args.media.now c.read_extents.new.media _) room s))
+    c.read_extents.new.media c.in_err-at.field-0.0
+    (subst (λ n. StopsAtNamed g.M.Media blocks first (begin_at c.args.place) n c.args.media.now c.read_extents.new.media c.in_err-at.field-0.0) room s))
 
 pub returns-clause-fills : goal.returns-clause-fills
 returns-clause-fills g c =

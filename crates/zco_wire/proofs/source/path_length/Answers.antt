@@ -1,5 +1,5 @@
 -- The path is what is behind the words of the block.
-use Rattle.std.proofs.Common.{◌≡◌, ◌∙◌, sym, arith}
+use Rattle.std.proofs.Common.{◌∙◌, sym, arith}
 use Rattle.zco_wire.proofs.SeeingLemmas.{source_kind_length}
 use Rattle.zco_wire.proofs.source.path_length.Goals as goal
 

@@ -1,5 +1,5 @@
 -- The path is read, and media are asked.
-use Rattle.std.proofs.Common.{◌∙◌, refl, arith}
+use Rattle.std.proofs.Common.{◌∙◌, refl}
 use Rattle.std.proofs.lemmas.Result.{on_ok_weaker}
 use Rattle.zco_wire.proofs.SourceLemmas.{file_gives}
 use Rattle.zco_wire.proofs.source.read_file.Goals as goal

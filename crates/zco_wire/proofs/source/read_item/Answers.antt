@@ -1,5 +1,5 @@
 -- Media are asked for the item of the source.
-use Rattle.std.proofs.Common.{◌∙◌, refl, arith}
+use Rattle.std.proofs.Common.{◌∙◌, arith}
 use Rattle.std.proofs.lemmas.Result.{IfErr-weaker, on_ok_weaker}
 use Rattle.zco_ref.proofs.KeptLemmas.{source_reaches}
 use Rattle.zco_wire.specs.Stopping.{StopsRange}

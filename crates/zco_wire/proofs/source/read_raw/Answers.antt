@@ -1,5 +1,5 @@
 -- The range lies in the raw object's block.
-use Rattle.std.proofs.Common.{◌≡◌, ◌+◌, Option, length, subst, sym, arith}
+use Rattle.std.proofs.Common.{◌+◌, Option, length, subst, sym, arith}
 use Rattle.std.proofs.lemmas.Result.{on_ok_weaker}
 use Rattle.sdr_base.specs.Blocks.{HasBytes, Reaches}
 use Rattle.sdr_base.specs.Media.{Told}

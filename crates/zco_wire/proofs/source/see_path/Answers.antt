@@ -1,7 +1,6 @@
 -- The path stands behind the words of the block.
-use Rattle.std.proofs.Common.{◌≡◌, ◌∙◌, length, take, drop, sym, ap, subst, arith, length-append}
+use Rattle.std.proofs.Common.{◌≡◌, ◌∙◌, length, take, drop, sym, arith, length-append}
 use Rattle.std.proofs.lemmas.List.{length-take, take_at}
-use Rattle.sdr_base.specs.Blocks.{HasBytes}
 use Rattle.zco_wire.proofs.SeeingLemmas.{path_bytes, path_reaches}
 use Rattle.zco_wire.proofs.source.see_path.Goals as goal
 
