@@ -65,7 +65,7 @@ placed_there prev (a ∷ as') (p ∷ ps) e =
     (All-weaker P Q (λ x le. omega (arith, le)) as' (placed_there a as' ps (omega (arith, e))))
 
 -- so they do among the blocks of an object of theirs
-whole_there : (clone : ℕ) (acct : Acct) (es : List ExtentRow) (a : ℕ) →
+pub whole_there : (clone : ℕ) (acct : Acct) (es : List ExtentRow) (a : ℕ) →
     times a (extent_entries es) ≤ times a (object_entries clone (whole_row acct es))
 unfolding times
 whole_there clone acct es a =
@@ -323,6 +323,7 @@ module _ (number : ℕ) {object offset bytes : ℕ} {acct : Acct} (seen : Asked)
 
           has_copied : (rest : Entries) → Stands mid.blocks (object_entries object row ++ (sources_entries sources ++ rest)) →
               HasCopied clone row.account n.addrs ps row.extents sources (head object row ++ (tail object row ++ rest)) new
+          unfolding copy_at
           has_copied rest s =
               subst (λ qs. HasCopied clone row.account n.addrs qs row.extents sources (head object row ++ (tail object row ++ rest)) new) (these k)
               (n.copies row.account row.extents sources (copy_at k rest s))

@@ -1,5 +1,5 @@
 -- An object of extents alone whose part is its whole gets an extent more.
-use Rattle.std.proofs.Common.{◌≡◌, ◌≢◌, ◌+◌, ◌≤◌, ◌<◌, ◌^◌, ℕ, zero, suc, [], ◌∷◌, Option, Some, refl, sym, ap, ◌∙◌, arith, subst}
+use Rattle.std.proofs.Common.{◌≡◌, ◌≢◌, ◌+◌, ◌≤◌, ◌<◌, ◌^◌, ℕ, zero, suc, List, [], ◌∷◌, Option, Some, refl, sym, ap, ◌∙◌, arith, subst}
 use Rattle.byteorder.specs.Endian.{big_bytes}
 use Rattle.sdr_base.specs.Linked.{first_of, last_of}
 use Rattle.sdr_base.specs.Objects.{Heap, with_bytes}
@@ -42,7 +42,7 @@ block_ended o row added part whole is =
     (ap (λ bytes. Some (record { kind = kinds.Object; bytes = bytes }))
     (ends_written (account_number row.account) (first_of extent_addr 0 es) (last_of extent_addr 0 es) added (extents_length es) part))
 
-pub ended_at_once : {object : ℕ} (added part : ℕ) (old : Heap) → SomeWhole old.blocks object →
+ended_at_once : {object : ℕ} (added part : ℕ) (old : Heap) → SomeWhole old.blocks object →
     with_bytes old object 16 (layout (added ∷ 0 ∷ 0 ∷ 0 ∷ 0 ∷ 0 ∷ part ∷ []) []) ≡ with_end old object added part
 ended_at_once {object} added part old q =
     let b = old.blocks in
@@ -55,6 +55,20 @@ ended_at_once {object} added part old q =
     ∙ ap (λ (o : Option Block). with_block (with_block b object first) object (overwritten o 16 (big_bytes 8 added)))
     (sym (with_block-here b object first)) in
     ap (λ (bs : Blocks). record old { blocks = bs }) blocks
+
+pub ended_by : {object : ℕ} (added part : ℕ) (old new : Heap) (bytes : List ℕ) → SomeWhole old.blocks object →
+    bytes ≡ layout (added ∷ 0 ∷ 0 ∷ 0 ∷ 0 ∷ 0 ∷ part ∷ []) [] → new ≡ with_bytes old object 16 bytes → new ≡ with_end old object added part
+ended_by {object} added part old new bytes q is w =
+    w ∙ ap (λ (l : List ℕ). with_bytes old object 16 l) is ∙ ended_at_once added part old q
+
+-- the one link is set, or the other
+pub follows_first : {object last added : ℕ} {old new : Heap} → last ≡ 0 → new ≡ with_word old object 1 added →
+    Follows object last added old new
+follows_first none w = record { first = λ zero. w; next = λ some. absurd (some none) }
+
+pub follows_next : {object last added : ℕ} {old new : Heap} → last ≢ 0 → new ≡ with_word old last 3 added →
+    Follows object last added old new
+follows_next some w = record { first = λ none. absurd (some none); next = λ nonzero. w }
 
 -- its part is longer by what is to come
 whole_grows : {object : ℕ} (part bytes : ℕ) (old new : Heap) → SomeWhole old.blocks object → HasWord (old.blocks object) 8 part →
