@@ -1,12 +1,12 @@
 -- What of an object is asked for, and what it charges.
-use Rattle.std.proofs.Common.{◌≡◌, ◌+◌, ◌≤◌, ◌<◌, ◌^◌, ◌⊎◌, ℕ, List, [], ◌∷◌, ◌++◌, length, inl, inr, refl, sym, ap, ◌∙◌, arith, subst, append_assoc}
+use Rattle.std.proofs.Common.{◌≡◌, ◌+◌, ◌≤◌, ◌<◌, ◌^◌, ℕ, List, ◌∷◌, ◌++◌, sym, ap, ◌∙◌, arith, subst, append_assoc}
 use Rattle.std.specs.Prelude.{sum_by}
 use Rattle.sdr_base.specs.Blocks.{Blocks, IsKind}
 use Rattle.sdr_base.specs.Entries.{Entries, Stands}
 use Rattle.sdr_base.specs.Linked.{first_of}
 use Rattle.sdr_base.specs.Objects.{Heap, Misses, OnlyFault}
 use Rattle.sdr_base.specs.Words.{HasWord}
-use Rattle.sdr_base.specs.ZcoObjects.{ExtentRow, ObjectRow, capsule_entries, extent_addr, extent_entries, object_block, object_entries}
+use Rattle.sdr_base.specs.ZcoObjects.{ObjectRow, capsule_entries, extent_addr, extent_entries, object_block, object_entries}
 use Rattle.sdr_base.specs.declared.account.Acct.{Acct}
 use Rattle.sdr_base.specs.declared.account.Amounts.{Amounts}
 use Rattle.sdr_base.specs.declared.kind.Kind.TheVariants as kinds
@@ -16,7 +16,7 @@ use Rattle.sdr_base.specs.declared.refusal.Refusal.TheVariants as refusals
 use Rattle.sdr_base.specs.declared.stop.Stop.{Stop}
 use Rattle.sdr_base.specs.declared.stop.Stop.TheVariants.{Refused, DiskFault, MediaFault, Failed}
 use Rattle.sdr_base.proofs.StandingLemmas.{moved}
-use Rattle.sdr_model.specs.Amounts.{amount, amounts_by, in_space, plus}
+use Rattle.sdr_model.specs.Amounts.{amount, in_space, plus}
 use Rattle.sdr_model.specs.declared.accounts.Ticket.{Ticket}
 use Rattle.zco_acct.specs.Charges.{ChargesAccount, ChargeStops}
 use Rattle.zco_acct.specs.Kept.{queue_entries}
@@ -29,7 +29,7 @@ use Rattle.zco_obj.proofs.KeptLemmas.{extents_most, object_word}
 use Rattle.zco_obj.proofs.PairLemmas.{swapped}
 use Rattle.zco_obj.proofs.SpotLemmas.{amount_by, same_amounts}
 use Rattle.zco_part.specs.Charging.{ChargesChain, clone_amounts, piece_charge, pieces_amounts}
-use Rattle.zco_part.specs.Cloning.{ChargesClone, ClonesPart, CloneStops, HasRange, IsBad, KeepsToClone, LacksRange, SeesAsked, SomeToClone, StopsClone}
+use Rattle.zco_part.specs.Cloning.{ChargesClone, CloneStops, HasRange, IsBad, KeepsToClone, SeesAsked, SomeToClone, StopsClone}
 use Rattle.zco_part.specs.Copying.{parts}
 use Rattle.zco_part.specs.Delimiting.{OfObject}
 use Rattle.zco_part.specs.Pieces.{asked, pieces}

@@ -1,5 +1,5 @@
 -- What extents of the pieces of a chain charge.
-use Rattle.std.proofs.Common.{◌≡◌, ◌≢◌, ◌+◌, ◌-◌, ◌*◌, ◌<◌, ◌≤◌, ◌^◌, ℕ, List, [], ◌∷◌, ◌++◌, length, true, false, Some, refl, sym, ap, ◌∙◌, arith, subst}
+use Rattle.std.proofs.Common.{◌≡◌, ◌≢◌, ◌+◌, ◌-◌, ℕ, List, [], ◌∷◌, ◌++◌, true, false, Some, refl, sym, ap, ◌∙◌, arith, subst}
 use Rattle.std.specs.Prelude.{◌==◌, All, sum_by, if◌then◌else◌}
 use Rattle.std.proofs.lemmas.List.Concat.{flat_map-append}
 use Rattle.std.proofs.lemmas.List.Elements.{All-head}
@@ -24,7 +24,7 @@ use Rattle.zco_obj.proofs.SpotLemmas.{SpotOf, amount_by, find_spot, same_amounts
 use Rattle.zco_obj.proofs.WalkLemmas.{HasFirst, fits_from, none_at_zero}
 use Rattle.zco_ref.specs.Kept.{CountedSource, KeepsSource, SomeSource, counted_block, tied_entries}
 use Rattle.zco_part.specs.Charging.{ChargesChain, ChargesPiece, piece_charge, pieces_amounts}
-use Rattle.zco_part.specs.Pieces.{cut, filled, piece_of, pieces}
+use Rattle.zco_part.specs.Pieces.{cut, filled, piece_of}
 use Rattle.zco_part.specs.Sources.{ExtentsBeside, MayCount, AreCountable, SomeExtentsBeside}
 use Rattle.zco_part.specs.Walking.{SeesLink, Walked}
 use Rattle.zco_part.specs.declared.span.Link.{Link}

@@ -1,17 +1,14 @@
 -- A part of an object is cloned after its charge, or it isn't.
-use Rattle.std.proofs.Common.{◌≡◌, ◌≢◌, ◌+◌, ◌-◌, ◌*◌, ◌≤◌, ◌<◌, ◌^◌, ℕ, List, [], ◌∷◌, ◌++◌, length, None, Some, refl, sym, ap, ◌∙◌, arith, subst, append_assoc, append-nil}
-use Rattle.std.specs.Prelude.{All, Option}
+use Rattle.std.proofs.Common.{◌≡◌, ◌-◌, ◌≤◌, ℕ, List, [], ◌∷◌, ◌++◌, length, refl, sym, ap, ◌∙◌, arith, subst, append_assoc, append-nil}
+use Rattle.std.specs.Prelude.{All}
 use Rattle.std.proofs.lemmas.List.Elements.{All-cons, All-head, All-nil, All-tail, All-weaker}
-use Rattle.sdr_base.specs.Blocks.{Blocks, IsKind}
 use Rattle.sdr_base.specs.Entries.{Changes, Entries, Stands, times}
 use Rattle.sdr_base.specs.Linked.{first_of, linked}
 use Rattle.sdr_base.specs.Making.{MakesThing}
-use Rattle.sdr_base.specs.Objects.{AreFirstOf, Heap, OnlyFault, OnlyShort, TookNoMore}
-use Rattle.sdr_base.specs.Sources.{SourceRow}
+use Rattle.sdr_base.specs.Objects.{AreFirstOf, Heap, OnlyShort}
 use Rattle.sdr_base.specs.ZcoObjects.{ExtentRow, ObjectRow, capsule_entries, extent_addr, extent_block, extent_entries, object_entries}
 use Rattle.sdr_base.specs.declared.account.Acct.{Acct}
 use Rattle.sdr_base.specs.declared.account.Acct.TheVariants as accts
-use Rattle.sdr_base.specs.declared.kind.Kind.TheVariants as kinds
 use Rattle.sdr_base.specs.declared.moves.Move.{Move}
 use Rattle.sdr_base.specs.declared.moves.Move.TheVariants.{Short, Took}
 use Rattle.sdr_base.specs.declared.refusal.Refusal.{Refusal}
@@ -22,7 +19,7 @@ use Rattle.sdr_base.proofs.GaveLemmas.{made_then}
 use Rattle.sdr_base.proofs.StandingLemmas.{at-nowhere, times-append}
 use Rattle.sdr_model.specs.declared.accounts.Ticket.{Ticket}
 use Rattle.zco_acct.specs.Charges.{ChargesAccount, ChargeStops, charged}
-use Rattle.zco_acct.specs.Kept.{KeepsQueue, SomeQueue, queue_entries}
+use Rattle.zco_acct.specs.Kept.{KeepsQueue, queue_entries}
 use Rattle.zco_acct.specs.Refusals.{Refuses}
 use Rattle.zco_obj.specs.Charging.{IsFree, refusal_in}
 use Rattle.zco_obj.specs.Extents.{extent_of}
@@ -34,10 +31,10 @@ use Rattle.zco_obj.proofs.CauseLemmas.{IsCause, is_cause}
 use Rattle.zco_obj.proofs.ChargeLemmas.{charged_moves, charged_spare, free_before, pays, queue_of, stands_still}
 use Rattle.zco_obj.proofs.PairLemmas.{swapped}
 use Rattle.zco_obj.proofs.SpotLemmas.{times_head}
-use Rattle.zco_ref.specs.Kept.{CountedSource, counted_block, raw_part, tied_entries}
+use Rattle.zco_ref.specs.Kept.{CountedSource, tied_entries}
 use Rattle.zco_part.specs.Charging.{clone_amounts}
-use Rattle.zco_part.specs.Cloning.{ChargesClone, CloneAllowed, CloneRefused, ClonesPart, CloneStops, HasRange, IsCloned, KeepsToClone, LacksNext, OfCloned, SeesAsked, SomeToClone, StopsClone, TookFirst, next_need, takes_clone, takes_first}
-use Rattle.zco_part.specs.Copying.{CopiesChain, CopyAt, CopyStops, HasCopied, IsSmall, LacksExtent, SomeCopy, TookSomeExtents, parts, takes_extents}
+use Rattle.zco_part.specs.Cloning.{ChargesClone, CloneAllowed, ClonesPart, CloneStops, HasRange, IsCloned, KeepsToClone, OfCloned, SeesAsked, SomeToClone, StopsClone, TookFirst}
+use Rattle.zco_part.specs.Copying.{CopiesChain, CopyAt, CopyStops, HasCopied, IsSmall, SomeCopy, parts, takes_extents}
 use Rattle.zco_part.specs.Delimiting.{OfObject}
 use Rattle.zco_part.specs.Pieces.{asked, placed, whole_row}
 use Rattle.zco_part.specs.Sources.{all_counted, counted, more_uses, pieces_of}

@@ -1,15 +1,15 @@
 -- Pieces of a chain of extents are named by a new object, one by one.
-use Rattle.std.proofs.Common.{◌≡◌, ◌≢◌, ◌+◌, ◌-◌, ◌*◌, ◌≤◌, ◌<◌, ◌^◌, ◌⊎◌, ℕ, Bool, List, [], ◌∷◌, ◌++◌, length, map, min, true, false, inl, inr, refl, sym, ap, ◌∙◌, arith, subst, append_assoc, append-nil, length-append, eq-eqb}
-use Rattle.std.specs.Prelude.{◌==◌, All, MatchBool, sum_by, if◌then◌else◌}
-use Rattle.std.proofs.lemmas.Bool.{ne_eqb, eqb-true}
+use Rattle.std.proofs.Common.{◌≡◌, ◌≢◌, ◌+◌, ◌-◌, ◌*◌, ◌≤◌, ◌<◌, ◌^◌, ℕ, Bool, List, [], ◌∷◌, ◌++◌, length, min, true, false, refl, sym, ap, ◌∙◌, arith, subst, append_assoc, append-nil, length-append, eq-eqb}
+use Rattle.std.specs.Prelude.{◌==◌, All, MatchBool, if◌then◌else◌}
+use Rattle.std.proofs.lemmas.Bool.{ne_eqb}
 use Rattle.std.proofs.lemmas.List.{length-map, map-append}
-use Rattle.std.proofs.lemmas.List.Elements.{All-head, All-nil, All-push}
+use Rattle.std.proofs.lemmas.List.Elements.{All-nil, All-push}
 use Rattle.std.proofs.lemmas.List.Sums.{sum_by_push}
 use Rattle.sdr_base.specs.Blocks.{Blocks}
 use Rattle.sdr_base.specs.Entries.{Entries, Stands}
 use Rattle.sdr_base.specs.Linked.{first_of}
 use Rattle.sdr_base.specs.Making.{Made}
-use Rattle.sdr_base.specs.Objects.{AreFirstOf, Heap, OnlyFault, OnlyShort, TookNoMore}
+use Rattle.sdr_base.specs.Objects.{AreFirstOf, Heap}
 use Rattle.sdr_base.specs.ZcoObjects.{ExtentRow, ObjectRow, extent_addr, extent_block, extent_entries, object_entries}
 use Rattle.sdr_base.specs.declared.account.Acct.{Acct}
 use Rattle.sdr_base.specs.declared.moves.Move.{Move}
@@ -27,20 +27,20 @@ use Rattle.zco_obj.specs.Kept.{CapsuleFits, ExtentFits, ObjectFits, extents_leng
 use Rattle.zco_obj.specs.Walks.{ExtentsAt, KeepsExtent, SomeExtent}
 use Rattle.zco_obj.specs.declared.extent.Piece.{Piece}
 use Rattle.zco_obj.proofs.SpotLemmas.{SpotOf}
-use Rattle.zco_obj.proofs.WalkLemmas.{HasFirst, fits_left, none_at_zero}
+use Rattle.zco_obj.proofs.WalkLemmas.{HasFirst, none_at_zero}
 use Rattle.zco_ref.specs.Counting.{attached}
 use Rattle.zco_ref.specs.Kept.{counted_entries}
-use Rattle.zco_part.specs.Copying.{CopiesChain, CopyAt, CopyStops, HasCopied, IsSmall, LacksExtent, SomeCopy, TookSomeExtents, parts, takes_extents}
+use Rattle.zco_part.specs.Copying.{CopiesChain, CopyAt, CopyStops, HasCopied, IsSmall, SomeCopy, TookSomeExtents, parts, takes_extents}
 use Rattle.zco_part.specs.Naming.{NamesPiece, PieceStops, SomeWholePair}
-use Rattle.zco_part.specs.Pieces.{cut, filled, piece_of, pieces, placed, whole_row}
-use Rattle.zco_part.specs.Sources.{all_counted, counted, more_uses, pieces_of}
+use Rattle.zco_part.specs.Pieces.{cut, filled, placed, whole_row}
+use Rattle.zco_part.specs.Sources.{all_counted, pieces_of}
 use Rattle.zco_part.specs.Walking.{SeesLink, Walked}
 use Rattle.zco_part.specs.declared.span.Link.{Link}
 use Rattle.zco_part.specs.declared.span.Span.{Span}
 use Rattle.zco_part.proofs.ChargeLemmas.{spot_counts, spot_of}
 use Rattle.zco_part.proofs.LinkLemmas.{keeps_at}
 use Rattle.zco_part.proofs.SourceLemmas.{focus, more_below, more_fits, none_counted, of_most, others_now, source_now, unfocus}
-use Rattle.zco_part.proofs.WalkLemmas.{done_most, here, passed_most, walk_at, walk_begun, walk_below, walk_count, walk_first, walk_many, walk_on, walk_over, walk_whole}
+use Rattle.zco_part.proofs.WalkLemmas.{done_most, here, walk_at, walk_begun, walk_below, walk_count, walk_first, walk_many, walk_on, walk_over, walk_whole}
 
 -- a piece has a byte, or it is left out
 pub has_byte : (p : Piece) → p.bytes ≢ 0 → filled p ≡ p ∷ []

@@ -1,5 +1,5 @@
 -- What an extent's block says, and how many bytes a chain has.
-use Rattle.std.proofs.Common.{◌≡◌, ◌+◌, ◌≤◌, ◌<◌, ◌^◌, ℕ, List, [], ◌∷◌, ◌++◌, length, get_or, Option, Some, refl, sym, ap, ◌∙◌, arith, subst, append_assoc}
+use Rattle.std.proofs.Common.{◌≡◌, ◌+◌, ◌≤◌, ◌<◌, ◌^◌, ℕ, List, [], ◌∷◌, ◌++◌, length, get_or, Option, Some, refl, sym, ◌∙◌, arith, subst, append_assoc}
 use Rattle.std.proofs.lemmas.List.Elements.{All-head, All-tail}
 use Rattle.std.proofs.lemmas.List.Sums.{sum_by-cons}
 use Rattle.sdr_base.specs.Blocks.{Block, Blocks}
@@ -16,9 +16,7 @@ use Rattle.zco_obj.specs.declared.seeing.SeenExtent.{SeenExtent}
 use Rattle.zco_obj.proofs.KeptLemmas.{first_extent}
 use Rattle.zco_obj.proofs.SumLemmas.{extents_all, extents_on, extents_start}
 use Rattle.zco_obj.proofs.WalkLemmas.{fits_left, none_at_zero, one_found, sees_extent}
-use Rattle.zco_part.specs.Pieces.{piece_of}
 use Rattle.zco_part.specs.Walking.{SeesLink}
-use Rattle.zco_part.specs.declared.span.Link.{Link}
 
 -- a word of a block is there
 pub word_there : (o : Option Block) (kind : Kind) (ws rest : List ℕ) (n : ℕ) →

@@ -1,6 +1,6 @@
 -- Worked rows: what a part of an object's extents names, and how often a source is counted for it.
-use Rattle.std.proofs.Common.{◌≡◌, ℕ, List, [], ◌∷◌, refl}
-use Rattle.sdr_base.specs.ZcoObjects.{ExtentRow, ObjectRow}
+use Rattle.std.proofs.Common.{◌≡◌, List, [], ◌∷◌, refl}
+use Rattle.sdr_base.specs.ZcoObjects.{ObjectRow}
 use Rattle.sdr_base.specs.declared.account.Acct.TheVariants as accts
 use Rattle.zco_obj.specs.declared.extent.Piece.{Piece}
 use Rattle.zco_part.specs.Pieces.{asked}

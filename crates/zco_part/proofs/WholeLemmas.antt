@@ -11,11 +11,10 @@ use Rattle.sdr_base.specs.declared.kind.Kind.TheVariants as kinds
 use Rattle.sdr_base.proofs.ObjectsLemmas.{with_block-again, with_block-here}
 use Rattle.sdr_base.proofs.WritingLemmas.{reaches_less}
 use Rattle.zco_obj.specs.Extents.{AddsExtent, LinksExtent, SetsPart, grown}
-use Rattle.zco_obj.specs.Kept.{KeepsObject, SomeObject, extents_length}
-use Rattle.zco_obj.specs.Walks.{TellsExtents}
+use Rattle.zco_obj.specs.Kept.{extents_length}
 use Rattle.zco_obj.specs.declared.extent.Piece.{Piece}
 use Rattle.zco_obj.proofs.ExtentLemmas.{adds_extent, extent_words, grown_reaches, kept_beside, last_reaches, links_first_extent, links_next_extent, part_grows, word_reaches}
-use Rattle.zco_obj.proofs.KeptLemmas.{extents_most, object_found, object_reaches, object_word, object_words, words_fit}
+use Rattle.zco_obj.proofs.KeptLemmas.{extents_most, object_found, object_word, object_words, words_fit}
 use Rattle.zco_obj.proofs.PairLemmas.{pair_object}
 use Rattle.zco_obj.proofs.PartsLemmas.{extents_at}
 use Rattle.zco_part.specs.Naming.{Follows, IsWhole, SomeWhole, SomeWholePair, with_end}

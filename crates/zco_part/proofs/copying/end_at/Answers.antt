@@ -18,6 +18,6 @@ pub returns-clause-ended : goal.returns-clause-ended
 returns-clause-ended g c =
     let is = c.write_u64_into.ensures ∙ layout-words (c.args.last ∷ 0 ∷ 0 ∷ 0 ∷ 0 ∷ 0 ∷ c.args.part ∷ []) in
     on_ok_weaker _
-    (λ w. ended_by c.args.last c.args.part (g.O.HasHeap.heap c.args.o.now) (g.O.HasHeap.heap c.put.new.o) c.write_u64_into.new.dst
+    (λ w. ended_by c.args.last c.args.part (g.O.HasHeap.heap c.args.o.now) (g.O.HasHeap.heap c.put.new.self) c.write_u64_into.new.dst
     c.requires.object is w)
     c.put.ensures.written
