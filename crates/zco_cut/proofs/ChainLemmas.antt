@@ -128,7 +128,7 @@ source_stands {b} (x ∷ front) s back xs rest st =
     (ap (λ (es : Entries). xs ++ es) (append_assoc T R rest) ∙ sym (append_assoc xs T (R ++ rest))) st)
 
 -- an extent of a chain that is kept with its sources, and the source that it names
-module _ {old : Heap} {first : ℕ} (before : List ExtentRow) (e : ExtentRow) (behind : List ExtentRow) {ss : List NamedSource}
+module _ (old : Heap) {first : ℕ} (before : List ExtentRow) (e : ExtentRow) (behind : List ExtentRow) {ss : List NamedSource}
     (c : ChainOf old.blocks first (before ++ (e ∷ behind)) ss) where
   spot : SpotOf e.source ss
   spot = find_spot e.source ss (all_at (IsOf ss) before e behind c.there)

@@ -81,7 +81,7 @@ out_is {b} (x ∷ xs) e behind out first last next rest s f l n =
     ap (λ (v : Bool). if v then next else first) (ne_eqb last 0 some) ∙ f
 
 -- a part with a byte: where it begins was found
-module _ {old : Heap} {first from to : ℕ} {begin : Place} (lt : from < to) (f : FindsPlace old.blocks first from begin)
+module _ (old : Heap) {first from to : ℕ} {begin : Place} (lt : from < to) (f : FindsPlace old.blocks first from begin)
     {rows : List ExtentRow} {ss : List NamedSource} (c : ChainOf old.blocks first rows ss) (le : to ≤ extents_length rows) where
   begun : Begins rows from begin
   begun = begins f (chain_at c) (omega (arith, lt, le))
@@ -97,16 +97,21 @@ module _ {old : Heap} {first from to : ℕ} {begin : Place} (lt : from < to) (f 
 
   pub first_there : SomeNamed old.blocks begin.extent
   first_there =
-      subst (λ n. SomeNamed old.blocks n) (sym begun.at_extent) (named_there begun.before begun.one begun.behind chain)
+      subst (λ n. SomeNamed old.blocks n) (sym begun.at_extent) (named_there old begun.before begun.one begun.behind chain)
 
   pub within_from : begin.inside ≤ from
   within_from = let s = begun.sum in omega (arith, s)
 
+  -- so many bytes behind the begin of that extent the part ends
+  abbrev bytes : ℕ
+  bytes = begin.inside + (to - from)
+
+  -- the first extent in it
+  abbrev k : ExtentRow
+  k = cut begin.inside bytes begun.one
+
   -- and where it ends
   module _ {place : Place} (g : FindsPlace old.blocks begin.extent (begin.inside + (to - from)) place) where
-    abbrev bytes : ℕ
-    bytes = begin.inside + (to - from)
-
     ended_at : Ends begun.one begun.behind bytes place
     ended_at =
         ends g left_at
@@ -122,13 +127,10 @@ module _ {old : Heap} {first from to : ℕ} {begin : Place} (lt : from < to) (f 
       last_there nz =
           end_there begun.before begun.one begin.inside bytes begun.within (omega (arith, lt)) place cuts_first chain ended_at nz
 
-      module _ {now : Heap} {end : End} (e : CutsEnd place mid now end) where
+      module _ (now : Heap) (end : End) (e : CutsEnd place mid now end) where
         kept : Kept old now begun.before begun.one begun.behind ss begin.inside bytes freed end
         kept =
             kept_all begun.before begun.one begin.inside bytes begun.within (omega (arith, lt)) place cuts_first chain ended_at e
-
-        abbrev k : ExtentRow
-        k = cut begin.inside bytes begun.one
 
         kept_stands : Stands now.blocks (extent_entries (begun.before ++ ((k ∷ kept.more) ++ kept.out)) ++ (sources_entries ss ++ chain.rest))
         kept_stands = kept.changes.kept (sources_entries ss ++ chain.rest) chain.stands

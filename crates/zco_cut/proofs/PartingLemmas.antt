@@ -24,19 +24,16 @@ use Rattle.zco_cut.specs.Cuts.{HasByte, cut, cut_all, left_out}
 use Rattle.zco_cut.specs.Parting.{CutsEnd, CutsTo, EndsBefore, EndsInside, SomeNamed}
 use Rattle.zco_cut.specs.declared.finding.Place.{Place}
 use Rattle.zco_cut.specs.declared.parting.End.{End}
+use Rattle.zco_obj.proofs.WalkLemmas.{fits_from}
 use Rattle.zco_obj.specs.Gone.{NamedSource, extent_charge}
 use Rattle.zco_obj.specs.Kept.{extents_length}
 use Rattle.zco_obj.specs.Walks.{KeepsExtent}
 
 -- what holds of all holds of some first ones
-pub all_front : {P : ExtentRow → Type 0} (xs ys : List ExtentRow) → All P (xs ++ ys) → All P xs
-all_front {P} [] ys all = All-nil P
-all_front {P} (x ∷ xs) ys all =
-    All-cons P x xs (All-head P x (xs ++ ys) all) (all_front xs ys (All-tail P x (xs ++ ys) all))
-
-pub all_back : {P : ExtentRow → Type 0} (xs ys : List ExtentRow) → All P (xs ++ ys) → All P ys
-all_back [] ys all = all
-all_back {P} (x ∷ xs) ys all = all_back xs ys (All-tail P x (xs ++ ys) all)
+all_front : (P : ExtentRow → Type 0) (xs ys : List ExtentRow) → All P (xs ++ ys) → All P xs
+all_front P [] ys all = All-nil P
+all_front P (x ∷ xs) ys all =
+    All-cons P x xs (All-head P x (xs ++ ys) all) (all_front P xs ys (All-tail P x (xs ++ ys) all))
 
 -- what extents charge
 pub charged-cons : (ss : List NamedSource) (space : Space) (e : ExtentRow) (es : List ExtentRow) →
@@ -48,17 +45,17 @@ pub charged-append : (ss : List NamedSource) (space : Space) (xs ys : List Exten
 charged-append ss space xs ys = sum_by-append (extent_charge ss space) xs ys
 
 -- the end of a part was cut, where some bytes of an extent lie in it, or nothing was
-end_before : {place : Place} {old new : Heap} {end : End} → place.inside ≡ 0 → CutsEnd place old new end → EndsBefore place old new end
-end_before {place} {old} {new} {end} zero c =
+end_before : (place : Place) (old new : Heap) (end : End) → place.inside ≡ 0 → CutsEnd place old new end → EndsBefore place old new end
+end_before place old new end zero c =
     subst (λ (b : Bool). MatchBool b (EndsBefore place old new end) (EndsInside place old new end)) (eq-eqb place.inside 0 zero) c
 
-end_inside : {place : Place} {old new : Heap} {end : End} → place.inside ≢ 0 → CutsEnd place old new end → EndsInside place old new end
-end_inside {place} {old} {new} {end} some c =
+end_inside : (place : Place) (old new : Heap) (end : End) → place.inside ≢ 0 → CutsEnd place old new end → EndsInside place old new end
+end_inside place old new end some c =
     subst (λ (b : Bool). MatchBool b (EndsBefore place old new end) (EndsInside place old new end)) (ne_eqb place.inside 0 some) c
 
 -- beside the blocks all is as before
-pub end_same : {place : Place} {old new : Heap} {end : End} → CutsEnd place old new end → besides new ≡ besides old
-end_same {place} {old} {new} {end} c = by (place.inside == 0) c
+pub end_same : (place : Place) (old new : Heap) (end : End) → CutsEnd place old new end → besides new ≡ besides old
+end_same place old new end c = by (place.inside == 0) c
   where
     by : (b : Bool) → MatchBool b (EndsBefore place old new end) (EndsInside place old new end) → besides new ≡ besides old
     by true ends = ap besides ends.same
@@ -89,7 +86,7 @@ module _ {old mid : Heap} {first : ℕ} (before : List ExtentRow) (e : ExtentRow
   have_bytes : (es out : List ExtentRow) → ChainOf old.blocks first (before ++ (e ∷ (es ++ out))) ss →
       AllByRecursion (λ (x : ExtentRow). 1 ≤ x.length) es
   have_bytes es out c =
-      recursion_from_All HasByte es (all_front es out (All-tail HasByte e (es ++ out) (all_back before (e ∷ (es ++ out)) c.bytes)))
+      recursion_from_All HasByte es (all_front HasByte es out (All-tail HasByte e (es ++ out) (fits_from HasByte before (e ∷ (es ++ out)) c.bytes)))
 
   -- it ends between two
   module _ {now : Heap} {end : End} (es out : List ExtentRow) (c : ChainOf old.blocks first (before ++ (e ∷ (es ++ out))) ss)
@@ -104,11 +101,11 @@ module _ {old mid : Heap} {first : ℕ} (before : List ExtentRow) (e : ExtentRow
           inside = law.0;
           outside = law.1;
           changes = subst (λ (h : Heap). Changes old.blocks h.blocks (extent_entries (before ++ (e ∷ (es ++ out))))
-              (extent_entries (before ++ (cut a t e ∷ (es ++ out))))) (sym ends.same) (chain_cut before e (es ++ out) c a t cuts);
+              (extent_entries (before ++ (cut a t e ∷ (es ++ out))))) (sym ends.same) (chain_cut old before e (es ++ out) c a t cuts);
           at_last = ends.last ∙ last;
           at_next = ends.next ∙ next;
           charge = λ space.
-              let one = charge_cut before e (es ++ out) c a t cuts space in
+              let one = charge_cut old before e (es ++ out) c a t cuts space in
               let none = nothing_of space end.freed ends.freed in
               let kept = charged-cons ss space (cut a t e) es in
               let all = charged-cons ss space e (es ++ out) in
@@ -124,10 +121,10 @@ module _ {old mid : Heap} {first : ℕ} (before : List ExtentRow) (e : ExtentRow
     chain_mid : ChainOf mid.blocks first (front ++ (x ∷ out)) ss
     chain_mid =
         subst (λ (l : List ExtentRow). ChainOf mid.blocks first l ss) (sym (append_assoc before (cut a t e ∷ es) (x ∷ out)))
-        (still_chain before e (es ++ (x ∷ out)) c a t cuts some lt)
+        (still_chain old before e (es ++ (x ∷ out)) c a t cuts some lt)
 
     later_there : SomeNamed mid.blocks place.extent
-    later_there = subst (λ n. SomeNamed mid.blocks n) (sym at) (named_there front x out chain_mid)
+    later_there = subst (λ n. SomeNamed mid.blocks n) (sym at) (named_there mid front x out chain_mid)
 
     kept_later : {now : Heap} {end : End} → 1 ≤ place.inside → place.inside < x.length →
         extents_length (e ∷ es) + place.inside ≡ t → EndsInside place mid now end →
@@ -143,14 +140,14 @@ module _ {old mid : Heap} {first : ℕ} (before : List ExtentRow) (e : ExtentRow
         append_assoc before (cut a t e ∷ es) (cx ∷ out)
         ∙ ap (λ (l : List ExtentRow). before ++ (cut a t e ∷ l)) (sym (append_assoc es (cx ∷ []) out)) in
         let one_more : Changes mid.blocks now.blocks (extent_entries (front ++ (x ∷ out))) (extent_entries (front ++ (cx ∷ out))) =
-        chain_cut front x out chain_mid 0 b second in
+        chain_cut mid front x out chain_mid 0 b second in
         record {
           more = es ++ (cx ∷ []);
           out = out;
           inside = law.0;
           outside = law.1;
           changes =
-              changes_then (chain_cut before e (es ++ (x ∷ out)) c a t cuts)
+              changes_then (chain_cut old before e (es ++ (x ∷ out)) c a t cuts)
               (subst (λ (l : List ExtentRow). Changes mid.blocks now.blocks
               (extent_entries (before ++ (cut a t e ∷ (es ++ (x ∷ out))))) (extent_entries l)) line'
               (subst (λ (l : List ExtentRow). Changes mid.blocks now.blocks (extent_entries l) (extent_entries (front ++ (cx ∷ out))))
@@ -161,8 +158,8 @@ module _ {old mid : Heap} {first : ℕ} (before : List ExtentRow) (e : ExtentRow
               (subst (λ n. KeepsExtent (mid.blocks n) (first_of extent_addr 0 out) x) (sym at)
               (one_kept front x out (chain_at chain_mid)));
           charge = λ space.
-              let p = charge_cut before e (es ++ (x ∷ out)) c a t cuts space in
-              let q = charge_cut front x out chain_mid 0 b second space in
+              let p = charge_cut old before e (es ++ (x ∷ out)) c a t cuts space in
+              let q = charge_cut mid front x out chain_mid 0 b second space in
               let kept = charged-cons ss space (cut a t e) (es ++ (cx ∷ [])) in
               let kept_both = charged-append ss space es (cx ∷ []) in
               let kept_last = charged-cons ss space cx [] in
@@ -175,10 +172,10 @@ module _ {old mid : Heap} {first : ℕ} (before : List ExtentRow) (e : ExtentRow
   -- it ends in the same one
   module _ (behind : List ExtentRow) (c : ChainOf old.blocks first (before ++ (e ∷ behind)) ss) (at : place.extent ≡ e.addr) where
     same_chain : ChainOf mid.blocks first (before ++ (cut a t e ∷ behind)) ss
-    same_chain = still_chain before e behind c a t cuts some lt
+    same_chain = still_chain old before e behind c a t cuts some lt
 
     same_there : SomeNamed mid.blocks place.extent
-    same_there = subst (λ n. SomeNamed mid.blocks n) (sym at) (named_there before (cut a t e) behind same_chain)
+    same_there = subst (λ n. SomeNamed mid.blocks n) (sym at) (named_there mid before (cut a t e) behind same_chain)
 
     kept_same : {now : Heap} {end : End} → place.inside ≡ t → t < e.length → EndsInside place mid now end →
         Kept old now before e behind ss a t freed end
@@ -193,17 +190,17 @@ module _ {old mid : Heap} {first : ℕ} (before : List ExtentRow) (e : ExtentRow
           inside = law.0;
           outside = law.1;
           changes =
-              changes_then (chain_cut before e behind c a t cuts)
+              changes_then (chain_cut old before e behind c a t cuts)
               (subst (λ (x : ExtentRow). Changes mid.blocks now.blocks (extent_entries (before ++ (cut a t e ∷ behind)))
-              (extent_entries (before ++ (x ∷ behind)))) again (chain_cut before (cut a t e) behind same_chain 0 t second));
+              (extent_entries (before ++ (x ∷ behind)))) again (chain_cut mid before (cut a t e) behind same_chain 0 t second));
           at_last = ends.last ∙ at;
           at_next =
               ends.next (first_of extent_addr 0 behind) (cut a t e)
               (subst (λ n. KeepsExtent (mid.blocks n) (first_of extent_addr 0 behind) (cut a t e)) (sym at)
               (one_kept before (cut a t e) behind (chain_at same_chain)));
           charge = λ space.
-              let p = charge_cut before e behind c a t cuts space in
-              let q = charge_cut before (cut a t e) behind same_chain 0 t second space in
+              let p = charge_cut old before e behind c a t cuts space in
+              let q = charge_cut mid before (cut a t e) behind same_chain 0 t second space in
               let r = ap (extent_charge ss space) again in
               let kept = charged-cons ss space (cut a t e) [] in
               let all = charged-cons ss space e behind in omega (arith, p, q, r, kept, all);
@@ -224,9 +221,9 @@ module _ {old mid : Heap} {first : ℕ} (before : List ExtentRow) (e : ExtentRow
         Kept old now before e behind ss a t freed end
     kept_all {now} {end} (between es out is zero last next sum) ends =
         subst (λ (l : List ExtentRow). Kept old now before e l ss a t freed end) (sym is)
-        (kept_between es out (chain_with is) sum last next (end_before zero ends))
+        (kept_between es out (chain_with is) sum last next (end_before place mid now end zero ends))
     kept_all {now} {end} (later es x out is at one below sum) ends =
         subst (λ (l : List ExtentRow). Kept old now before e l ss a t freed end) (sym is)
-        (kept_later es x out (chain_with is) at one below sum (end_inside (λ z. omega (arith, z, one)) ends))
-    kept_all (same at is below) ends =
-        kept_same behind c at is below (end_inside (λ z. omega (arith, z, is, some)) ends)
+        (kept_later es x out (chain_with is) at one below sum (end_inside place mid now end (λ z. omega (arith, z, one)) ends))
+    kept_all {now} {end} (same at is below) ends =
+        kept_same behind c at is below (end_inside place mid now end (λ z. omega (arith, z, is, some)) ends)

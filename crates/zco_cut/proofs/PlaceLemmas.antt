@@ -83,6 +83,7 @@ ends_in : {e : ExtentRow} {behind : List ExtentRow} {t : ℕ} {place : Place} (p
     extents_length passed + place.inside ≡ t →
     ((x : ExtentRow) (xs : List ExtentRow) → left ≡ x ∷ xs → place.inside < x.length) → t ≤ extents_length (e ∷ behind) →
     Ends e behind t place
+unfolding head_or tail_of
 ends_in {e} {behind} {t} {place} [] left whole last extent sum within le =
     let is : place.inside ≡ t = omega (arith, sum) in
     let lt = within e behind (sym whole) in

@@ -60,14 +60,14 @@ span_short from bytes q o b =
     omega (arith, offset, part, i, m, n)
 
 -- a call after one that changed the blocks alone
-pub unmoved_after : {old mid : Heap} (new : Heap) (stop : Stop) → besides mid ≡ besides old → OnlyUnmoved mid new stop →
+pub unmoved_after : (old mid new : Heap) (stop : Stop) → besides mid ≡ besides old → OnlyUnmoved mid new stop →
     OnlyUnmoved old new stop
-unmoved_after new (Refused (LogFull lines room)) e u =
+unmoved_after old mid new (Refused (LogFull lines room)) e u =
     record { moves = u.moves ∙ ap (λ (h : Heap). h.moves) e; spare = u.spare ∙ ap (λ (h : Heap). h.spare) e }
-unmoved_after new (Refused refusal) e u = absurd u
-unmoved_after new DiskFault e u = u
-unmoved_after new MediaFault e u = absurd u
-unmoved_after new Failed e u = u
+unmoved_after old mid new (Refused refusal) e u = absurd u
+unmoved_after old mid new DiskFault e u = u
+unmoved_after old mid new MediaFault e u = absurd u
+unmoved_after old mid new Failed e u = u
 
 module _ {object : ℕ} (old : Heap) (span : Span) (f : TellsSpan old.blocks object span) where
   -- its extents are a chain, with their sources

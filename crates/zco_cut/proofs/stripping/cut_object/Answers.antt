@@ -23,7 +23,7 @@ pub returns-in_err-set_ends-clause-refused : goal.returns-in_err-set_ends-clause
 returns-in_err-set_ends-clause-refused g c =
     let e = err_from_is_err_and c.from_residual-in_err-set_ends.result c.from_residual-in_err-set_ends.ensures.1 in
     let p = rw c.part_span.ensures.looks.same at c.in_ok-parted.ensures.parted in
-    rw (e.1, e.2) (unmoved_after (g.O.HasHeap.heap c.set_ends.new.o) _ p.same c.in_err-set_ends.ensures.refused)
+    rw (e.1, e.2) (unmoved_after (g.O.HasHeap.heap c.args.o.now) _ (g.O.HasHeap.heap c.set_ends.new.o) _ p.same c.in_err-set_ends.ensures.refused)
 
 pub returns-clause-cut : goal.returns-clause-cut
 returns-clause-cut g c =

@@ -13,8 +13,8 @@ pub word-requires-3-clause-inside : goal.word-requires-3-clause-inside
 word-requires-3-clause-inside g c =
     rw (c.word-2.ensures.looks.same, c.word.ensures.looks.same) (some_reaches c.requires.object 72 (omega arith))
 
-pub overflow_add-to : goal.overflow_add-to
-overflow_add-to g c =
+pub overflow_add-result : goal.overflow_add-result
+overflow_add-result g c =
     let o = rw c.word.ensures.looks.same at c.in_ok-from.ensures.given in
     let b = rw (c.word-2.ensures.looks.same, c.word.ensures.looks.same) at c.in_ok-bytes.ensures.given in
     span_short c.in_ok-from.from c.in_ok-bytes.bytes c.requires.object o b
