@@ -12,10 +12,10 @@ use Rattle.sdr_base.specs.ZcoObjects.{ExtentRow, extent_addr, extent_block, exte
 use Rattle.sdr_base.specs.declared.account.Amounts.{Amounts}
 use Rattle.sdr_base.specs.declared.kind.Space.{Space}
 use Rattle.sdr_base.specs.declared.kind.Space.TheVariants as spaces
-use Rattle.sdr_model.specs.Amounts.{amount, amounts_by, plus}
+use Rattle.sdr_model.specs.Amounts.{amount, plus}
 use Rattle.zco_cut.proofs.ChainChanges.{changes_then, ended, in_two, split}
 use Rattle.zco_cut.proofs.ChainLemmas.{chain_at, chain_left, last_reaches, named_there}
-use Rattle.zco_cut.proofs.CutLaws.{before_part, empty_part, length-cons}
+use Rattle.zco_cut.proofs.CutLaws.{before_part, empty_part}
 use Rattle.zco_cut.proofs.PartingLemmas.{Kept, charged-append, end_there, kept_all}
 use Rattle.zco_cut.proofs.PlaceLemmas.{Begins, Ends, begins, ends, length-both}
 use Rattle.zco_cut.specs.Chain.{ChainOf, ChainParted, PartsChain, SomeChain, charged_of}
@@ -23,7 +23,6 @@ use Rattle.zco_cut.specs.Cuts.{cut, cut_all, left_out}
 use Rattle.zco_cut.specs.Finding.{FindsPlace}
 use Rattle.zco_cut.specs.Linking.{LinksAfter}
 use Rattle.zco_cut.specs.Parting.{CutsEnd, CutsTo, SomeNamed}
-use Rattle.zco_cut.specs.declared.chain.Parted.{Parted}
 use Rattle.zco_cut.specs.declared.finding.Place.{Place}
 use Rattle.zco_cut.specs.declared.parting.End.{End}
 use Rattle.zco_obj.proofs.SpotLemmas.{amount_by}

@@ -5,7 +5,7 @@ use Rattle.sdr_base.specs.Blocks.{Blocks}
 use Rattle.sdr_base.specs.Linked.{first_of, last_of}
 use Rattle.sdr_base.specs.ZcoObjects.{ExtentRow, extent_addr}
 use Rattle.zco_cut.proofs.CutLaws.{length-cons}
-use Rattle.zco_cut.specs.Finding.{FindsPlace, IsPlace}
+use Rattle.zco_cut.specs.Finding.{FindsPlace}
 use Rattle.zco_cut.specs.declared.finding.Place.{Place}
 use Rattle.zco_obj.specs.Kept.{extents_length}
 use Rattle.zco_obj.specs.Walks.{ExtentsAt}

@@ -1,5 +1,5 @@
 -- The extents outside an object's part are given back, and then what is charged less.
-use Rattle.std.proofs.Common.{◌≡◌, ◌∙◌, ◌+◌, ◌≤◌, ℕ, List, [], ◌∷◌, ◌++◌, length, sym, ap, subst, arith, append_assoc, append-nil}
+use Rattle.std.proofs.Common.{◌≡◌, ◌∙◌, ◌+◌, ◌-◌, ℕ, List, [], ◌++◌, sym, ap, subst, arith, append_assoc, append-nil}
 use Rattle.std.proofs.lemmas.List.Elements.{All-weaker}
 use Rattle.sdr_base.proofs.GaveLemmas.{more_gave, none_made, some_then}
 use Rattle.sdr_base.proofs.HeapLemmas.{heap_blocks}
@@ -12,7 +12,6 @@ use Rattle.sdr_base.specs.ZcoObjects.{ObjectRow, extent_entries, object_entries}
 use Rattle.sdr_base.specs.declared.account.Acct.{Acct}
 use Rattle.sdr_base.specs.declared.account.Amounts.{Amounts}
 use Rattle.sdr_base.specs.declared.kind.Kind.TheVariants as kinds
-use Rattle.sdr_base.specs.declared.kind.Space.{Space}
 use Rattle.sdr_base.specs.declared.refusal.Refusal.TheVariants as refusals
 use Rattle.sdr_base.specs.declared.stop.Stop.{Stop}
 use Rattle.sdr_base.specs.declared.stop.Stop.TheVariants.{Refused, DiskFault, MediaFault, Failed}
@@ -22,13 +21,12 @@ use Rattle.zco_cut.proofs.OutsideLaws.{all_out, length_out, sum_out}
 use Rattle.zco_cut.proofs.SpanLemmas.{object_kept}
 use Rattle.zco_cut.specs.Chain.{IsOf, charged_of}
 use Rattle.zco_cut.specs.Cuts.{inside, outside, part_end, stripped}
-use Rattle.zco_cut.specs.Stripping.{CutsObject, KeepsToStrip, ObjectCut, ObjectStripped, SomeToStrip, StripsObject, StripStops, gone_outside, stripped_amounts}
+use Rattle.zco_cut.specs.Stripping.{CutsObject, KeepsToStrip, SomeToStrip, StripsObject, StripStops, gone_outside, stripped_amounts}
 use Rattle.zco_cut.specs.declared.chain.Parted.{Parted}
 use Rattle.zco_obj.proofs.CountLemmas.{names}
 use Rattle.zco_obj.proofs.PairLemmas.{swapped}
 use Rattle.zco_obj.proofs.SpotLemmas.{amount_by, same_amounts}
-use Rattle.zco_obj.specs.Destroying.{KeepsSources}
-use Rattle.zco_obj.specs.Gone.{NamedSource, extents_amounts, gone_blocks, sources_entries, sources_left}
+use Rattle.zco_obj.specs.Gone.{NamedSource, extents_amounts, sources_entries, sources_left}
 use Rattle.zco_obj.specs.Kept.{ExtentFits}
 use Rattle.zco_obj.specs.Reading.{Tells}
 use Rattle.zco_obj.specs.Uses.{AreNamed, CountsUses, ExtentsGiveStops, ExtentsGone, GivesExtents, SomeUses, UsesAt}
@@ -57,8 +55,8 @@ cut_stop object old new MediaFault kind u = absurd u
 cut_stop object old new Failed kind u = u
 
 -- the extents outside name those of an object's sources that they named
-outside_named : {row : ObjectRow} {ss : List NamedSource} → AreNamed row.account row.extents ss → AreNamed row.account (outside row) ss
-outside_named {row} {ss} n = record {
+outside_named : (row : ObjectRow) (ss : List NamedSource) → AreNamed row.account row.extents ss → AreNamed row.account (outside row) ss
+outside_named row ss n = record {
   there = all_out (IsOf ss) row.part_offset (part_end row) row.extents n.there;
   counted = All-weaker (CountsUses row.account row.extents) (CountsUses row.account (outside row)) (λ s counts.
       record {
@@ -94,7 +92,7 @@ module _ {object : ℕ} {acct : Acct} {old mid : Heap} {parted : Parted} (c : Cu
         few =
             let fewer = length_out row.part_offset (part_end row) row.extents in
             let few = k.keeps.fits.few in omega (arith, fewer, few);
-        named = subst (λ (n : Acct). AreNamed n (outside row) ss) (sym (account_is k)) (outside_named k.keeps.named);
+        named = subst (λ (n : Acct). AreNamed n (outside row) ss) (sym (account_is k)) (outside_named row ss k.keeps.named);
       }
 
   -- no move was made

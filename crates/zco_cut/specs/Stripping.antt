@@ -1,5 +1,5 @@
 -- An object that is cut to its part, and when that is refused.
-use Rattle.std.specs.Prelude.{◌≡◌, ◌+◌, ◌*◌, ◌≤◌, ℕ, List, ◌++◌, length}
+use Rattle.std.specs.Prelude.{◌≡◌, ◌+◌, ◌≤◌, ℕ, List, ◌++◌, length}
 use Rattle.sdr_base.specs.Blocks.{Blocks, IsKind}
 use Rattle.sdr_base.specs.Entries.{Changes}
 use Rattle.sdr_base.specs.Linked.{first_of}

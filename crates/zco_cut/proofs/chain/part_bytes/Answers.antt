@@ -1,6 +1,6 @@
 -- Both ends of the part are found, its first and its last extent are cut, and both chains are linked.
 use Rattle.std.proofs.Common.{◌∙◌, arith}
-use Rattle.std.proofs.lemmas.Result.{err_from_is_err_and, on_ok_weaker}
+use Rattle.std.proofs.lemmas.Result.{err_from_is_err_and}
 use Rattle.zco_cut.proofs.PartedLemmas.{begin_reaches, end_reaches, first_there, last_there, left_there, parted, some_extents, within_from}
 use Rattle.zco_cut.proofs.PartingLemmas.{end_same}
 use Rattle.zco_cut.proofs.SpanLemmas.{unmoved_after}

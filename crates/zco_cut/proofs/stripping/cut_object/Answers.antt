@@ -1,5 +1,4 @@
 -- The part is read, the chain is parted, and the object's ends are set.
-use Rattle.std.proofs.Common.{arith}
 use Rattle.std.proofs.lemmas.Result.{err_from_is_err_and}
 use Rattle.zco_cut.proofs.SpanLemmas.{cuts_object, object_there, some_chain, some_kept, span_ordered, unmoved_after}
 use Rattle.zco_cut.proofs.stripping.cut_object.Goals as goal

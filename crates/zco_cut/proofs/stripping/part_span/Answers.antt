@@ -17,7 +17,7 @@ pub overflow_add-result : goal.overflow_add-result
 overflow_add-result g c =
     let o = rw c.word.ensures.looks.same at c.in_ok-from.ensures.given in
     let b = rw (c.word-2.ensures.looks.same, c.word.ensures.looks.same) at c.in_ok-bytes.ensures.given in
-    span_short c.in_ok-from.from c.in_ok-bytes.bytes c.requires.object o b
+    let s = span_short c.in_ok-from.from c.in_ok-bytes.bytes c.requires.object o b in omega (arith, s)
 
 pub returns-clause-told : goal.returns-clause-told
 returns-clause-told g c =

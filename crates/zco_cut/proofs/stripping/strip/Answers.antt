@@ -1,7 +1,7 @@
 -- The object is cut to its part, the extents outside go, and its account is given back what is charged less.
 use Rattle.std.proofs.Common.{arith}
 use Rattle.std.proofs.lemmas.Result.{IfErr-weaker, err_from_is_err_and, on_ok_weaker}
-use Rattle.sdr_base.proofs.WorksLemmas.{looks_looks, looks_then, works_more, works_ok, works_stopped, works_then}
+use Rattle.sdr_base.proofs.WorksLemmas.{looks_looks, looks_then, works_more, works_stopped, works_then}
 use Rattle.zco_cut.proofs.SpanLemmas.{some_kept}
 use Rattle.zco_cut.proofs.StripLemmas.{cut_stop, outside_stop, release_stop, some_uses, strips, uses_out}
 use Rattle.zco_cut.specs.Stripping.{StripStops}
@@ -47,12 +47,12 @@ returns-in_err-charged-clause-works g c =
     (works_more (looks_then (looks_looks c.in_ok-expect_kind.ensures.looks c.in_ok-acct.ensures.looks)
     (works_then c.in_ok-parted.ensures.works (c.in_err-charged.ensures.works _ ss (uses_out p t k)))) (omega arith)))
 
-pub release-requires-clause-kept : goal.release-requires-clause-kept
-release-requires-clause-kept g c =
+pub release-requires : goal.release-requires
+release-requires g c =
     let p = rw (c.account.ensures.looks.same, c.expect_kind.ensures.looks.same) at c.in_ok-parted.ensures.cut in
     let t = rw c.expect_kind.ensures.looks.same at c.in_ok-acct.ensures.told in
     let q = c.requires.object c.in_ok-expect_kind.ensures.found in
-    (c.in_ok-charged.ensures.works _ q.sources (uses_out p t q.keeps)).kept
+    record { kept = (c.in_ok-charged.ensures.works _ q.sources (uses_out p t q.keeps)).kept }
 
 pub returns-clause-stripped : goal.returns-clause-stripped
 returns-clause-stripped g c =
