@@ -193,6 +193,6 @@ module _ {acct : Acct} {text : Text} {gap : Gap} {old one : Heap} {source : ℕ}
         raw_small = m.raw_small;
         source_small = m.small;
         small = i.small;
-        bonds = λ front next c p. bonds_then p i a g (q.text.tells next c (place_kept p));
+        bonds = λ front next c p. bonds_then p i a g (q.named.tells next c (place_kept p));
         made = made_then three_moves (Gave text.of ∷ []) made_three (record { all = ap besides g });
       }

@@ -91,10 +91,10 @@ module _ {acct : Acct} {gap : Gap} {front : List ExtentRow} {rows : List Capsule
   lines_split = ap (sum_by bond_lines) l.whole ∙ sum_by-append bond_lines (capsules_of l.bonded) l.left
 
   none_left : cursor ≡ 0 → l.left ≡ []
+  unfolding linked
   none_left z = by l.left refl
     where
       by : (xs : List CapsuleRow) → l.left ≡ xs → l.left ≡ []
-      unfolding linked
       by [] e = e
       by (x ∷ xs) e =
           let s : Stands now.blocks (chained gap.next (front ++ bonded_extents l.bonded)
@@ -185,12 +185,7 @@ module _ {acct : Acct} {gap : Gap} {front : List ExtentRow} {rows : List Capsule
     here_kept = place_kept (place_there 0)
 
     with_one : i + 1 ≤ length rows
-    with_one =
-        let m = many_left in let e = ap (length {A = CapsuleRow}) one_left.is in
-        let k : length (here ∷ one_left.behind) ≡ suc_length = refl in omega (arith, m, e, k)
-      where
-        abbrev suc_length : ℕ
-        suc_length = 1 + length one_left.behind
+    with_one = let m = many_left in let e = ap (length {A = CapsuleRow}) one_left.is in omega (arith, m, e)
 
     pub one_room : 4 * length rows ≤ old.spare → 4 ≤ now.spare
     one_room le =
@@ -328,7 +323,7 @@ module _ {acct : Acct} {first : ℕ} {gap : Gap} {Touches : ℕ → Type 0} {old
     next = _;
     capsule = _;
     is = place_there q.is (l.left q.front q.rows q.is) nz seen.bytes;
-    text = record { some = capsule_there nz q; tells = v.bytes };
+    named = record { some = capsule_there nz q; tells = v.bytes };
   }
 
   pub chain_on : (seen : SeenCapsule) → cursor ≢ 0 → SeesCapsule (now.blocks cursor) seen → {new : Heap} {extent : ℕ} →

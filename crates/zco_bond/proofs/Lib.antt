@@ -4,3 +4,7 @@ pub mod PlaceLemmas
 pub mod BondTextLemmas
 pub mod BondedLemmas
 pub mod ChainLemmas
+pub mod RiseLemmas
+pub mod WholeLemmas
+pub mod PartsLemmas
+pub mod BondLemmas

@@ -27,7 +27,7 @@ use Rattle.zco_obj.proofs.RawLemmas.{none_some, other_kind}
 use Rattle.zco_ref.specs.Kept.{KeepsRaw, SomeRaw}
 use Rattle.zco_ref.specs.Naming.{MakesRawSource, NamingStops}
 use Rattle.zco_bond.specs.Rows.{RowStops}
-use Rattle.zco_bond.specs.Texts.{CopiesText, IsSourceRow, IsText, MakesSource, source_moves}
+use Rattle.zco_bond.specs.Texts.{CopiesText, FillsRaw, IsSourceRow, IsText, MakesSource, source_moves}
 use Rattle.zco_bond.specs.declared.text.Text.{Text}
 use Rattle.zco_bond.proofs.RowLemmas.{TookOne, short_stops, stops_then}
 
@@ -47,20 +47,21 @@ text_reaches {blocks} {text} t end le =
     subst (λ (o : Option Block). Reaches o end) (sym k.block) (omega (arith, w, le))
 
 -- its bytes, with a raw object's source word in place of the link
-copied_bytes : {blocks : Blocks} {text : Text} (t : IsText blocks text) (bytes : List ℕ) → HasBytes (blocks text.of) 0 (8 + text.bytes) bytes →
-    {next : ℕ} {c : CapsuleRow} → KeepsCapsule (blocks text.of) next c → overwrite 0 (big_bytes 8 0) bytes ≡ layout (0 ∷ []) c.text
-copied_bytes {blocks} {text} t bytes h {next} {c} k =
-    let W = layout (next ∷ []) c.text in
-    let is : bytes ≡ part 0 (8 + text.bytes) W = subst (λ (o : Option Block). HasBytes o 0 (8 + text.bytes) bytes) k.block h in
-    let w = text_whole t k in
-    ap (overwrite 0 (big_bytes 8 0)) (is ∙ take_all (8 + text.bytes) W (omega (arith, w)))
-    ∙ overwrite-layout (next ∷ []) c.text 0 0 (omega arith)
+pub fills_raw : {blocks : Blocks} {text : Text} (t : IsText blocks text) (got bytes : List ℕ) →
+    HasBytes (blocks text.of) 0 (8 + text.bytes) got → bytes ≡ overwrite 0 (big_bytes 8 0) got → FillsRaw (blocks text.of) bytes
+fills_raw {blocks} {text} t got bytes h e = record {
+  fills = λ next c k.
+      let W = layout (next ∷ []) c.text in
+      let is : got ≡ part 0 (8 + text.bytes) W = subst (λ (o : Option Block). HasBytes o 0 (8 + text.bytes) got) k.block h in
+      let w = text_whole t k in
+      e ∙ ap (overwrite 0 (big_bytes 8 0)) (is ∙ take_all (8 + text.bytes) W (omega (arith, w)))
+      ∙ overwrite-layout (next ∷ []) c.text 0 0 (omega arith);
+}
 
-pub copies_text : {text : Text} {old new : Heap} {raw : ℕ} (t : IsText old.blocks text) (bytes block : List ℕ) →
-    HasBytes (old.blocks text.of) 0 (8 + text.bytes) bytes → block ≡ overwrite 0 (big_bytes 8 0) bytes →
+pub copies_text : {text : Text} {old new : Heap} {raw : ℕ} (block : List ℕ) → FillsRaw (old.blocks text.of) block →
     TakesBytes kinds.Raw block raw old new → CopiesText text old new raw
-copies_text {text} {old} {new} {raw} t bytes block h e b = record {
-  copies = λ next c k. subst (λ (x : List ℕ). TakesBytes kinds.Raw x raw old new) (e ∙ copied_bytes t bytes h k) b;
+copies_text {text} {old} {new} {raw} block f b = record {
+  copies = λ next c k. subst (λ (x : List ℕ). TakesBytes kinds.Raw x raw old new) (f.fills next c k) b;
 }
 
 -- these are the moves that were made once the raw object was taken

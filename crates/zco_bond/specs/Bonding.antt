@@ -43,8 +43,8 @@ ends_lines row = sum_by bond_lines (ends_of row)
 
 -- these are what the headers and the trailers of an object became
 pub record AreBonded (row : ObjectRow) (headers trailers : List BondedCapsule) : Type 0 where
-  pub headers : capsules_of headers ≡ row.headers
-  pub trailers : capsules_of trailers ≡ row.trailers
+  pub of_headers : capsules_of headers ≡ row.headers
+  pub of_trailers : capsules_of trailers ≡ row.trailers
   pub headers_small : All IsSmall headers
   pub trailers_small : All IsSmall trailers
 

@@ -42,7 +42,7 @@ pub record SomePlace (blocks : Blocks) (text : Text) (gap : Gap) : Type 0 where
   pub next : ℕ
   pub capsule : CapsuleRow
   pub is : PlaceAt blocks text gap front next capsule
-  pub text : IsText blocks text
+  pub named : IsText blocks text
 
 -- a header or trailer that became this extent
 abbrev pub bonded_at : CapsuleRow → ℕ → ℕ → ℕ → BondedCapsule

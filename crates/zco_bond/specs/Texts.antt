@@ -1,6 +1,6 @@
 -- The text of a header or trailer, in a raw object with a source of its own.
-use Rattle.std.specs.Prelude.{◌≡◌, ◌<◌, ◌^◌, ℕ, List, [], ◌∷◌, ◌++◌, length}
-use Rattle.sdr_base.specs.Blocks.{Blocks}
+use Rattle.std.specs.Prelude.{◌≡◌, ◌<◌, ◌^◌, ℕ, List, [], ◌∷◌, ◌++◌, length, Option}
+use Rattle.sdr_base.specs.Blocks.{Block, Blocks}
 use Rattle.sdr_base.specs.Entries.{Changes}
 use Rattle.sdr_base.specs.Making.{Made}
 use Rattle.sdr_base.specs.Objects.{Heap}
@@ -20,6 +20,10 @@ use Rattle.zco_bond.specs.declared.text.Text.{Text}
 pub record IsText (blocks : Blocks) (text : Text) : Type 0 where
   pub some : SomeCapsule (blocks text.of)
   pub tells : (next : ℕ) (c : CapsuleRow) → KeepsCapsule (blocks text.of) next c → text.bytes ≡ length c.text
+
+-- these are the bytes of a raw object of the text of whichever header or trailer stands there, which no source names
+pub record FillsRaw (found : Option Block) (bytes : List ℕ) : Type 0 where
+  pub fills : (next : ℕ) (c : CapsuleRow) → KeepsCapsule found next c → bytes ≡ (raw_block 0 c.text).bytes
 
 -- a raw object of the text of whichever stands there was made, which no source names
 pub record CopiesText (text : Text) (old new : Heap) (raw : ℕ) : Type 0 where

@@ -1,5 +1,5 @@
 // Objects that are bonded.
-ghost use Rattle.std.specs.Prelude.{◌≡◌, ◌≤◌, ◌+◌, List, IfErr, IfOk, OnOk};
+ghost use Rattle.std.specs.Prelude.{◌≡◌, ◌≤◌, ◌+◌, ◌==◌, List, IfErr, IfOk, OnOk, if◌then◌else◌};
 ghost use Rattle.sdr_base.specs.Blocks.{IsKind, UsesRange};
 ghost use Rattle.sdr_base.specs.Moves.{KeepsSome};
 ghost use Rattle.sdr_base.specs.Objects.{OnlyUnmoved};
@@ -31,7 +31,7 @@ pub fn bond<O: Objects>(o: &mut O, object: Addr, ticket: u64) -> Result<(), Stop
     ensures refused { IfErr result (BondStops object ticket (O.heap o.old) (O.heap o.new)) }
     ensures works { (row : ObjectRow) (tickets : List Ticket) →
         KeepsWithQueue (O.heap o.old) object row tickets →
-        Works O.HasHeap (10 + ends_lines row) o.old o.new result }
+        Works O.HasHeap (8 + ends_lines row) o.old o.new result }
     ensures missed { (IsKind ((O.heap o.old).blocks object) kinds.Object → ⊥) →
         Works O.HasHeap 0 o.old o.new result }
 {
@@ -50,7 +50,7 @@ fn bond_parts<O: Objects>(o: &mut O, object: Addr) -> Result<Chain, Stop>
     ensures bonded { IfOk result (BondsParts object (O.heap o.old) (O.heap o.new)) }
     ensures refused { IfErr result (PartsStop object (O.heap o.old) (O.heap o.new)) }
     ensures works { (row : ObjectRow) → KeepsObject (O.heap o.old).blocks object row →
-        Works O.HasHeap (2 + ends_lines row) o.old o.new result }
+        Works O.HasHeap (ends_lines row) o.old o.new result }
 {
     let acct = account(o, object)?;
     let first = first_parts(o, object)?;
@@ -61,18 +61,21 @@ fn bond_parts<O: Objects>(o: &mut O, object: Addr) -> Result<Chain, Stop>
     };
     let headers = bond_chain(o, acct, first.header, before)?;
     let behind = Gap {
-        previous: if last == 0 { headers.last } else { last },
+        previous: either(last, headers.last),
         next: 0,
     };
     let trailers = bond_chain(o, acct, first.trailer, behind)?;
     Ok(Chain {
-        first: if headers.first == 0 {
-            trailers.first
-        } else {
-            headers.first
-        },
+        first: either(headers.first, trailers.first),
         last: trailers.last,
     })
+}
+
+// The first of two addresses, or the second where that is 0.
+fn either(first: Addr, second: Addr) -> Addr
+    ensures { result ≡ (if first == 0 then second else first) }
+{
+    if first == 0 { second } else { first }
 }
 
 // Tells an object that a chain of so many bytes is all that it has. Its part is the whole.

@@ -11,7 +11,7 @@ use crate::gap::Gap;
 use crate::text::{Text, make_source};
 use sdr_base::{Acct, Addr, Kind, Objects, Stop, take_words};
 use zco_cut::link_after;
-use zco_obj::TEXT_FROM;
+use zco_obj::{LONGEST_CAPSULE, TEXT_FROM};
 use zco_ref::attach;
 
 // Makes an extent at a place, of the first bytes of a source, so many.
@@ -34,6 +34,7 @@ fn insert_extent<O: Objects>(o: &mut O, source: Addr, bytes: u64, gap: Gap) -> R
 pub fn bond_text<O: Objects>(o: &mut O, acct: Acct, text: Text, gap: Gap) -> Result<Addr, Stop>
     requires kept { KeepsSome (O.keeps o.old) }
     requires spare { 4 ≤ (O.heap o.old).spare }
+    requires short { text.bytes ≤ LONGEST_CAPSULE }
     requires place { SomePlace (O.heap o.old).blocks text gap }
     ensures bonded { IfOk result (BondsText acct text gap (O.heap o.old) (O.heap o.new)) }
     ensures refused { IfErr result (RowStops (IsTextRow text) (O.heap o.old) (O.heap o.new)) }
