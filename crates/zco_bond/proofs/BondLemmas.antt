@@ -10,6 +10,7 @@ use Rattle.sdr_base.specs.Objects.{Heap, IsUnmoved, Misses, OnlyFault, OnlyUnmov
 use Rattle.sdr_base.specs.ZcoObjects.{CapsuleRow, ExtentRow, ObjectRow, extent_entries, object_block, object_entries}
 use Rattle.sdr_base.specs.declared.kind.Kind.TheVariants as kinds
 use Rattle.sdr_base.specs.declared.moves.Move.{Move}
+use Rattle.sdr_base.specs.declared.moves.Move.TheVariants.{Short}
 use Rattle.sdr_base.specs.declared.refusal.Refusal.{Refusal}
 use Rattle.sdr_base.specs.declared.refusal.Refusal.TheVariants as refusals
 use Rattle.sdr_base.specs.declared.stop.Stop.{Stop}
@@ -77,7 +78,7 @@ same_stops Row old mid new (Refused (refusals.NoBlock missing)) m e l = record {
   made = l.made;
   addr = l.addr;
   first = l.first;
-  moves = l.moves ∙ ap (λ (ms : List Move). ms ++ (l.made ++ _)) m;
+  moves = l.moves ∙ ap (λ (ms : List Move). ms ++ (l.made ++ Short missing ∷ [])) m;
   spare = let s = l.spare in omega (arith, s, e);
 }
 same_stops Row old mid new (Refused (refusals.LogFull lines room)) m e l = record {
@@ -93,17 +94,17 @@ same_stops Row old mid new DiskFault m e l = l
 same_stops Row old mid new MediaFault m e l = l
 same_stops Row old mid new Failed m e l = l
 
-module _ {object number : ℕ} {old : Heap} (is : IsKind (old.blocks object) kinds.Object) (q : SomeBond old object) where
-  refused_cause : (refusal : Refusal) → BondRefused object number old refusal → IsCause refusal
-  refused_cause refusal r =
+module _ {object : ℕ} {old : Heap} (is : IsKind (old.blocks object) kinds.Object) (q : SomeBond old object) where
+  refused_cause : {number : ℕ} (refusal : Refusal) → BondRefused object number old refusal → IsCause refusal
+  refused_cause {number} refusal r =
       is_cause old q.row.account number (bond_amounts q.row) q.tickets refusal (r.refuses q.row q.tickets q.keeps)
 
   -- the account isn't charged
-  pub uncharged : (new : Heap) (stop : Stop) → BondChargeStops object number old new stop → BondStops object number old new stop
-  uncharged new (Refused (refusals.BadAddress bad)) s = absurd (refused_cause (refusals.BadAddress bad) s.0)
-  uncharged new (Refused (refusals.WrongKind bad kind)) s = absurd (refused_cause (refusals.WrongKind bad kind) s.0)
-  uncharged new (Refused (refusals.NoBlock missing)) s = absurd (refused_cause (refusals.NoBlock missing) s.0)
-  uncharged new (Refused (refusals.LogFull lines room)) s = (
+  pub uncharged : (number : ℕ) (new : Heap) (stop : Stop) → BondChargeStops object number old new stop → BondStops object number old new stop
+  uncharged number new (Refused (refusals.BadAddress bad)) s = absurd (refused_cause (refusals.BadAddress bad) s.0)
+  uncharged number new (Refused (refusals.WrongKind bad kind)) s = absurd (refused_cause (refusals.WrongKind bad kind) s.0)
+  uncharged number new (Refused (refusals.NoBlock missing)) s = absurd (refused_cause (refusals.NoBlock missing) s.0)
+  uncharged number new (Refused (refusals.LogFull lines room)) s = (
     record { kind = is; holds = s.0 },
     record { made = λ row tickets k. none_of row },
   )
@@ -117,12 +118,12 @@ module _ {object number : ℕ} {old : Heap} (is : IsKind (old.blocks object) kin
         moves = s.1.moves ∙ sym (append-nil old.moves);
         spare = let e = s.1.spare in omega (arith, e);
       }
-  uncharged new (Refused refusal) s = (record { kind = is; holds = s.0 }, s.1)
-  uncharged new DiskFault s = s
-  uncharged new MediaFault s = s
-  uncharged new Failed s = s
+  uncharged number new (Refused refusal) s = (record { kind = is; holds = s.0 }, s.1)
+  uncharged number new DiskFault s = s
+  uncharged number new MediaFault s = s
+  uncharged number new Failed s = s
 
-  module _ {mid : Heap} (c : ChargesBond object number old mid) where
+  module _ {number : ℕ} {mid : Heap} (c : ChargesBond object number old mid) where
     bond_allowed : BondAllowed object number old
     bond_allowed = record { allows = λ row tickets k. (c.charges row tickets k).allows.none tickets (queue_of k) }
 

@@ -52,7 +52,7 @@ text_sourceless text old new stop s =
       };
     }) new stop s
 
-module _ {acct : Acct} {text : Text} {gap : Gap} {old one : Heap} {source : ℕ} (m : MakesSource text old one source) where
+module _ {text : Text} {old one : Heap} {source : ℕ} (m : MakesSource text old one source) where
   pub spare_one : 4 ≤ old.spare → 1 ≤ one.spare
   spare_one le = let e : one.spare ≡ old.spare - 2 = ap (λ (h : Heap). h.spare) m.made.all in omega (arith, e, le)
 
@@ -71,7 +71,7 @@ module _ {acct : Acct} {text : Text} {gap : Gap} {old one : Heap} {source : ℕ}
       }) new stop (short_stops 32 one new stop s)
 
   -- the chain in front and the source stand beside the header or trailer
-  module _ {front : List ExtentRow} {next : ℕ} {c : CapsuleRow} (p : PlaceAt old.blocks text gap front next c) where
+  module _ {gap : Gap} {front : List ExtentRow} {next : ℕ} {c : CapsuleRow} (p : PlaceAt old.blocks text gap front next c) where
     abbrev C : Entries
     C = (c.addr, capsule_block 0 next c) ∷ []
 
@@ -113,14 +113,14 @@ module _ {acct : Acct} {text : Text} {gap : Gap} {old one : Heap} {source : ℕ}
         };
       }
 
-      pub source_below : SomeBelow acct (two.blocks source)
-      source_below = record {
+      pub source_below : {acct : Acct} → SomeBelow acct (two.blocks source)
+      source_below {acct} = record {
         source = taking_over m.raw c.text;
         keeps = source_there;
         below = let n = count_none acct m.raw c.text in omega (arith, n);
       }
 
-      module _ {three : Heap} (a : Attaches source acct two three) where
+      module _ {acct : Acct} {three : Heap} (a : Attaches source acct two three) where
         abbrev S' : Entries
         S' = counted_entries source (attached acct (taking_over m.raw c.text))
 
@@ -151,7 +151,7 @@ module _ {acct : Acct} {text : Text} {gap : Gap} {old one : Heap} {source : ℕ}
               (attached_then rest (subst (λ (es : Entries). Stands old.blocks es) (append_assoc (chained gap.next front) C rest) s))));
         }
 
-  module _ {two : Heap} {extent : ℕ} (i : InsertsExtent source text.bytes gap one two extent) where
+  module _ {gap : Gap} {two : Heap} {extent : ℕ} (i : InsertsExtent source text.bytes gap one two extent) where
     abbrev pub three_moves : List Move
     three_moves = source_moves text.bytes m.raw source ++ (Took 32 extent ∷ [])
 
@@ -173,7 +173,7 @@ module _ {acct : Acct} {text : Text} {gap : Gap} {old one : Heap} {source : ℕ}
     pub text_uncounted : (new : Heap) (stop : Stop) → OnlyUnmoved two new stop → RowStops (IsTextRow text) old new stop
     text_uncounted new stop u = stops_then NoMove (IsTextRow text) three_moves made_two row_goes new stop (unmoved_stops two new stop u)
 
-    module _ {three : Heap} (q : SomePlace old.blocks text gap) (a : Attaches source acct two three) where
+    module _ {acct : Acct} {three : Heap} (q : SomePlace old.blocks text gap) (a : Attaches source acct two three) where
       made_three : Made three_moves old three
       made_three = record { all = (a.becomes (taking_over m.raw q.capsule.text) (source_there q.is i)).same ∙ made_two.all }
 

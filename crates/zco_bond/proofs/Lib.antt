@@ -8,3 +8,4 @@ pub mod RiseLemmas
 pub mod WholeLemmas
 pub mod PartsLemmas
 pub mod BondLemmas
+pub mod RowsOfBonds

@@ -89,46 +89,48 @@ lines_of row = sum_by-append bond_lines row.headers row.trailers
 abbrev pub before : Firsts → Gap
 before firsts = record { previous = 0; next = firsts.extent }
 
-module _ {object : ℕ} {firsts : Firsts} {old : Heap} (f : TellsFirsts old.blocks object firsts) where
-  -- the headers are a chain beside none
-  pub headers_at : {row : ObjectRow} → KeepsObject old.blocks object row → ChainsAt old.blocks firsts.header (before firsts) [] row.headers
-  unfolding linked
-  headers_at {row} k =
-      let c = side_at k sides.Headers firsts.header (f.told row k).header in
-      record { rest = c.rest; stands = c.stands; at_previous = refl; at_first = c.at_first; fits = c.fits; few = c.few }
+-- the headers are a chain beside none
+pub headers_at : {blocks : Blocks} {object : ℕ} {firsts : Firsts} → TellsFirsts blocks object firsts → {row : ObjectRow} →
+    KeepsObject blocks object row → ChainsAt blocks firsts.header (before firsts) [] row.headers
+unfolding linked
+headers_at {firsts = firsts} f {row} k =
+    let c = side_at k sides.Headers firsts.header (f.told row k).header in
+    record { rest = c.rest; stands = c.stands; at_previous = refl; at_first = c.at_first; fits = c.fits; few = c.few }
 
-  pub headers_there : SomeToBond old object → SomeChains old firsts.header (before firsts)
-  headers_there q = record {
-    front = [];
-    rows = q.row.headers;
-    is = headers_at q.keeps;
-    room = let r = q.room in let n = many_ends q.row in omega (arith, r, n);
-  }
+pub headers_there : {old : Heap} {object : ℕ} {firsts : Firsts} → TellsFirsts old.blocks object firsts → SomeToBond old object →
+    SomeChains old firsts.header (before firsts)
+headers_there f q = record {
+  front = [];
+  rows = q.row.headers;
+  is = headers_at f q.keeps;
+  room = let r = q.room in let n = many_ends q.row in omega (arith, r, n);
+}
 
-  headers_row : (row : ObjectRow) (ms : List Move) → IsBondRow row.headers ms → Goes (IsBondRow (ends_of row)) [] ms
-  headers_row row ms r = record {
-    more = bonding_moves (unbonded row.trailers);
-    is = record {
-      bonded = r.bonded ++ unbonded row.trailers;
-      whole =
-          capsules-append r.bonded (unbonded row.trailers)
-          ∙ ap (λ (ys : List CapsuleRow). ys ++ capsules_of (unbonded row.trailers)) r.whole
-          ∙ ap (λ (ys : List CapsuleRow). row.headers ++ ys) (capsules-unbonded row.trailers);
-      is =
-          ap (λ (l : List Move). l ++ bonding_moves (unbonded row.trailers)) r.is
-          ∙ sym (moves-append r.bonded (unbonded row.trailers));
-    };
-  }
+headers_row : (row : ObjectRow) (ms : List Move) → IsBondRow row.headers ms → Goes (IsBondRow (ends_of row)) [] ms
+headers_row row ms r = record {
+  more = bonding_moves (unbonded row.trailers);
+  is = record {
+    bonded = r.bonded ++ unbonded row.trailers;
+    whole =
+        capsules-append r.bonded (unbonded row.trailers)
+        ∙ ap (λ (ys : List CapsuleRow). ys ++ capsules_of (unbonded row.trailers)) r.whole
+        ∙ ap (λ (ys : List CapsuleRow). row.headers ++ ys) (capsules-unbonded row.trailers);
+    is =
+        ap (λ (l : List Move). l ++ bonding_moves (unbonded row.trailers)) r.is
+        ∙ sym (moves-append r.bonded (unbonded row.trailers));
+  };
+}
 
-  -- not all headers became extents
-  pub headers_stop : (new : Heap) (stop : Stop) → ChainStops firsts.header (before firsts) old new stop → PartsStop object old new stop
-  headers_stop new stop s = record {
-    stops = λ row k.
-        stops_then (IsBondRow row.headers) (IsBondRow (ends_of row)) [] (none_made old) (headers_row row) new stop
-        (s.stops [] row.headers (headers_at k));
-  }
+-- not all headers became extents
+pub headers_stop : {old : Heap} {object : ℕ} {firsts : Firsts} → TellsFirsts old.blocks object firsts → (new : Heap) (stop : Stop) →
+    ChainStops firsts.header (before firsts) old new stop → PartsStop object old new stop
+headers_stop {old} f new stop s = record {
+  stops = λ row k.
+      stops_then (IsBondRow row.headers) (IsBondRow (ends_of row)) [] (none_made old) (headers_row row) new stop
+      (s.stops [] row.headers (headers_at f k));
+}
 
-module _ {object : ℕ} {acct : Acct} {firsts : Firsts} {last : ℕ} {old : Heap} (t : Tells old.blocks object (λ row. row.account) acct)
+module _ {object : ℕ} {acct : Acct} {firsts : Firsts} {old : Heap} (last : ℕ) (t : Tells old.blocks object (λ row. row.account) acct)
     (f : TellsFirsts old.blocks object firsts) (w : HasWord (old.blocks object) 2 last) where
   module _ {one : Heap} {head : Chain} (h : BondsChain acct firsts.header (before firsts) old one head) where
     abbrev pub behind : Gap

@@ -59,61 +59,61 @@ module _ (extent : Amounts) (bytes capsule : ℕ) (e : extent ≡ extent_amounts
   pub rise_is : extent.heap - capsule ≡ bytes_charge spaces.Heap bytes spaces.Heap - capsule_bytes bytes
   rise_is = λ i. (e i).heap - f i
 
-  pub rise_fits : capsule ≤ extent.heap
-  rise_fits = let h = heap_is in omega (arith, h, f)
-
   pub rise_most : extent.heap - capsule ≤ 32
   rise_most = let h = heap_is in omega (arith, h, f)
 
 -- the chains of an object that is kept
-module _ {heap : Heap} {object : ℕ} {firsts : Firsts} (t : TellsFirsts heap.blocks object firsts) where
-  pub some_headers : SomeWithQueue heap object → SomeCapsules heap.blocks firsts.header
-  some_headers q =
-      let k = object_of q.keeps in
-      record { rows = q.row.headers; is = side_at k sides.Headers firsts.header (t.told q.row k).header }
+pub some_headers : {heap : Heap} {object : ℕ} {firsts : Firsts} → TellsFirsts heap.blocks object firsts → SomeWithQueue heap object →
+    SomeCapsules heap.blocks firsts.header
+some_headers {firsts = firsts} t q =
+    let k = object_of q.keeps in
+    record { rows = q.row.headers; is = side_at k sides.Headers firsts.header (t.told q.row k).header }
 
-  pub some_trailers : SomeWithQueue heap object → SomeCapsules heap.blocks firsts.trailer
-  some_trailers q =
-      let k = object_of q.keeps in
-      record { rows = q.row.trailers; is = side_at k sides.Trailers firsts.trailer (t.told q.row k).trailer }
+pub some_trailers : {heap : Heap} {object : ℕ} {firsts : Firsts} → TellsFirsts heap.blocks object firsts → SomeWithQueue heap object →
+    SomeCapsules heap.blocks firsts.trailer
+some_trailers {firsts = firsts} t q =
+    let k = object_of q.keeps in
+    record { rows = q.row.trailers; is = side_at k sides.Trailers firsts.trailer (t.told q.row k).trailer }
 
-  module _ (h u : ℕ) (a : TellsRise heap.blocks firsts.header h) (b : TellsRise heap.blocks firsts.trailer u) where
-    -- both together
-    all_rise : {row : ObjectRow} → KeepsObject heap.blocks object row → h + u ≡ sum_by bond_rise (ends_of row)
-    all_rise {row} k =
-        let x = a.tells row.headers (side_at k sides.Headers firsts.header (t.told row k).header) in
-        let y = b.tells row.trailers (side_at k sides.Trailers firsts.trailer (t.told row k).trailer) in
-        let s = sum_by-append bond_rise row.headers row.trailers in omega (arith, x, y, s)
+-- both together charge so much more
+all_rise : {blocks : Blocks} {object : ℕ} {firsts : Firsts} → TellsFirsts blocks object firsts → (h u : ℕ) → TellsRise blocks firsts.header h →
+    TellsRise blocks firsts.trailer u → {row : ObjectRow} → KeepsObject blocks object row → h + u ≡ sum_by bond_rise (ends_of row)
+all_rise {firsts = firsts} t h u a b {row} k =
+    let x = a.tells row.headers (side_at k sides.Headers firsts.header (t.told row k).header) in
+    let y = b.tells row.trailers (side_at k sides.Trailers firsts.trailer (t.told row k).trailer) in
+    let s = sum_by-append bond_rise row.headers row.trailers in omega (arith, x, y, s)
 
-    pub charges_bond : {number : ℕ} {new : Heap} (amounts : Amounts) → amounts ≡ heap_amounts (h + u) →
-        ChargesObject object number amounts heap new → ChargesBond object number heap new
-    charges_bond {number} {new} amounts e c = record {
-      charges = λ row tickets k.
-          subst (λ n. ChargesAccount row.account number (heap_amounts n) heap new) (all_rise (object_of k))
-          (subst (λ m. ChargesAccount row.account number m heap new) e (c.charges row tickets k));
-    }
+module _ {object : ℕ} {firsts : Firsts} (heap : Heap) (t : TellsFirsts heap.blocks object firsts) (h u : ℕ)
+    (a : TellsRise heap.blocks firsts.header h) (b : TellsRise heap.blocks firsts.trailer u) where
+  pub charges_bond : {number : ℕ} {new : Heap} (amounts : Amounts) → amounts ≡ heap_amounts (h + u) →
+      ChargesObject object number amounts heap new → ChargesBond object number heap new
+  charges_bond {number} {new} amounts e c = record {
+    charges = λ row tickets k.
+        subst (λ n. ChargesAccount row.account number (heap_amounts n) heap new) (all_rise t h u a b (object_of k))
+        (subst (λ m. ChargesAccount row.account number m heap new) e (c.charges row tickets k));
+  }
 
-    pub bond_uncharged : (number : ℕ) (new : Heap) (amounts : Amounts) (stop : Stop) → amounts ≡ heap_amounts (h + u) →
-        ObjectChargeStops object number amounts heap new stop → BondChargeStops object number heap new stop
-    bond_uncharged number new amounts (Refused (refusals.LogFull lines room)) e s = (
-      record {
-        allows = λ row tickets k.
-            subst (λ n. refusal_in heap row.account number (heap_amounts n) tickets ≡ None) (all_rise (object_of k))
-            (subst (λ m. refusal_in heap row.account number m tickets ≡ None) e (s.0.allows row tickets k));
-      },
-      s.1,
-    )
-    bond_uncharged number new amounts (Refused refusal) e s = (
-      record {
-        refuses = λ row tickets k.
-            subst (λ n. refusal_in heap row.account number (heap_amounts n) tickets ≡ Some refusal) (all_rise (object_of k))
-            (subst (λ m. refusal_in heap row.account number m tickets ≡ Some refusal) e (s.0.refuses row tickets k));
-      },
-      s.1,
-    )
-    bond_uncharged number new amounts DiskFault e s = s
-    bond_uncharged number new amounts MediaFault e s = s
-    bond_uncharged number new amounts Failed e s = s
+  pub bond_uncharged : (number : ℕ) (new : Heap) (amounts : Amounts) (stop : Stop) → amounts ≡ heap_amounts (h + u) →
+      ObjectChargeStops object number amounts heap new stop → BondChargeStops object number heap new stop
+  bond_uncharged number new amounts (Refused (refusals.LogFull lines room)) e s = (
+    record {
+      allows = λ row tickets k.
+          subst (λ n. refusal_in heap row.account number (heap_amounts n) tickets ≡ None) (all_rise t h u a b (object_of k))
+          (subst (λ m. refusal_in heap row.account number m tickets ≡ None) e (s.0.allows row tickets k));
+    },
+    s.1,
+  )
+  bond_uncharged number new amounts (Refused refusal) e s = (
+    record {
+      refuses = λ row tickets k.
+          subst (λ n. refusal_in heap row.account number (heap_amounts n) tickets ≡ Some refusal) (all_rise t h u a b (object_of k))
+          (subst (λ m. refusal_in heap row.account number m tickets ≡ Some refusal) e (s.0.refuses row tickets k));
+    },
+    s.1,
+  )
+  bond_uncharged number new amounts DiskFault e s = s
+  bond_uncharged number new amounts MediaFault e s = s
+  bond_uncharged number new amounts Failed e s = s
 
 -- nothing was charged for a fault
 pub charge_faults : (object number : ℕ) (old new : Heap) (stop : Stop) → OnlyFault stop → BondChargeStops object number old new stop

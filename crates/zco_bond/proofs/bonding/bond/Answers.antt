@@ -22,7 +22,7 @@ returns-in_err-charge_bond-clause-refused g c =
     let p = err_from_is_err_and c.from_residual-in_err-charge_bond.result c.from_residual-in_err-charge_bond.ensures.1 in
     let is = c.in_ok-expect_kind.ensures.found in
     rw (p.1, p.2)
-    (uncharged is (c.requires.object is) (g.O.HasHeap.heap c.charge_bond.new.o) _
+    (uncharged is (c.requires.object is) c.args.ticket (g.O.HasHeap.heap c.charge_bond.new.o) _
     (rw c.expect_kind.ensures.looks.same at c.in_err-charge_bond.ensures.refused))
 
 pub bond_parts-requires-clause-object : goal.bond_parts-requires-clause-object
@@ -120,3 +120,9 @@ returns-clause-works g c =
     (works_then (looks_then c.in_ok-expect_kind.ensures.looks c.in_ok-charge_bond.ensures.works)
     (c.in_ok-chain.ensures.works row (object_then is (c.requires.object is) d k)))
     (looks_then c.in_ok-bytes.ensures.looks c.set_whole.ensures.works)) (omega arith)
+
+pub extents_length-requires-clause-kept : goal.extents_length-requires-clause-kept
+extents_length-requires-clause-kept g c =
+    let is = c.in_ok-expect_kind.ensures.found in
+    let d = rw c.expect_kind.ensures.looks.same at c.in_ok-charge_bond.ensures.charged in
+    let q = c.requires.object is in (c.in_ok-chain.ensures.works q.row (object_then is q d q.keeps)).kept

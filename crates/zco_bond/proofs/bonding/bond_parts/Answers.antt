@@ -1,6 +1,6 @@
 -- The headers become extents before the object's own, and the trailers behind them.
-use Rattle.std.proofs.Common.{arith, subst}
-use Rattle.std.proofs.lemmas.Result.{IfErr-weaker, IfOk-weaker, err_from_is_err_and}
+use Rattle.std.proofs.Common.{[], arith}
+use Rattle.std.proofs.lemmas.Result.{err_from_is_err_and}
 use Rattle.sdr_base.proofs.WorksLemmas.{looks_looks, looks_then, looks_works, works_more, works_ok, works_stopped, works_then}
 use Rattle.zco_obj.proofs.KeptLemmas.{object_reaches}
 use Rattle.zco_bond.proofs.PartsLemmas.{bonds_parts, headers_at, headers_stop, headers_there, lines_of, parts_fault, trailers_at, trailers_stop, trailers_there}
@@ -54,7 +54,7 @@ bond_chain-requires-2-clause-chains g c =
     let w = rw (c.first_parts.ensures.looks.same, c.account.ensures.looks.same) at c.in_ok-last.ensures.given in
     let h = rw (c.word.ensures.looks.same, c.first_parts.ensures.looks.same, c.account.ensures.looks.same)
     at c.in_ok-headers.ensures.bonded in
-    rw c.either.ensures (trailers_there c.in_ok-acct.ensures.told f w h c.requires.object)
+    rw c.either.ensures (trailers_there c.in_ok-last.last c.in_ok-acct.ensures.told f w h c.requires.object)
 
 pub returns-in_err-trailers-clause-refused : goal.returns-in_err-trailers-clause-refused
 returns-in_err-trailers-clause-refused g c =
@@ -64,7 +64,7 @@ returns-in_err-trailers-clause-refused g c =
     let h = rw (c.word.ensures.looks.same, c.first_parts.ensures.looks.same, c.account.ensures.looks.same)
     at c.in_ok-headers.ensures.bonded in
     rw (p.1, p.2)
-    (trailers_stop c.in_ok-acct.ensures.told f w h (g.O.HasHeap.heap c.bond_chain-2.new.o) _
+    (trailers_stop c.in_ok-last.last c.in_ok-acct.ensures.told f w h (g.O.HasHeap.heap c.bond_chain-2.new.o) _
     (rw c.either.ensures at c.in_err-trailers.ensures.refused))
 
 pub returns-clause-bonded : goal.returns-clause-bonded
@@ -74,7 +74,7 @@ returns-clause-bonded g c =
     let h = rw (c.word.ensures.looks.same, c.first_parts.ensures.looks.same, c.account.ensures.looks.same)
     at c.in_ok-headers.ensures.bonded in
     rw c.either-2.ensures
-    (bonds_parts c.in_ok-acct.ensures.told f w h (rw c.either.ensures at c.in_ok-trailers.ensures.bonded))
+    (bonds_parts c.in_ok-last.last c.in_ok-acct.ensures.told f w h (rw c.either.ensures at c.in_ok-trailers.ensures.bonded))
 
 pub returns-in_err-acct-clause-works : goal.returns-in_err-acct-clause-works
 returns-in_err-acct-clause-works g c =
@@ -120,7 +120,7 @@ returns-in_err-trailers-clause-works g c =
     rw (p.1, p.2)
     (works_stopped _
     (works_more
-    (works_then (looks_then l (v [] row.headers (headers_at f k))) (u _ row.trailers (trailers_at c.in_ok-acct.ensures.told f w h k)))
+    (works_then (looks_then l (v [] row.headers (headers_at f k))) (u _ row.trailers (trailers_at c.in_ok-last.last c.in_ok-acct.ensures.told f w h k)))
     (omega (arith, n))))
 
 pub returns-clause-works : goal.returns-clause-works
@@ -136,5 +136,12 @@ returns-clause-works g c =
     λ row k. let n = lines_of row in
     works_ok
     (works_more
-    (works_then (looks_then l (v [] row.headers (headers_at f k))) (u _ row.trailers (trailers_at c.in_ok-acct.ensures.told f w h k)))
+    (works_then (looks_then l (v [] row.headers (headers_at f k))) (u _ row.trailers (trailers_at c.in_ok-last.last c.in_ok-acct.ensures.told f w h k)))
     (omega (arith, n)))
+
+pub bond_chain-requires-2-clause-kept : goal.bond_chain-requires-2-clause-kept
+bond_chain-requires-2-clause-kept g c =
+    let f = rw c.account.ensures.looks.same at c.in_ok-first.ensures.told in
+    let v = rw (c.word.ensures.looks.same, c.first_parts.ensures.looks.same, c.account.ensures.looks.same)
+    at c.in_ok-headers.ensures.works in
+    let q = c.requires.object in (v [] q.row.headers (headers_at f q.keeps)).kept

@@ -83,3 +83,6 @@ returns-then-capsule-eq0-clause-bonded g c = chain_all c.loop-i.invariant c.if-c
 
 pub returns-then-capsule-eq0-clause-works : goal.returns-then-capsule-eq0-clause-works
 returns-then-capsule-eq0-clause-works g c = λ front rows k. works_ok (lines_all c.loop-i.invariant k c.if-capsule-eq0.true)
+
+pub see_capsule-requires-clause-kept : goal.see_capsule-requires-clause-kept
+see_capsule-requires-clause-kept g c = (touched c.loop-i.invariant c.requires.chains.is).kept

@@ -1,5 +1,7 @@
 -- The source is made, the extent comes and is counted, and the header or trailer goes.
+use Rattle.std.proofs.Common.{arith}
 use Rattle.std.proofs.lemmas.Result.{err_from_is_err_and}
+use Rattle.sdr_base.proofs.WorksLemmas.{works_more, works_stopped, works_then}
 use Rattle.zco_bond.proofs.BondTextLemmas.{bonds_text, previous_reaches, source_below, spare_one, spare_three, text_extentless, text_sourceless, text_stays, text_uncounted, text_used}
 use Rattle.zco_bond.proofs.placing.bond_text.Goals as goal
 
@@ -55,3 +57,8 @@ pub returns-clause-bonded : goal.returns-clause-bonded
 returns-clause-bonded g c =
     bonds_text c.in_ok-source.ensures.made c.in_ok-extent.ensures.inserted c.requires.place c.in_ok-attach.ensures.attached
     c.in_ok-give.ensures.given
+
+pub returns-in_err-extent-clause-works : goal.returns-in_err-extent-clause-works
+returns-in_err-extent-clause-works g c =
+    let p = err_from_is_err_and c.from_residual-in_err-extent.result c.from_residual-in_err-extent.ensures.1 in
+    rw (p.1, p.2) (works_stopped _ (works_more (works_then c.in_ok-source.ensures.works c.in_err-extent.ensures.works) (omega arith)))
