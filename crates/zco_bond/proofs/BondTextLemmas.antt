@@ -19,8 +19,8 @@ use Rattle.zco_obj.specs.Walks.{KeepsCapsule}
 use Rattle.zco_obj.proofs.RawLemmas.{count_none}
 use Rattle.zco_ref.specs.Counting.{Attaches, attached}
 use Rattle.zco_ref.specs.Kept.{KeepsSource, SomeBelow, counted_block, counted_entries}
-use Rattle.zco_bond.specs.Bonded.{bonded_extent, bonded_source, chained, moves_of}
-use Rattle.zco_bond.specs.Placing.{BondsText, InsertsExtent, IsTextRow, PlaceAt, SomePlace, bonded_at, first_bytes}
+use Rattle.zco_bond.specs.Bonded.{bonded_extent, bonded_source, chained, first_bytes, moves_of}
+use Rattle.zco_bond.specs.Placing.{BondsText, InsertsExtent, IsTextRow, PlaceAt, SomePlace, bonded_at}
 use Rattle.zco_bond.specs.Rows.{RowStops}
 use Rattle.zco_bond.specs.Texts.{IsSourceRow, MakesSource, source_moves}
 use Rattle.zco_bond.specs.declared.gap.Gap.{Gap}

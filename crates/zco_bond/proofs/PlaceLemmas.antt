@@ -17,8 +17,8 @@ use Rattle.sdr_base.proofs.LinkedLemmas.{linked-append}
 use Rattle.sdr_base.proofs.ObjectsLemmas.{with_block-apart}
 use Rattle.sdr_base.proofs.StandingLemmas.{came}
 use Rattle.zco_cut.specs.Linking.{LinksAfter}
-use Rattle.zco_bond.specs.Bonded.{chained}
-use Rattle.zco_bond.specs.Placing.{InsertsExtent, first_bytes}
+use Rattle.zco_bond.specs.Bonded.{chained, first_bytes}
+use Rattle.zco_bond.specs.Placing.{InsertsExtent}
 use Rattle.zco_bond.specs.declared.gap.Gap.{Gap}
 
 -- a block that was in use is, once another was taken

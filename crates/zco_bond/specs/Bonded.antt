@@ -38,9 +38,13 @@ bonding b = moves_of (length b.capsule.text) b.capsule.addr b.raw b.source b.ext
 abbrev pub bonding_moves : List BondedCapsule → List Move
 bonding_moves = flat_map bonding
 
+-- the extent at an address of the first bytes of a source, so many
+abbrev pub first_bytes : ℕ → ℕ → ℕ → ExtentRow
+first_bytes addr source bytes = record { addr = addr; source = source; offset = 0; length = bytes }
+
 -- the extent that one became: all bytes of its source
 abbrev pub bonded_extent : BondedCapsule → ExtentRow
-bonded_extent b = record { addr = b.extent; source = b.source; offset = 0; length = length b.capsule.text }
+bonded_extent b = first_bytes b.extent b.source (length b.capsule.text)
 
 -- the extents that these became
 abbrev pub bonded_extents : List BondedCapsule → List ExtentRow

@@ -11,14 +11,10 @@ use Rattle.sdr_base.specs.declared.moves.Move.{Move}
 use Rattle.sdr_base.specs.declared.moves.Move.TheVariants.{Took}
 use Rattle.sdr_model.specs.Things.{extent_need}
 use Rattle.zco_obj.specs.Kept.{CapsuleFits}
-use Rattle.zco_bond.specs.Bonded.{BondedCapsule, IsSmall, bonded_extent, bonded_source, bonding, chained, moves_of}
+use Rattle.zco_bond.specs.Bonded.{BondedCapsule, bonded_extent, bonded_source, chained, first_bytes, moves_of}
 use Rattle.zco_bond.specs.Texts.{IsText}
 use Rattle.zco_bond.specs.declared.gap.Gap.{Gap}
 use Rattle.zco_bond.specs.declared.text.Text.{Text}
-
--- the extent at an address of the first bytes of a source, so many
-abbrev pub first_bytes : ℕ → ℕ → ℕ → ExtentRow
-first_bytes addr source bytes = record { addr = addr; source = source; offset = 0; length = bytes }
 
 -- an extent of the first bytes of a source has come behind whichever chain ends at the place
 pub record InsertsExtent (source bytes : ℕ) (gap : Gap) (old new : Heap) (addr : ℕ) : Type 0 where
