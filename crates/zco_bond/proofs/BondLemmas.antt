@@ -1,12 +1,11 @@
 -- An object is bonded, or why it isn't.
-use Rattle.std.proofs.Common.{◌≡◌, ◌+◌, ◌-◌, ◌*◌, ◌≤◌, ◌<◌, ◌^◌, ℕ, List, [], ◌∷◌, ◌++◌, length, None, Some, refl, sym, ap, ◌∙◌, arith, subst, append_assoc, append-nil, length-append}
-use Rattle.std.specs.Prelude.{All, Option}
+use Rattle.std.proofs.Common.{◌≡◌, ◌<◌, ◌^◌, ℕ, List, [], ◌∷◌, ◌++◌, length, refl, sym, ap, ◌∙◌, arith, subst, append_assoc, append-nil, length-append}
+use Rattle.std.specs.Prelude.{All}
 use Rattle.std.proofs.lemmas.List.Elements.{All-append, All-head, All-nil, All-cons, All-tail}
-use Rattle.sdr_base.specs.Blocks.{Block, Blocks, IsKind, Reaches}
+use Rattle.sdr_base.specs.Blocks.{IsKind, Reaches}
 use Rattle.sdr_base.specs.Entries.{Changes, Entries, Stands}
 use Rattle.sdr_base.specs.Linked.{linked}
-use Rattle.sdr_base.specs.Making.{Made, besides}
-use Rattle.sdr_base.specs.Objects.{Heap, IsUnmoved, Misses, OnlyFault, OnlyUnmoved}
+use Rattle.sdr_base.specs.Objects.{Heap, Misses, OnlyFault, OnlyUnmoved}
 use Rattle.sdr_base.specs.ZcoObjects.{CapsuleRow, ExtentRow, ObjectRow, extent_entries, object_block, object_entries}
 use Rattle.sdr_base.specs.declared.kind.Kind.TheVariants as kinds
 use Rattle.sdr_base.specs.declared.moves.Move.{Move}
@@ -15,8 +14,6 @@ use Rattle.sdr_base.specs.declared.refusal.Refusal.{Refusal}
 use Rattle.sdr_base.specs.declared.refusal.Refusal.TheVariants as refusals
 use Rattle.sdr_base.specs.declared.stop.Stop.{Stop}
 use Rattle.sdr_base.specs.declared.stop.Stop.TheVariants.{Refused, DiskFault, MediaFault, Failed}
-use Rattle.sdr_base.proofs.GaveLemmas.{none_made}
-use Rattle.sdr_base.proofs.LayoutLemmas.{length-layout}
 use Rattle.sdr_base.proofs.StandingLemmas.{found, moved}
 use Rattle.sdr_base.proofs.WritingLemmas.{reaches}
 use Rattle.sdr_model.specs.declared.accounts.Ticket.{Ticket}
@@ -26,10 +23,10 @@ use Rattle.zco_obj.proofs.CauseLemmas.{IsCause, is_cause}
 use Rattle.zco_obj.proofs.ChargeLemmas.{charged_moves, charged_spare, pays, queue_of, stands_still}
 use Rattle.zco_obj.proofs.KeptLemmas.{object_words}
 use Rattle.zco_bond.specs.Bonded.{BondedCapsule, IsSmall, bonded_extent, bonded_extents, bonded_sources, bonding_moves, capsules_of, joined, whole_of}
-use Rattle.zco_bond.specs.Bonding.{BondsObject, BondsParts, BondStops, OfObject, PartsBonded, PartsStop, SetsWhole, SomeBond, SomeToBond}
+use Rattle.zco_bond.specs.Bonding.{BondsObject, BondsParts, BondStops, PartsBonded, PartsStop, SetsWhole, SomeBond, SomeToBond}
 use Rattle.zco_bond.specs.Chaining.{IsBondRow}
 use Rattle.zco_bond.specs.Charging.{BondAllowed, BondChargeStops, BondRefused, ChargesBond, bond_amounts, ends_of}
-use Rattle.zco_bond.specs.Rows.{LacksAmong, MadeAmong, RowStops}
+use Rattle.zco_bond.specs.Rows.{MadeAmong, RowStops}
 use Rattle.zco_bond.specs.declared.gap.Chain.{Chain}
 use Rattle.zco_bond.proofs.BondedLemmas.{capsules-append, capsules-unbonded, length-capsules, length-extents, unbonded}
 use Rattle.zco_bond.proofs.RowLemmas.{Goes, NoMove, stops_then, unmoved_stops}

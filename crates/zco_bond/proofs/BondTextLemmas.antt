@@ -1,5 +1,5 @@
 -- A header or trailer becomes an extent at a place.
-use Rattle.std.proofs.Common.{◌≡◌, ◌≢◌, ◌+◌, ◌-◌, ◌≤◌, ◌<◌, ◌^◌, ℕ, List, [], ◌∷◌, ◌++◌, length, Some, refl, sym, ap, ◌∙◌, arith, subst, append_assoc}
+use Rattle.std.proofs.Common.{◌≡◌, ◌≢◌, ◌-◌, ◌≤◌, ℕ, List, [], ◌∷◌, ◌++◌, length, sym, ap, ◌∙◌, arith, subst, append_assoc}
 use Rattle.std.specs.Prelude.{Option}
 use Rattle.sdr_base.specs.Blocks.{Block, Blocks, Reaches}
 use Rattle.sdr_base.specs.Entries.{Changes, Entries, Stands}
@@ -19,7 +19,7 @@ use Rattle.zco_obj.specs.Walks.{KeepsCapsule}
 use Rattle.zco_obj.proofs.RawLemmas.{count_none}
 use Rattle.zco_ref.specs.Counting.{Attaches, attached}
 use Rattle.zco_ref.specs.Kept.{KeepsSource, SomeBelow, counted_block, counted_entries}
-use Rattle.zco_bond.specs.Bonded.{bonded_extent, bonded_source, chained, first_bytes, moves_of}
+use Rattle.zco_bond.specs.Bonded.{bonded_extent, bonded_source, chained, first_bytes}
 use Rattle.zco_bond.specs.Placing.{BondsText, InsertsExtent, IsTextRow, PlaceAt, SomePlace, bonded_at}
 use Rattle.zco_bond.specs.Rows.{RowStops}
 use Rattle.zco_bond.specs.Texts.{IsSourceRow, MakesSource, source_moves}

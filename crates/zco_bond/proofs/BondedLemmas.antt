@@ -1,10 +1,9 @@
 -- Lists of headers and trailers that became extents, with one more.
-use Rattle.std.proofs.Common.{◌≡◌, ◌≢◌, ◌+◌, ◌*◌, ℕ, List, [], ◌∷◌, ◌++◌, length, map, refl, sym, ap, ◌∙◌, arith, length-append}
+use Rattle.std.proofs.Common.{◌≡◌, ◌*◌, ℕ, List, [], ◌∷◌, ◌++◌, length, refl, sym, ap, ◌∙◌, arith, length-append}
 use Rattle.std.proofs.lemmas.List.{length-map, map-append}
 use Rattle.std.proofs.lemmas.List.Concat.{flat_map-append}
 use Rattle.sdr_base.specs.Linked.{first_of, last_of}
-use Rattle.sdr_base.specs.ZcoObjects.{CapsuleRow, ExtentRow, extent_addr, extent_block}
-use Rattle.sdr_base.specs.declared.moves.Move.{Move}
+use Rattle.sdr_base.specs.ZcoObjects.{CapsuleRow, extent_addr, extent_block}
 use Rattle.sdr_base.proofs.LinkedLemmas.{last-append}
 use Rattle.zco_bond.specs.Bonded.{BondedCapsule, bonded_extent, bonded_extents, bonding, bonding_moves, capsules_of}
 use Rattle.zco_bond.specs.Placing.{bonded_at}

@@ -1,38 +1,36 @@
 -- Some first ones of the headers or trailers of a chain have become extents, and one more does.
-use Rattle.std.proofs.Common.{◌≡◌, ◌≢◌, ◌+◌, ◌-◌, ◌*◌, ◌/◌, ◌≤◌, ◌<◌, ◌^◌, ℕ, List, [], ◌∷◌, ◌++◌, length, Some, refl, sym, ap, ◌∙◌, arith, subst, append_assoc, append-nil, length-append}
+use Rattle.std.proofs.Common.{◌≡◌, ◌≢◌, ◌+◌, ◌-◌, ◌*◌, ◌/◌, ◌≤◌, ℕ, List, [], ◌∷◌, ◌++◌, length, refl, sym, ap, ◌∙◌, arith, subst, append_assoc, append-nil, length-append}
 use Rattle.std.specs.Prelude.{All, sum_by}
 use Rattle.std.proofs.lemmas.List.Concat.{flat_map-append}
-use Rattle.std.proofs.lemmas.List.Elements.{All-head, All-nil, All-push, All-tail}
+use Rattle.std.proofs.lemmas.List.Elements.{All-head, All-push, All-tail}
 use Rattle.std.proofs.lemmas.List.Sums.{sum_by-append, sum_by-cons, sum_by_push}
-use Rattle.sdr_base.specs.Blocks.{Blocks}
 use Rattle.sdr_base.specs.Entries.{Entries, Stands}
 use Rattle.sdr_base.specs.Linked.{first_of, last_of, linked}
 use Rattle.sdr_base.specs.Making.{Made}
-use Rattle.sdr_base.specs.Objects.{Heap, OnlyFault}
+use Rattle.sdr_base.specs.Objects.{Heap}
 use Rattle.sdr_base.specs.ZcoObjects.{CapsuleRow, ExtentRow, capsule_addr, capsule_block, capsule_entries, extent_addr, extent_block}
 use Rattle.sdr_base.specs.declared.account.Acct.{Acct}
 use Rattle.sdr_base.specs.declared.moves.Move.{Move}
 use Rattle.sdr_base.specs.declared.stop.Stop.{Stop}
-use Rattle.sdr_base.proofs.GaveLemmas.{made_then, none_made}
+use Rattle.sdr_base.proofs.GaveLemmas.{made_then}
 use Rattle.sdr_base.proofs.LinkedLemmas.{last-append}
 use Rattle.sdr_base.proofs.StandingLemmas.{nonzero}
 use Rattle.zco_obj.specs.Kept.{CapsuleFits}
-use Rattle.zco_obj.specs.Walks.{KeepsCapsule, SeesCapsule, SomeCapsule}
+use Rattle.zco_obj.specs.Walks.{KeepsCapsule, SeesCapsule}
 use Rattle.zco_obj.specs.declared.seeing.SeenCapsule.{SeenCapsule}
 use Rattle.zco_obj.proofs.ChainLemmas.{any_previous}
 use Rattle.zco_obj.proofs.KeptLemmas.{first_capsule}
 use Rattle.zco_obj.proofs.PairLemmas.{swapped}
 use Rattle.zco_obj.proofs.WalkLemmas.{HasFirst, fits_from, has_first}
 use Rattle.zco_bond.specs.Bonded.{BondedCapsule, IsSmall, bonded_extent, bonded_extents, bonded_source, bonded_sources, bonding, bonding_moves, capsules_of, chained, moves_of}
-use Rattle.zco_bond.specs.Chaining.{BondsChain, ChainBonded, ChainsAt, ChainStops, IsBondRow, SomeChains, bond_lines}
-use Rattle.zco_bond.specs.Placing.{BondsText, IsTextRow, PlaceAt, SomePlace, bonded_at}
+use Rattle.zco_bond.specs.Chaining.{ChainBonded, ChainsAt, IsBondRow, bond_lines}
+use Rattle.zco_bond.specs.Placing.{BondsText, IsTextRow, PlaceAt, bonded_at}
 use Rattle.zco_bond.specs.Rows.{RowStops}
 use Rattle.zco_bond.specs.declared.gap.Chain.{Chain}
 use Rattle.zco_bond.specs.declared.gap.Gap.{Gap}
-use Rattle.zco_bond.specs.declared.text.Text.{Text}
 use Rattle.zco_bond.proofs.BondTextLemmas.{place_kept}
 use Rattle.zco_bond.proofs.BondedLemmas.{capsules-append, capsules-unbonded, extents-append, first_more, last_more, length-capsules, length-moves, moves-append, unbonded}
-use Rattle.zco_bond.proofs.RowLemmas.{Goes, fault_stops, stops_then}
+use Rattle.zco_bond.proofs.RowLemmas.{Goes, stops_then}
 
 -- so many first ones have become extents, and the cursor is at the first of those that are left; Touches says of a count of lines
 -- that no more were touched

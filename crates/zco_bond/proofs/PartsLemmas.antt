@@ -1,22 +1,21 @@
 -- The headers and the trailers of an object become extents, and all its extents one chain.
-use Rattle.std.proofs.Common.{◌≡◌, ◌≢◌, ◌+◌, ◌-◌, ◌*◌, ◌≤◌, ◌<◌, ◌^◌, ℕ, List, [], ◌∷◌, ◌++◌, length, Some, refl, sym, ap, ◌∙◌, arith, subst, append_assoc, append-nil, length-append, eq-eqb}
-use Rattle.std.specs.Prelude.{◌==◌, All, sum_by, if◌then◌else◌}
-use Rattle.std.proofs.lemmas.Bool.{ne_eqb}
+use Rattle.std.proofs.Common.{◌≡◌, ◌+◌, ◌-◌, ℕ, List, [], ◌∷◌, ◌++◌, length, refl, sym, ap, ◌∙◌, arith, subst, append_assoc, append-nil, length-append}
+use Rattle.std.specs.Prelude.{sum_by}
 use Rattle.std.proofs.lemmas.List.Concat.{flat_map-append}
 use Rattle.std.proofs.lemmas.List.Sums.{sum_by-append}
 use Rattle.sdr_base.specs.Blocks.{Blocks}
-use Rattle.sdr_base.specs.Entries.{Changes, Entries, Stands}
+use Rattle.sdr_base.specs.Entries.{Entries, Stands}
 use Rattle.sdr_base.specs.Linked.{first_of, last_of, linked}
 use Rattle.sdr_base.specs.Making.{Made}
 use Rattle.sdr_base.specs.Objects.{Heap, OnlyFault}
 use Rattle.sdr_base.specs.Words.{HasWord}
-use Rattle.sdr_base.specs.ZcoObjects.{CapsuleRow, ExtentRow, ObjectRow, capsule_addr, capsule_block, capsule_entries, extent_addr, extent_block, extent_entries, object_block, object_entries}
+use Rattle.sdr_base.specs.ZcoObjects.{CapsuleRow, ExtentRow, ObjectRow, capsule_entries, extent_addr, extent_block, extent_entries, object_block, object_entries}
 use Rattle.sdr_base.specs.declared.account.Acct.{Acct}
 use Rattle.sdr_base.specs.declared.moves.Move.{Move}
 use Rattle.sdr_base.specs.declared.stop.Stop.{Stop}
 use Rattle.sdr_base.proofs.GaveLemmas.{made_then, none_made}
-use Rattle.sdr_base.proofs.LinkedLemmas.{first-append, last-append, last_nonzero, linked-append}
-use Rattle.sdr_base.proofs.StandingLemmas.{moved, nonzero}
+use Rattle.sdr_base.proofs.LinkedLemmas.{first-append, last-append}
+use Rattle.sdr_base.proofs.StandingLemmas.{moved}
 use Rattle.zco_obj.specs.Kept.{KeepsObject}
 use Rattle.zco_obj.specs.Reading.{Tells, TellsFirsts}
 use Rattle.zco_obj.specs.declared.linking.Side.TheVariants as sides
@@ -25,10 +24,9 @@ use Rattle.zco_obj.proofs.KeptLemmas.{object_word}
 use Rattle.zco_obj.proofs.PairLemmas.{swapped}
 use Rattle.zco_obj.proofs.PartsLemmas.{side_at}
 use Rattle.zco_bond.specs.Bonded.{BondedCapsule, bonded_extents, bonded_source, bonded_sources, bonding_moves, capsules_of, chained, joined}
-use Rattle.zco_bond.specs.Bonding.{AreBonded, AreEnds, BondsParts, PartsBonded, PartsStop, SomeToBond, ends_lines}
+use Rattle.zco_bond.specs.Bonding.{BondsParts, PartsBonded, PartsStop, SomeToBond, ends_lines}
 use Rattle.zco_bond.specs.Chaining.{BondsChain, ChainBonded, ChainsAt, ChainStops, IsBondRow, SomeChains, bond_lines}
 use Rattle.zco_bond.specs.Charging.{ends_of}
-use Rattle.zco_bond.specs.Rows.{RowStops}
 use Rattle.zco_bond.specs.declared.gap.Chain.{Chain}
 use Rattle.zco_bond.specs.declared.gap.Gap.{Gap}
 use Rattle.zco_bond.proofs.BondedLemmas.{capsules-append, capsules-unbonded, length-capsules, length-moves, moves-append, unbonded}

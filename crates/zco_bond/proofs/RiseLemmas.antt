@@ -1,5 +1,5 @@
 -- What an object charges more once it is bonded, and why its account isn't charged for that.
-use Rattle.std.proofs.Common.{◌≡◌, ◌≢◌, ◌+◌, ◌-◌, ◌*◌, ◌/◌, ◌≤◌, ℕ, List, length, None, Some, refl, sym, ap, ◌∙◌, arith, subst}
+use Rattle.std.proofs.Common.{◌≡◌, ◌≢◌, ◌+◌, ◌-◌, ◌≤◌, ℕ, List, None, Some, refl, ap, ◌∙◌, arith, subst}
 use Rattle.std.specs.Prelude.{sum_by}
 use Rattle.std.proofs.lemmas.List.Sums.{sum_by-append}
 use Rattle.sdr_base.specs.Blocks.{Blocks}
@@ -24,7 +24,7 @@ use Rattle.zco_obj.proofs.ChargeLemmas.{object_of}
 use Rattle.zco_obj.proofs.KeptLemmas.{first_capsule}
 use Rattle.zco_obj.proofs.PartsLemmas.{side_at}
 use Rattle.zco_obj.proofs.WalkLemmas.{at_one, capsule_at, sums_all, sums_most, sums_on, sums_start}
-use Rattle.zco_bond.specs.Charging.{BondAllowed, BondChargeStops, BondRefused, ChargesBond, TellsRise, bond_rise, ends_of}
+use Rattle.zco_bond.specs.Charging.{BondChargeStops, ChargesBond, TellsRise, bond_rise, ends_of}
 
 -- what some first ones charge more
 abbrev Rises : Blocks → ℕ → ℕ → ℕ → ℕ → Type 0

@@ -1,11 +1,10 @@
 -- Worked rows: what an object becomes that is bonded, what it charges more, and in which moves.
-use Rattle.std.proofs.Common.{◌≡◌, ℕ, List, [], ◌∷◌, refl}
+use Rattle.std.proofs.Common.{◌≡◌, List, [], ◌∷◌, refl}
 use Rattle.sdr_base.specs.ZcoObjects.{ExtentRow, ObjectRow}
 use Rattle.sdr_base.specs.declared.account.Acct.TheVariants as accts
-use Rattle.sdr_base.specs.declared.moves.Move.{Move}
 use Rattle.sdr_base.specs.declared.moves.Move.TheVariants.{Gave, Took}
 use Rattle.zco_bond.specs.Bonded.{BondedCapsule, bonding_moves, joined, whole_of}
-use Rattle.zco_bond.specs.Charging.{bond_amounts, bond_rise}
+use Rattle.zco_bond.specs.Charging.{bond_amounts}
 
 -- an object of a header of one byte, an extent of five of which its part has four, and a trailer of three
 abbrev object : ObjectRow

@@ -1,16 +1,15 @@
 -- A raw object of a text, and the source that takes it over.
-use Rattle.std.proofs.Common.{◌≡◌, ◌≢◌, ◌+◌, ◌-◌, ◌≤◌, ◌<◌, ◌^◌, ℕ, List, [], ◌∷◌, ◌++◌, length, take, drop, Some, None, refl, sym, ap, ◌∙◌, arith, subst}
+use Rattle.std.proofs.Common.{◌≡◌, ◌+◌, ◌-◌, ◌≤◌, ℕ, List, [], ◌∷◌, ◌++◌, length, Some, refl, sym, ap, ◌∙◌, arith, subst}
 use Rattle.std.specs.Prelude.{Option}
 use Rattle.std.proofs.lemmas.List.{take_all}
 use Rattle.byteorder.specs.Endian.{big_bytes}
-use Rattle.sdr_base.specs.Blocks.{Block, Blocks, HasBytes, IsKind, IsOther, Reaches}
-use Rattle.sdr_base.specs.Entries.{Changes, Stands}
-use Rattle.sdr_base.specs.Making.{Made, MakesThing}
+use Rattle.sdr_base.specs.Blocks.{Block, Blocks, HasBytes, Reaches}
+use Rattle.sdr_base.specs.Making.{MakesThing}
 use Rattle.sdr_base.specs.Objects.{Heap, OnlyShort}
 use Rattle.sdr_base.specs.Parts.{overwrite, part}
 use Rattle.sdr_base.specs.Raws.{raw_block, raw_entries}
 use Rattle.sdr_base.specs.Words.{TakesBytes, layout}
-use Rattle.sdr_base.specs.ZcoObjects.{CapsuleRow, capsule_block}
+use Rattle.sdr_base.specs.ZcoObjects.{CapsuleRow}
 use Rattle.sdr_base.specs.declared.kind.Kind.TheVariants as kinds
 use Rattle.sdr_base.specs.declared.medium.Medium.TheVariants as media
 use Rattle.sdr_base.specs.declared.moves.Move.{Move}
@@ -22,12 +21,12 @@ use Rattle.sdr_base.proofs.GaveLemmas.{made_then, none_made}
 use Rattle.sdr_base.proofs.LayoutLemmas.{length-layout, overwrite-layout}
 use Rattle.sdr_base.proofs.MakingLemmas.{taken_makes}
 use Rattle.sdr_base.proofs.ObjectsLemmas.{with_block-here}
-use Rattle.zco_obj.specs.Walks.{KeepsCapsule, SomeCapsule}
+use Rattle.zco_obj.specs.Walks.{KeepsCapsule}
 use Rattle.zco_obj.proofs.RawLemmas.{none_some, other_kind}
 use Rattle.zco_ref.specs.Kept.{KeepsRaw, SomeRaw}
 use Rattle.zco_ref.specs.Naming.{MakesRawSource, NamingStops}
 use Rattle.zco_bond.specs.Rows.{RowStops}
-use Rattle.zco_bond.specs.Texts.{CopiesText, FillsRaw, IsSourceRow, IsText, MakesSource, source_moves}
+use Rattle.zco_bond.specs.Texts.{CopiesText, FillsRaw, IsSourceRow, IsText, MakesSource}
 use Rattle.zco_bond.specs.declared.text.Text.{Text}
 use Rattle.zco_bond.proofs.RowLemmas.{TookOne, short_stops, stops_then}
 

@@ -1,23 +1,22 @@
 -- An object's block tells of another chain, which is all that it has.
-use Rattle.std.proofs.Common.{◌≡◌, ◌+◌, ◌*◌, ◌≤◌, ℕ, List, [], ◌∷◌, ◌++◌, length, drop, Some, refl, sym, ap, ◌∙◌, arith, subst, append-nil}
+use Rattle.std.proofs.Common.{◌≡◌, ◌+◌, ℕ, List, [], ◌∷◌, ◌++◌, length, Some, refl, sym, ap, ◌∙◌, arith, subst, append-nil}
 use Rattle.std.specs.Prelude.{Option}
 use Rattle.std.proofs.lemmas.List.{drop_all}
 use Rattle.byteorder.specs.Endian.{big_bytes}
 use Rattle.sdr_base.specs.Blocks.{Block, Blocks, overwritten, with_block}
-use Rattle.sdr_base.specs.Entries.{Changes, Entries, Stands}
+use Rattle.sdr_base.specs.Entries.{Stands}
 use Rattle.sdr_base.specs.Making.{besides}
 use Rattle.sdr_base.specs.Objects.{Heap, with_bytes}
 use Rattle.sdr_base.specs.Parts.{overwrite}
 use Rattle.sdr_base.specs.Words.{layout}
-use Rattle.sdr_base.specs.ZcoObjects.{ExtentRow, ObjectRow, account_number, capsule_addr, extent_addr, object_block}
+use Rattle.sdr_base.specs.ZcoObjects.{ObjectRow, account_number, capsule_addr, extent_addr, object_block}
 use Rattle.sdr_base.specs.Linked.{first_of, last_of}
 use Rattle.sdr_base.specs.declared.kind.Kind.TheVariants as kinds
 use Rattle.sdr_base.proofs.HeapLemmas.{heap_blocks}
 use Rattle.sdr_base.proofs.LayoutLemmas.{length-layout}
 use Rattle.sdr_base.proofs.StandingLemmas.{found, written_at}
-use Rattle.zco_obj.specs.Kept.{extents_length}
 use Rattle.zco_bond.specs.Bonded.{whole_of}
-use Rattle.zco_bond.specs.Bonding.{AreEnds, SetsWhole}
+use Rattle.zco_bond.specs.Bonding.{SetsWhole}
 use Rattle.zco_bond.specs.declared.gap.Chain.{Chain}
 
 -- all words but the first are others

@@ -1,12 +1,11 @@
 -- An object that is bonded, and why it isn't.
-use Rattle.std.specs.Prelude.{◌≡◌, ◌+◌, ◌*◌, ◌≤◌, ℕ, List, [], ◌∷◌, ◌++◌, length, sum_by, All}
+use Rattle.std.specs.Prelude.{◌≡◌, ◌*◌, ◌≤◌, ℕ, List, [], ◌∷◌, ◌++◌, length, sum_by, All}
 use Rattle.sdr_base.specs.Blocks.{IsKind}
 use Rattle.sdr_base.specs.Entries.{Changes}
 use Rattle.sdr_base.specs.Linked.{first_of, last_of}
 use Rattle.sdr_base.specs.Making.{Made, besides}
 use Rattle.sdr_base.specs.Objects.{Heap, Misses, OnlyFault}
 use Rattle.sdr_base.specs.ZcoObjects.{ExtentRow, ObjectRow, extent_addr, extent_entries, object_block, object_entries}
-use Rattle.sdr_base.specs.declared.account.Acct.{Acct}
 use Rattle.sdr_base.specs.declared.kind.Kind.TheVariants as kinds
 use Rattle.sdr_base.specs.declared.refusal.Refusal.TheVariants as refusals
 use Rattle.sdr_base.specs.declared.stop.Stop.{Stop}

@@ -1,5 +1,5 @@
 -- A chain of headers or trailers that becomes extents at a place in a chain of extents.
-use Rattle.std.specs.Prelude.{◌≡◌, ◌+◌, ◌*◌, ◌/◌, ◌<◌, ◌≤◌, ◌^◌, ℕ, List, [], ◌∷◌, ◌++◌, length, sum_by, All}
+use Rattle.std.specs.Prelude.{◌≡◌, ◌+◌, ◌*◌, ◌/◌, ◌<◌, ◌≤◌, ◌^◌, ℕ, List, ◌++◌, length, All}
 use Rattle.sdr_base.specs.Blocks.{Blocks}
 use Rattle.sdr_base.specs.Entries.{Changes, Entries, Stands}
 use Rattle.sdr_base.specs.Linked.{first_of, last_of}

@@ -1,7 +1,7 @@
 -- The account is charged, the parts are bonded, and the object's block tells of them.
 use Rattle.std.proofs.Common.{arith}
 use Rattle.std.proofs.lemmas.Result.{IfErr-weaker, err_from_is_err_and, on_ok_weaker}
-use Rattle.sdr_base.proofs.WorksLemmas.{looks_then, looks_works, works_more, works_ok, works_stopped, works_then}
+use Rattle.sdr_base.proofs.WorksLemmas.{looks_then, looks_works, works_more, works_stopped, works_then}
 use Rattle.zco_bond.specs.Bonding.{BondStops}
 use Rattle.zco_bond.proofs.BondLemmas.{block_there, bond_faults, bonds_object, extents_there, missed, object_then, to_bond, unbonded_stops, uncharged, unset_stops, with_queue}
 use Rattle.zco_bond.proofs.bonding.bond.Goals as goal

@@ -1,5 +1,4 @@
 -- Both chains are summed, and the account is charged for the sum.
-use Rattle.std.proofs.Common.{ap, ◌∙◌}
 use Rattle.std.proofs.lemmas.Result.{IfErr-weaker, err_from_is_err_and, on_ok_weaker}
 use Rattle.zco_obj.proofs.ChargeLemmas.{some_object}
 use Rattle.zco_bond.specs.Charging.{BondChargeStops}

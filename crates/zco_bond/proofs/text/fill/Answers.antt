@@ -1,5 +1,5 @@
 -- The whole block is read, and its link is set to 0.
-use Rattle.std.proofs.Common.{◌≤◌, arith}
+use Rattle.std.proofs.Common.{arith}
 use Rattle.zco_bond.proofs.TextLemmas.{fills_raw, text_reaches}
 use Rattle.zco_bond.proofs.text.fill.Goals as goal
 
