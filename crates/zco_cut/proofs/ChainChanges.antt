@@ -70,16 +70,22 @@ module _ (before : List ExtentRow) (k : ExtentRow) (ks behind : List ExtentRow) 
       in_two 0 before (kept ++ behind)
       ∙ ap (λ (es : Entries). front k.addr ++ es) (in_two 0 kept behind)
 
+  -- the last of them is linked anew
+  pub ended : {old mid : Heap} → LinksAfter (last_of extent_addr 0 kept) 0 old mid →
+      Changes old.blocks mid.blocks (extent_entries (before ++ (kept ++ behind)))
+      (front k.addr ++ (middle 0 ++ extent_entries behind))
+  ended {old} {mid} l =
+      subst (λ (es : Entries). Changes old.blocks mid.blocks es (front k.addr ++ (middle 0 ++ extent_entries behind))) (sym in_three)
+      (changes_swapped (record { before = front k.addr; behind = extent_entries behind; was = refl; is = refl })
+      (l.links kept (first_of extent_addr 0 behind) refl))
+
+  -- and then the last one before them
   pub split : {old mid new : Heap} → LinksAfter (last_of extent_addr 0 kept) 0 old mid →
       LinksAfter (last_of extent_addr 0 before) (first_of extent_addr 0 behind) mid new →
       Changes old.blocks new.blocks (extent_entries (before ++ (kept ++ behind)))
       (extent_entries kept ++ extent_entries (before ++ behind))
   split {old} {mid} {new} l m =
       let next = first_of extent_addr 0 behind in
-      let one : Changes old.blocks mid.blocks (front k.addr ++ (middle next ++ extent_entries behind))
-      (front k.addr ++ (middle 0 ++ extent_entries behind)) =
-      changes_swapped (record { before = front k.addr; behind = extent_entries behind; was = refl; is = refl })
-      (l.links kept next refl) in
       let two : Changes mid.blocks new.blocks (front k.addr ++ (middle 0 ++ extent_entries behind))
       (front next ++ (middle 0 ++ extent_entries behind)) =
       changes_swapped (record { before = []; behind = middle 0 ++ extent_entries behind; was = refl; is = refl })
@@ -95,6 +101,5 @@ module _ (before : List ExtentRow) (k : ExtentRow) (ks behind : List ExtentRow) 
             (moved (front next) (middle 0) (extent_entries behind ++ rest)
             (subst (λ (es : Entries). Stands new.blocks es) (line (front next) (middle 0)) s));
       } in
-      subst (λ (es : Entries). Changes old.blocks new.blocks es (extent_entries kept ++ extent_entries (before ++ behind))) (sym in_three)
-      (subst (λ (es : Entries). Changes old.blocks new.blocks (front k.addr ++ (middle next ++ extent_entries behind)) (middle 0 ++ es))
-      (sym (in_two 0 before behind)) (changes_then one (changes_then two three)))
+      subst (λ (es : Entries). Changes old.blocks new.blocks (extent_entries (before ++ (kept ++ behind))) (middle 0 ++ es))
+      (sym (in_two 0 before behind)) (changes_then (ended l) (changes_then two three))

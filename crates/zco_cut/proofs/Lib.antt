@@ -5,3 +5,11 @@ mod CutLemmas
 mod EndLemmas
 mod PartLaws
 mod ChainChanges
+mod ChainLemmas
+mod PlaceLemmas
+mod PartingLemmas
+mod PartedLemmas
+mod OutsideLaws
+mod SpanLemmas
+mod StripLemmas
+mod RowsOfParts

@@ -23,9 +23,13 @@ left_out from to (e ∷ es) =
     let rest = left_out (from - e.length) (to - e.length) es in
     if (cut from to e).length == 0 then e ∷ rest else rest
 
--- each extent has a byte
+-- an extent has a byte
+abbrev pub HasByte : ExtentRow → Type 0
+HasByte e = 1 ≤ e.length
+
+-- each of them has
 abbrev pub HaveBytes : List ExtentRow → Type 0
-HaveBytes = All (λ e. 1 ≤ e.length)
+HaveBytes = All HasByte
 
 -- where the part of an object ends
 abbrev pub part_end : ObjectRow → ℕ

@@ -1,10 +1,11 @@
 // Extents that are cut to a part of their bytes.
-ghost use Rattle.std.specs.Prelude.{◌≡◌, ◌≢◌, ◌≤◌, IfErr, IfOk};
+ghost use Rattle.std.specs.Prelude.{◌≡◌, ◌≢◌, ◌≤◌, ◌^◌, IfErr, IfOk};
 ghost use Rattle.sdr_base.specs.Moves.{KeepsSome};
 ghost use Rattle.sdr_base.specs.Objects.{OnlyUnmoved};
 ghost use Rattle.sdr_base.specs.Works.{Works};
 ghost use Rattle.sdr_model.specs.Amounts.{amounts_by, in_space};
 ghost use Rattle.zco_cut.specs.Parting.{CutsEnd, CutsTo, SomeNamed};
+ghost use Rattle.zco_obj.specs.Giving.{AreAtMost};
 
 use crate::finding::Place;
 use crate::linking::cut_extent;
@@ -51,6 +52,7 @@ pub fn cut_to<O: Objects>(o: &mut O, extent: Addr, from: u64, to: u64) -> Result
     requires extent { SomeNamed (O.heap o.old).blocks extent }
     requires ordered { from ≤ to }
     ensures cut { IfOk result (CutsTo extent from to (O.heap o.old) (O.heap o.new)) }
+    ensures most { IfOk result (AreAtMost (2 ^ 40)) }
     ensures refused { IfErr result (OnlyUnmoved (O.heap o.old) (O.heap o.new)) }
     ensures works { Works O.HasHeap 4 o.old o.new result }
 {
@@ -68,6 +70,7 @@ pub fn cut_end<O: Objects>(o: &mut O, place: Place) -> Result<End, Stop>
     requires kept { KeepsSome (O.keeps o.old) }
     requires extent { place.inside ≢ 0 → SomeNamed (O.heap o.old).blocks place.extent }
     ensures cut { IfOk result (CutsEnd place (O.heap o.old) (O.heap o.new)) }
+    ensures most { IfOk result (λ end. AreAtMost (2 ^ 40) end.freed) }
     ensures refused { IfErr result (OnlyUnmoved (O.heap o.old) (O.heap o.new)) }
     ensures works { Works O.HasHeap 4 o.old o.new result }
 {

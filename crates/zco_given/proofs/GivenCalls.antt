@@ -174,9 +174,12 @@ module _ (old new : Heap) (w : World) (unmoved : old.moves ≡ []) (s : HeapStan
             inl (row_refused w call new (refusals.BadLength bytes most) (ap (λ (h : Heap). h.moves) same ∙ unmoved)
             (row-asked w _ call reads
             (on_some _ _ (object_at w (asked_addr call)) at.object (ap as_object at.there)
-            (on_true _ _ (nat_lt longest_read (asked_count call)) (lt-ltb longest_read (asked_count call) r.1)
-            (refl, refl, ap (λ n. replies.Refused (refusals.BadLength n most)) r.2
-            ∙ ap (λ n. replies.Refused (refusals.BadLength (asked_count call) n)) r.3)))));
+            (on_true _ _ (nat_lt longest_read (asked_count call)) (lt-ltb longest_read (asked_count call) r.1) (
+              refl,
+              refl,
+              ap (λ n. replies.Refused (refusals.BadLength n most)) r.2
+                  ∙ ap (λ n. replies.Refused (refusals.BadLength (asked_count call) n)) r.3,
+            )))));
         left = λ read. same;
         gave = refl;
       }

@@ -1,1 +1,10 @@
 mod DelimitLemmas
+mod LinkLemmas
+mod WholeLemmas
+mod WalkLemmas
+mod ChargeLemmas
+mod SourceLemmas
+mod CopyLemmas
+mod AskedLemmas
+pub mod CloneLemmas
+mod RowsOfParts

@@ -1,8 +1,19 @@
-//! Parts of zero-copy objects: how one is set.
+//! Parts of zero-copy objects: how one is set, and how one is cloned.
 //!
 //! 1. An object's part is so many of its extents' bytes, from a place on. It may have none.
+//! 2. A clone of a range of the part is an object of the same account. Its extents name the same
+//!    sources, cut at the ends of the range, and its part is its whole. No byte is copied: each
+//!    source counts its extents more.
+//! 3. All that may be refused is tested, and the account is charged, before a block is taken. So the
+//!    chain of extents is walked twice: for what it charges, and then for what it names.
+//! 4. The clone's own block comes first, and then its extents' in order, each behind the others.
 #![tactic(auto)]
 
+mod charging;
+mod cloning;
+mod copying;
 mod part;
+mod span;
 
+pub use cloning::clone_part;
 pub use part::delimit;

@@ -1,0 +1,13 @@
+pub mod RowLemmas
+pub mod TextLemmas
+pub mod PlaceLemmas
+pub mod BondTextLemmas
+pub mod BondedLemmas
+pub mod LeftLemmas
+pub mod ChainLemmas
+pub mod RiseLemmas
+pub mod WholeLemmas
+pub mod JoinLemmas
+pub mod PartsLemmas
+pub mod BondLemmas
+pub mod RowsOfBonds

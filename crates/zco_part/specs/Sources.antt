@@ -1,0 +1,55 @@
+-- The sources that some extents name, which extents more are to name.
+use Rattle.std.specs.Prelude.{◌≡◌, ◌+◌, ◌<◌, ◌==◌, ◌^◌, ℕ, List, ◌++◌, length, map, sum_by, All, if◌then◌else◌}
+use Rattle.sdr_base.specs.Blocks.{Blocks}
+use Rattle.sdr_base.specs.Entries.{Entries, Stands}
+use Rattle.sdr_base.specs.Linked.{first_of}
+use Rattle.sdr_base.specs.ZcoObjects.{ExtentRow, extent_addr, extent_entries}
+use Rattle.sdr_base.specs.declared.account.Acct.{Acct}
+use Rattle.zco_obj.specs.Gone.{NamedSource, source_at, sources_entries}
+use Rattle.zco_obj.specs.Kept.{ExtentFits}
+use Rattle.zco_obj.specs.Uses.{IsThere}
+use Rattle.zco_obj.specs.declared.extent.Piece.{Piece}
+use Rattle.zco_ref.specs.Counting.{with_count}
+use Rattle.zco_ref.specs.Kept.{CountedSource, SourceFits, count_in}
+
+-- how many of these pieces are of the source at an address
+abbrev pub pieces_of : ℕ → List Piece → ℕ
+pieces_of addr = sum_by (λ p. if p.of == addr then 1 else 0)
+
+-- the source with so many extents of an account more
+abbrev pub more_uses : Acct → ℕ → CountedSource → CountedSource
+more_uses acct n source = with_count acct (count_in acct source + n) source
+
+-- the source, once an extent of the account more names each of these pieces
+abbrev pub counted : Acct → List Piece → NamedSource → NamedSource
+counted acct ps s = record s { source = more_uses acct (pieces_of s.addr ps) s.source }
+
+-- so it is with each of these sources
+abbrev pub all_counted : Acct → List Piece → List NamedSource → List NamedSource
+all_counted acct ps = map (counted acct ps)
+
+-- the numbers of a source fit, and as many extents more as a chain may have can be counted
+pub record MayCount (s : NamedSource) : Type 0 where
+  pub fits : SourceFits s.source
+  pub inbound : s.source.inbound < 2 ^ 61
+  pub outbound : s.source.outbound < 2 ^ 61
+
+-- these are the sources that these extents name, and each may count more
+pub record AreCountable (extents : List ExtentRow) (sources : List NamedSource) : Type 0 where
+  pub there : All (λ e. IsThere (source_at e.source sources)) extents
+  pub counted : All MayCount sources
+
+-- extents are a chain there, and their sources stand beside
+pub record ExtentsBeside (blocks : Blocks) (first : ℕ) (extents : List ExtentRow) (sources : List NamedSource) : Type 0 where
+  pub rest : Entries
+  pub stands : Stands blocks (sources_entries sources ++ (extent_entries extents ++ rest))
+  pub at_first : first ≡ first_of extent_addr 0 extents
+  pub fits : All ExtentFits extents
+  pub few : length extents < 2 ^ 22
+  pub may : AreCountable extents sources
+
+-- some are
+pub record SomeExtentsBeside (blocks : Blocks) (first : ℕ) : Type 0 where
+  pub extents : List ExtentRow
+  pub sources : List NamedSource
+  pub is : ExtentsBeside blocks first extents sources
