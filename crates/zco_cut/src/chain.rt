@@ -1,4 +1,4 @@
-// The extents of a chain outside a part, linked into a chain of their own, and the others cut to it.
+// A chain of extents that is cut to a part, and those outside it, linked into a chain of their own.
 ghost use Rattle.std.specs.Prelude.{◌≡◌, ◌==◌, ◌<◌, ◌≤◌, ◌^◌, IfErr, IfOk, if◌then◌else◌};
 ghost use Rattle.sdr_base.specs.Moves.{KeepsSome};
 ghost use Rattle.sdr_base.specs.Objects.{OnlyUnmoved};
@@ -22,8 +22,8 @@ pub struct Parted {
     pub freed: Amounts,
 }
 
-// Cuts a chain of extents to its bytes from one place on and before another, and links those outside
-// into a chain of their own. It is linear in the extents before the end of the part.
+// Cuts a chain of extents to its bytes from one place on and before another, and links those
+// outside into a chain of their own. It is linear in the extents before the end of the part.
 pub fn part_chain<O: Objects>(o: &mut O, first: Addr, from: u64, to: u64) -> Result<Parted, Stop>
     requires kept { KeepsSome (O.keeps o.old) }
     requires ordered { from ≤ to }

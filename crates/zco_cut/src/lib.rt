@@ -2,8 +2,8 @@
 //!
 //! 1. A place in a chain of extents is found by a walk to it, which writes nothing.
 //! 2. An extent is cut to a part of its bytes, and says what is charged less for it.
-//! 3. The extents outside the part, before it and behind it, are linked into a chain of their own: a
-//!    few words are set, however many there are.
+//! 3. The extents outside the part, before it and behind it, are linked into a chain of their own:
+//!    a few words are set, however many there are.
 //! 4. An object whose chain begins and ends with those in the part gives that other chain back, in
 //!    order, each extent after what goes with it.
 #![tactic(auto)]
