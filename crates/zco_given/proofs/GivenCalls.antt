@@ -57,7 +57,7 @@ module _ (old new : Heap) (w : World) (unmoved : old.moves ≡ []) (s : HeapStan
   row_there o z is few gives =
       row-asked w o call reads
       (on_some _ _ (object_at w (asked_addr call)) z is
-      (on_false _ _ (nat_lt longest_read (asked_count call)) (le-ltb (asked_count call) longest_read few) gives))
+      (on_false _ _ (nat_lt longest_read (asked_count call)) (le-ltb longest_read (asked_count call) few) gives))
 
   -- what was read of the object that is there
   module _ (at : IsObjectAt w (asked_addr call)) where
@@ -71,7 +71,7 @@ module _ (old new : Heap) (w : World) (unmoved : old.moves ≡ []) (s : HeapStan
     pub pieces_are : pieces_asked w call ≡ part_pieces w call z
     pieces_are = ap (λ (o : Option ZcoObject). pieces_of o (part_pieces w call)) there
 
-    gathered_of : (told : Option Told) (into : List ℕ) (given : ℕ) → ReadsCall told old.blocks (asked_addr call) call into given →
+    pub gathered_of : (told : Option Told) (into : List ℕ) (given : ℕ) → ReadsCall told old.blocks (asked_addr call) call into given →
         AreGathered told (part_pieces w call z) (take given into)
     gathered_of told into given r =
         subst (λ (ps : List Piece). AreGathered told ps (take given into)) (asked_same w call z)

@@ -1,5 +1,5 @@
 -- An object of a world, kept in its blocks with what its extents name.
-use Rattle.std.proofs.Common.{◌≡◌, ◌≤◌, ◌+◌, ◌∙◌, ℕ, List, [], ◌∷◌, ◌++◌, Bool, Option, Some, None, map, length, refl, sym, ap, ap₂, subst, arith}
+use Rattle.std.proofs.Common.{◌≡◌, ◌≤◌, ◌+◌, ◌∙◌, ℕ, List, [], ◌∷◌, ◌++◌, Bool, Option, Some, None, map, length, refl, sym, ap, ap₂, subst, arith, append_assoc}
 use Rattle.std.specs.Prelude.{IfSome}
 use Rattle.std.specs.List.{AllByRecursion}
 use Rattle.sdr_answers.proofs.ListLemmas.{IsSmall}
@@ -104,6 +104,7 @@ pub asked_same : (w : World) (call : Call) (z : ZcoObject) →
     asked_by call (object_row z) (extent_pieces w z.extents) ≡ part_pieces w call z
 asked_same w (calls.Transmit addr place count) z =
     ap₂ (λ (h t : List Piece). cut_pieces place count (h ++ (extent_pieces w z.extents ++ t))) (heads_same z.headers) (heads_same z.trailers)
+    ∙ ap (cut_pieces place count) (sym (append_assoc (capsule_pieces z.headers) (extent_pieces w z.extents) (capsule_pieces z.trailers)))
 asked_same w (calls.ReceiveHeaders addr place count) z = refl
 asked_same w (calls.ReceiveSource addr place count) z = refl
 asked_same w (calls.ReceiveTrailers addr place count) z = refl

@@ -1,5 +1,5 @@
 // Answers to the calls that read an object's bytes.
-ghost use Rattle.std.specs.Prelude.{◌≡◌, ◌≤◌, ◌<◌, [], true, IfErr, IfOk, IsErr, OnErr, length};
+ghost use Rattle.std.specs.Prelude.{◌≡◌, ◌≤◌, ◌<◌, [], true, IfErr, IfOk, OnErr, OnOk, length};
 ghost use Rattle.sdr_answers.specs.Answering.{Comes};
 ghost use Rattle.sdr_base.specs.Moves.{KeepsSome};
 ghost use Rattle.sdr_base.specs.Works.{Looks};
@@ -105,7 +105,7 @@ fn refuse_count<O: Objects>(o: &mut O, object: Addr, count: u64) -> Result<Reply
     requires kept { KeepsSome (O.keeps o.old) }
     requires many { longest_read < count }
     ensures refused { IfErr result (CountStops (O.heap o.old).blocks object count) }
-    ensures never { IsErr result }
+    ensures only { OnOk result ⊥ }
     ensures looks { Looks O.HasHeap o.old o.new result }
 {
     expect_kind(o, object, Kind::Object)?;
