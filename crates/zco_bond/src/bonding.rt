@@ -24,6 +24,10 @@ use zco_obj::{account, extents_length, first_parts};
 /// becomes the whole. The account is charged for what the object charges more; what is left of the
 /// grant of the ticket of this number covers what it can, and 0 is no ticket. It is linear in the
 /// parts.
+///
+/// It is refused `BadAddress` or `WrongKind` where the object isn't there, `BadTicket`, `NotAwarded`,
+/// `Queue` or `NoSpace` by the account; and `NoBlock` or `LogFull`, behind which the transaction has
+/// to be cancelled.
 pub fn bond<O: Objects>(o: &mut O, object: Addr, ticket: u64) -> Result<(), Stop>
     requires kept { KeepsSome (O.keeps o.old) }
     requires object { IsToBond (O.heap o.old) object }

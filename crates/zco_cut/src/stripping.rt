@@ -32,6 +32,9 @@ struct Span {
 /// which no byte lies in it are given back, each after what goes with it, as where an object is
 /// destroyed; and to its account what is charged less. It is linear in the extents, and doesn't
 /// serve the account's queue.
+///
+/// It is refused `BadAddress` or `WrongKind` where the object isn't there, and `LogFull`, behind which
+/// the transaction has to be cancelled.
 pub fn strip<O: Objects>(o: &mut O, object: Addr) -> Result<(), Stop>
     requires kept { KeepsSome (O.keeps o.old) }
     requires object { IsToStrip (O.heap o.old) object }

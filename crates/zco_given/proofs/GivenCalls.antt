@@ -125,6 +125,13 @@ module _ (old new : Heap) (w : World) (unmoved : old.moves ≡ []) (s : HeapStan
         subst (λ (ps : List Piece). StopsPieces m ps was now stop) (asked_same w call z ∙ sym pieces_are)
         (s'.stops (object_row z) (extent_pieces w z.extents) (wire_kept old w s served small (asked_addr call) z at.there))
 
+  -- the object isn't there
+  missing : (page : List ℕ) (refusal : Refusal) → Misses (old.blocks (asked_addr call)) (asked_addr call) kinds.Object (stops.Refused refusal) →
+      IsRefused w call old new page page refusal
+  missing page refusal m =
+      misnamed_refused w call (asked_addr call) kinds.Object (object_at w (asked_addr call)) _ old new page (λ o h. row-asked w o call reads h)
+      (no_object old w (asked_addr call) s served.whole.valid) unmoved same s served.whole.valid refusal m
+
   -- a call that wasn't answered, in words of the world
   module _ {M : Type 0} (m : Ghosts M) (was now : M) (few : asked_count call ≤ longest_read) where
     abbrev Stopped : Stop → Type 0
@@ -133,17 +140,17 @@ module _ (old new : Heap) (w : World) (unmoved : old.moves ≡ []) (s : HeapStan
     pub read_refused : (page : List ℕ) (refusal : Refusal) → Stopped (stops.Refused refusal) → IsRefused w call old new page page refusal
     read_refused page (refusals.SourceShort have want) r =
         let at = object_is_at old w (asked_addr call) s served r.0 in
-        short_refused at page have want few (stops_asked at m was now (stops.Refused (refusals.SourceShort have want)) r.1).0
+        short_refused at page have want few (stops_asked at m was now (stops.Refused (refusals.SourceShort have want)) r.2).0
     read_refused page (refusals.BadLength bytes most) r = absurd (let more = r.1 in omega (arith, few, more))
-    read_refused page refusal r =
-        misnamed_refused w call (asked_addr call) kinds.Object (object_at w (asked_addr call)) _ old new page (λ o h. row-asked w o call reads h)
-        (no_object old w (asked_addr call) s served.whole.valid) unmoved same s served.whole.valid refusal r
+    read_refused page (refusals.BadAddress addr) r = missing page (refusals.BadAddress addr) r.1
+    read_refused page (refusals.WrongKind addr number) r = missing page (refusals.WrongKind addr number) r.1
+    read_refused page refusal r = absurd r
 
     pub refused_agrees : (page : List ℕ) (told : Option Told) → told ≡ m.told was → (stop : Stop) → Stopped stop →
         AgreesRead told w call (Err stop) page
     refused_agrees page told e (stops.Refused (refusals.SourceShort have want)) r =
         let at = object_is_at old w (asked_addr call) s served r.0 in
-        let first = (stops_asked at m was now (stops.Refused (refusals.SourceShort have want)) r.1).2 in
+        let first = (stops_asked at m was now (stops.Refused (refusals.SourceShort have want)) r.2).2 in
         by told (subst (λ (t : Option Told). IfSome t (λ media. IsFirstShort media (pieces_asked w call) have want)) (sym e) first)
       where
         by : (t : Option Told) → IfSome t (λ media. IsFirstShort media (pieces_asked w call) have want) →
@@ -157,11 +164,11 @@ module _ (old new : Heap) (w : World) (unmoved : old.moves ≡ []) (s : HeapStan
     pub refused_misses : (stop : Stop) → Stopped stop → MissesMedia m w call was now (Err stop)
     refused_misses (stops.Refused (refusals.SourceShort have want)) r =
         let at = object_is_at old w (asked_addr call) s served r.0 in
-        let g = stops_asked at m was now (stops.Refused (refusals.SourceShort have want)) r.1 in
+        let g = stops_asked at m was now (stops.Refused (refusals.SourceShort have want)) r.2 in
         (g.1.0, g.0, g.1.1)
     refused_misses stops.MediaFault r =
         let at = object_is_at old w (asked_addr call) s served r.0 in
-        stops_asked at m was now stops.MediaFault r.1
+        stops_asked at m was now stops.MediaFault r.2
     refused_misses stop r = tt
 
   -- too many bytes are asked
@@ -183,9 +190,7 @@ module _ (old new : Heap) (w : World) (unmoved : old.moves ≡ []) (s : HeapStan
         left = λ read. same;
         gave = refl;
       }
-  count_refused page refusal r =
-      misnamed_refused w call (asked_addr call) kinds.Object (object_at w (asked_addr call)) _ old new page (λ o h. row-asked w o call reads h)
-      (no_object old w (asked_addr call) s served.whole.valid) unmoved same s served.whole.valid refusal r
+  count_refused page refusal r = missing page refusal r
 
   pub count_agrees : (page : List ℕ) (told : Option Told) (stop : Stop) → CountStops old.blocks (asked_addr call) (asked_count call) stop →
       AgreesRead told w call (Err stop) page

@@ -80,13 +80,13 @@ pub record StopsClone (acct : Acct) (number : ℕ) (seen : Asked) (old new : Hea
   pub stops : (extents : List ExtentRow) (sources : List NamedSource) → ExtentsBeside old.blocks seen.first extents sources →
       ChargeStops acct number (clone_amounts sources (parts seen.span extents)) old new stop
 
--- why the object's account refuses an object of what is asked for, if it does
+-- the part has the range, and the object's account allows an object of it
 abbrev pub CloneAllowed : ℕ → ℕ → ℕ → Heap → ObjectRow → List Ticket → List NamedSource → Type 0
 CloneAllowed number offset bytes heap row tickets sources =
     HasRange offset bytes row
     × (refusal_in heap row.account number (clone_amounts sources (asked offset bytes row)) tickets ≡ None)
 
--- or has this cause to refuse it
+-- the part has the range, and the account has this cause to refuse an object of it
 abbrev pub CloneRefused : ℕ → ℕ → ℕ → Refusal → Heap → ObjectRow → List Ticket → List NamedSource → Type 0
 CloneRefused number offset bytes refusal heap row tickets sources =
     HasRange offset bytes row

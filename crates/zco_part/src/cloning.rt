@@ -35,6 +35,10 @@ struct Asked {
 /// its extents name the same sources, which count them, and its part is its whole. The account is
 /// charged for it. What is left of the grant of the ticket of this number covers what it can; 0 is no
 /// ticket. It is linear in the extents, and copies none of their bytes.
+///
+/// It is refused `BadAddress` or `WrongKind` where the object isn't there, `BadRange` for no byte or
+/// more than its part has from the place on, `BadTicket`, `NotAwarded`, `Queue` or `NoSpace` by the
+/// account; and `NoBlock` or `LogFull`, behind which the transaction has to be cancelled.
 pub fn clone_part<O: Objects>(
     o: &mut O,
     object: Addr,

@@ -9,8 +9,11 @@ use sdr_base::layout::object as words;
 use sdr_base::{Addr, Kind, Objects, Refusal, Stop, expect_kind, set_word, word};
 use zco_obj::extents_length;
 
-/// Sets the part of an object to so many bytes of its extents, from a place on. It may have no byte.
-/// It is linear in the extents.
+/// Sets the part of an object to so many bytes of its extents, from a place among all of them on. It
+/// may have no byte. It is linear in the extents.
+///
+/// It is refused `BadAddress` or `WrongKind` where the object isn't there, `BadRange` where the
+/// extents have fewer bytes, and `LogFull`, behind which the transaction has to be cancelled.
 pub fn delimit<O: Objects>(o: &mut O, object: Addr, offset: u64, bytes: u64) -> Result<(), Stop>
     requires kept { KeepsSome (O.keeps o.old) }
     requires object { IsObject (O.heap o.old).blocks object }

@@ -1,5 +1,5 @@
 -- Why a read of an object stops.
-use Rattle.std.proofs.Common.{◌≡◌, ◌+◌, ◌-◌, ◌∙◌, ℕ, List, Option, take, min, ap, subst, arith}
+use Rattle.std.proofs.Common.{◌≡◌, ◌≤◌, ◌+◌, ◌-◌, ◌∙◌, ℕ, List, Option, take, min, ap, subst, arith}
 use Rattle.std.specs.Prelude.{max}
 use Rattle.sdr_base.specs.Blocks.{Blocks, IsKind}
 use Rattle.sdr_base.specs.Media.{Told}
@@ -7,7 +7,7 @@ use Rattle.sdr_base.specs.Objects.{Misses, OnlyFault}
 use Rattle.sdr_base.specs.ZcoObjects.{ObjectRow}
 use Rattle.sdr_base.specs.declared.kind.Kind.TheVariants as kinds
 use Rattle.sdr_base.specs.declared.media.Media.{Ghosts}
-use Rattle.sdr_base.specs.declared.refusal.Refusal.TheVariants.{BadLength, SourceShort}
+use Rattle.sdr_base.specs.declared.refusal.Refusal.TheVariants.{BadAddress, BadLength, SourceShort, WrongKind}
 use Rattle.sdr_base.specs.declared.stop.Stop.{Stop}
 use Rattle.sdr_base.specs.declared.stop.Stop.TheVariants as stops
 use Rattle.sdr_gather.specs.Gathering.{AreGathered}
@@ -22,25 +22,28 @@ use Rattle.zco_wire.specs.Stopping.{IsPageRefused, ReadStops, StopsObject, Stops
 
 module _ (blocks : Blocks) (object count : ℕ) {M : Type 0} (m : Ghosts M) (asked : ObjectRow → List Piece → List Piece) (old new : M) where
   -- it isn't there
-  pub missed : (stop : Stop) → Misses (blocks object) object kinds.Object stop → ReadStops m blocks object count asked old new stop
-  missed (stops.Refused (BadLength bytes most)) s = absurd s
-  missed (stops.Refused (SourceShort have want)) s = absurd s
-  missed stops.MediaFault s = absurd s
-  missed stop s = s
+  pub missed : (stop : Stop) → new ≡ old → Misses (blocks object) object kinds.Object stop → ReadStops m blocks object count asked old new stop
+  missed (stops.Refused (BadAddress addr)) same s = (same, s)
+  missed (stops.Refused (WrongKind addr number)) same s = (same, s)
+  missed (stops.Refused refusal) same s = absurd s
+  missed stops.MediaFault same s = absurd s
+  missed stops.DiskFault same s = tt
+  missed stops.Failed same s = tt
 
   -- too many bytes are asked
-  pub paged : (stop : Stop) → IsKind (blocks object) kinds.Object → IsPageRefused count stop → ReadStops m blocks object count asked old new stop
-  paged (stops.Refused (BadLength bytes most)) kind s = (kind, s.0, s.1, s.2)
-  paged stop kind s = absurd s
+  pub paged : (stop : Stop) → new ≡ old → IsKind (blocks object) kinds.Object → IsPageRefused count stop →
+      ReadStops m blocks object count asked old new stop
+  paged (stops.Refused (BadLength bytes most)) same kind s = (kind, s.0, s.1, s.2, same)
+  paged stop same kind s = absurd s
 
   -- what was asked wasn't read
-  pub object_stops : (stop : Stop) → IsKind (blocks object) kinds.Object → IsWire blocks object → StopsObject m blocks object asked old new stop →
-      ReadStops m blocks object count asked old new stop
-  object_stops (stops.Refused (SourceShort have want)) kind wire s = (kind, s)
-  object_stops stops.MediaFault kind wire s = (kind, s)
-  object_stops (stops.Refused refusal) kind wire s = let w = wire kind in absurd (s.stops w.row w.named w.keeps)
-  object_stops stops.DiskFault kind wire s = tt
-  object_stops stops.Failed kind wire s = tt
+  pub object_stops : (stop : Stop) → IsKind (blocks object) kinds.Object → IsWire blocks object → count ≤ 4096 →
+      StopsObject m blocks object asked old new stop → ReadStops m blocks object count asked old new stop
+  object_stops (stops.Refused (SourceShort have want)) kind wire few s = (kind, few, s)
+  object_stops stops.MediaFault kind wire few s = (kind, few, s)
+  object_stops (stops.Refused refusal) kind wire few s = let w = wire kind in absurd (s.stops w.row w.named w.keeps)
+  object_stops stops.DiskFault kind wire few s = tt
+  object_stops stops.Failed kind wire few s = tt
 
   -- the heap failed
   pub faulted : (stop : Stop) → OnlyFault stop → ReadStops m blocks object count asked old new stop

@@ -5,6 +5,7 @@ use Rattle.sdr_base.specs.Media.{Told}
 use Rattle.sdr_base.specs.ZcoObjects.{ObjectRow}
 use Rattle.sdr_base.specs.declared.kind.Kind.TheVariants as kinds
 use Rattle.sdr_gather.specs.Gathering.{AreGathered}
+use Rattle.sdr_model.specs.Limits.{longest_read}
 use Rattle.sdr_model.specs.Pieces.{cut_pieces}
 use Rattle.sdr_model.specs.declared.piece.Piece.{Piece}
 use Rattle.zco_wire.specs.Naming.{KeepsWire, wire_of}
@@ -35,10 +36,12 @@ asked_trailers place count row named = cut_pieces (max place (end_of row)) count
 abbrev pub moved_by : ℕ → ℕ → Reader → Reader
 moved_by from given reader = if given == 0 then reader else record reader { place = from + given }
 
--- The object is there. Whichever is kept, the first bytes of the buffer are what was asked of it, and the reader stands behind them.
+-- The object is there, and at most a page was asked. Whichever object is kept, the first bytes of the buffer are what was asked of it,
+-- and the reader stands behind them.
 pub record GivesObject (told : Option Told) (blocks : Blocks) (object : ℕ) (asked : ObjectRow → List Piece → List Piece) (from : ObjectRow → ℕ)
     (into : List ℕ) (reader reader' : Reader) (given : ℕ) : Type 0 where
   pub kind : IsKind (blocks object) kinds.Object
+  pub page : length into ≤ longest_read
   pub few : given ≤ length into
   pub gives : (row : ObjectRow) (named : List Piece) → KeepsWire blocks object row named → AreGathered told (asked row named) (take given into)
   pub moved : (row : ObjectRow) (named : List Piece) → KeepsWire blocks object row named → reader' ≡ moved_by (from row) given reader

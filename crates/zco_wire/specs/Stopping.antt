@@ -7,7 +7,7 @@ use Rattle.sdr_base.specs.Objects.{Misses, OnlyFault}
 use Rattle.sdr_base.specs.ZcoObjects.{ExtentRow, ObjectRow}
 use Rattle.sdr_base.specs.declared.kind.Kind.TheVariants as kinds
 use Rattle.sdr_base.specs.declared.media.Media.{Ghosts}
-use Rattle.sdr_base.specs.declared.refusal.Refusal.TheVariants.{BadLength, SourceShort}
+use Rattle.sdr_base.specs.declared.refusal.Refusal.TheVariants.{BadAddress, BadLength, SourceShort, WrongKind}
 use Rattle.sdr_base.specs.declared.stop.Stop.{Stop}
 use Rattle.sdr_base.specs.declared.stop.Stop.TheVariants as stops
 use Rattle.sdr_gather.specs.Gathering.{IsGapIn, IsGapOf, OfMedia}
@@ -77,15 +77,21 @@ pub record StopsObject {M : Type 0} (m : Ghosts M) (blocks : Blocks) (object : �
     (stop : Stop) : Type 0 where
   pub stops : (row : ObjectRow) (named : List Piece) → KeepsWire blocks object row named → StopsPieces m (asked row named) old new stop
 
--- Why a read of an object stops: it isn't there, or too many bytes are asked, or what is asked of it wasn't read.
+-- Why a read of an object stops: it isn't there, or too many bytes are asked, for which media aren't asked; or what is asked of it
+-- wasn't read.
 abbrev pub ReadStops : {M : Type 0} → Ghosts M → Blocks → ℕ → ℕ → (ObjectRow → List Piece → List Piece) → M → M → Stop → Type 0
+ReadStops m blocks object count asked old new (stops.Refused (BadAddress addr)) =
+    (new ≡ old) × Misses (blocks object) object kinds.Object (stops.Refused (BadAddress addr))
+ReadStops m blocks object count asked old new (stops.Refused (WrongKind addr number)) =
+    (new ≡ old) × Misses (blocks object) object kinds.Object (stops.Refused (WrongKind addr number))
 ReadStops m blocks object count asked old new (stops.Refused (BadLength bytes most)) =
-    IsKind (blocks object) kinds.Object × (longest_read < count) × (bytes ≡ count) × (most ≡ longest_read)
+    IsKind (blocks object) kinds.Object × (longest_read < count) × (bytes ≡ count) × (most ≡ longest_read) × (new ≡ old)
 ReadStops m blocks object count asked old new (stops.Refused (SourceShort have want)) =
-    IsKind (blocks object) kinds.Object × StopsObject m blocks object asked old new (stops.Refused (SourceShort have want))
+    IsKind (blocks object) kinds.Object × (count ≤ longest_read)
+    × StopsObject m blocks object asked old new (stops.Refused (SourceShort have want))
 ReadStops m blocks object count asked old new stops.MediaFault =
-    IsKind (blocks object) kinds.Object × StopsObject m blocks object asked old new stops.MediaFault
-ReadStops m blocks object count asked old new stop = Misses (blocks object) object kinds.Object stop
+    IsKind (blocks object) kinds.Object × (count ≤ longest_read) × StopsObject m blocks object asked old new stops.MediaFault
+ReadStops m blocks object count asked old new stop = OnlyFault stop
 
 -- a buffer is refused that has more bytes than are given at once
 abbrev pub IsPageRefused : ℕ → Stop → Type 0

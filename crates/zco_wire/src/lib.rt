@@ -4,8 +4,8 @@
 //!    trailers, in order, from a place on.
 //! 2. The bytes of an extent lie in a raw object's block, or with media, which are asked once for all
 //!    that a call needs of it. Each byte is copied once, into the caller's buffer.
-//! 3. Where media have fewer bytes than they are asked for, or fail, the call says so, and nothing
-//!    has changed. A reader moves only past bytes that were given.
+//! 3. Where media have fewer bytes than they are asked for, or fail, the call says so, and the heap
+//!    and the reader are as before. A reader moves only past bytes that were given.
 #![tactic(auto)]
 
 mod cursor;

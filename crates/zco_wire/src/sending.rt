@@ -22,8 +22,9 @@ use zco_obj::first_parts;
 ///
 /// It is refused `BadAddress` or `WrongKind` where the reader's object isn't there, `BadLength` where
 /// the buffer has more than 4,096 bytes, and `SourceShort` where media have fewer bytes of an extent
-/// than they are asked for; it answers `MediaFault` where media fail. Unless it is answered `Ok` the
-/// reader stays where it was, and what the buffer holds is open.
+/// than they are asked for; it answers `MediaFault` where media fail, and `DiskFault` or `Failed` as
+/// every call on blocks does. Unless it is answered `Ok` the reader stays where it was. What the
+/// buffer holds behind the bytes that were given is open.
 pub fn transmit<O: Objects, M: Media>(
     o: &mut O,
     media: &mut M,

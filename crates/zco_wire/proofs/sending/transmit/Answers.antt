@@ -1,5 +1,5 @@
 -- The object is read, and the reader moved.
-use Rattle.std.proofs.Common.{length}
+use Rattle.std.proofs.Common.{length, refl, arith}
 use Rattle.std.proofs.lemmas.Result.{err_from_is_err_and}
 use Rattle.sdr_base.proofs.WorksLemmas.{looks_looks}
 use Rattle.zco_wire.specs.Reading.{asked_wire}
@@ -11,7 +11,7 @@ pub returns-in_err-expect_kind-clause-stops : goal.returns-in_err-expect_kind-cl
 returns-in_err-expect_kind-clause-stops g c =
     let p = err_from_is_err_and c.from_residual.result c.from_residual.ensures.1 in
     rw (p.1, p.2) (missed (g.O.HasHeap.heap c.args.o.now).blocks c.args.reader.now.object (length c.args.into.now) g.M.Media
-    (asked_wire c.args.reader.now.place (length c.args.into.now)) c.args.media.now c.args.media.now _ c.in_err-expect_kind.ensures.refused)
+    (asked_wire c.args.reader.now.place (length c.args.into.now)) c.args.media.now c.args.media.now _ refl c.in_err-expect_kind.ensures.refused)
 
 pub returns-in_err-expect_kind-clause-looks : goal.returns-in_err-expect_kind-clause-looks
 returns-in_err-expect_kind-clause-looks g c =
@@ -23,7 +23,7 @@ returns-in_err-check_page-clause-stops g c =
     let p = err_from_is_err_and c.from_residual-in_err-check_page.result c.from_residual-in_err-check_page.ensures.1 in
     rw (p.1, p.2)
     (paged (g.O.HasHeap.heap c.args.o.now).blocks c.args.reader.now.object (length c.args.into.now) g.M.Media
-    (asked_wire c.args.reader.now.place (length c.args.into.now)) c.args.media.now c.args.media.now _ c.in_ok-expect_kind.ensures.found
+    (asked_wire c.args.reader.now.place (length c.args.into.now)) c.args.media.now c.args.media.now _ refl c.in_ok-expect_kind.ensures.found
     c.in_err-check_page.ensures.refused)
 
 pub read_wire-requires-clause-object : goal.read_wire-requires-clause-object
@@ -36,7 +36,7 @@ returns-in_err-given-clause-stops g c =
     rw (p.1, p.2)
     (object_stops (g.O.HasHeap.heap c.args.o.now).blocks c.args.reader.now.object (length c.args.into.now) g.M.Media
     (asked_wire c.args.reader.now.place (length c.args.into.now)) c.args.media.now c.read_wire.new.media _ c.in_ok-expect_kind.ensures.found
-    c.requires.object s)
+    c.requires.object c.in_ok-check_page.ensures.fits s)
 
 pub returns-in_err-given-clause-looks : goal.returns-in_err-given-clause-looks
 returns-in_err-given-clause-looks g c =
@@ -48,6 +48,7 @@ returns-clause-given g c =
     let f = rw c.expect_kind.ensures.looks.same at c.in_ok-given.ensures.fills in
     record {
       kind = c.in_ok-expect_kind.ensures.found;
+      page = let l = c.read_wire.ensures.same in let p = c.in_ok-check_page.ensures.fits in omega (arith, l, p);
       few = f.few;
       gives = f.gives;
       moved = λ row named k. c.moved_by.ensures;
