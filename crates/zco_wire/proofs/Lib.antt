@@ -8,3 +8,4 @@ pub mod PartLemmas
 pub mod HeadLemmas
 pub mod WireLemmas
 pub mod AnswerLemmas
+mod RowsOfReads
