@@ -1,6 +1,6 @@
 -- A part of an object that is cloned, as a step.
-use Rattle.std.proofs.Common.{◌≡◌, ◌∙◌, ◌+◌, ◌*◌, ◌-◌, ◌≤◌, ◌<◌, ◌⊎◌, ◌==◌, ◌||◌, ℕ, List, [], ◌∷◌, ◌++◌, Option, Some, None, Result, true, false, true≢false, inl, inr, length, map, nat_lt, replicate, refl, sym, ap, subst, arith, append_assoc, length-append, length-replicate}
-use Rattle.std.proofs.lemmas.List.{length-map, map-append}
+use Rattle.std.proofs.Common.{◌≡◌, ◌∙◌, ◌+◌, ◌*◌, ◌-◌, ◌≤◌, ◌<◌, ◌⊎◌, ◌==◌, ◌||◌, ℕ, List, [], ◌∷◌, ◌++◌, Option, Some, None, Result, true, false, true≢false, inl, inr, length, map, nat_lt, replicate, refl, sym, ap, subst, arith, append_assoc, length-append}
+use Rattle.std.proofs.lemmas.List.{length-map, length-replicate, map-append}
 use Rattle.std.specs.FinMap as finite
 use Rattle.std.specs.Option.{option_map_or}
 use Rattle.std.specs.Prelude.{slice_index}
@@ -262,10 +262,10 @@ module _ (old new : Heap) (w : World) (unmoved : old.moves ≡ []) (s : HeapStan
     -- so it would where it wants a block, with those that it has
     lacks_block : (missing : ℕ) → OfCloned (CloneAllowed number offset bytes old) addr old → LacksNext addr offset bytes missing old new →
         Stops w (record { moves = new.moves; after = w; reply = replies.Refused (refusals.NoBlock missing) }) call
-    lacks_block missing m l = by l.addrs l.is few l.moves
+    lacks_block missing m l = by l.addrs l.is not_all l.moves
       where
-        few : length l.addrs < 1 + length es
-        few =
+        not_all : length l.addrs < 1 + length es
+        not_all =
             let all = l.few.holds (object_row z) tickets sources kept in
             let same = many in omega (arith, all, same)
 
@@ -293,7 +293,7 @@ module _ (old new : Heap) (w : World) (unmoved : old.moves ≡ []) (s : HeapStan
             let zeros = replicate left 0 in
             let all = addrs ++ (0 ∷ zeros) in
             let same : length all ≡ length es =
-            omega (arith, few, length-append addrs (0 ∷ zeros), length-replicate left 0) in
+            omega (arith, few, length-append addrs (0 ∷ zeros), length-replicate {A = ℕ} left 0) in
             record {
               aim = outcome clone all same;
               row = cloned_row clone all same (in_part m) (may_pay m);
@@ -304,7 +304,7 @@ module _ (old new : Heap) (w : World) (unmoved : old.moves ≡ []) (s : HeapStan
                 rest = takes_extents zeros;
                 whole =
                     ap (λ (ms : List Move). Took object_need clone ∷ ms)
-                        (map-append (λ (a : ℕ). Took extent_need a) addrs (0 ∷ zeros))
+                    (map-append (λ (a : ℕ). Took extent_need a) addrs (0 ∷ zeros))
                     ∙ sym (ap (λ (n : ℕ). takes_clone clone addrs ++ (Took n 0 ∷ takes_extents zeros)) is);
                 short = moved ∙ ap (λ (ms : List Move). ms ++ (takes_clone clone addrs ++ Short missing ∷ [])) unmoved;
               };
@@ -368,11 +368,11 @@ module _ (old new : Heap) (w : World) (unmoved : old.moves ≡ []) (s : HeapStan
       ((row : ObjectRow) (tickets : List Ticket) (sources : List NamedSource) → KeepsToClone old addr row tickets sources →
       Works m (34 + 33 * length (asked offset bytes row)) a b r) →
       ((IsKind (old.blocks addr) kinds.Object → ⊥) → Works m 0 a b r) →
-      Works m (option_map_or (λ x. 34 + 33 * length (asked_extents x offset bytes)) 0 (object_at w addr)) a b r
+      Works m (option_map_or (λ x. 34 + 33 * length (asked_extents x offset bytes)) (object_at w addr) 0) a b r
   clone_works {S} {T} {m} {a} {b} {r} works missed = by (object_at w addr) refl
     where
       by : (o : Option ZcoObject) → object_at w addr ≡ o →
-          Works m (option_map_or (λ x. 34 + 33 * length (asked_extents x offset bytes)) 0 o) a b r
+          Works m (option_map_or (λ x. 34 + 33 * length (asked_extents x offset bytes)) o 0) a b r
       by None is =
           missed (λ kind.
           let at = object_is_at old w addr s served kind in

@@ -32,13 +32,13 @@ bytes_for at k (e ∷ es) = let rest = bytes_for at (suc k) es in omega (arith, 
 -- blocks were taken for a clone and its extents
 clone_enough : (d : Demand) (w : World) (addr ticket offset bytes : ℕ) (o : Outcome) (z : Option ZcoObject) (at : ℕ → ℕ) →
     o.moves ≡ clone_moves_of z offset bytes at →
-    most_lines d + option_map_or (λ x. 34 + 33 * length (asked_extents x offset bytes)) 0 z
+    most_lines d + option_map_or (λ x. 34 + 33 * length (asked_extents x offset bytes)) z 0
     ≤ most_lines (demand_after d w (calls.ClonePart addr ticket offset bytes) o)
 clone_enough d w addr ticket offset bytes o None at moves = omega arith
 clone_enough d w addr ticket offset bytes o (Some z) at moves =
     let es = asked_extents z offset bytes in
     let rest = takes_from at 1 (map (λ (e : Extent). extent_need) es) in
-    let many : length o.moves ≡ 1 + length rest = ap (λ (ms : List Move). length ms) moves in
+    let many : length o.moves ≡ suc (length rest) = ap (λ (ms : List Move). length ms) moves in
     let need : bytes_taken o.moves ≡ 72 + bytes_taken rest = ap bytes_taken moves in
     omega (arith, many, need, extents_taken at 1 es, bytes_for at 1 es)
 

@@ -40,6 +40,6 @@ is_part_call call = false
 -- so many lines such a call touches at most: 33 for each extent of a clone, beside those of the clone itself
 abbrev pub call_lines : World → Call → ℕ
 call_lines w (calls.ClonePart object ticket offset bytes) =
-    option_map_or (λ z. 34 + 33 * length (asked_extents z offset bytes)) 0 (object_at w object)
+    option_map_or (λ z. 34 + 33 * length (asked_extents z offset bytes)) (object_at w object) 0
 call_lines w (calls.Delimit object offset bytes) = 4
 call_lines w call = 0

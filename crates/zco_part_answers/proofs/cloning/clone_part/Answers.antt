@@ -45,8 +45,8 @@ returns-in_err-addr-clause-works g c =
     λ w stands served.
     rw (p.1, p.2)
     (works_stopped _
-    (clone_works {r = Err c.in_err-addr.field-0.0} old new w c.requires.unmoved stands served small c.args.object c.args.ticket c.args.offset
-    c.args.bytes c.in_err-addr.ensures.works c.in_err-addr.ensures.missed))
+    (clone_works old new w c.requires.unmoved stands served small c.args.object c.args.ticket c.args.offset c.args.bytes
+    {r = Err c.in_err-addr.field-0.0} c.in_err-addr.ensures.works c.in_err-addr.ensures.missed))
 
 pub returns-clause-comes : goal.returns-clause-comes
 returns-clause-comes g c =
