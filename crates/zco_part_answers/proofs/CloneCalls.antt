@@ -1,11 +1,11 @@
 -- A part of an object that is cloned, as a step.
-use Rattle.std.proofs.Common.{◌≡◌, ◌∙◌, ◌+◌, ◌*◌, ◌-◌, ◌≤◌, ◌<◌, ◌⊎◌, ◌==◌, ◌||◌, ℕ, List, [], ◌∷◌, ◌++◌, Option, Some, None, Result, true, false, true≢false, inl, inr, length, map, nat_lt, replicate, refl, sym, ap, subst, arith, append_assoc, length-append}
+use Rattle.std.proofs.Common.{◌≡◌, ◌∙◌, ◌+◌, ◌*◌, ◌-◌, ◌<◌, ◌⊎◌, ℕ, List, [], ◌∷◌, ◌++◌, Option, Some, None, Result, true≢false, inl, inr, length, map, replicate, refl, sym, ap, subst, arith, append_assoc, length-append}
 use Rattle.std.proofs.lemmas.List.{length-map, length-replicate, map-append}
 use Rattle.std.specs.FinMap as finite
 use Rattle.std.specs.Option.{option_map_or}
 use Rattle.std.specs.Prelude.{slice_index}
 use Rattle.sdr_answers.proofs.ListLemmas.{IsSmall}
-use Rattle.sdr_answers.proofs.RowLemmas.{HasMoves, misnamed_refused, moved_answered, row_refused}
+use Rattle.sdr_answers.proofs.RowLemmas.{misnamed_refused, moved_answered, row_refused}
 use Rattle.sdr_answers.specs.Answering.{Aim, Answered, IsRefused, IsServed}
 use Rattle.sdr_audit.proofs.ChangeLemmas.{apart, nothing_at}
 use Rattle.sdr_audit.specs.Rows.{object_row}
@@ -17,7 +17,6 @@ use Rattle.sdr_base.specs.Objects.{Heap}
 use Rattle.sdr_base.specs.Section.{section}
 use Rattle.sdr_base.specs.Works.{Works}
 use Rattle.sdr_base.specs.ZcoObjects.{ObjectRow, object_entries}
-use Rattle.sdr_base.specs.declared.account.Acct.{Acct}
 use Rattle.sdr_base.specs.declared.account.Amounts.{Amounts}
 use Rattle.sdr_base.specs.declared.has_heap.HasHeap.{Ghosts}
 use Rattle.sdr_base.specs.declared.kind.Kind.TheVariants as kinds
@@ -41,7 +40,7 @@ use Rattle.sdr_model.specs.ObjectSteps.{InRange, with_object}
 use Rattle.sdr_model.specs.PartSteps.{asked_extents, clone_moves, object_of}
 use Rattle.sdr_model.specs.Rows.{ByRow}
 use Rattle.sdr_model.specs.Step.{Stops}
-use Rattle.sdr_model.specs.Steps.{DoesWith, Outcome, taken_addresses, taken_at}
+use Rattle.sdr_model.specs.Steps.{DoesWith, Outcome, taken_addresses}
 use Rattle.sdr_model.specs.Things.{Things, extent_need, object_need}
 use Rattle.sdr_model.specs.World.{World, thing_at}
 use Rattle.sdr_model.specs.Zco.{as_object, object_at}
@@ -57,8 +56,8 @@ use Rattle.zco_answers.proofs.AlikeLemmas.{StandAlike}
 use Rattle.zco_answers.proofs.AppendLemmas.{in_range, out_of_range}
 use Rattle.zco_answers.proofs.ChargeLemmas.{IsPaid, paid, unpaid}
 use Rattle.zco_answers.proofs.DestroyKept.{used}
-use Rattle.zco_answers.proofs.GoneUses.{UsedBy, named_of}
-use Rattle.zco_answers.proofs.GoneWorlds.{beside, own_blocks, own_first}
+use Rattle.zco_answers.proofs.GoneUses.{UsedBy}
+use Rattle.zco_answers.proofs.GoneWorlds.{beside, own_first}
 use Rattle.zco_answers.proofs.MovingLemmas.{both_alike}
 use Rattle.zco_answers.proofs.ObjectLemmas.{IsObjectAt, no_object, object_is_at, object_kept}
 use Rattle.zco_answers.proofs.PayingLemmas.{paid_stands, paid_world, same_refusal}
@@ -70,7 +69,7 @@ use Rattle.zco_part.specs.Cloning.{ClonesPart, CloneAllowed, CloneStops, HasRang
 use Rattle.zco_part.specs.Copying.{takes_extents}
 use Rattle.zco_part.specs.Pieces.{asked, placed, whole_row}
 use Rattle.zco_part.specs.Sources.{all_counted}
-use Rattle.zco_part_answers.proofs.CloneCharges.{all_named, clone_charge, clone_moves_charge, named_as_often, placed_names, uncut}
+use Rattle.zco_part_answers.proofs.CloneCharges.{clone_charge, clone_moves_charge, named_as_often, placed_names, uncut}
 use Rattle.zco_part_answers.proofs.CloneTies.{cloned, cloned_first}
 use Rattle.zco_part_answers.proofs.FreshLemmas.{clone_distinct, took_clone}
 use Rattle.zco_part_answers.proofs.KeptLemmas.{kept_to_clone, rows}

@@ -1,11 +1,9 @@
 -- What a clone charges its account, as the world and the blocks have it.
-use Rattle.std.proofs.Common.{◌≡◌, ◌∙◌, ◌+◌, ◌-◌, ◌==◌, ◌||◌, ℕ, suc, List, [], ◌∷◌, Bool, true, false, map, Option, None, Some, refl, sym, ap, arith, if◌then◌else◌}
+use Rattle.std.proofs.Common.{◌≡◌, ◌∙◌, ◌+◌, ◌-◌, ◌==◌, ℕ, suc, List, [], ◌∷◌, Bool, true, false, map, Option, None, Some, refl, sym, ap, arith, if◌then◌else◌}
 use Rattle.std.proofs.lemmas.List.Sums.{sum_by-cons}
 use Rattle.std.specs.FinMap as finite
 use Rattle.std.specs.List.{AllByRecursion, sum_by}
-use Rattle.sdr_audit.specs.Rows.{object_row}
 use Rattle.sdr_base.specs.declared.account.Acct.{Acct}
-use Rattle.sdr_base.specs.declared.account.Amounts.{Amounts}
 use Rattle.sdr_base.specs.declared.kind.Space.{Space}
 use Rattle.sdr_base.specs.declared.kind.Space.TheVariants as spaces
 use Rattle.sdr_laws.proofs.ChargeMoves.{MovesCharge, object_moves}
@@ -20,12 +18,11 @@ use Rattle.sdr_model.specs.Charges.{bytes_charge, extent_charge, object_bytes, o
 use Rattle.sdr_model.specs.Cuts as model
 use Rattle.sdr_model.specs.Cuts.{cut_all}
 use Rattle.sdr_model.specs.Gone.{names_source}
-use Rattle.sdr_model.specs.PartSteps.{asked_extents, object_of}
+use Rattle.sdr_model.specs.PartSteps.{object_of}
 use Rattle.sdr_model.specs.World.{World, thing_at}
 use Rattle.sdr_model.specs.Zco.{as_source, naming, source_at}
 use Rattle.sdr_model.specs.declared.things.Thing.TheVariants as things
 use Rattle.sdr_model.specs.declared.zco.Extent.{Extent}
-use Rattle.sdr_model.specs.declared.zco.ZcoObject.{ZcoObject}
 use Rattle.sdr_model.specs.declared.zco.ZcoSource.{ZcoSource}
 use Rattle.zco_answers.proofs.AppendLemmas.{same_space}
 use Rattle.zco_answers.proofs.GoneUses.{IsFound, UsedSource, itself, named_later, named_of}
@@ -33,9 +30,8 @@ use Rattle.zco_obj.specs.Gone as rows
 use Rattle.zco_obj.specs.Gone.{NamedSource}
 use Rattle.zco_obj.specs.declared.extent.Piece.{Piece}
 use Rattle.zco_part.specs.Charging.{clone_amounts, piece_charge}
-use Rattle.zco_part.specs.Pieces.{asked}
 use Rattle.zco_part.specs.Sources.{pieces_of}
-use Rattle.zco_part_answers.proofs.PieceLemmas.{asked_same, named}
+use Rattle.zco_part_answers.proofs.PieceLemmas.{named}
 
 -- pieces are of a source as often as the extents that they are of name it, wherever those are
 pub named_as_often : (q : ℕ) (es : List Extent) → pieces_of q (map named es) ≡ naming q es

@@ -1,5 +1,5 @@
 -- The blocks of a world with a clone in front, whose sources count its extents.
-use Rattle.std.proofs.Common.{◌≡◌, ◌≢◌, ◌∙◌, ◌+◌, ℕ, List, [], ◌∷◌, ◌++◌, map, Bool, true, false, true≢false, cond, eq-eqb, Option, Some, None, refl, sym, ap, subst, arith, if◌then◌else◌}
+use Rattle.std.proofs.Common.{◌≡◌, ◌≢◌, ◌∙◌, ◌+◌, ℕ, List, [], ◌∷◌, ◌++◌, map, Bool, true, false, cond, eq-eqb, Option, Some, None, refl, sym, ap, subst, arith, if◌then◌else◌}
 use Rattle.std.proofs.lemmas.Bool.{ne_eqb}
 use Rattle.std.proofs.lemmas.List.Concat.{flat_map-append}
 use Rattle.std.specs.FinMap as finite
@@ -7,14 +7,13 @@ use Rattle.std.specs.Option.{option_to_list}
 use Rattle.sdr_audit.proofs.TiesLemmas.{same_first}
 use Rattle.sdr_audit.specs.Rows.{medium_of, object_row, source_row, subject_number}
 use Rattle.sdr_audit.specs.Standing.{thing_entries}
-use Rattle.sdr_audit.specs.Ties.{Ties, names_raw_at, or_null, ties_of}
+use Rattle.sdr_audit.specs.Ties.{names_raw_at, or_null, ties_of}
 use Rattle.sdr_base.specs.Entries.{Entries}
 use Rattle.sdr_base.specs.Raws.{raw_entries}
 use Rattle.sdr_base.specs.Section.{section}
 use Rattle.sdr_base.specs.ZcoObjects.{object_entries}
 use Rattle.sdr_base.specs.declared.account.Acct.{Acct}
 use Rattle.sdr_base.specs.declared.account.Acct.TheVariants as accts
-use Rattle.sdr_laws.proofs.GoneLaws.{without}
 use Rattle.sdr_laws.proofs.GoneLemmas.{AreApart}
 use Rattle.sdr_laws.proofs.SourceViews.{here_at, sum_by-with_at}
 use Rattle.sdr_model.proofs.SumLemmas.{counted_at}

@@ -1,5 +1,5 @@
 -- The blocks of a clone are new, and differ from one another.
-use Rattle.std.proofs.Common.{◌≡◌, ◌≢◌, ◌∙◌, ◌≤◌, ◌+◌, ◌⊎◌, ◌++◌, ℕ, List, [], ◌∷◌, cond, Bool, inl, inr, length, eq-eqb, refl, sym, ap, subst, arith}
+use Rattle.std.proofs.Common.{◌≡◌, ◌≢◌, ◌∙◌, ◌≤◌, ◌⊎◌, ◌++◌, ℕ, List, [], ◌∷◌, cond, Bool, inl, inr, length, eq-eqb, refl, sym, ap, subst, arith}
 use Rattle.std.proofs.lemmas.List.Elements.{All-cons, All-head, All-nil, All-tail, Contains-append_cases, Contains-push_cases}
 use Rattle.std.specs.List.{AllByRecursion}
 use Rattle.std.specs.Prelude.{All, Contains}
@@ -17,7 +17,6 @@ use Rattle.sdr_laws.proofs.GoneLemmas.{AreApart}
 use Rattle.sdr_laws.specs.Fresh.{AreFresh}
 use Rattle.sdr_model.specs.Blocks.{addresses_of, blocks_of}
 use Rattle.sdr_model.specs.Fields.{IsWord}
-use Rattle.sdr_model.specs.Steps.{taken_addresses}
 use Rattle.sdr_model.specs.Valid.{IsValid}
 use Rattle.sdr_model.specs.World.{World}
 use Rattle.zco_answers.proofs.GoneMaps.{AreDistinct}

@@ -1,5 +1,5 @@
 -- An object of a world, kept in its blocks so that a part of it can be cloned.
-use Rattle.std.proofs.Common.{◌≡◌, ◌∙◌, ◌+◌, ◌*◌, ◌-◌, ◌/◌, ◌==◌, ◌≤◌, ◌<◌, ◌^◌, ℕ, List, [], ◌∷◌, ◌++◌, Bool, true, false, cond, map, Some, length, sym, ap, subst, arith, append_assoc, length-append, if◌then◌else◌}
+use Rattle.std.proofs.Common.{◌≡◌, ◌+◌, ◌*◌, ◌-◌, ◌/◌, ◌==◌, ◌≤◌, ℕ, List, [], ◌∷◌, ◌++◌, Bool, true, false, cond, map, Some, length, subst, arith, append_assoc, length-append, if◌then◌else◌}
 use Rattle.std.proofs.lemmas.List.{length-map}
 use Rattle.std.proofs.lemmas.List.Elements.{All-cons, All-nil}
 use Rattle.std.proofs.lemmas.List.Sums.{sum_by-cons}
@@ -12,14 +12,12 @@ use Rattle.sdr_audit.specs.Rows.{capsule_row, extent_row, object_row}
 use Rattle.sdr_audit.specs.Standing.{HeapStandsFor, entries_of, other_entries, thing_entries}
 use Rattle.sdr_audit.specs.Ties.{Ties, ties_of}
 use Rattle.sdr_base.proofs.LinkedLemmas.{length-linked}
-use Rattle.sdr_base.specs.Blocks.{IsKind}
 use Rattle.sdr_base.specs.Entries.{Entries, Few, Stands}
 use Rattle.sdr_base.specs.Objects.{Heap}
 use Rattle.sdr_base.specs.Section.{section}
-use Rattle.sdr_base.specs.ZcoObjects.{ExtentRow, ObjectRow, capsule_addr, capsule_block, capsule_entries, extent_addr, extent_block, extent_entries, object_entries}
+use Rattle.sdr_base.specs.ZcoObjects.{ExtentRow, ObjectRow, capsule_entries, extent_addr, extent_block, extent_entries, object_entries}
 use Rattle.sdr_base.specs.declared.account.Acct.{Acct}
 use Rattle.sdr_base.specs.declared.account.Acct.TheVariants as accts
-use Rattle.sdr_base.specs.declared.kind.Kind.TheVariants as kinds
 use Rattle.sdr_model.specs.Accounts.{is_same_account, tickets_of}
 use Rattle.sdr_model.specs.World.{World, thing_at}
 use Rattle.sdr_model.specs.Zco.{count_of, naming, uses_in}
@@ -37,8 +35,8 @@ use Rattle.zco_obj.specs.Gone.{NamedSource, sources_entries}
 use Rattle.zco_part.specs.Cloning.{IsToClone, KeepsToClone}
 use Rattle.zco_part.specs.Pieces.{asked, cut, filled, piece_of, pieces}
 use Rattle.zco_part.specs.Sources.{MayCount}
-use Rattle.zco_part_answers.specs.Answering.{IsCountable, SomeCountable}
-use Rattle.zco_served.proofs.SourceLemmas.{counted_in, source_stands}
+use Rattle.zco_part_answers.specs.Answering.{IsCountable}
+use Rattle.zco_served.proofs.SourceLemmas.{source_stands}
 
 -- no more extents of a thing name a source than the thing has blocks
 naming_most : (source : ℕ) (es : List Extent) → naming source es ≤ length es
