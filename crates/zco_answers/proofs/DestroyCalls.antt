@@ -48,7 +48,7 @@ use Rattle.zco_answers.proofs.DropLemmas.{framed}
 use Rattle.zco_answers.proofs.DestroyKept.{keeps_sources, sources, used}
 use Rattle.zco_answers.proofs.GoneLosses.{lost_charge, lost_fields, lost_fits}
 use Rattle.zco_answers.proofs.GoneMoves.{charge_same, destroyed_same}
-use Rattle.zco_answers.proofs.GoneTies.{left_things, lost_is, lost_world}
+use Rattle.zco_answers.proofs.GoneTies.{leaves_none, left_things, lost_is, lost_world}
 use Rattle.zco_answers.proofs.GoneWorlds.{beside, left_first, own_blocks, own_first}
 use Rattle.zco_answers.proofs.MovedLemmas.{moved_stands}
 use Rattle.zco_answers.proofs.MovingLemmas.{both_alike, moved}
@@ -63,7 +63,7 @@ use Rattle.zco_obj.specs.Gone.{NamedSource, going_before, gone_blocks, source_at
 use Rattle.zco_obj.specs.Reading.{Tells}
 
 -- each extent goes itself
-extents_few : (sources : List NamedSource) (all es : List ExtentRow) → length es ≤ length (gone_blocks sources all es)
+pub extents_few : (sources : List NamedSource) (all es : List ExtentRow) → length es ≤ length (gone_blocks sources all es)
 extents_few sources all [] = omega arith
 extents_few sources all (e ∷ es) =
     let before = going_before all es (source_at e.source sources) in
@@ -83,7 +83,7 @@ module _ (old : Heap) (w : World) (unmoved : old.moves ≡ []) (s : HeapStandsFo
 
     -- the world without it, before the queue is served, and after
     abbrev pub lost : World
-    lost = lost_world w addr z
+    lost = lost_world w addr z.extents None
 
     abbrev after : World
     after = record (with_served lost z.account) { shown = [] }
@@ -94,7 +94,7 @@ module _ (old : Heap) (w : World) (unmoved : old.moves ≡ []) (s : HeapStandsFo
     destroy_row : ByRow w (record { moves = gave (destroy_blocks w addr z); after = after; reply = replies.Done }) (calls.Destroy addr)
     destroy_row =
         on_some _ _ (object_at w addr) z (ap as_object at.there)
-        (refl, ap (λ (v : World). record (with_served v z.account) { shown = [] }) (sym (lost_is w addr z)), refl)
+        (refl, ap (λ (v : World). record (with_served v z.account) { shown = [] }) (sym (lost_is w addr z.extents)), refl)
 
     pub aim : Aim w (calls.Destroy addr)
     aim = record { to = _; row = destroy_row; answered = refl }
@@ -126,15 +126,15 @@ module _ (old : Heap) (w : World) (unmoved : old.moves ≡ []) (s : HeapStandsFo
         let u = used w addr z served.whole.fits at.there in
         let acct = z.account in
         let ts = tickets_of w.accounts acct in
-        let m = left_things w addr z in
+        let m = left_things w addr z.extents None in
         let charges : MovesCharge w.things m acct nothing frees = lost_charge w addr z at.there served.whole.fits in
         let moves = gave (gone_object addr (object_row z) rows) in
-        let own = own_blocks w addr z at.there served.whole.fits u.sources u.are in
+        let own = own_blocks w addr z at.there served.whole.fits z.extents None (leaves_none z) u.sources u.are in
         let left = sources_left z.account (map extent_row z.extents) rows in
         let changes : Changes old.blocks mid.blocks (entries_of w) (entries_of (moved w m acct ts)) =
-        both_alike w m acct ts own left (beside w addr z at.there served.whole.fits u.sources u.are)
-        (own_first w addr z at.there served.whole.fits u.sources u.are)
-        (left_first w addr z at.there served.whole.fits u.sources u.are fits)
+        both_alike w m acct ts own left (beside w addr z at.there served.whole.fits z.extents None (leaves_none z) u.sources u.are)
+        (own_first w addr z at.there served.whole.fits z.extents None (leaves_none z) u.sources u.are)
+        (left_first w addr z at.there served.whole.fits z.extents None (leaves_none z) u.sources u.are fits)
         (framed own left (queue_entries acct ts) g.changes) in
         let stood : HeapStandsFor mid (with_taken_marked (moved w m acct ts) moves) =
         moved_stands w m acct ts (minus (occupied_in old acct) (charges_of (object_row z) rows)) charges.other
@@ -179,7 +179,7 @@ module _ (old : Heap) (w : World) (unmoved : old.moves ≡ []) (s : HeapStandsFo
         grants_between lost (with_served lost acct) ≡ grants_of w (calls.Destroy addr)
     grants_same {acct} told =
         ap (λ (a : Acct). grants_between lost (with_served lost a)) (own_account told)
-        ∙ ap (λ (v : World). grants_between w (with_served v z.account)) (sym (lost_is w addr z))
+        ∙ ap (λ (v : World). grants_between w (with_served v z.account)) (sym (lost_is w addr z.extents))
         ∙ ap (λ (o : Option ZcoObject). grants_between w
         (option_map_or
         (λ z. with_served (without_thing (without_things w (gone_things w z.extents z.extents)) addr) z.account) o w))

@@ -24,7 +24,7 @@ use Rattle.sdr_model.specs.declared.zco.Extent.{Extent}
 use Rattle.sdr_model.specs.declared.zco.ZcoObject.{ZcoObject}
 use Rattle.zco_answers.proofs.AlikeLemmas.{StandAlike}
 use Rattle.zco_answers.proofs.GoneMoves.{naming_rows}
-use Rattle.zco_answers.proofs.GoneTies.{counts_less, lost_world}
+use Rattle.zco_answers.proofs.GoneTies.{counts_less, leaves_none, lost_world}
 use Rattle.zco_answers.proofs.GoneUses.{IsFound, UsedBy, UsedSource, itself, named_later, named_of, used_by}
 use Rattle.zco_answers.proofs.GoneWorlds.{beside, own_first}
 use Rattle.zco_answers.proofs.ObjectLemmas.{object_beside, object_fits}
@@ -68,10 +68,10 @@ module _ (heap : Heap) (w : World) (s : HeapStandsFor heap w) (served : IsServed
   enough : (u : UsedSource w z.extents) → rows.naming u.addr extents ≤ count_in z.account (counted_in w u.addr u.source)
   enough u =
       by z.account
-      (λ acct. counts_less w addr z there served.whole.fits mine.sources mine.are u.addr acct)
+      (λ acct. counts_less w addr z there served.whole.fits z.extents None (leaves_none z) mine.sources mine.are u.addr acct)
     where
       by : (acct : Acct) →
-          ((b : Acct) → count_of (lost_world w addr z) u.addr b
+          ((b : Acct) → count_of (lost_world w addr z.extents None) u.addr b
           + (if is_same_account b acct then naming u.addr z.extents else 0) ≡ count_of w u.addr b) →
           rows.naming u.addr extents ≤ count_in acct (counted_in w u.addr u.source)
       by accts.Inbound less =
@@ -94,14 +94,14 @@ module _ (heap : Heap) (w : World) (s : HeapStandsFor heap w) (served : IsServed
 
   -- their blocks may stand behind the object's, before all others
   abbrev rest : Entries
-  rest = beside w addr z there served.whole.fits mine.sources mine.are
+  rest = beside w addr z there served.whole.fits z.extents None (leaves_none z) mine.sources mine.are
 
   sources_behind : StandAlike (section (thing_entries (ties_of w)) w.things)
       (object_entries addr (object_row z) ++ (sources_entries sources ++ rest))
   sources_behind =
       subst (λ (es : Entries). StandAlike (section (thing_entries (ties_of w)) w.things) es)
       (append_assoc (object_entries addr (object_row z)) (sources_entries sources) rest)
-      (own_first w addr z there served.whole.fits mine.sources mine.are)
+      (own_first w addr z there served.whole.fits z.extents None (leaves_none z) mine.sources mine.are)
 
   -- so the object is kept with them
   pub keeps_sources : KeepsSources heap.blocks addr (object_row z) sources

@@ -38,7 +38,7 @@ two_before all later (Some s) = by (goes_with all s && (naming s.addr later == 0
     by false = omega arith
 
 -- so no more than three go with an extent
-three_blocks : (sources : List NamedSource) (all es : List ExtentRow) → length (gone_blocks sources all es) ≤ 3 * length es
+pub three_blocks : (sources : List NamedSource) (all es : List ExtentRow) → length (gone_blocks sources all es) ≤ 3 * length es
 three_blocks sources all [] = omega arith
 three_blocks sources all (e ∷ es) =
     let before = going_before all es (source_at e.source sources) in
@@ -62,7 +62,7 @@ module _ {heap : Heap} {object : ℕ} (k : SomeWithAll heap object) where
   named = sources_entries k.sources
 
   -- is kept alone
-  kept_alone : KeepsObject heap.blocks object row
+  pub kept_alone : KeepsObject heap.blocks object row
   kept_alone = record { rest = _; stands = k.beside.keeps.stands; fits = k.beside.keeps.fits }
 
   pub alone : SomeObject heap.blocks object
