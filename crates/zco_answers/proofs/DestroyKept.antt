@@ -1,5 +1,5 @@
 -- An object of a world, kept in its blocks with the sources that its extents name and with the queue of its account.
-use Rattle.std.proofs.Common.{◌≡◌, ◌∙◌, ◌+◌, ◌≤◌, ℕ, List, [], ◌∷◌, ◌++◌, map, true, sym, ap, subst, arith, append_assoc}
+use Rattle.std.proofs.Common.{◌≡◌, ◌∙◌, ◌+◌, ◌≤◌, ℕ, List, [], ◌∷◌, ◌++◌, map, true, sym, ap, subst, arith, append_assoc, None}
 use Rattle.std.proofs.lemmas.List.Elements.{All-cons, All-nil}
 use Rattle.std.specs.Prelude.{All, Some, if◌then◌else◌}
 use Rattle.sdr_answers.proofs.ListLemmas.{IsSmall}

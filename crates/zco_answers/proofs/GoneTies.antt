@@ -72,9 +72,9 @@ no_source (Some n) = refl
 uses_left : (q : ℕ) (acct own : Acct) (addr : ℕ) (new : Option ZcoObject) → IfSome new (λ n. n.account ≡ own) →
     counted_at (λ (e : ℕ × Thing). uses_in q acct e.1) addr (option_map (λ z. things.Object z) new)
     ≡ (if is_same_account acct own then naming_in q new else 0)
-uses_left q acct own addr None same = none (is_same_account acct own)
+uses_left q acct own addr None same = sym (none (is_same_account acct own))
   where
-    none : (b : Bool) → 0 ≡ (if b then 0 else 0)
+    none : (b : Bool) → (if b then naming_in q None else 0) ≡ 0
     none true = refl
     none false = refl
 uses_left q acct own addr (Some n) same = ap (λ (a : Acct). if is_same_account acct a then naming q n.extents else 0) same

@@ -55,9 +55,6 @@ kept_found : (w : World) (all out : List Extent) (q : ℕ) (us : List (UsedSourc
 kept_found w all out q [] none = refl
 kept_found w all out q (u ∷ us) none = by (names_source u.addr out) refl (kept_found w all out q us none)
   where
-    tail : Option NamedSource
-    tail = rows.source_at q (map (named_of w all) us)
-
     by : (b : Bool) → names_source u.addr out ≡ b →
         rows.source_at q (map (named_of w all) (without_named w all out us)) ≡ rows.source_at q (map (named_of w all) us) →
         rows.source_at q (map (named_of w all)
