@@ -45,6 +45,7 @@ use Rattle.zco_acct.specs.Kept.{queue_entries}
 use Rattle.zco_acct.specs.Words.{occupied_in}
 use Rattle.zco_answers.proofs.ChargeLemmas.{stays}
 use Rattle.zco_answers.proofs.DropLemmas.{framed}
+use Rattle.zco_answers.proofs.DestroyLeft.{extents_few}
 use Rattle.zco_answers.proofs.DestroyKept.{keeps_sources, sources, used}
 use Rattle.zco_answers.proofs.GoneLosses.{lost_charge, lost_fields, lost_fits}
 use Rattle.zco_answers.proofs.GoneMoves.{charge_same, destroyed_same}
@@ -61,14 +62,6 @@ use Rattle.zco_granted.specs.Answering.{KeepsTickets, Serves}
 use Rattle.zco_obj.specs.Destroying.{DestroysObject, DestroyStops, KeepsSources, ObjectGone, charges_of, gone_object, gone_parts, parts_lines}
 use Rattle.zco_obj.specs.Gone.{NamedSource, going_before, gone_blocks, source_at, sources_left}
 use Rattle.zco_obj.specs.Reading.{Tells}
-
--- each extent goes itself
-pub extents_few : (sources : List NamedSource) (all es : List ExtentRow) → length es ≤ length (gone_blocks sources all es)
-extents_few sources all [] = omega arith
-extents_few sources all (e ∷ es) =
-    let before = going_before all es (source_at e.source sources) in
-    let rest = gone_blocks sources all es in
-    omega (arith, extents_few sources all es, length-append before (e.addr ∷ rest))
 
 -- a call on a heap that stands for a world in which it is served
 module _ (old : Heap) (w : World) (unmoved : old.moves ≡ []) (s : HeapStandsFor old w) (served : IsServed w) (small : IsSmall old)

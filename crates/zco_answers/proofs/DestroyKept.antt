@@ -47,13 +47,13 @@ used w addr z fits there = used_by w z.extents fits z.extents (lie w addr z fits
 -- in a heap that stands for a world in which calls are served
 module _ (heap : Heap) (w : World) (s : HeapStandsFor heap w) (served : IsServed w) (small : IsSmall heap) (addr : ℕ) (z : ZcoObject)
     (there : thing_at w addr ≡ Some (things.Object z)) where
-  abbrev mine : UsedBy w z.extents z.extents
+  abbrev pub mine : UsedBy w z.extents z.extents
   mine = used w addr z served.whole.fits there
 
   abbrev pub sources : List NamedSource
   sources = map (named_of w z.extents) mine.sources
 
-  abbrev extents : List ExtentRow
+  abbrev pub extents : List ExtentRow
   extents = map extent_row z.extents
 
   -- are found, and count its extents
@@ -89,14 +89,14 @@ module _ (heap : Heap) (w : World) (s : HeapStandsFor heap w) (served : IsServed
       })
       (all_counted us)
 
-  named : AreNamed z.account extents sources
+  pub named : AreNamed z.account extents sources
   named = record { there = all_there z.extents mine.are.found; counted = all_counted mine.sources }
 
   -- their blocks may stand behind the object's, before all others
-  abbrev rest : Entries
+  abbrev pub rest : Entries
   rest = beside w addr z there served.whole.fits z.extents None (leaves_none z) mine.sources mine.are
 
-  sources_behind : StandAlike (section (thing_entries (ties_of w)) w.things)
+  pub sources_behind : StandAlike (section (thing_entries (ties_of w)) w.things)
       (object_entries addr (object_row z) ++ (sources_entries sources ++ rest))
   sources_behind =
       subst (λ (es : Entries). StandAlike (section (thing_entries (ties_of w)) w.things) es)
@@ -118,7 +118,7 @@ module _ (heap : Heap) (w : World) (s : HeapStandsFor heap w) (served : IsServed
       }
 
   -- and with the queue of its account
-  pub with_all : SomeWithAll heap addr
+  unfoldable pub with_all : SomeWithAll heap addr
   with_all = record {
     row = object_row z;
     tickets = tickets_of w.accounts z.account;

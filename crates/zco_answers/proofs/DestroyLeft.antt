@@ -50,6 +50,14 @@ three_blocks sources all (e ∷ es) =
       length-append before (e.addr ∷ rest),
     )
 
+-- each extent goes itself
+pub extents_few : (sources : List NamedSource) (all es : List ExtentRow) → length es ≤ length (gone_blocks sources all es)
+extents_few sources all [] = omega arith
+extents_few sources all (e ∷ es) =
+    let before = going_before all es (source_at e.source sources) in
+    let rest = gone_blocks sources all es in
+    omega (arith, extents_few sources all es, length-append before (e.addr ∷ rest))
+
 -- an object that is kept with its sources and with the queue of its account
 module _ {heap : Heap} {object : ℕ} (k : SomeWithAll heap object) where
   abbrev pub row : ObjectRow
@@ -69,7 +77,7 @@ module _ {heap : Heap} {object : ℕ} (k : SomeWithAll heap object) where
   alone = record { row = row; keeps = kept_alone }
 
   -- and with its sources alone
-  pub sources_kept : KeepsSources heap.blocks object row k.sources
+  unfoldable pub sources_kept : KeepsSources heap.blocks object row k.sources
   sources_kept =
       let own = object_entries object row in
       let behind = k.beside.behind in

@@ -1,5 +1,5 @@
 -- The blocks of a world with an object and its sources in front, and what they become where the object is cut to its part.
-use Rattle.std.proofs.Common.{◌≡◌, ◌≢◌, ◌∙◌, ℕ, List, [], ◌∷◌, ◌++◌, map, Bool, true, false, Some, refl, sym, ap, subst, append_assoc}
+use Rattle.std.proofs.Common.{◌≡◌, ◌≢◌, ◌∙◌, ℕ, List, [], ◌∷◌, ◌++◌, map, Bool, true, false, Some, None, refl, sym, ap, subst, append_assoc}
 use Rattle.std.proofs.lemmas.List.Concat.{flat_map-append}
 use Rattle.std.specs.FinMap.{get, remove as lose}
 use Rattle.std.specs.List.{AllByRecursion}
@@ -42,41 +42,41 @@ use Rattle.zco_obj.specs.Gone.{NamedSource, left_of, sources_entries, sources_le
 use Rattle.zco_ref.specs.Kept.{tied_entries}
 
 -- those that are left of some differ from an address, and from one another, where all do
-rest_apart : (w : World) (es out : List Extent) (a : ℕ) (us : List (UsedSource w es)) → AreApart a (addresses w es us) →
-    AreApart a (addresses w es (without_named w es out us))
-rest_apart w es out a [] apart = tt
-rest_apart w es out a (u ∷ us) apart = by (names_source u.addr out) (rest_apart w es out a us apart.1)
+rest_apart : (w : World) (es going : List Extent) (a : ℕ) (us : List (UsedSource w es)) → AreApart a (addresses w es us) →
+    AreApart a (addresses w es (without_named w es going us))
+rest_apart w es going a [] apart = tt
+rest_apart w es going a (u ∷ us) apart = by (names_source u.addr going) (rest_apart w es going a us apart.1)
   where
-    by : (b : Bool) → AreApart a (addresses w es (without_named w es out us)) →
-        AreApart a (addresses w es (if b then without_named w es out us else u ∷ without_named w es out us))
+    by : (b : Bool) → AreApart a (addresses w es (without_named w es going us)) →
+        AreApart a (addresses w es (if b then without_named w es going us else u ∷ without_named w es going us))
     by true more = more
     by false more = (apart.0, more)
 
-rest_distinct : (w : World) (es out : List Extent) (us : List (UsedSource w es)) → AreDistinct (addresses w es us) →
-    AreDistinct (addresses w es (without_named w es out us))
-rest_distinct w es out [] distinct = tt
-rest_distinct w es out (u ∷ us) distinct =
-    by (names_source u.addr out) (rest_apart w es out u.addr us distinct.0) (rest_distinct w es out us distinct.1)
+rest_distinct : (w : World) (es going : List Extent) (us : List (UsedSource w es)) → AreDistinct (addresses w es us) →
+    AreDistinct (addresses w es (without_named w es going us))
+rest_distinct w es going [] distinct = tt
+rest_distinct w es going (u ∷ us) distinct =
+    by (names_source u.addr going) (rest_apart w es going u.addr us distinct.0) (rest_distinct w es going us distinct.1)
   where
-    by : (b : Bool) → AreApart u.addr (addresses w es (without_named w es out us)) →
-        AreDistinct (addresses w es (without_named w es out us)) →
-        AreDistinct (addresses w es (if b then without_named w es out us else u ∷ without_named w es out us))
+    by : (b : Bool) → AreApart u.addr (addresses w es (without_named w es going us)) →
+        AreDistinct (addresses w es (without_named w es going us)) →
+        AreDistinct (addresses w es (if b then without_named w es going us else u ∷ without_named w es going us))
     by true apart more = more
     by false apart more = (apart, more)
 
 -- none of some extents names them
-record NoneNames (out : List Extent) (a : ℕ) : Type 0 where
-  none : names_source a out ≡ false
+record NoneNames (going : List Extent) (a : ℕ) : Type 0 where
+  none : names_source a going ≡ false
 
-rest_unnamed : (w : World) (es out : List Extent) (us : List (UsedSource w es)) →
-    AllByRecursion (λ (u : UsedSource w es). NoneNames out u.addr) (without_named w es out us)
-rest_unnamed w es out [] = tt
-rest_unnamed w es out (u ∷ us) = by (names_source u.addr out) refl (rest_unnamed w es out us)
+rest_unnamed : (w : World) (es going : List Extent) (us : List (UsedSource w es)) →
+    AllByRecursion (λ (u : UsedSource w es). NoneNames going u.addr) (without_named w es going us)
+rest_unnamed w es going [] = tt
+rest_unnamed w es going (u ∷ us) = by (names_source u.addr going) refl (rest_unnamed w es going us)
   where
-    by : (b : Bool) → names_source u.addr out ≡ b →
-        AllByRecursion (λ (u : UsedSource w es). NoneNames out u.addr) (without_named w es out us) →
-        AllByRecursion (λ (u : UsedSource w es). NoneNames out u.addr)
-        (if b then without_named w es out us else u ∷ without_named w es out us)
+    by : (b : Bool) → names_source u.addr going ≡ b →
+        AllByRecursion (λ (u : UsedSource w es). NoneNames going u.addr) (without_named w es going us) →
+        AllByRecursion (λ (u : UsedSource w es). NoneNames going u.addr)
+        (if b then without_named w es going us else u ∷ without_named w es going us)
     by true is more = more
     by false is more = (record { none = is }, more)
 
@@ -90,16 +90,16 @@ same_at ties m addr gone (k ∷ ks) away apart =
     λ i. entries_at ties k (here i) ++ same_at ties m addr gone ks away.1 apart.1 i
 
 -- sources that no extent names which goes stay as they are
-left_same : (w : World) (es out : List Extent) (acct : Acct) (us : List (UsedSource w es)) →
-    AllByRecursion (λ (u : UsedSource w es). NoneNames out u.addr) us →
-    sources_left acct (map extent_row out) (map (named_of w es) us) ≡ sources_entries (map (named_of w es) us)
-left_same w es out acct [] none = refl
-left_same w es out acct (u ∷ us) none =
-    let zero : rows.naming u.addr (map extent_row out) ≡ 0 = naming_rows u.addr out ∙ unnamed u.addr out none.0.none in
-    let one : left_of acct (map extent_row out) (named_of w es u)
+left_same : (w : World) (es going : List Extent) (acct : Acct) (us : List (UsedSource w es)) →
+    AllByRecursion (λ (u : UsedSource w es). NoneNames going u.addr) us →
+    sources_left acct (map extent_row going) (map (named_of w es) us) ≡ sources_entries (map (named_of w es) us)
+left_same w es going acct [] none = refl
+left_same w es going acct (u ∷ us) none =
+    let zero : rows.naming u.addr (map extent_row going) ≡ 0 = naming_rows u.addr going ∙ unnamed u.addr going none.0.none in
+    let one : left_of acct (map extent_row going) (named_of w es u)
     ≡ tied_entries u.addr (named_of w es u).source u.bytes =
     ap (λ n. left_after acct n (named_of w es u)) zero ∙ left_none acct (named_of w es u) in
-    λ i. one i ++ left_same w es out acct us none.1 i
+    λ i. one i ++ left_same w es going acct us none.1 i
 
 module _ (w : World) (addr : ℕ) (z : ZcoObject) (fits : FitTogether w) (there : thing_at w addr ≡ Some (things.Object z)) where
   abbrev es : List Extent

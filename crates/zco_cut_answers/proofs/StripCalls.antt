@@ -45,7 +45,7 @@ use Rattle.sdr_model.specs.declared.zco.ZcoObject.{ZcoObject}
 use Rattle.zco_acct.specs.Kept.{queue_entries}
 use Rattle.zco_acct.specs.Words.{occupied_in}
 use Rattle.zco_answers.proofs.ChargeLemmas.{stays}
-use Rattle.zco_answers.proofs.DestroyCalls.{extents_few}
+use Rattle.zco_answers.proofs.DestroyLeft.{extents_few}
 use Rattle.zco_answers.proofs.DropLemmas.{framed}
 use Rattle.zco_answers.proofs.GoneTies.{left_things}
 use Rattle.zco_answers.proofs.MovedLemmas.{moved_stands}
