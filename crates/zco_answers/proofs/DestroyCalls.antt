@@ -10,7 +10,7 @@ use Rattle.sdr_audit.specs.Rows.{extent_row, object_row}
 use Rattle.sdr_audit.specs.Standing.{HeapStandsFor, entries_of, with_taken_marked}
 use Rattle.sdr_base.specs.Entries.{Changes}
 use Rattle.sdr_base.specs.Objects.{Heap, Misses, OnlyUnmoved}
-use Rattle.sdr_base.specs.ZcoObjects.{ExtentRow, capsule_addr}
+use Rattle.sdr_base.specs.ZcoObjects.{capsule_addr}
 use Rattle.sdr_base.specs.declared.account.Acct.{Acct}
 use Rattle.sdr_base.specs.declared.kind.Kind.TheVariants as kinds
 use Rattle.sdr_base.specs.declared.kind.Space.{Space}
@@ -60,7 +60,7 @@ use Rattle.zco_granted.proofs.AccountLemmas.{unmarked}
 use Rattle.zco_granted.proofs.ComingLemmas.{log_full}
 use Rattle.zco_granted.specs.Answering.{KeepsTickets, Serves}
 use Rattle.zco_obj.specs.Destroying.{DestroysObject, DestroyStops, KeepsSources, ObjectGone, charges_of, gone_object, gone_parts, parts_lines}
-use Rattle.zco_obj.specs.Gone.{NamedSource, going_before, gone_blocks, source_at, sources_left}
+use Rattle.zco_obj.specs.Gone.{NamedSource, gone_blocks, sources_left}
 use Rattle.zco_obj.specs.Reading.{Tells}
 
 -- a call on a heap that stands for a world in which it is served

@@ -127,117 +127,117 @@ unnamed q (e ∷ es) none =
 -- an object of a world, and the sources that those of its extents name which go
 module _ (w : World) (addr : ℕ) (z : ZcoObject) (there : thing_at w addr ≡ Some (things.Object z)) (fits : FitTogether w)
     (out : List Extent) (new : Option ZcoObject) (l : Leaves z out new) (us : List (UsedSource w out)) (are : AreUsed w out out us)
-    where
-  abbrev gone : List ℕ
-  gone = gone_things w out out
+  where
+    abbrev gone : List ℕ
+    gone = gone_things w out out
 
-  abbrev keys : List ℕ
-  keys = all_keys w out us
+    abbrev keys : List ℕ
+    keys = all_keys w out us
 
-  abbrev left : Option Thing
-  left = option_map (λ z. things.Object z) new
+    abbrev left : Option Thing
+    left = option_map (λ z. things.Object z) new
 
-  abbrev lost : World
-  lost = lost_world w addr out new
+    abbrev lost : World
+    lost = lost_world w addr out new
 
-  -- what goes with its extents is no object
-  pub addr_apart : AreApart addr gone
-  addr_apart =
-      gone_apart w out (λ acct space. 0) addr (fits_from w fits) (ap as_source there) (ap as_raw there) out
+    -- what goes with its extents is no object
+    pub addr_apart : AreApart addr gone
+    addr_apart =
+        gone_apart w out (λ acct space. 0) addr (fits_from w fits) (ap as_source there) (ap as_raw there) out
 
-  -- what doesn't go is there still, and nothing comes
-  pub lost_at : (q : ℕ) → q ≢ addr → AreApart q (all_gone w out us) → thing_at lost q ≡ thing_at w q
-  lost_at q away apart =
-      apart_at (without w.things gone) addr left q away
-      ∙ still_at w.things gone q (subst (AreApart q) (sym are.gone) apart)
+    -- what doesn't go is there still, and nothing comes
+    pub lost_at : (q : ℕ) → q ≢ addr → AreApart q (all_gone w out us) → thing_at lost q ≡ thing_at w q
+    lost_at q away apart =
+        apart_at (without w.things gone) addr left q away
+        ∙ still_at w.things gone q (subst (AreApart q) (sym are.gone) apart)
 
-  lost_was : (q : ℕ) (t : Thing) → q ≢ addr → thing_at lost q ≡ Some t → thing_at w q ≡ Some t
-  lost_was q t away is = was_at w.things gone q t (sym (apart_at (without w.things gone) addr left q away) ∙ is)
+    lost_was : (q : ℕ) (t : Thing) → q ≢ addr → thing_at lost q ≡ Some t → thing_at w q ≡ Some t
+    lost_was q t away is = was_at w.things gone q t (sym (apart_at (without w.things gone) addr left q away) ∙ is)
 
-  lost_source : (q : ℕ) (s : ZcoSource) → thing_at lost q ≡ Some (things.Source s) → thing_at w q ≡ Some (things.Source s)
-  lost_source q s is =
-      by_addr q addr
-      (λ here.
-      let at : thing_at lost q ≡ left = ap (thing_at lost) here ∙ here_at (without w.things gone) addr left in
-      let no : None ≡ Some s = sym (no_source new) ∙ ap as_source (sym at) ∙ ap as_source is in cc)
-      (λ away. lost_was q (things.Source s) away is)
+    lost_source : (q : ℕ) (s : ZcoSource) → thing_at lost q ≡ Some (things.Source s) → thing_at w q ≡ Some (things.Source s)
+    lost_source q s is =
+        by_addr q addr
+        (λ here.
+        let at : thing_at lost q ≡ left = ap (thing_at lost) here ∙ here_at (without w.things gone) addr left in
+        let no : None ≡ Some s = sym (no_source new) ∙ ap as_source (sym at) ∙ ap as_source is in cc)
+        (λ away. lost_was q (things.Source s) away is)
 
-  pub lost_none : (q : ℕ) → q ≢ addr → get (without w.things gone) q ≡ None → thing_at lost q ≡ None
-  lost_none q away none = apart_at (without w.things gone) addr left q away ∙ none
+    pub lost_none : (q : ℕ) → q ≢ addr → get (without w.things gone) q ≡ None → thing_at lost q ≡ None
+    lost_none q away none = apart_at (without w.things gone) addr left q away ∙ none
 
-  -- an address of a source or a raw object isn't the object's
-  pub source_away : (q : ℕ) → as_object (thing_at w q) ≡ None → q ≢ addr
-  source_away q none here =
-      let no : None ≡ Some z = sym none ∙ ap (λ (k : ℕ). as_object (thing_at w k)) here ∙ ap as_object there in cc
+    -- an address of a source or a raw object isn't the object's
+    pub source_away : (q : ℕ) → as_object (thing_at w q) ≡ None → q ≢ addr
+    source_away q none here =
+        let no : None ≡ Some z = sym none ∙ ap (λ (k : ℕ). as_object (thing_at w k)) here ∙ ap as_object there in cc
 
-  -- a source counts fewer extents of the account by those that named it
-  pub counts_less : (q : ℕ) (acct : Acct) →
-      count_of lost q acct + (if is_same_account acct z.account then naming q out else 0) ≡ count_of w q acct
-  counts_less q acct =
-      let m = without w.things gone in
-      let at : get m addr ≡ Some (things.Object z) = still_at w.things gone addr addr_apart ∙ there in
-      let none : AreNoObjects w.things gone =
-      subst (AreNoObjects w.things) (sym are.gone)
-      (all_part w out (λ k. as_object (thing_at w k) ≡ None) us
-      (each_key w out (λ k. as_object (thing_at w k) ≡ None)
-      (key_things w out (λ k. as_object (thing_at w k) ≡ None) (λ k no. no)) us)) in
-      let sums = sum_by-with_at (λ (e : ℕ × Thing). uses_in q acct e.1) m addr left in
-      let one = ap (counted_at (λ (e : ℕ × Thing). uses_in q acct e.1) addr) at in
-      let two = uses_left q acct z.account addr new l.account in
-      let rest = counts_without w gone none q acct in
-      fewer (is_same_account acct z.account) (naming q z.extents) (naming_in q new) (naming q out) (count_of lost q acct)
-      (count_of w q acct) (l.parts q) (omega (arith, sums, one, two, rest))
+    -- a source counts fewer extents of the account by those that named it
+    pub counts_less : (q : ℕ) (acct : Acct) →
+        count_of lost q acct + (if is_same_account acct z.account then naming q out else 0) ≡ count_of w q acct
+    counts_less q acct =
+        let m = without w.things gone in
+        let at : get m addr ≡ Some (things.Object z) = still_at w.things gone addr addr_apart ∙ there in
+        let none : AreNoObjects w.things gone =
+        subst (AreNoObjects w.things) (sym are.gone)
+        (all_part w out (λ k. as_object (thing_at w k) ≡ None) us
+        (each_key w out (λ k. as_object (thing_at w k) ≡ None)
+        (key_things w out (λ k. as_object (thing_at w k) ≡ None) (λ k no. no)) us)) in
+        let sums = sum_by-with_at (λ (e : ℕ × Thing). uses_in q acct e.1) m addr left in
+        let one = ap (counted_at (λ (e : ℕ × Thing). uses_in q acct e.1) addr) at in
+        let two = uses_left q acct z.account addr new l.account in
+        let rest = counts_without w gone none q acct in
+        fewer (is_same_account acct z.account) (naming q z.extents) (naming_in q new) (naming q out) (count_of lost q acct)
+        (count_of w q acct) (l.parts q) (omega (arith, sums, one, two, rest))
 
-  -- so one that is none of theirs counts what it did
-  counts_same : (q : ℕ) (acct : Acct) → AreApart q keys → count_of w q acct ≡ count_of lost q acct
-  counts_same q acct apart = by (names_source q out) refl
-    where
-      none : (b : Bool) (n : ℕ) → n ≡ 0 → count_of lost q acct + (if b then n else 0) ≡ count_of w q acct →
-          count_of w q acct ≡ count_of lost q acct
-      none true n zero less = omega (arith, zero, less)
-      none false n zero less = omega (arith, less)
-
-      by : (b : Bool) → names_source q out ≡ b → count_of w q acct ≡ count_of lost q acct
-      by false is =
-          none (is_same_account acct z.account) (naming q out) (unnamed q out is) (counts_less q acct)
-      by true named =
-          let f = are.found q named in
-          let no : None ≡ Some (named_of w out f.used) = sym (unfound w out q us apart) ∙ f.is in cc
-
-  -- where sources and extents still fit each other
-  module _ (fits' : FitTogether (lost_world w addr out new)) where
-    -- a raw object that is none of theirs is named by the same source
-    source_on_same : (q : ℕ) → AreApart q keys → source_on lost q ≡ source_on w q
-    source_on_same q apart =
-        same_named w lost q fits fits'
-        (record {
-          there = λ a t at named.
-              lost_at a (source_away a (ap as_object at))
-              (all_part w out (λ b. b ≢ a) us (source_apart w out fits q a t at named us apart)) ∙ at;
-          back = λ a t at named. lost_source a t at;
-        })
-
-    -- so things are tied alike but at theirs
-    pub tied_alike : (q : ℕ) (x : Thing) → AreApart q keys → thing_entries (ties_of w) q x ≡ thing_entries (ties_of lost) q x
-    tied_alike q x apart =
-        written_alike (ties_of w) (ties_of lost) q x (ap or_null (sym (source_on_same q apart)))
-        (λ acct. counts_same q acct apart)
-
-    -- a raw object of one that stays is named by it, and one of a source that went by none
-    pub named_still : (raw a : ℕ) (s : ZcoSource) → thing_at lost a ≡ Some (things.Source s) → is_of_raw raw s.subject ≡ true →
-        source_on lost raw ≡ Some a
-    named_still raw a s at named = named_at lost raw a s fits' at named
-
-    pub named_no_more : (raw a : ℕ) (s : ZcoSource) → thing_at w a ≡ Some (things.Source s) → is_of_raw raw s.subject ≡ true →
-        thing_at lost a ≡ None → source_on lost raw ≡ None
-    named_no_more raw a s was named none = by (source_on lost raw) refl
+    -- so one that is none of theirs counts what it did
+    counts_same : (q : ℕ) (acct : Acct) → AreApart q keys → count_of w q acct ≡ count_of lost q acct
+    counts_same q acct apart = by (names_source q out) refl
       where
-        by : (o : Option ℕ) → source_on lost raw ≡ o → source_on lost raw ≡ None
-        by None is = is
-        by (Some b) is =
-            let n = source_there lost raw b is in
-            let e : Some b ≡ Some a =
-            sym (named_at w raw b n.source fits (lost_source b n.source n.there) n.named)
-            ∙ named_at w raw a s fits was named in
-            let same : b ≡ a = cc in
-            let no : None ≡ Some (things.Source n.source) = sym none ∙ ap (thing_at lost) (sym same) ∙ n.there in cc
+        none : (b : Bool) (n : ℕ) → n ≡ 0 → count_of lost q acct + (if b then n else 0) ≡ count_of w q acct →
+            count_of w q acct ≡ count_of lost q acct
+        none true n zero less = omega (arith, zero, less)
+        none false n zero less = omega (arith, less)
+
+        by : (b : Bool) → names_source q out ≡ b → count_of w q acct ≡ count_of lost q acct
+        by false is =
+            none (is_same_account acct z.account) (naming q out) (unnamed q out is) (counts_less q acct)
+        by true named =
+            let f = are.found q named in
+            let no : None ≡ Some (named_of w out f.used) = sym (unfound w out q us apart) ∙ f.is in cc
+
+    -- where sources and extents still fit each other
+    module _ (fits' : FitTogether (lost_world w addr out new)) where
+      -- a raw object that is none of theirs is named by the same source
+      source_on_same : (q : ℕ) → AreApart q keys → source_on lost q ≡ source_on w q
+      source_on_same q apart =
+          same_named w lost q fits fits'
+          (record {
+            there = λ a t at named.
+                lost_at a (source_away a (ap as_object at))
+                (all_part w out (λ b. b ≢ a) us (source_apart w out fits q a t at named us apart)) ∙ at;
+            back = λ a t at named. lost_source a t at;
+          })
+
+      -- so things are tied alike but at theirs
+      pub tied_alike : (q : ℕ) (x : Thing) → AreApart q keys → thing_entries (ties_of w) q x ≡ thing_entries (ties_of lost) q x
+      tied_alike q x apart =
+          written_alike (ties_of w) (ties_of lost) q x (ap or_null (sym (source_on_same q apart)))
+          (λ acct. counts_same q acct apart)
+
+      -- a raw object of one that stays is named by it, and one of a source that went by none
+      pub named_still : (raw a : ℕ) (s : ZcoSource) → thing_at lost a ≡ Some (things.Source s) → is_of_raw raw s.subject ≡ true →
+          source_on lost raw ≡ Some a
+      named_still raw a s at named = named_at lost raw a s fits' at named
+
+      pub named_no_more : (raw a : ℕ) (s : ZcoSource) → thing_at w a ≡ Some (things.Source s) → is_of_raw raw s.subject ≡ true →
+          thing_at lost a ≡ None → source_on lost raw ≡ None
+      named_no_more raw a s was named none = by (source_on lost raw) refl
+        where
+          by : (o : Option ℕ) → source_on lost raw ≡ o → source_on lost raw ≡ None
+          by None is = is
+          by (Some b) is =
+              let n = source_there lost raw b is in
+              let e : Some b ≡ Some a =
+              sym (named_at w raw b n.source fits (lost_source b n.source n.there) n.named)
+              ∙ named_at w raw a s fits was named in
+              let same : b ≡ a = cc in
+              let no : None ≡ Some (things.Source n.source) = sym none ∙ ap (thing_at lost) (sym same) ∙ n.there in cc

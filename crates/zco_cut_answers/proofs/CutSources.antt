@@ -14,7 +14,7 @@ use Rattle.sdr_base.specs.ZcoObjects.{ExtentRow}
 use Rattle.sdr_base.specs.declared.account.Acct.{Acct}
 use Rattle.sdr_base.specs.declared.account.Acct.TheVariants as accts
 use Rattle.sdr_laws.proofs.GoneLemmas.{AreApart}
-use Rattle.sdr_laws.proofs.SourceViews.{by_addr, of}
+use Rattle.sdr_laws.proofs.SourceViews.{of}
 use Rattle.sdr_model.specs.Accounts.{is_same_account}
 use Rattle.sdr_model.specs.Gone.{names_source}
 use Rattle.sdr_model.specs.PartSteps.{outside_part, part_end}

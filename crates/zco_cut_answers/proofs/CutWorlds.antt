@@ -19,7 +19,6 @@ use Rattle.sdr_model.specs.PartSteps.{stripped}
 use Rattle.sdr_model.specs.Things.{Things}
 use Rattle.sdr_model.specs.Valid.{FitTogether}
 use Rattle.sdr_model.specs.World.{World, thing_at}
-use Rattle.sdr_model.specs.Zco.{as_object}
 use Rattle.sdr_model.specs.declared.things.Thing.TheVariants as things
 use Rattle.sdr_model.specs.declared.zco.Extent.{Extent}
 use Rattle.sdr_model.specs.declared.zco.ZcoObject.{ZcoObject}
@@ -30,7 +29,7 @@ use Rattle.zco_answers.proofs.GoneMaps.{AreDistinct, all_at, all_out, still_at}
 use Rattle.zco_answers.proofs.GoneMoves.{naming_rows}
 use Rattle.zco_answers.proofs.GoneTies.{source_away, unnamed}
 use Rattle.zco_answers.proofs.GoneUses.{UsedSource, addresses, all_keys, keys_at, named_of}
-use Rattle.zco_answers.proofs.GoneWorlds.{beside, left_first, others, own_first}
+use Rattle.zco_answers.proofs.GoneWorlds.{left_first, others, own_first}
 use Rattle.zco_answers.proofs.MovingLemmas.{entries_at}
 use Rattle.zco_cut.specs.Cuts as cuts
 use Rattle.zco_cut_answers.proofs.CutRows.{outside_row, stripped_row}

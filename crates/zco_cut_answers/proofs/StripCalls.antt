@@ -1,5 +1,5 @@
 -- An object that is cut to its part, as a step.
-use Rattle.std.proofs.Common.{◌≡◌, ◌∙◌, ◌+◌, ◌-◌, ◌*◌, ◌≤◌, ℕ, List, [], ◌∷◌, ◌++◌, map, Option, true≢false, length, refl, sym, ap, subst, arith, append_assoc, length-append}
+use Rattle.std.proofs.Common.{◌≡◌, ◌∙◌, ◌+◌, ◌-◌, ◌*◌, ◌≤◌, ℕ, List, [], ◌++◌, Option, true≢false, length, refl, sym, ap, subst, arith, append_assoc}
 use Rattle.std.specs.Option.{option_map_or}
 use Rattle.std.specs.Prelude.{All, IfSome}
 use Rattle.sdr_answers.proofs.ListLemmas.{IsSmall}
@@ -9,7 +9,7 @@ use Rattle.sdr_audit.specs.Rows.{object_row}
 use Rattle.sdr_audit.specs.Standing.{HeapStandsFor, entries_of, other_entries, with_taken_marked}
 use Rattle.sdr_base.specs.Entries.{Changes, Entries, Stands}
 use Rattle.sdr_base.specs.Objects.{Heap, Misses, OnlyUnmoved}
-use Rattle.sdr_base.specs.ZcoObjects.{ExtentRow, object_entries}
+use Rattle.sdr_base.specs.ZcoObjects.{object_entries}
 use Rattle.sdr_base.specs.declared.account.Acct.{Acct}
 use Rattle.sdr_base.specs.declared.kind.Kind.TheVariants as kinds
 use Rattle.sdr_base.specs.declared.kind.Space.{Space}
@@ -47,7 +47,6 @@ use Rattle.zco_acct.specs.Words.{occupied_in}
 use Rattle.zco_answers.proofs.ChargeLemmas.{stays}
 use Rattle.zco_answers.proofs.DestroyLeft.{extents_few}
 use Rattle.zco_answers.proofs.DropLemmas.{framed}
-use Rattle.zco_answers.proofs.GoneTies.{left_things}
 use Rattle.zco_answers.proofs.MovedLemmas.{moved_stands}
 use Rattle.zco_answers.proofs.MovingLemmas.{both_alike, moved}
 use Rattle.zco_answers.proofs.ObjectLemmas.{IsObjectAt, no_object, object_fits, object_is_at, object_kept}

@@ -1,8 +1,7 @@
 -- An object that is kept with its sources and with the queue of its account, before it is cut to its part and after.
-use Rattle.std.proofs.Common.{◌≡◌, ◌∙◌, ◌+◌, ◌*◌, ◌/◌, ◌≤◌, ℕ, List, ◌++◌, length, sym, ap, subst, arith, append_assoc, length-append}
+use Rattle.std.proofs.Common.{◌≡◌, ◌∙◌, ◌+◌, ◌/◌, ◌≤◌, ℕ, ◌++◌, length, sym, ap, subst, arith, append_assoc, length-append}
 use Rattle.sdr_base.proofs.LinkedLemmas.{length-linked}
 use Rattle.sdr_base.proofs.StandingLemmas.{moved}
-use Rattle.sdr_base.specs.Blocks.{Blocks}
 use Rattle.sdr_base.specs.Entries.{Entries, Few, Stands}
 use Rattle.sdr_base.specs.Making.{gave, with_moves}
 use Rattle.sdr_base.specs.Objects.{Heap}
@@ -17,7 +16,6 @@ use Rattle.zco_cut.specs.Cuts.{outside, part_end, stripped}
 use Rattle.zco_cut.specs.Stripping.{IsToStrip, KeepsToStrip, StripsObject, gone_outside, stripped_amounts}
 use Rattle.zco_cut_answers.specs.Stripping.{IsToCut, SomeToCut}
 use Rattle.zco_obj.specs.Gone.{sources_entries, sources_left}
-use Rattle.zco_obj.specs.Kept.{SomeObject}
 use Rattle.zco_obj.specs.Reading.{Tells}
 use Rattle.zco_space.proofs.RootLemmas.{first_of_occupied, last_of_occupied}
 
