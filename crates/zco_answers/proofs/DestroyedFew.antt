@@ -74,6 +74,7 @@ destroyed_few heap w addr z s fits few there =
     let row = object_row z in
     let own = own_blocks w addr z there fits z.extents None (leaves_none z) u.sources u.are in
     let rest = beside w addr z there fits z.extents None (leaves_none z) u.sources u.are in
+    let first = own_first w addr z there fits z.extents None (leaves_none z) u.sources u.are in
     let headers = capsule_entries row.headers in
     let extents = extent_entries row.extents in
     let trailers = capsule_entries row.trailers in
@@ -83,7 +84,7 @@ destroyed_few heap w addr z s fits few there =
     let same = ap (λ (ks : List ℕ). length ks) u.are.gone in
     omega (
       arith,
-      few.few ((own ++ rest) ++ other_entries w) ((own_first w addr z there fits z.extents None (leaves_none z) u.sources u.are).forth heap.blocks (other_entries w) s.blocks),
+      few.few ((own ++ rest) ++ other_entries w) (first.forth heap.blocks (other_entries w) s.blocks),
       both_go w z.extents z.extents,
       same,
       all_few w z.extents u.sources,

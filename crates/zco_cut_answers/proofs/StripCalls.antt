@@ -176,7 +176,8 @@ module _ (old : Heap) (w : World) (unmoved : old.moves ≡ []) (s : HeapStandsFo
         serves.moves ∙ ap (λ (h : Heap). h.moves) g.others
         ∙ ap (λ (ms : List Move). ms ++ gave (gone_outside (object_row z) sources)) unmoved
         ∙ ap (λ (addrs : List ℕ). gave addrs) (sym blocks_same) in
-        let has : HasMoves w (gave (world_blocks w (outside_part z) (outside_part z))) new = gave_has w (world_blocks w (outside_part z) (outside_part z)) new is in
+        let went = world_blocks w (outside_part z) (outside_part z) in
+        let has : HasMoves w (gave went) new = gave_has w went new is in
         record {
           after = after;
           row = subst (λ (ms : List Move). ByRow w (record { moves = ms; after = after; reply = replies.Done }) (calls.Strip addr))
