@@ -56,6 +56,7 @@ use Rattle.zco_answers.proofs.AlikeLemmas.{StandAlike}
 use Rattle.zco_answers.proofs.AppendLemmas.{in_range, out_of_range}
 use Rattle.zco_answers.proofs.ChargeLemmas.{IsPaid, paid, unpaid}
 use Rattle.zco_answers.proofs.DestroyKept.{used}
+use Rattle.zco_answers.proofs.GoneTies.{leaves_none}
 use Rattle.zco_answers.proofs.GoneUses.{UsedBy}
 use Rattle.zco_answers.proofs.GoneWorlds.{beside, own_first}
 use Rattle.zco_answers.proofs.MovingLemmas.{both_alike}
@@ -205,7 +206,7 @@ module _ (old new : Heap) (w : World) (unmoved : old.moves ≡ []) (s : HeapStan
       cloned_stands : thing_at w clone ≡ None → IsPaidFor → HeapStandsFor new (with_taken_marked after moves)
       cloned_stands none pays =
           let acct = z.account in
-          let rest = beside w addr z at.there served.whole.fits mine.sources mine.are in
+          let rest = beside w addr z at.there served.whole.fits z.extents None (leaves_none z) mine.sources mine.are in
           let u = cloned w clone acct extents none in
           let front = object_entries clone (object_row made) in
           let first : StandAlike (section (thing_entries (ties_of u)) u.things) ((front ++ counted) ++ rest) =
@@ -217,7 +218,7 @@ module _ (old new : Heap) (w : World) (unmoved : old.moves ≡ []) (s : HeapStan
           ∙ uncut q (z.part.offset + offset) (z.part.offset + offset + bytes) z.extents no)) in
           let changes : Changes old.blocks new.blocks (entries_of w) (entries_of after) =
           both_alike w things_with acct (charged tickets number (amounts_by (charge_for z))) own (front ++ counted) rest
-          (own_first w addr z at.there served.whole.fits mine.sources mine.are) first pays.changes in
+          (own_first w addr z at.there served.whole.fits z.extents None (leaves_none z) mine.sources mine.are) first pays.changes in
           paid_stands things_with acct number (charge_for z) moves s
           (clone_moves_charge w clone acct (spots clone addrs es same) es none) pays changes
 

@@ -36,7 +36,7 @@ use Rattle.zco_answers.proofs.AlikeLemmas.{StandAlike, alike_behind, alike_then,
 use Rattle.zco_answers.proofs.AppendLemmas.{lost_again, written_alike}
 use Rattle.zco_answers.proofs.GoneKeys.{all_split, each_key, key_things, keys_distinct}
 use Rattle.zco_answers.proofs.GoneMaps.{AreDistinct, all_at, all_out, none_there, there_apart}
-use Rattle.zco_answers.proofs.GoneTies.{source_away}
+use Rattle.zco_answers.proofs.GoneTies.{leaves_none, source_away}
 use Rattle.zco_answers.proofs.GoneUses.{AreUsed, IsFound, UsedSource, all_keys, keys_at, named_of}
 use Rattle.zco_answers.proofs.GoneWorlds.{beside, keys, others}
 use Rattle.zco_answers.proofs.MovingLemmas.{entries_at}
@@ -119,6 +119,16 @@ module _ (w : World) (clone : ℕ) (acct : Acct) (es : List Extent) (none : thin
   module _ (addr : ℕ) (z : ZcoObject) (there : thing_at w addr ≡ Some (things.Object z)) (fits : FitTogether w)
       (us : List (UsedSource w z.extents)) (are : AreUsed w z.extents z.extents us) (ps : List Piece)
       (all : (q : ℕ) → pieces_of q ps ≡ naming q es) (only : (q : ℕ) → names_source q z.extents ≡ false → naming q es ≡ 0) where
+    -- the addresses of the sources and of their raw objects, the things beside them and the object, and those things' blocks
+    abbrev own_keys : List ℕ
+    own_keys = keys w addr z there fits z.extents None (leaves_none z) us are
+
+    abbrev things_beside : Things
+    things_beside = others w addr z there fits z.extents None (leaves_none z) us are
+
+    abbrev pub blocks_beside : Entries
+    blocks_beside = beside w addr z there fits z.extents None (leaves_none z) us are
+
     -- a source and its raw object
     raw_now : (u : UsedSource w z.extents) (raw : ℕ) → thing_at w raw ≡ Some (things.Raw u.bytes) →
         is_of_raw raw u.source.subject ≡ true →
@@ -162,25 +172,23 @@ module _ (w : World) (clone : ℕ) (acct : Acct) (es : List Extent) (none : thin
         ∙ (λ i. one i ++ sources_now vs i)
 
     -- the others are written as they were
-    unnamed : (q : ℕ) → AreApart q (keys w addr z there fits us are) → naming q es ≡ 0
+    unnamed : (q : ℕ) → AreApart q own_keys → naming q es ≡ 0
     unnamed q apart = by (names_source q z.extents) refl
       where
         by : (b : Bool) → names_source q z.extents ≡ b → naming q es ≡ 0
         by true named = absurd (found_apart w z.extents us q apart (are.found q named))
         by false none = only q none
 
-    beside_now : section g (others w addr z there fits us are) ≡ beside w addr z there fits us are
+    beside_now : section g things_beside ≡ blocks_beside
     beside_now =
-        let m = others w addr z there fits us are in
-        let ks = keys w addr z there fits us are in
-        section_alike g f m (λ q thing is.
+        section_alike g f things_beside (λ q thing is.
         written_alike (ties_of cloned) (ties_of w) q thing (ap or_null (same_on q))
-        (λ a. others_counted q (unnamed q (there_apart m ks q thing (none_there (finite.remove w.things addr) ks) is)) a))
+        (λ a. others_counted q (unnamed q (there_apart things_beside own_keys q thing (none_there (finite.remove w.things addr) own_keys) is)) a))
 
-    distinct : AreDistinct (addr ∷ keys w addr z there fits us are)
+    distinct : AreDistinct (addr ∷ own_keys)
     distinct = (
       each_key w z.extents (λ k. k ≢ addr)
-          (key_things w z.extents (λ k. k ≢ addr) (λ q no. source_away w addr z there fits us are q no)) us,
+          (key_things w z.extents (λ k. k ≢ addr) (λ q no. source_away w addr z there fits z.extents None (leaves_none z) us are q no)) us,
       keys_distinct w z.extents fits us are.distinct,
     )
 
@@ -188,12 +196,12 @@ module _ (w : World) (clone : ℕ) (acct : Acct) (es : List Extent) (none : thin
     pub cloned_first : StandAlike (section g cloned.things)
         (object_entries clone (object_row (object_of acct es))
         ++ ((object_entries addr (object_row z) ++ sources_entries (all_counted acct ps (map (named_of w z.extents) us)))
-        ++ beside w addr z there fits us are))
+        ++ blocks_beside))
     cloned_first =
-        let now : all_at (ties_of cloned) w.things (addr ∷ keys w addr z there fits us are)
+        let now : all_at (ties_of cloned) w.things (addr ∷ own_keys)
         ≡ object_entries addr (object_row z) ++ sources_entries (all_counted acct ps (map (named_of w z.extents) us)) =
         λ i. entries_at (ties_of cloned) addr (there i) ++ sources_now us i in
         alike_then clone_first
         (alike_behind (object_entries clone (object_row (object_of acct es)))
         (subst (λ (es' : Entries). StandAlike (section g w.things) es') (λ i. now i ++ beside_now i)
-        (all_out (ties_of cloned) w.things (addr ∷ keys w addr z there fits us are) distinct)))
+        (all_out (ties_of cloned) w.things (addr ∷ own_keys) distinct)))

@@ -1,5 +1,5 @@
 -- An object of a world, kept in its blocks so that a part of it can be cloned.
-use Rattle.std.proofs.Common.{◌≡◌, ◌+◌, ◌*◌, ◌-◌, ◌/◌, ◌==◌, ◌≤◌, ℕ, List, [], ◌∷◌, ◌++◌, Bool, true, false, cond, map, Some, length, subst, arith, append_assoc, length-append, if◌then◌else◌}
+use Rattle.std.proofs.Common.{◌≡◌, ◌+◌, ◌*◌, ◌-◌, ◌/◌, ◌==◌, ◌≤◌, ℕ, List, [], ◌∷◌, ◌++◌, Bool, true, false, cond, map, Some, None, length, subst, arith, append_assoc, length-append, if◌then◌else◌}
 use Rattle.std.proofs.lemmas.List.{length-map}
 use Rattle.std.proofs.lemmas.List.Elements.{All-cons, All-nil}
 use Rattle.std.proofs.lemmas.List.Sums.{sum_by-cons}
@@ -28,6 +28,7 @@ use Rattle.sdr_model.specs.declared.zco.ZcoObject.{ZcoObject}
 use Rattle.zco_acct.specs.Kept.{queue_entries}
 use Rattle.zco_answers.proofs.AlikeLemmas.{StandAlike}
 use Rattle.zco_answers.proofs.DestroyKept.{keeps_sources, sources, used}
+use Rattle.zco_answers.proofs.GoneTies.{leaves_none}
 use Rattle.zco_answers.proofs.GoneUses.{UsedBy, UsedSource, named_of}
 use Rattle.zco_answers.proofs.GoneWorlds.{beside, own_first}
 use Rattle.zco_answers.proofs.ObjectLemmas.{object_beside, object_is_at}
@@ -121,11 +122,11 @@ module _ (heap : Heap) (w : World) (s : HeapStandsFor heap w) (served : IsServed
     pub kept_to_clone : KeepsToClone heap addr (object_row z) (tickets_of w.accounts z.account) rows
     kept_to_clone =
         let own = object_entries addr (object_row z) in
-        let rest = beside w addr z there served.whole.fits mine.sources mine.are in
+        let rest = beside w addr z there served.whole.fits z.extents None (leaves_none z) mine.sources mine.are in
         record {
           beside = object_beside heap w addr z s served small there (sources_entries rows) rest
               (subst (λ (es : Entries). StandAlike (section (thing_entries (ties_of w)) w.things) es) (append_assoc own (sources_entries rows) rest)
-              (own_first w addr z there served.whole.fits mine.sources mine.are));
+              (own_first w addr z there served.whole.fits z.extents None (leaves_none z) mine.sources mine.are));
           may = record {
             there = (keeps_sources heap w s served small addr z there).named.there;
             counted = all_may mine.sources;
