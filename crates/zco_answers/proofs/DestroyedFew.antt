@@ -29,7 +29,7 @@ use Rattle.zco_ref.specs.Kept.{raw_part, tied_entries}
 use Rattle.zco_served.proofs.SourceLemmas.{counted_in}
 
 -- extents go with the things that go with them
-both_go : (w : World) (all es : List Extent) → length (gone_blocks w all es) ≡ length (gone_things w all es) + length es
+pub both_go : (w : World) (all es : List Extent) → length (gone_blocks w all es) ≡ length (gone_things w all es) + length es
 both_go w all [] = omega arith
 both_go w all (e ∷ es) =
     omega (
@@ -54,7 +54,7 @@ module _ (w : World) (all : List Extent) where
       by true (subjects.Heap raw) = omega arith
       by true (subjects.Obj raw) = omega arith
 
-  all_few : (us : List (UsedSource w all)) → length (all_gone w all us) ≤ length (sources_entries (map (named_of w all) us))
+  pub all_few : (us : List (UsedSource w all)) → length (all_gone w all us) ≤ length (sources_entries (map (named_of w all) us))
   all_few [] = omega arith
   all_few (u ∷ us) =
       omega (

@@ -6,3 +6,4 @@ pub mod StripLosses
 pub mod StripCalls
 pub mod StripLeft
 pub mod GoodLemmas
+pub mod StrippedFew
