@@ -117,7 +117,6 @@ impl<M: Media, J: HandedIn> Model for HandedMedia<M, J> {
 }
 
 impl<M: Media, J: HandedIn> HandedMedia<M, J> {
-    #[tactic(auto, using(sdr_dry::proofs::MediaLemmas::failed_refl))]
     pub fn new(media: M) -> HandedMedia<M, J>
         requires { J.media ≡ seen_media M.told M.faults M.short media }
         ensures { result ≡ media }
@@ -145,12 +144,10 @@ impl<M: Media, J: HandedIn> Media for HandedMedia<M, J> {
 
     ghost short = { λ m. M.short m };
 
-    #[tactic(auto, using(crate::proofs::HandedLemmas::lasts_on))]
     fn file_read(&mut self, path: &[u8], offset: u64, into: &mut [u8]) -> Result<u64, MediaFault> {
         self.media.file_read(path, offset, into)
     }
 
-    #[tactic(auto, using(crate::proofs::HandedLemmas::lasts_on))]
     fn bulk_read(&mut self, item: u64, offset: u64, into: &mut [u8]) -> Result<u64, MediaFault> {
         self.media.bulk_read(item, offset, into)
     }

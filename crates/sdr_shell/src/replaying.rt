@@ -96,8 +96,8 @@ fn replay_served<D: Disk, M: Media, K: Sink>(
     }
 }
 
-/// Replays the schedule of the input on the heap of the disk, whose sources name these media. A line that is refused, or whose call isn't served yet, is told
-/// before anything runs.
+/// Replays the schedule of the input on the heap of the disk, whose sources name these media. A line
+/// that is refused, or whose call isn't served yet, is told before anything runs.
 #[tactic(auto, using(crate::proofs::ScriptRead::read_scripts))]
 pub fn replay_input<D: Disk, M: Media, S: Source, K: Sink>(
     alloc: Global,

@@ -28,7 +28,7 @@ use Rattle.sdr_station.specs.declared.error.OpenError.{OpenError}
 pub open_stands : {D M : Type 0} (told : D → Option (List ℕ)) (moment : D → ℕ) (may_leave : D → ℕ → List ℕ → Type 0) (disk : D) (files : M) (i j : Opened D)
     (count spare : ℕ) → IsOpened told moment may_leave disk i → IsQuiet i j → j.bytes ≡ i.bytes → j.touched ≡ i.touched
     → StandsAsTold i.bytes
-    → IsOpen told moment may_leave disk (record {
+    → IsOpen {M = M} told moment may_leave disk (record {
       heap = record { cells = j; size = length j.bytes; marks = replicate count false; moves = []; spare = spare };
       media = files;
       shown = [];

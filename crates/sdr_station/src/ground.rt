@@ -197,7 +197,8 @@ impl<D: Disk, M: Media, F: Notify + Drop> HeapGround<D, M, F> {
     pub fn serve(&mut self, call: &Call) -> Reply
         requires going { self.old.stopped ≡ false }
         requires built { built call.now ≡ true }
-        ensures memory { Brings StandsInMemory self.old self.new (Calls (M.told self.old.media) call.now result) }
+        ensures memory { Brings StandsInMemory self.old self.new
+            (Calls (M.told self.old.media) call.now result) }
         ensures answered { Brings ⟦<HeapGround<D, M, F> as HasGround>⟧.stands self.old self.new
             (Calls (M.told self.old.media) call.now result) }
         ensures stopped { self.new.stopped ≡ dooms call.now result }
@@ -232,7 +233,8 @@ impl<D: Disk, M: Media, F: Notify + Drop> HeapGround<D, M, F> {
         ensures idle { OnOk result (self.new.idle ≡ true) }
         ensures sound { OnOk result (self.new.heap.cells.failed ≡ false) }
         ensures restored { self.new.restored ≡ self.old.restored }
-        ensures fault { OnErr result (MeetsFault ⟦<HeapGround<D, M, F> as HasGround>⟧ self.old self.new) }
+        ensures fault { OnErr result
+            (MeetsFault ⟦<HeapGround<D, M, F> as HasGround>⟧ self.old self.new) }
         ensures keeps { KeepsGround ⟦<HeapGround<D, M, F> as HasGround>⟧ false self.old self.new }
         ensures any_moment { LeavesEither ⟦<HeapGround<D, M, F> as HasGround>⟧ self.old self.new }
     {
@@ -264,7 +266,8 @@ impl<D: Disk, M: Media, F: Notify + Drop> HeapGround<D, M, F> {
             (self.old.heap.cells.failed ≡ false → self.new.idle ≡ true) }
         ensures sound { OnOk result (self.new.heap.cells.failed ≡ self.old.heap.cells.failed) }
         ensures restored { self.new.restored ≡ self.old.restored }
-        ensures fault { OnErr result (MeetsFault ⟦<HeapGround<D, M, F> as HasGround>⟧ self.old self.new) }
+        ensures fault { OnErr result
+            (MeetsFault ⟦<HeapGround<D, M, F> as HasGround>⟧ self.old self.new) }
         ensures keeps { KeepsGround ⟦<HeapGround<D, M, F> as HasGround>⟧ false self.old self.new }
         ensures any_moment { LeavesBefore ⟦<HeapGround<D, M, F> as HasGround>⟧ self.old self.new }
     {

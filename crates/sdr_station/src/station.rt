@@ -182,7 +182,8 @@ impl<D: Disk, M: Media, F: Notify + Drop> Station<D, M, F> {
     pub fn call(&mut self, call: &Call, into: &mut [u8; PAGE]) -> Reply
         requires begun { 0 < self.old.nesting.depth }
         requires built { built call.now ≡ true }
-        ensures says { SaysOr ⟦<HeapGround<D, M, F> as HasGround>⟧ call.now result self.old self.new }
+        ensures says { SaysOr ⟦<HeapGround<D, M, F> as HasGround>⟧ call.now result
+            self.old self.new }
         ensures depth { self.new.nesting.depth ≡ self.old.nesting.depth }
         ensures fills { Fills self.new.ground result into.old into.new }
         ensures any_moment { LeavesBefore ⟦<HeapGround<D, M, F> as HasGround>⟧
@@ -208,7 +209,8 @@ impl<D: Disk, M: Media, F: Notify + Drop> Station<D, M, F> {
     fn reply(&mut self, call: &Call) -> Reply
         requires begun { 0 < self.old.nesting.depth }
         requires built { built call.now ≡ true }
-        ensures says { SaysOr ⟦<HeapGround<D, M, F> as HasGround>⟧ call.now result self.old self.new }
+        ensures says { SaysOr ⟦<HeapGround<D, M, F> as HasGround>⟧ call.now result
+            self.old self.new }
         ensures depth { self.new.nesting.depth ≡ self.old.nesting.depth }
         ensures gives { Gives result self.new.ground }
         ensures any_moment { LeavesBefore ⟦<HeapGround<D, M, F> as HasGround>⟧
