@@ -57,7 +57,11 @@ pub fn most_moves(call: &Call, size: u64) -> u64
         return 0;
     }
     match call {
-        Call::ListDestroy(_) | Call::HashDestroy(_) | Call::Destroy(_) => size / 16 + 1,
+        Call::ListDestroy(_)
+        | Call::HashDestroy(_)
+        | Call::Destroy(_)
+        | Call::Strip(_)
+        | Call::ClonePart(_, _, _, _) => size / 16 + 1,
         Call::AppendExtent(_, _, _, _, _) => 2,
         _ => 1,
     }

@@ -20,7 +20,7 @@ use Rattle.sdr_model.specs.declared.zco.ZcoObject.{ZcoObject}
 use Rattle.zco_part_answers.specs.Answering.{call_lines, is_part_call}
 
 -- a block is taken for each extent
-extents_taken : (at : ℕ → ℕ) (k : ℕ) (es : List Extent) → length (takes_from at k (map (λ (e : Extent). extent_need) es)) ≡ length es
+pub extents_taken : (at : ℕ → ℕ) (k : ℕ) (es : List Extent) → length (takes_from at k (map (λ (e : Extent). extent_need) es)) ≡ length es
 extents_taken at k [] = refl
 extents_taken at k (e ∷ es) = let rest = extents_taken at (suc k) es in omega (arith, rest)
 

@@ -7,3 +7,4 @@ pub mod CloneCharges
 mod CloneCalls
 pub mod GoodLemmas
 pub mod DemandLemmas
+pub mod ClonedFew
