@@ -1,0 +1,3 @@
+pub mod ThingsLemmas
+pub mod TiesLemmas
+pub mod RowLemmas
