@@ -100,3 +100,7 @@ bonded_row at z =
       part_length = bytes i;
     })
     ∙ ap (whole_of (object_row z)) all
+
+pub length_by : (at : ℕ → ℕ) (k : ℕ) (cs : List Capsule) → length (bonded_by at k cs) ≡ length cs
+length_by at k [] = refl
+length_by at k (c ∷ cs) = let rest = length_by at (k + 3) cs in omega (arith, rest)

@@ -14,4 +14,5 @@ mod linking;
 mod parting;
 mod stripping;
 
+pub use linking::link_after;
 pub use stripping::strip;

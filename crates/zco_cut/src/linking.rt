@@ -22,7 +22,7 @@ pub fn cut_extent<O: Objects>(o: &mut O, extent: Addr, offset: u64, length: u64)
     set_word(o, extent, extent_words::LENGTH, length)
 }
 
-// Links an extent, or none where `next` is 0, behind the last one of a chain, 0 where that is empty.
+/// Links an extent, or none where `next` is 0, behind the last one of a chain, 0 where that is empty.
 pub fn link_after<O: Objects>(o: &mut O, last: Addr, next: Addr) -> Result<(), Stop>
     requires kept { KeepsSome (O.keeps o.old) }
     requires last { last ≢ 0 → UsesRange (O.heap o.old).blocks last 0 32 }
