@@ -154,8 +154,8 @@ module _ {text : Text} {old one : Heap} {source : ℕ} (m : MakesSource text old
         }
 
   -- each block came where nothing was
-  module _ {gap : Gap} {front : List ExtentRow} {next : ℕ} {c : CapsuleRow} (p : PlaceAt old.blocks text gap front next c) {two new : Heap}
-      {extent : ℕ} {acct : Acct} (i : InsertsExtent source text.bytes gap one two extent)
+  module _ {gap : Gap} {front : List ExtentRow} {next : ℕ} {c : CapsuleRow} (p : PlaceAt old.blocks text gap front next c) {two : Heap}
+      {extent : ℕ} (new : Heap) (acct : Acct) (i : InsertsExtent source text.bytes gap one two extent)
       (changes : Changes old.blocks new.blocks (chained gap.next front ++ ((c.addr, capsule_block 0 next c) ∷ []))
       (chained gap.next (front ++ (bonded_extent (bonded_at c m.raw source extent) ∷ []))
       ++ bonded_source acct (bonded_at c m.raw source extent))) where
@@ -190,8 +190,10 @@ module _ {text : Text} {old one : Heap} {source : ℕ} (m : MakesSource text old
         let both = times-append extent U R' in
         let was = times-append extent X (T ++ p.rest) in (
           apart_from extent source (counted_block (taking_over m.raw c.text)) (omega (arith, none, all, made, both)),
-          apart_from extent m.raw (raw_block source c.text) (omega (arith, none, all, made, both)),
-          free_unlisted extent p.stands (omega (arith, none, all, made, was)),
+          (
+            apart_from extent m.raw (raw_block source c.text) (omega (arith, none, all, made, both)),
+            free_unlisted extent p.stands (omega (arith, none, all, made, was)),
+          ),
         )
 
     -- and what is left
@@ -280,5 +282,5 @@ module _ {text : Text} {old one : Heap} {source : ℕ} (m : MakesSource text old
         small = i.small;
         bonds = λ front next c p. bonds_then p i a g (q.named.tells next c (place_kept p));
         made = made_then three_moves (Gave text.of ∷ []) made_three (record { all = ap besides g });
-        fresh = text_fresh q.is i (bonds_then q.is i a g (q.named.tells q.next q.capsule (place_kept q.is)));
+        fresh = text_fresh q.is new acct i (bonds_then q.is i a g (q.named.tells q.next q.capsule (place_kept q.is)));
       }

@@ -6,3 +6,4 @@ pub mod ChargeLemmas
 pub mod WorldLemmas
 pub mod BondCalls
 pub mod LinesLemmas
+pub mod DemandLemmas

@@ -12,8 +12,9 @@ use Rattle.sdr_base.proofs.WorksLemmas.{works_more}
 use Rattle.sdr_base.specs.Blocks.{IsKind}
 use Rattle.sdr_base.specs.Entries.{Few}
 use Rattle.sdr_base.specs.Objects.{Heap}
-use Rattle.sdr_base.specs.Works.{Ghosts, Works}
+use Rattle.sdr_base.specs.Works.{Works}
 use Rattle.sdr_base.specs.ZcoObjects.{CapsuleRow, ObjectRow, capsule_addr, capsule_block, capsule_entries, extent_addr, extent_block, extent_entries, object_entries}
+use Rattle.sdr_base.specs.declared.has_heap.HasHeap.{Ghosts}
 use Rattle.sdr_base.specs.declared.kind.Kind.TheVariants as kinds
 use Rattle.sdr_base.specs.declared.stop.Stop.{Stop}
 use Rattle.sdr_laws.proofs.ThingLemmas.{object_is}
@@ -26,6 +27,7 @@ use Rattle.sdr_model.specs.declared.accounts.Ticket.{Ticket}
 use Rattle.sdr_model.specs.declared.things.Thing.TheVariants as things
 use Rattle.sdr_model.specs.declared.zco.Capsule.{Capsule}
 use Rattle.sdr_model.specs.declared.zco.ZcoObject.{ZcoObject}
+use Rattle.zco_acct.specs.Kept.{queue_entries}
 use Rattle.zco_answers.proofs.FewLemmas.{few_blocks}
 use Rattle.zco_answers.proofs.ObjectLemmas.{object_is_at, object_with_queue}
 use Rattle.zco_bond.specs.Bonding.{IsToBond, ends_lines}
@@ -40,13 +42,14 @@ ends_few : (heap : Heap) (object : ℕ) (row : ObjectRow) (tickets : List Ticket
     Few heap.size heap.blocks → 16 * length (ends_of row) ≤ heap.size
 ends_few heap object row tickets k few =
     let own = object_entries object row in
+    let rest = queue_entries row.account tickets ++ k.rest in
     let headers = capsule_entries row.headers in
     let extents = extent_entries row.extents in
     let trailers = capsule_entries row.trailers in
     omega (
       arith,
-      few.few _ k.stands,
-      length-append own _,
+      few.few (own ++ rest) k.stands,
+      length-append own rest,
       length-append (headers ++ extents) trailers,
       length-append headers extents,
       length-linked capsule_addr capsule_block 0 0 row.headers,

@@ -41,9 +41,6 @@ use Rattle.zco_served.proofs.UsesLemmas.{none_counted, same_counts}
 
 -- extents that headers and trailers become name no source that is there before
 module _ (at : ℕ → ℕ) where
-  first : ℕ → Capsule → Extent
-  first k c = record { block = at (k + 2); source = at (k + 1); offset = 0; length = length c.text }
-
   pub others_unnamed : (m : Things) (k : ℕ) (cs : List Capsule) → Come m at k cs → (q : ℕ) (t : Thing) → finite.get m q ≡ Some t →
       naming q (bonds.bonded_extents at k cs) ≡ 0
   others_unnamed m k [] come q t there = refl
@@ -136,7 +133,7 @@ AreTied named counts acct at k (c ∷ cs) =
     × AreTied named counts acct at (k + 3) cs
 
 -- where nothing is, as many extents name a source as these extents do
-abbrev CountsNew : (ℕ → Acct → ℕ) → Acct → Things → List Extent → Type 0
+abbrev pub CountsNew : (ℕ → Acct → ℕ) → Acct → Things → List Extent → Type 0
 CountsNew counts acct m es = (q : ℕ) → finite.get m q ≡ None → (a : Acct) → counts q a ≡ cond (is_same_account a acct) (naming q es) 0
 
 module _ (w : World) (at : ℕ → ℕ) (counts : ℕ → Acct → ℕ) (acct : Acct) where

@@ -1,9 +1,9 @@
 -- The world after a bond, as its row has it and as its blocks have it.
-use Rattle.std.proofs.Common.{◌≡◌, ◌∙◌, ◌+◌, ◌*◌, ◌++◌, ℕ, List, [], ◌∷◌, map, Some, length, refl, sym, ap, subst, arith, append_assoc, inl, inr}
+use Rattle.std.proofs.Common.{◌≡◌, ◌∙◌, ◌+◌, ◌*◌, ◌++◌, ℕ, List, [], ◌∷◌, map, Some, length, refl, sym, ap, subst, arith, append_assoc}
 use Rattle.std.specs.FinMap as finite
 use Rattle.sdr_audit.specs.Rows.{extent_row, object_row}
 use Rattle.sdr_audit.specs.Standing.{thing_entries}
-use Rattle.sdr_audit.specs.Ties.{Ties, ties_of}
+use Rattle.sdr_audit.specs.Ties.{ties_of}
 use Rattle.sdr_base.specs.Entries.{Entries}
 use Rattle.sdr_base.specs.Section.{section}
 use Rattle.sdr_base.specs.ZcoObjects.{object_entries}
@@ -24,7 +24,7 @@ use Rattle.zco_answers.proofs.AppendLemmas.{lost_again}
 use Rattle.zco_bond.specs.Bonded.{BondedCapsule, bonded_sources, joined, whole_of}
 use Rattle.zco_bond_answers.proofs.RowLemmas.{append_by, bonded_by, bonded_row, written_by}
 use Rattle.zco_bond_answers.proofs.ThingsLemmas.{Come, all_first, all_lost, come_lost, written}
-use Rattle.zco_bond_answers.proofs.TiesLemmas.{after, bonded_things, others_alike, tied}
+use Rattle.zco_bond_answers.proofs.TiesLemmas.{others_alike, tied}
 
 -- the row leaves a world of these things
 pub bonded_world : (v : World) (addr : ℕ) (z : ZcoObject) (at : ℕ → ℕ) →
