@@ -1,17 +1,16 @@
 -- What a bond charges, by the world and by the blocks, and what the things charge after it.
-use Rattle.std.proofs.Common.{◌≡◌, ◌∙◌, ◌+◌, ◌*◌, ◌≤◌, ◌++◌, ℕ, List, [], ◌∷◌, map, Option, Some, None, length, refl, sym, ap, arith}
+use Rattle.std.proofs.Common.{◌≡◌, ◌∙◌, ◌*◌, ◌≤◌, ◌++◌, ℕ, List, [], ◌∷◌, map, Some, length, refl, sym, ap, arith}
 use Rattle.std.proofs.lemmas.List.{map-append}
 use Rattle.std.proofs.lemmas.List.Sums.{sum_by-append, sum_by-cons}
 use Rattle.std.specs.FinMap as finite
 use Rattle.std.specs.Prelude.{sum_by}
 use Rattle.sdr_audit.specs.Rows.{capsule_row, object_row}
 use Rattle.sdr_base.specs.ZcoObjects.{CapsuleRow}
-use Rattle.sdr_base.specs.declared.kind.Space.{Space}
 use Rattle.sdr_base.specs.declared.kind.Space.TheVariants as spaces
 use Rattle.sdr_laws.proofs.BondLaws.{Tracks, all_bonded, with_all}
 use Rattle.sdr_laws.proofs.ChargeMoves.{MovesCharge, after_same, bonded_charge, object_moves}
 use Rattle.sdr_laws.proofs.OutcomeFits.{bonded_parts}
-use Rattle.sdr_laws.proofs.SourceViews.{Fits, NoSpare, fits_from, fits_more, of}
+use Rattle.sdr_laws.proofs.SourceViews.{NoSpare, fits_from, fits_more, of}
 use Rattle.sdr_laws.proofs.ZcoOutcomes.{nothing}
 use Rattle.sdr_laws.specs.Fresh.{AreFresh}
 use Rattle.sdr_model.proofs.SumLemmas.{sum_by-map}

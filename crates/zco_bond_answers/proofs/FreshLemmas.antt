@@ -1,5 +1,5 @@
 -- Moves that take what is free take fresh blocks, so that what headers and trailers become comes where nothing is.
-use Rattle.std.proofs.Common.{◌≡◌, ◌≢◌, ◌∙◌, ◌+◌, ◌⊎◌, ℕ, List, [], ◌∷◌, inl, inr, nat_eq, refl, sym, ap, arith}
+use Rattle.std.proofs.Common.{◌≡◌, ◌≢◌, ◌∙◌, ◌+◌, ◌⊎◌, ℕ, List, [], ◌∷◌, inl, inr, nat_eq, sym, ap, arith}
 use Rattle.std.proofs.lemmas.Bool.{ne_eqb}
 use Rattle.std.proofs.lemmas.List.Elements.{All-cons, All-head, All-nil, All-tail}
 use Rattle.std.specs.Cmp.{nat_eq_equiv}

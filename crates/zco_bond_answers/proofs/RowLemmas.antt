@@ -1,12 +1,11 @@
 -- Headers and trailers that have become extents, by the addresses that the moves take.
-use Rattle.std.proofs.Common.{◌≡◌, ◌∙◌, ◌+◌, ◌*◌, ℕ, suc, List, [], ◌∷◌, ◌++◌, map, slice_index, length, refl, sym, ap, subst, arith, append_assoc}
+use Rattle.std.proofs.Common.{◌≡◌, ◌∙◌, ◌+◌, ◌*◌, ℕ, suc, List, [], ◌∷◌, ◌++◌, map, slice_index, length, refl, sym, ap, arith, append_assoc}
 use Rattle.std.proofs.lemmas.List.{map-append}
 use Rattle.sdr_audit.specs.Rows.{capsule_row, extent_row, object_row}
 use Rattle.sdr_audit.specs.Standing.{thing_entries}
 use Rattle.sdr_audit.specs.Ties.{Ties}
-use Rattle.sdr_base.specs.Entries.{Entries}
 use Rattle.sdr_base.specs.Raws.{raw_entries}
-use Rattle.sdr_base.specs.ZcoObjects.{CapsuleRow, ExtentRow, ObjectRow}
+use Rattle.sdr_base.specs.ZcoObjects.{ExtentRow}
 use Rattle.sdr_base.specs.declared.account.Acct.{Acct}
 use Rattle.sdr_base.specs.declared.moves.Move.{Move}
 use Rattle.sdr_base.specs.declared.moves.Move.TheVariants.{Gave, Took}
@@ -17,7 +16,7 @@ use Rattle.sdr_model.specs.Steps.{taken_addresses}
 use Rattle.sdr_model.specs.Things.{extent_need, raw_need, source_need}
 use Rattle.sdr_model.specs.declared.zco.Capsule.{Capsule}
 use Rattle.sdr_model.specs.declared.zco.ZcoObject.{ZcoObject}
-use Rattle.zco_bond.specs.Bonded.{BondedCapsule, bonded_extents, bonded_source, bonded_sources, bonding_moves, capsules_of, joined, whole_of}
+use Rattle.zco_bond.specs.Bonded.{BondedCapsule, bonded_extents, bonded_sources, bonding_moves, capsules_of, joined, whole_of}
 use Rattle.zco_bond_answers.proofs.ThingsLemmas.{written}
 use Rattle.zco_bond_answers.proofs.TiesLemmas.{AreTied, source_written}
 

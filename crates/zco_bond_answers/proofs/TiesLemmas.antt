@@ -7,8 +7,7 @@ use Rattle.sdr_answers.proofs.EntryLemmas.{none_named}
 use Rattle.sdr_audit.proofs.TiesLemmas.{same_first}
 use Rattle.sdr_audit.specs.Rows.{source_row}
 use Rattle.sdr_audit.specs.Standing.{thing_entries}
-use Rattle.sdr_audit.specs.Ties.{Ties, names_raw_at, or_null, ties_of}
-use Rattle.sdr_base.specs.Entries.{Entries}
+use Rattle.sdr_audit.specs.Ties.{names_raw_at, or_null, ties_of}
 use Rattle.sdr_base.specs.Section.{section}
 use Rattle.sdr_base.specs.Sources.{source_entries}
 use Rattle.sdr_base.specs.declared.account.Acct.{Acct}
@@ -33,7 +32,7 @@ use Rattle.sdr_model.specs.declared.zco.ZcoObject.{ZcoObject}
 use Rattle.zco_answers.proofs.AlikeLemmas.{section_alike}
 use Rattle.zco_answers.proofs.AppendLemmas.{written_alike}
 use Rattle.zco_answers.proofs.AppendRaws.{named_first}
-use Rattle.zco_bond_answers.proofs.ThingsLemmas.{Come, elsewhere, kept_all, kept_one, mid_none, none_one, raw_one, source_one, written}
+use Rattle.zco_bond_answers.proofs.ThingsLemmas.{Come, elsewhere, kept_all, kept_one, mid_none, none_one, raw_one, source_one}
 use Rattle.zco_obj.specs.Appending.{taking_over}
 use Rattle.zco_ref.specs.Counting.{attached}
 use Rattle.zco_ref.specs.Kept.{counted_entries}

@@ -1,5 +1,5 @@
 -- The world after a bond, as its row has it and as its blocks have it.
-use Rattle.std.proofs.Common.{◌≡◌, ◌∙◌, ◌+◌, ◌*◌, ◌++◌, ℕ, List, [], ◌∷◌, map, Some, length, refl, sym, ap, subst, arith, append_assoc}
+use Rattle.std.proofs.Common.{◌≡◌, ◌∙◌, ◌*◌, ◌++◌, ℕ, List, map, Some, length, sym, ap, subst, arith, append_assoc}
 use Rattle.std.specs.FinMap as finite
 use Rattle.sdr_audit.specs.Rows.{extent_row, object_row}
 use Rattle.sdr_audit.specs.Standing.{thing_entries}

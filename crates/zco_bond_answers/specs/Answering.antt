@@ -1,5 +1,5 @@
 -- The call that bonds an object, and how many lines it touches.
-use Rattle.std.specs.Prelude.{◌+◌, ◌/◌, ℕ, List, length, sum_by}
+use Rattle.std.specs.Prelude.{◌+◌, ◌/◌, ℕ, length, sum_by}
 use Rattle.std.specs.Option.{option_map_or}
 use Rattle.sdr_model.specs.BondSteps.{capsules_of}
 use Rattle.sdr_model.specs.World.{World}
