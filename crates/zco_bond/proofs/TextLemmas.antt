@@ -116,23 +116,23 @@ module _ {text : Text} {old mid : Heap} {raw : ℕ} (t : IsText old.blocks text)
   -- or it was
   pub makes_source : {source : ℕ} {new : Heap} → MakesRawSource media.Heap raw source mid new → MakesSource text old new source
   makes_source {source} {new} m =
-    let adds = m.adds t.some.capsule.text (raw_kept t.some.keeps) in
-    let apart : source ≢ raw = λ same.
-    (let no : None ≡ Some (raw_block 0 t.some.capsule.text) =
-    sym adds.fresh ∙ ap mid.blocks same ∙ (raw_kept t.some.keeps).block in cc) in
-    let before : old.blocks source ≡ None =
-    sym (ap (λ (h : Heap). h.blocks source) copied.taken
-    ∙ with_block-apart old.blocks raw (Some (raw_block 0 t.some.capsule.text)) source apart) ∙ adds.fresh in
-    record {
-    raw = raw;
-    raw_small = copied.small;
-    small = (m.adds t.some.capsule.text (raw_kept t.some.keeps)).small;
-    takes = (copied.nonzero, copied.fresh, (adds.nonzero, (apart, before), tt));
-    makes = λ next row k. record {
-      kept = λ rest s. (m.adds row.text (raw_kept k)).changes.kept rest ((copy_makes k).adds.changes.kept rest s);
-    };
-    made = made_then (Took (8 + text.bytes) raw ∷ []) (Took 48 source ∷ []) (copy_makes t.some.keeps).made m.made;
-  }
+      let adds = m.adds t.some.capsule.text (raw_kept t.some.keeps) in
+      let apart : source ≢ raw = λ same.
+      (let no : None ≡ Some (raw_block 0 t.some.capsule.text) =
+      sym adds.fresh ∙ ap mid.blocks same ∙ (raw_kept t.some.keeps).block in cc) in
+      let before : old.blocks source ≡ None =
+      sym (ap (λ (h : Heap). h.blocks source) copied.taken
+      ∙ with_block-apart old.blocks raw (Some (raw_block 0 t.some.capsule.text)) source apart) ∙ adds.fresh in
+      record {
+        raw = raw;
+        raw_small = copied.small;
+        small = (m.adds t.some.capsule.text (raw_kept t.some.keeps)).small;
+        takes = (copied.nonzero, copied.fresh, (adds.nonzero, (apart, before), tt));
+        makes = λ next row k. record {
+          kept = λ rest s. (m.adds row.text (raw_kept k)).changes.kept rest ((copy_makes k).adds.changes.kept rest s);
+        };
+        made = made_then (Took (8 + text.bytes) raw ∷ []) (Took 48 source ∷ []) (copy_makes t.some.keeps).made m.made;
+      }
 
 -- no block was taken for the raw object
 pub raw_stops : (bytes : ℕ) (old new : Heap) (stop : Stop) → OnlyShort (8 + bytes) old new stop → RowStops (IsSourceRow bytes) old new stop

@@ -2,7 +2,6 @@
 use Rattle.std.proofs.Common.{◌≡◌, ◌∙◌, ◌++◌, ℕ, List, [], ◌∷◌, true≢false, inl, inr, length, refl, sym, ap, subst, arith, append_assoc}
 use Rattle.std.proofs.lemmas.List.{length-map}
 use Rattle.std.proofs.lemmas.List.Elements.{All-append}
-use Rattle.std.specs.FinMap as finite
 use Rattle.sdr_answers.proofs.KindLemmas.{none_of}
 use Rattle.sdr_answers.proofs.ListLemmas.{IsSmall}
 use Rattle.sdr_answers.proofs.RowLemmas.{HasMoves, misnamed_refused, moved_answered, row_refused}
@@ -22,25 +21,22 @@ use Rattle.sdr_base.specs.declared.moves.Move.TheVariants.{Short, Took}
 use Rattle.sdr_base.specs.declared.refusal.Refusal.{Refusal}
 use Rattle.sdr_base.specs.declared.refusal.Refusal.TheVariants as refusals
 use Rattle.sdr_base.specs.declared.stop.Stop.TheVariants as stops
-use Rattle.sdr_laws.proofs.BondLaws.{Tracks, with_all}
+use Rattle.sdr_laws.proofs.BondLaws.{Tracks}
 use Rattle.sdr_laws.proofs.BondTracks.{tracks_from}
 use Rattle.sdr_laws.proofs.ChargeMoves.{MovesCharge}
 use Rattle.sdr_laws.proofs.DistinctLemmas.{absent}
 use Rattle.sdr_laws.proofs.ZcoOutcomes.{nothing}
 use Rattle.sdr_laws.specs.Fresh.{AreFresh}
-use Rattle.sdr_lock.proofs.WorkLemmas.{on_some}
 use Rattle.sdr_model.specs.Accounts.{tickets_of}
 use Rattle.sdr_model.specs.Amounts.{amounts_by}
 use Rattle.sdr_model.specs.Blocks.{addresses_of, blocks_of}
 use Rattle.sdr_model.specs.BondSteps as bonds
 use Rattle.sdr_model.specs.BondSteps.{bond_charge, bond_moves, bonded, with_bonded}
-use Rattle.sdr_model.specs.Charging.{Charges}
-use Rattle.sdr_model.specs.ObjectSteps.{with_object}
 use Rattle.sdr_model.specs.Rows.{ByRow}
-use Rattle.sdr_model.specs.Steps.{DoesWith, Outcome, taken_addresses, taken_at}
+use Rattle.sdr_model.specs.Steps.{Outcome, taken_at}
 use Rattle.sdr_model.specs.Things.{Things}
 use Rattle.sdr_model.specs.World.{World}
-use Rattle.sdr_model.specs.Zco.{as_object, object_at}
+use Rattle.sdr_model.specs.Zco.{object_at}
 use Rattle.sdr_model.specs.declared.accounts.Ticket.{Ticket}
 use Rattle.sdr_model.specs.declared.answer.Reply.TheVariants as replies
 use Rattle.sdr_model.specs.declared.call.Call.{Call}
@@ -51,9 +47,9 @@ use Rattle.sdr_model.specs.declared.zco.ZcoObject.{ZcoObject}
 use Rattle.zco_acct.specs.Charges.{charged}
 use Rattle.zco_answers.proofs.AlikeLemmas.{one_first}
 use Rattle.zco_answers.proofs.ChargeLemmas.{IsPaid, paid, unpaid}
-use Rattle.zco_answers.proofs.MovingLemmas.{both_alike, moved}
+use Rattle.zco_answers.proofs.MovingLemmas.{both_alike}
 use Rattle.zco_answers.proofs.ObjectLemmas.{IsObjectAt, no_object, object_is_at, object_with_queue}
-use Rattle.zco_answers.proofs.PayingLemmas.{paid_stands, paid_world, same_refusal}
+use Rattle.zco_answers.proofs.PayingLemmas.{paid_stands, same_refusal}
 use Rattle.zco_bond.proofs.BondedLemmas.{capsules-append, length-capsules}
 use Rattle.zco_bond.specs.Bonded as rows
 use Rattle.zco_bond.specs.Bonded.{BondedCapsule, bonded_sources, bonding_moves, capsules_of, joined, whole_of}
@@ -62,11 +58,12 @@ use Rattle.zco_bond.specs.Chaining.{IsBondRow}
 use Rattle.zco_bond.specs.Charging.{BondAllowed, BondRefused, bond_amounts, ends_of}
 use Rattle.zco_bond.specs.Fresh.{is_free}
 use Rattle.zco_bond.specs.Rows.{LacksAmong, MadeAmong}
-use Rattle.zco_bond_answers.proofs.ChargeLemmas.{amounts_told, bond_charged, ends_are}
+use Rattle.zco_bond_answers.proofs.BondRows.{after, after_things, bond_row, does, moves_are, on_object, outcome, told}
+use Rattle.zco_bond_answers.proofs.ChargeLemmas.{amounts_told, bond_charged}
 use Rattle.zco_bond_answers.proofs.FreshLemmas.{fresh_come, fresh_moves, small_words}
-use Rattle.zco_bond_answers.proofs.RowLemmas.{bonded_by, length_by, moves_by, told_by}
+use Rattle.zco_bond_answers.proofs.RowLemmas.{length_by}
 use Rattle.zco_bond_answers.proofs.ThingsLemmas.{Come}
-use Rattle.zco_bond_answers.proofs.WorldLemmas.{bonded_first, bonded_part, bonded_world, both_by, heads_by, rest, tails_by}
+use Rattle.zco_bond_answers.proofs.WorldLemmas.{bonded_first, bonded_part, both_by, heads_by, rest, tails_by}
 use Rattle.zco_obj.specs.Charging.{Pays, refusal_in}
 use Rattle.zco_obj.specs.Kept.{KeepsWithQueue}
 
@@ -109,67 +106,19 @@ module _ (old new : Heap) (w : World) (unmoved : old.moves ≡ []) (s : HeapStan
     keeps : KeepsWithQueue old addr row tickets
     keeps = object_with_queue old w addr z s served small o.there
 
-    -- what its headers and trailers became tells the addresses that are taken
-    abbrev taken : List BondedCapsule → ℕ → ℕ
-    taken bs = taken_at (bonding_moves bs)
-
-    abbrev after_things : List BondedCapsule → Things
-    after_things bs = finite.insert (with_all w.things (taken bs) 0 cs) addr (things.Object (bonded (taken bs) z))
-
-    abbrev after : List BondedCapsule → World
-    after bs = paid_world w (after_things bs) acct number charge
-
-    abbrev outcome : List BondedCapsule → Outcome
-    outcome bs = record {
-      moves = bonding_moves bs;
-      after = with_taken_marked (after bs) (bonding_moves bs);
-      reply = replies.Done;
-    }
-
-    told : (bs : List BondedCapsule) → capsules_of bs ≡ ends_of row → bs ≡ bonded_by (taken bs) 0 cs
-    told bs whole = told_by bs cs (whole ∙ ends_are z) (taken bs) 0 (λ i. ap (taken bs) (omega arith))
-
-    moves_are : (bs : List BondedCapsule) → capsules_of bs ≡ ends_of row → bonding_moves bs ≡ bond_moves (taken bs) 0 cs
-    moves_are bs whole = ap bonding_moves (told bs whole) ∙ moves_by (taken bs) 0 cs
-
-    -- what the row goes on with
-    abbrev does : Outcome → World → Type 0
-    does to used =
-        DoesWith w to (λ at. bond_moves at 0 cs) (λ at. with_object (with_bonded used at 0 cs) addr (bonded at z)) (λ at. replies.Done)
-
-    on_object : (to : Outcome) → Charges w to acct number charge (does to) → ByRow w to call
-    on_object to goes =
-        on_some _
-        (λ (x : ZcoObject). Charges w to x.account number (bond_charge (bonds.capsules_of x)) (λ used.
-        DoesWith w to (λ at. bond_moves at 0 (bonds.capsules_of x))
-        (λ at. with_object (with_bonded used at 0 (bonds.capsules_of x)) addr (bonded at x)) (λ at. replies.Done)))
-        (object_at w addr) z (ap as_object o.there) goes
-
-    bond_row : (bs : List BondedCapsule) → capsules_of bs ≡ ends_of row → IsPaid w acct number charge → ByRow w (outcome bs) call
-    bond_row bs whole p =
-        let marks = w.marks ++ taken_addresses (bonding_moves bs) in
-        on_object (outcome bs)
-        (p.goes (outcome bs) (does (outcome bs)) (
-          moves_are bs whole,
-          sym (ap (λ (used : World). record (with_object (with_bonded used (taken bs) 0 cs) addr (bonded (taken bs) z)) {
-              marks = marks;
-              shown = [];
-            }) p.used
-            ∙ ap (λ (u : World). record u { marks = marks; shown = [] })
-            (bonded_world (moved w w.things acct (charged tickets number (amounts_by charge))) addr z (taken bs))),
-          refl,
-        ))
-
     -- it was bonded
     module _ (b : ObjectBonded addr number row tickets old new) where
       abbrev bs : List BondedCapsule
       bs = b.headers ++ b.trailers
 
       abbrev at : ℕ → ℕ
-      at = taken bs
+      at = taken_at (bonding_moves bs)
 
       abbrev moves : List Move
       moves = bonding_moves bs
+
+      abbrev things_then : Things
+      things_then = after_things w addr number z o.there bs
 
       whole : capsules_of bs ≡ ends_of row
       whole =
@@ -182,7 +131,7 @@ module _ (old new : Heap) (w : World) (unmoved : old.moves ≡ []) (s : HeapStan
           let many = length-map z.headers capsule_row in
           let by = length_by at 0 z.headers in
           split b.headers (heads_by at z) b.trailers (tails_by at z) (omega (arith, capsules, are, many, by))
-          (told bs whole ∙ both_by at z)
+          (told w addr number z o.there bs whole ∙ both_by at z)
 
       abbrev used : List ℕ
       used = addresses_of (blocks_of w)
@@ -192,7 +141,7 @@ module _ (old new : Heap) (w : World) (unmoved : old.moves ≡ []) (s : HeapStan
           fresh_moves (is_free old.blocks) used moves (λ q free. absent q used (none_of old w q s served.whole.valid free)) b.takes
 
       row_fresh : AreFresh used (bond_moves at 0 cs)
-      row_fresh = subst (λ (ms : List Move). AreFresh used ms) (moves_are bs whole) fresh
+      row_fresh = subst (λ (ms : List Move). AreFresh used ms) (moves_are w addr number z o.there bs whole) fresh
 
       tracks : Tracks w.things used cs
       tracks = tracks_from w addr z served.whole.valid o.there
@@ -200,7 +149,7 @@ module _ (old new : Heap) (w : World) (unmoved : old.moves ≡ []) (s : HeapStan
       come : Come w.things at 0 cs
       come = fresh_come at w.things used 0 cs tracks row_fresh
 
-      charges : MovesCharge w.things (after_things bs) acct charge nothing
+      charges : MovesCharge w.things things_then acct charge nothing
       charges = bond_charged w addr z at used o.there served.whole.fits tracks row_fresh
 
       abbrev part : Entries
@@ -214,10 +163,10 @@ module _ (old new : Heap) (w : World) (unmoved : old.moves ≡ []) (s : HeapStan
           ++ bonded_sources acct (parts.0 i ++ parts.1 i)) b.pays)
 
       -- the heap stands for the world after it
-      pub bonded_stands : HeapStandsFor new (with_taken_marked (after bs) moves)
+      pub bonded_stands : HeapStandsFor new (with_taken_marked (after w addr number z o.there bs) moves)
       bonded_stands =
-          paid_stands (after_things bs) acct number charge moves s charges pays
-          (both_alike w (after_things bs) acct (charged tickets number (amounts_by charge)) (object_entries addr row) part
+          paid_stands things_then acct number charge moves s charges pays
+          (both_alike w things_then acct (charged tickets number (amounts_by charge)) (object_entries addr row) part
           (rest w addr z at o.there served.whole.fits come)
           (one_first (thing_entries (ties_of w)) w.things addr (things.Object z) o.there)
           (bonded_first w addr z at o.there served.whole.fits come) pays.changes)
@@ -231,8 +180,8 @@ module _ (old new : Heap) (w : World) (unmoved : old.moves ≡ []) (s : HeapStan
 
       pub object_answered : Answered w call new [] replies.Done
       object_answered =
-          moved_answered w (after bs) call moves new replies.Done has bonded_stands refl
-          (bond_row bs whole (paid w acct number charge (sym (same_refusal acct s number charge) ∙ pays.allowed))) refl
+          moved_answered w (after w addr number z o.there bs) call moves new replies.Done has bonded_stands refl
+          (bond_row w addr number z o.there bs whole (paid w acct number charge (sym (same_refusal acct s number charge) ∙ pays.allowed))) refl
 
     -- its account refuses it by the world as by the rows
     same_cause : refusal_in old acct number (amounts_by charge) tickets ≡ refusal_in old acct number (bond_amounts row) tickets
@@ -247,8 +196,8 @@ module _ (old new : Heap) (w : World) (unmoved : old.moves ≡ []) (s : HeapStan
         IsRefused w call old new was was (refusals.NoBlock missing)
     object_lacks was missing a l = record {
       step = inr (record {
-        aim = outcome l.row.bonded;
-        row = bond_row l.row.bonded l.row.whole (may_pay a);
+        aim = outcome w addr number z o.there l.row.bonded;
+        row = bond_row w addr number z o.there l.row.bonded l.row.whole (may_pay a);
         answered = refl;
         stopped = record {
           done = l.made;
@@ -267,7 +216,7 @@ module _ (old new : Heap) (w : World) (unmoved : old.moves ≡ []) (s : HeapStan
     pub object_full : (was : List ℕ) (lines room : ℕ) → BondAllowed addr number old → MadeAmong (IsBondRow (ends_of row)) old new →
         IsRefused w call old new was was (refusals.LogFull lines room)
     object_full was lines room a l = record {
-      step = (record { to = outcome l.row.bonded; row = bond_row l.row.bonded l.row.whole (may_pay a); answered = refl }, refl);
+      step = (record { to = outcome w addr number z o.there l.row.bonded; row = bond_row w addr number z o.there l.row.bonded l.row.whole (may_pay a); answered = refl }, refl);
       left = λ reads. absurd (true≢false (sym reads));
       gave = refl;
     }
@@ -278,8 +227,8 @@ module _ (old new : Heap) (w : World) (unmoved : old.moves ≡ []) (s : HeapStan
     object_unpaid refusal r same =
         let to : Outcome = record { moves = []; after = w; reply = replies.Refused refusal } in
         row_refused w call new refusal (ap (λ (h : Heap). h.moves) same ∙ unmoved)
-        (on_object to
-        (unpaid w acct number charge refusal (sym (same_refusal acct s number charge) ∙ same_cause ∙ r.refuses row tickets keeps) to (does to)
+        (on_object w addr number z o.there to
+        (unpaid w acct number charge refusal (sym (same_refusal acct s number charge) ∙ same_cause ∙ r.refuses row tickets keeps) to (does w addr number z o.there to)
         (refl, refl, refl)))
 
   -- it was bonded

@@ -62,9 +62,9 @@ fresh_come at m used k (c ∷ cs) tracks fresh =
       tracks.known raw (absent raw used fresh.1),
       tracks.known addr (omega (arith, more, sums)),
       λ same.
-      absurd (omega (arith, more, sums, weight_of (ap (nat_eq addr) (sym same) ∙ nat_eq_equiv.refl addr))),
+          absurd (omega (arith, more, sums, weight_of (ap (nat_eq addr) (sym same) ∙ nat_eq_equiv.refl addr))),
       fresh_come at (with_one m raw addr c) (others c.block (block ∷ addr ∷ raw ∷ used)) (k + 3) cs
-      (tracks_next m used c cs raw addr block tracks (bond_moves at (k + 3) cs) fresh) fresh.2.2.2,
+          (tracks_next m used c cs raw addr block tracks (bond_moves at (k + 3) cs) fresh) fresh.2.2.2,
     )
 
 -- the addresses of the blocks that are taken fit words

@@ -4,6 +4,7 @@ pub mod RowLemmas
 pub mod FreshLemmas
 pub mod ChargeLemmas
 pub mod WorldLemmas
+pub mod BondRows
 pub mod BondCalls
 pub mod LinesLemmas
 pub mod DemandLemmas

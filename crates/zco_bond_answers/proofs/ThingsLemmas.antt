@@ -120,8 +120,8 @@ module _ (at : ℕ → ℕ) where
     apart_at m q None (at (k + 1)) (λ same. elsewhere m q (at (k + 1)) t there come.1 (sym same)) ∙ come.1,
     come.2,
     subst (λ (n : Things). Come n at (k + 3) cs) (one_lost m k c come.0 come.1 q t there)
-    (come_lost (with_one m (at k) (at (k + 1)) c) (k + 3) cs come.3 q t
-    (kept_one m (at k) (at (k + 1)) c come.0 come.1 come.2 q t there)),
+        (come_lost (with_one m (at k) (at (k + 1)) c) (k + 3) cs come.3 q t
+        (kept_one m (at k) (at (k + 1)) c come.0 come.1 come.2 q t there)),
   )
 
 -- what these headers and trailers become, as it is written

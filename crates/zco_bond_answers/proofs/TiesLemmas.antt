@@ -145,13 +145,13 @@ module _ (w : World) (at : ℕ → ℕ) (counts : ℕ → Acct → ℕ) (acct : 
       let addr = at (k + 1) in
       let n = with_one m raw addr c in (
         ap or_null
-        (named_stays w at n (k + 3) cs come.3 raw (things.Raw c.text) (raw_one m raw addr c come.0 come.1 come.2)
-        ∙ own_source w at m raw addr c come.0 come.1 come.2 unnamed),
+            (named_stays w at n (k + 3) cs come.3 raw (things.Raw c.text) (raw_one m raw addr c come.0 come.1 come.2)
+            ∙ own_source w at m raw addr c come.0 come.1 come.2 unnamed),
         λ a. counted addr come.1 a ∙ ap (λ (l : ℕ). cond (is_same_account a acct) l 0) (own_named at m k c cs come),
         all_tied n (k + 3) cs come.3 (none_next w at m raw addr c come.0 come.1 come.2 unnamed)
-        (λ q free a.
-        let was = none_one m raw addr c come.0 come.1 come.2 q free in
-        counted q was.2 a ∙ ap (λ (l : ℕ). cond (is_same_account a acct) l 0) (other_named at k c cs q was.1)),
+            (λ q free a.
+            let was = none_one m raw addr c come.0 come.1 come.2 q free in
+            counted q was.2 a ∙ ap (λ (l : ℕ). cond (is_same_account a acct) l 0) (other_named at k c cs q was.1)),
       )
 
 -- an object of a world, whose headers and trailers become raw objects and sources where nothing is

@@ -13,8 +13,10 @@ use sdr_answers::Page;
 use sdr_base::{Addr, Objects, Stop};
 use sdr_model::Reply;
 
-/// Makes extents of an object's headers and trailers, each of a source of its own. The part becomes
-/// the whole.
+/// Answers the call that bonds an object: its headers and trailers become extents, each of a source
+/// of its own, and its part becomes the whole. It is refused for the address, for what the account
+/// says to the charge, and for want of a block or of log room, in this order. It is linear in the
+/// object's parts.
 pub fn bond<O: Objects>(
     o: &mut O,
     object: Addr,
