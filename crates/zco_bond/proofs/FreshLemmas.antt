@@ -2,7 +2,7 @@
 use Rattle.std.proofs.Common.{◌≡◌, ◌≢◌, ◌∙◌, ◌+◌, ◌⊎◌, ◌++◌, ◌==◌, ℕ, List, [], ◌∷◌, Bool, true, false, cond, inl, inr, refl, sym, ap, arith, eq-eqb}
 use Rattle.std.proofs.lemmas.Bool.{ne_eqb}
 use Rattle.std.specs.Prelude.{if◌then◌else◌}
-use Rattle.sdr_base.proofs.StandingLemmas.{at-nowhere, nowhere-at, times-append}
+use Rattle.sdr_base.proofs.StandingLemmas.{at-nowhere, nowhere-at}
 use Rattle.sdr_base.specs.Blocks.{Block, Blocks}
 use Rattle.sdr_base.specs.Entries.{Entries, Stands, times}
 use Rattle.sdr_base.specs.Linked.{linked}
