@@ -58,8 +58,11 @@ no_byte_of_it : asked_wire 9 64 one six ≡ []
 no_byte_of_it = refl
 
 -- a file has fewer bytes than are asked of it
-of_a_file : bytes_by (record { files = λ path. 87 ∷ 88 ∷ []; items = λ item. [] }) (asked_wire 0 64 (record one { headers = []; trailers = [] })
-(pieces.File (100 ∷ []) 0 4 ∷ [])) ≡ 87 ∷ 88 ∷ []
+abbrev bare : ObjectRow
+bare = record one { headers = []; trailers = [] }
+
+of_a_file : bytes_by (record { files = λ path. 87 ∷ 88 ∷ []; items = λ item. [] }) (asked_wire 0 64 bare (pieces.File (100 ∷ []) 0 4 ∷ []))
+    ≡ 87 ∷ 88 ∷ []
 of_a_file = refl
 
 -- a reader stands behind what was given, and stays where there was nothing
