@@ -1,11 +1,11 @@
 -- A header or trailer becomes an extent at a place.
-use Rattle.std.proofs.Common.{◌≡◌, ◌≢◌, ◌-◌, ◌≤◌, ℕ, List, [], ◌∷◌, ◌++◌, length, sym, ap, ◌∙◌, arith, subst, append_assoc}
+use Rattle.std.proofs.Common.{◌≡◌, ◌≢◌, ◌+◌, ◌-◌, ◌≤◌, ◌==◌, ◌⊎◌, ℕ, List, [], ◌∷◌, ◌++◌, Bool, true, false, true≢false, inl, inr, length, refl, sym, ap, ◌∙◌, arith, subst, append_assoc, eq-eqb, eqb-true}
 use Rattle.std.specs.Prelude.{Option}
 use Rattle.sdr_base.specs.Blocks.{Block, Blocks, Reaches}
-use Rattle.sdr_base.specs.Entries.{Changes, Entries, Stands}
+use Rattle.sdr_base.specs.Entries.{Changes, Entries, Stands, times}
 use Rattle.sdr_base.specs.Making.{Made, besides}
 use Rattle.sdr_base.specs.Objects.{Heap, OnlyShort, OnlyUnmoved, with_given}
-use Rattle.sdr_base.specs.Raws.{raw_entries}
+use Rattle.sdr_base.specs.Raws.{raw_block, raw_entries}
 use Rattle.sdr_base.specs.ZcoObjects.{CapsuleRow, ExtentRow, capsule_block}
 use Rattle.sdr_base.specs.declared.account.Acct.{Acct}
 use Rattle.sdr_base.specs.declared.moves.Move.{Move}
@@ -13,18 +13,20 @@ use Rattle.sdr_base.specs.declared.moves.Move.TheVariants.{Gave, Took}
 use Rattle.sdr_base.specs.declared.stop.Stop.{Stop}
 use Rattle.sdr_base.proofs.GaveLemmas.{made_then, none_made}
 use Rattle.sdr_base.proofs.HeapLemmas.{given_blocks}
-use Rattle.sdr_base.proofs.StandingLemmas.{found, moved, moved_back, went}
+use Rattle.sdr_base.proofs.StandingLemmas.{found, moved, moved_back, times-append, went}
 use Rattle.zco_obj.specs.Appending.{taking_over}
 use Rattle.zco_obj.specs.Walks.{KeepsCapsule}
 use Rattle.zco_obj.proofs.RawLemmas.{count_none}
 use Rattle.zco_ref.specs.Counting.{Attaches, attached}
 use Rattle.zco_ref.specs.Kept.{KeepsSource, SomeBelow, counted_block, counted_entries}
-use Rattle.zco_bond.specs.Bonded.{bonded_extent, bonded_source, chained, first_bytes}
+use Rattle.zco_bond.specs.Bonded.{bonded_extent, bonded_source, chained, first_bytes, moves_of}
+use Rattle.zco_bond.specs.Fresh.{Fresh, is_free}
 use Rattle.zco_bond.specs.Placing.{BondsText, InsertsExtent, IsTextRow, PlaceAt, SomePlace, bonded_at}
 use Rattle.zco_bond.specs.Rows.{RowStops}
 use Rattle.zco_bond.specs.Texts.{IsSourceRow, MakesSource, source_moves}
 use Rattle.zco_bond.specs.declared.gap.Gap.{Gap}
 use Rattle.zco_bond.specs.declared.text.Text.{Text}
+use Rattle.zco_bond.proofs.FreshLemmas.{apart_from, free_unlisted, listed_none, times_pushed, unlisted}
 use Rattle.zco_bond.proofs.PlaceLemmas.{front_reaches}
 use Rattle.zco_bond.proofs.RowLemmas.{Goes, NoMove, TookOne, short_stops, stops_then, unmoved_stops}
 
@@ -151,6 +153,91 @@ module _ {text : Text} {old one : Heap} {source : ℕ} (m : MakesSource text old
               (attached_then rest (subst (λ (es : Entries). Stands old.blocks es) (append_assoc (chained gap.next front) C rest) s))));
         }
 
+  -- each block came where nothing was
+  module _ {gap : Gap} {front : List ExtentRow} {next : ℕ} {c : CapsuleRow} (p : PlaceAt old.blocks text gap front next c) {two : Heap}
+      {extent : ℕ} (new : Heap) (acct : Acct) (i : InsertsExtent source text.bytes gap one two extent)
+      (changes : Changes old.blocks new.blocks (chained gap.next front ++ ((c.addr, capsule_block 0 next c) ∷ []))
+      (chained gap.next (front ++ (bonded_extent (bonded_at c m.raw source extent) ∷ []))
+      ++ bonded_source acct (bonded_at c m.raw source extent))) where
+    abbrev X : Entries
+    X = chained gap.next front
+
+    abbrev T : Entries
+    T = (c.addr, capsule_block 0 next c) ∷ []
+
+    abbrev E : ExtentRow
+    E = bonded_extent (bonded_at c m.raw source extent)
+
+    abbrev F' : Entries
+    F' = chained gap.next (front ++ (E ∷ []))
+
+    abbrev N' : Entries
+    N' = counted_entries source (attached acct (taking_over m.raw c.text))
+
+    abbrev R' : Entries
+    R' = raw_entries m.raw source c.text
+
+    abbrev block : Block
+    block = capsule_block 0 next c
+
+    -- the extent
+    extent_free : (extent ≢ source) × ((extent ≢ m.raw) × is_free old.blocks extent)
+    extent_free =
+        let U = counted_entries source (taking_over m.raw c.text) in
+        let none = unlisted extent (made_beside p p.rest p.stands) i.free in
+        let all = times-append extent X ((U ++ R') ++ (T ++ p.rest)) in
+        let made = times-append extent (U ++ R') (T ++ p.rest) in
+        let both = times-append extent U R' in
+        let was = times-append extent X (T ++ p.rest) in (
+          apart_from extent source (counted_block (taking_over m.raw c.text)) (omega (arith, none, all, made, both)),
+          (
+            apart_from extent m.raw (raw_block source c.text) (omega (arith, none, all, made, both)),
+            free_unlisted extent p.stands (omega (arith, none, all, made, was)),
+          ),
+        )
+
+    -- and what is left
+    left_free : (q : ℕ) → is_free new.blocks q →
+        (q ≡ text.of) ⊎ ((q ≢ extent) × ((q ≢ source) × ((q ≢ m.raw) × is_free old.blocks q)))
+    left_free q free = by (q == text.of) refl
+      where
+        stood : Stands old.blocks ((X ++ T) ++ p.rest)
+        stood = subst (λ (es : Entries). Stands old.blocks es) (sym (append_assoc X T p.rest)) p.stands
+
+        none : times q ((F' ++ (N' ++ R')) ++ p.rest) ≡ 0
+        none = unlisted q (changes.kept p.rest stood) free
+
+        all : times q ((F' ++ (N' ++ R')) ++ p.rest) ≡ times q F' + (times q N' + times q R') + times q p.rest
+        all =
+            omega (arith, times-append q (F' ++ (N' ++ R')) p.rest, times-append q F' (N' ++ R'), times-append q N' R')
+
+        chain : times q F' ≡ times q X + times q ((extent, block) ∷ [])
+        chain = times_pushed q 0 gap.next front E block
+
+        by : (b : Bool) → (q == text.of) ≡ b → (q ≡ text.of) ⊎ ((q ≢ extent) × ((q ≢ source) × ((q ≢ m.raw) × is_free old.blocks q)))
+        by true e = inl (eqb-true q text.of e)
+        by false e =
+            let other : q ≢ c.addr = λ same. true≢false (sym (eq-eqb q text.of (same ∙ sym p.at_text)) ∙ e) in
+            let gone = listed_none q c.addr block other in
+            let was = times-append q X (T ++ p.rest) in
+            let behind = times-append q T p.rest in
+            inr (
+              apart_from q extent block (omega (arith, none, all, chain)),
+              (
+                apart_from q source (counted_block (attached acct (taking_over m.raw c.text))) (omega (arith, none, all)),
+                (
+                  apart_from q m.raw (raw_block source c.text) (omega (arith, none, all)),
+                  free_unlisted q p.stands (omega (arith, none, all, chain, gone, was, behind)),
+                ),
+              ),
+            )
+
+    pub text_fresh : Fresh (moves_of text.bytes text.of m.raw source extent) old.blocks new.blocks
+    text_fresh = record {
+      takes = (m.takes.0, m.takes.1, (m.takes.2.0, m.takes.2.1, (i.nonzero, extent_free, tt)));
+      left = left_free;
+    }
+
   module _ {gap : Gap} {two : Heap} {extent : ℕ} (i : InsertsExtent source text.bytes gap one two extent) where
     abbrev pub three_moves : List Move
     three_moves = source_moves text.bytes m.raw source ++ (Took 32 extent ∷ [])
@@ -195,4 +282,5 @@ module _ {text : Text} {old one : Heap} {source : ℕ} (m : MakesSource text old
         small = i.small;
         bonds = λ front next c p. bonds_then p i a g (q.named.tells next c (place_kept p));
         made = made_then three_moves (Gave text.of ∷ []) made_three (record { all = ap besides g });
+        fresh = text_fresh q.is new acct i (bonds_then q.is i a g (q.named.tells q.next q.capsule (place_kept q.is)));
       }

@@ -16,6 +16,7 @@ use Rattle.zco_bond.specs.Placing.{BondsText, IsTextRow, SomePlace}
 use Rattle.zco_bond.specs.Rows.{RowStops}
 use Rattle.zco_bond.specs.declared.gap.Chain.{Chain}
 use Rattle.zco_bond.specs.declared.gap.Gap.{Gap}
+use Rattle.zco_bond.proofs.FreshLemmas.{fresh_none}
 use Rattle.zco_bond.proofs.LeftLemmas.{BondLeft, here_kept, left_on, left_stops, lines_below, many_none, none_left, one_lines, one_room, over, over_lines, place_there}
 use Rattle.zco_bond.proofs.RowLemmas.{fault_stops}
 
@@ -40,6 +41,7 @@ chain_begun acct first gap Touches old none = record {
     kept = λ rest s.
         subst (λ (fs : List ExtentRow). Stands old.blocks (chained gap.next fs ++ (capsule_entries rows ++ rest))) (sym (append-nil front)) s;
     made = none_made old;
+    fresh = fresh_none old.blocks;
     lines = none;
   };
 }

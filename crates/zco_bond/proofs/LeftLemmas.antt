@@ -24,12 +24,14 @@ use Rattle.zco_obj.proofs.PairLemmas.{swapped}
 use Rattle.zco_obj.proofs.WalkLemmas.{HasFirst, fits_from, has_first}
 use Rattle.zco_bond.specs.Bonded.{BondedCapsule, IsSmall, bonded_extent, bonded_extents, bonded_source, bonded_sources, bonding, bonding_moves, capsules_of, chained, moves_of}
 use Rattle.zco_bond.specs.Chaining.{ChainBonded, ChainsAt, IsBondRow, bond_lines}
+use Rattle.zco_bond.specs.Fresh.{Fresh}
 use Rattle.zco_bond.specs.Placing.{BondsText, IsTextRow, PlaceAt, bonded_at}
 use Rattle.zco_bond.specs.Rows.{RowStops}
 use Rattle.zco_bond.specs.declared.gap.Chain.{Chain}
 use Rattle.zco_bond.specs.declared.gap.Gap.{Gap}
 use Rattle.zco_bond.proofs.BondTextLemmas.{place_kept}
 use Rattle.zco_bond.proofs.BondedLemmas.{capsules-append, capsules-unbonded, extents-append, first_more, last_more, length-capsules, length-moves, moves-append, unbonded}
+use Rattle.zco_bond.proofs.FreshLemmas.{fresh_then}
 use Rattle.zco_bond.proofs.RowLemmas.{Goes, stops_then}
 
 -- so many first ones have become extents, and the cursor is at the first of those that are left; Touches says of a count of lines
@@ -47,6 +49,7 @@ pub record BondLeft (acct : Acct) (gap : Gap) (front : List ExtentRow) (rows : L
   pub kept : (rest : Entries) → Stands old.blocks (chained gap.next front ++ (capsule_entries rows ++ rest)) →
       Stands now.blocks (chained gap.next (front ++ bonded_extents bonded) ++ (capsule_entries left ++ (bonded_sources acct bonded ++ rest)))
   pub made : Made (bonding_moves bonded) old now
+  pub fresh : Fresh (bonding_moves bonded) old.blocks now.blocks
   pub lines : Touches (sum_by bond_lines (capsules_of bonded))
 
 module _ {acct : Acct} {gap : Gap} {front : List ExtentRow} {rows : List CapsuleRow} {Touches : ℕ → Type 0} {old now : Heap}
@@ -99,6 +102,7 @@ module _ {acct : Acct} {gap : Gap} {front : List ExtentRow} {rows : List Capsule
           (l.kept rest (subst (λ (es : Entries). Stands old.blocks es) (append_assoc F (capsule_entries rows) rest) s)));
     };
     made = l.made;
+    fresh = l.fresh;
   }
     where
       whole : capsules_of l.bonded ≡ rows
@@ -193,6 +197,11 @@ module _ {acct : Acct} {gap : Gap} {front : List ExtentRow} {rows : List Capsule
           subst (λ n. Made (moves_of n here.addr t.raw t.source extent) now new) (v.bytes next here here_kept)
           (subst (λ n. Made (moves_of seen.bytes n t.raw t.source extent) now new) (place_there seen.bytes).at_text t.made)
 
+      one_fresh : Fresh (bonding b) now.blocks new.blocks
+      one_fresh =
+          subst (λ n. Fresh (moves_of n here.addr t.raw t.source extent) now.blocks new.blocks) (v.bytes next here here_kept)
+          (subst (λ n. Fresh (moves_of seen.bytes n t.raw t.source extent) now.blocks new.blocks) (place_there seen.bytes).at_text t.fresh)
+
       kept_on : (rest : Entries) → Stands old.blocks (chained gap.next front ++ (capsule_entries rows ++ rest)) →
           Stands new.blocks (chained gap.next (front ++ bonded_extents bs) ++ (capsule_entries one_left.behind ++ (bonded_sources acct bs ++ rest)))
       kept_on rest s =
@@ -246,6 +255,9 @@ module _ {acct : Acct} {gap : Gap} {front : List ExtentRow} {rows : List Capsule
         made =
             subst (λ (ms : List Move). Made ms old new) (sym (moves-append l.bonded (b ∷ [])))
             (made_then (bonding_moves l.bonded) (bonding b) l.made one_made);
+        fresh =
+            subst (λ (ms : List Move). Fresh ms old.blocks new.blocks) (sym (moves-append l.bonded (b ∷ [])))
+            (fresh_then (bonding_moves l.bonded) (bonding b) l.fresh one_fresh);
         lines =
             subst Touched
             (ap (λ n. sum_by bond_lines (capsules_of l.bonded) + (114 + (8 + n) / 32)) (v.bytes next here here_kept)

@@ -1,3 +1,4 @@
+pub mod FreshLemmas
 pub mod RowLemmas
 pub mod TextLemmas
 pub mod PlaceLemmas

@@ -26,6 +26,8 @@ use Rattle.zco_obj.proofs.PartsLemmas.{side_at}
 use Rattle.zco_bond.specs.Bonded.{BondedCapsule, bonded_extents, bonded_source, bonded_sources, bonding_moves, capsules_of, chained, joined}
 use Rattle.zco_bond.specs.Bonding.{BondsParts, PartsBonded, PartsStop, SomeToBond, ends_lines}
 use Rattle.zco_bond.specs.Chaining.{BondsChain, ChainBonded, ChainsAt, ChainStops, IsBondRow, SomeChains, bond_lines}
+use Rattle.zco_bond.specs.Fresh.{Fresh}
+use Rattle.zco_bond.proofs.FreshLemmas.{fresh_then}
 use Rattle.zco_bond.specs.Charging.{ends_of}
 use Rattle.zco_bond.specs.declared.gap.Chain.{Chain}
 use Rattle.zco_bond.specs.declared.gap.Gap.{Gap}
@@ -233,6 +235,9 @@ module _ {object : ℕ} {acct : Acct} {firsts : Firsts} {old : Heap} (last : ℕ
           made =
               subst (λ (ms : List Move). Made ms old two) (sym (moves-append hs ts))
               (made_then (bonding_moves hs) (bonding_moves ts) made_headers.made made_trailers.made);
+          fresh =
+              subst (λ (ms : List Move). Fresh ms old.blocks two.blocks) (sym (moves-append hs ts))
+              (fresh_then (bonding_moves hs) (bonding_moves ts) made_headers.fresh made_trailers.fresh);
         }
 
     pub trailers_there : SomeToBond old object → SomeChains one firsts.trailer behind

@@ -53,6 +53,8 @@ module _ {addr : ℕ} {old mid : Heap} (source bytes : ℕ) (gap : Gap)
   pub inserts_extent : {new : Heap} → LinksAfter gap.previous addr mid new → InsertsExtent source bytes gap old new addr
   inserts_extent {new} l = record {
     small = t.small;
+    nonzero = t.nonzero;
+    free = t.fresh;
     inserts = λ front e. record {
       kept = λ rest s.
           let x = extent_block 0 gap.next (first_bytes addr source bytes) in

@@ -1,5 +1,5 @@
 -- A raw object of a text, and the source that takes it over.
-use Rattle.std.proofs.Common.{◌≡◌, ◌+◌, ◌-◌, ◌≤◌, ℕ, List, [], ◌∷◌, ◌++◌, length, Some, refl, sym, ap, ◌∙◌, arith, subst}
+use Rattle.std.proofs.Common.{◌≡◌, ◌≢◌, ◌+◌, ◌-◌, ◌≤◌, ℕ, List, [], ◌∷◌, ◌++◌, length, None, Some, refl, sym, ap, ◌∙◌, arith, subst}
 use Rattle.std.specs.Prelude.{Option}
 use Rattle.std.proofs.lemmas.List.{take_all}
 use Rattle.byteorder.specs.Endian.{big_bytes}
@@ -20,7 +20,7 @@ use Rattle.sdr_base.specs.declared.stop.Stop.TheVariants.{Refused, DiskFault, Me
 use Rattle.sdr_base.proofs.GaveLemmas.{made_then, none_made}
 use Rattle.sdr_base.proofs.LayoutLemmas.{length-layout, overwrite-layout}
 use Rattle.sdr_base.proofs.MakingLemmas.{taken_makes}
-use Rattle.sdr_base.proofs.ObjectsLemmas.{with_block-here}
+use Rattle.sdr_base.proofs.ObjectsLemmas.{with_block-apart, with_block-here}
 use Rattle.zco_obj.specs.Walks.{KeepsCapsule}
 use Rattle.zco_obj.proofs.RawLemmas.{none_some, other_kind}
 use Rattle.zco_ref.specs.Kept.{KeepsRaw, SomeRaw}
@@ -115,15 +115,24 @@ module _ {text : Text} {old mid : Heap} {raw : ℕ} (t : IsText old.blocks text)
 
   -- or it was
   pub makes_source : {source : ℕ} {new : Heap} → MakesRawSource media.Heap raw source mid new → MakesSource text old new source
-  makes_source {source} {new} m = record {
-    raw = raw;
-    raw_small = copied.small;
-    small = (m.adds t.some.capsule.text (raw_kept t.some.keeps)).small;
-    makes = λ next row k. record {
-      kept = λ rest s. (m.adds row.text (raw_kept k)).changes.kept rest ((copy_makes k).adds.changes.kept rest s);
-    };
-    made = made_then (Took (8 + text.bytes) raw ∷ []) (Took 48 source ∷ []) (copy_makes t.some.keeps).made m.made;
-  }
+  makes_source {source} {new} m =
+      let adds = m.adds t.some.capsule.text (raw_kept t.some.keeps) in
+      let apart : source ≢ raw = λ same.
+      (let no : None ≡ Some (raw_block 0 t.some.capsule.text) =
+      sym adds.fresh ∙ ap mid.blocks same ∙ (raw_kept t.some.keeps).block in cc) in
+      let before : old.blocks source ≡ None =
+      sym (ap (λ (h : Heap). h.blocks source) copied.taken
+      ∙ with_block-apart old.blocks raw (Some (raw_block 0 t.some.capsule.text)) source apart) ∙ adds.fresh in
+      record {
+        raw = raw;
+        raw_small = copied.small;
+        small = (m.adds t.some.capsule.text (raw_kept t.some.keeps)).small;
+        takes = (copied.nonzero, copied.fresh, (adds.nonzero, (apart, before), tt));
+        makes = λ next row k. record {
+          kept = λ rest s. (m.adds row.text (raw_kept k)).changes.kept rest ((copy_makes k).adds.changes.kept rest s);
+        };
+        made = made_then (Took (8 + text.bytes) raw ∷ []) (Took 48 source ∷ []) (copy_makes t.some.keeps).made m.made;
+      }
 
 -- no block was taken for the raw object
 pub raw_stops : (bytes : ℕ) (old new : Heap) (stop : Stop) → OnlyShort (8 + bytes) old new stop → RowStops (IsSourceRow bytes) old new stop

@@ -16,6 +16,7 @@ use Rattle.zco_obj.specs.Kept.{KeepsObject, KeepsWithQueue, extents_length}
 use Rattle.zco_bond.specs.Bonded.{BondedCapsule, IsSmall, bonded_sources, bonding_moves, capsules_of, joined, whole_of}
 use Rattle.zco_bond.specs.Chaining.{IsBondRow, bond_lines}
 use Rattle.zco_bond.specs.Charging.{BondAllowed, BondRefused, bond_amounts, ends_of}
+use Rattle.zco_bond.specs.Fresh.{Fresh, TakesFree, is_free}
 use Rattle.zco_bond.specs.Rows.{LacksAmong, MadeAmong, RowStops}
 use Rattle.zco_bond.specs.declared.gap.Chain.{Chain}
 
@@ -63,6 +64,7 @@ pub record PartsBonded (object : ℕ) (row : ObjectRow) (old new : Heap) (chain 
       ((object, object_block row)
       ∷ (extent_entries (joined headers row.extents trailers) ++ bonded_sources row.account (headers ++ trailers)))
   pub made : Made (bonding_moves (headers ++ trailers)) old new
+  pub fresh : Fresh (bonding_moves (headers ++ trailers)) old.blocks new.blocks
 
 -- so it is with whichever object is kept
 pub record BondsParts (object : ℕ) (old new : Heap) (chain : Chain) : Type 0 where
@@ -79,11 +81,12 @@ pub record SetsWhole (object : ℕ) (chain : Chain) (bytes : ℕ) (old new : Hea
   pub same : besides new ≡ besides old
 
 -- an object is bonded: its headers and trailers are extents of sources of their own, the part is the whole, and its account is
--- charged for what it charges more
+-- charged for what it charges more; each block that is taken begins where none is at that time
 pub record ObjectBonded (object number : ℕ) (row : ObjectRow) (tickets : List Ticket) (old new : Heap) : Type 0 where
   pub headers : List BondedCapsule
   pub trailers : List BondedCapsule
   pub are : AreBonded row headers trailers
+  pub takes : TakesFree (is_free old.blocks) (bonding_moves (headers ++ trailers))
   pub pays : Pays row.account number (bond_amounts row) tickets (bonding_moves (headers ++ trailers)) (object_entries object row)
       (object_entries object (whole_of row (joined headers row.extents trailers)) ++ bonded_sources row.account (headers ++ trailers))
       old new

@@ -11,6 +11,7 @@ use Rattle.sdr_base.specs.declared.moves.Move.{Move}
 use Rattle.sdr_base.specs.declared.stop.Stop.{Stop}
 use Rattle.zco_obj.specs.Kept.{CapsuleFits}
 use Rattle.zco_bond.specs.Bonded.{BondedCapsule, IsSmall, bonded_extents, bonded_sources, bonding_moves, capsules_of, chained}
+use Rattle.zco_bond.specs.Fresh.{Fresh}
 use Rattle.zco_bond.specs.Rows.{RowStops}
 use Rattle.zco_bond.specs.declared.gap.Chain.{Chain}
 use Rattle.zco_bond.specs.declared.gap.Gap.{Gap}
@@ -46,6 +47,7 @@ pub record ChainBonded (acct : Acct) (gap : Gap) (front : List ExtentRow) (rows 
   pub changes : Changes old.blocks new.blocks (chained gap.next front ++ capsule_entries rows)
       (chained gap.next (front ++ bonded_extents bonded) ++ bonded_sources acct bonded)
   pub made : Made (bonding_moves bonded) old new
+  pub fresh : Fresh (bonding_moves bonded) old.blocks new.blocks
 
 -- so it is with whichever chains are there
 pub record BondsChain (acct : Acct) (first : ℕ) (gap : Gap) (old new : Heap) (chain : Chain) : Type 0 where

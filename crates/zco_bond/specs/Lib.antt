@@ -1,3 +1,4 @@
+pub mod Fresh
 pub mod Bonded
 pub mod Rows
 pub mod Texts

@@ -1,5 +1,5 @@
 -- An extent at a place in a chain, and a header or trailer that becomes one there.
-use Rattle.std.specs.Prelude.{◌≡◌, ◌<◌, ◌^◌, ℕ, List, [], ◌∷◌, ◌++◌}
+use Rattle.std.specs.Prelude.{◌≡◌, ◌≢◌, ◌<◌, ◌^◌, ℕ, List, [], ◌∷◌, ◌++◌}
 use Rattle.sdr_base.specs.Blocks.{Blocks}
 use Rattle.sdr_base.specs.Entries.{Changes, Entries, Stands}
 use Rattle.sdr_base.specs.Linked.{last_of}
@@ -12,13 +12,16 @@ use Rattle.sdr_base.specs.declared.moves.Move.TheVariants.{Took}
 use Rattle.sdr_model.specs.Things.{extent_need}
 use Rattle.zco_obj.specs.Kept.{CapsuleFits}
 use Rattle.zco_bond.specs.Bonded.{BondedCapsule, bonded_extent, bonded_source, chained, first_bytes, moves_of}
+use Rattle.zco_bond.specs.Fresh.{Fresh, is_free}
 use Rattle.zco_bond.specs.Texts.{IsText}
 use Rattle.zco_bond.specs.declared.gap.Gap.{Gap}
 use Rattle.zco_bond.specs.declared.text.Text.{Text}
 
--- an extent of the first bytes of a source has come behind whichever chain ends at the place
+-- an extent of the first bytes of a source has come where nothing was, behind whichever chain ends at the place
 pub record InsertsExtent (source bytes : ℕ) (gap : Gap) (old new : Heap) (addr : ℕ) : Type 0 where
   pub small : addr < 2 ^ 32
+  pub nonzero : addr ≢ 0
+  pub free : is_free old.blocks addr
   pub inserts : (front : List ExtentRow) → gap.previous ≡ last_of extent_addr 0 front →
       Changes old.blocks new.blocks (chained gap.next front) (chained gap.next (front ++ first_bytes addr source bytes ∷ []))
   pub made : Made (Took extent_need addr ∷ []) old new
@@ -45,7 +48,7 @@ abbrev pub bonded_at : CapsuleRow → ℕ → ℕ → ℕ → BondedCapsule
 bonded_at c raw source extent = record { capsule = c; raw = raw; source = source; extent = extent }
 
 -- whichever header or trailer stands there has become an extent at the place, of a source that counts it, which has taken over
--- a raw object of the text
+-- a raw object of the text, each where nothing was at that time
 pub record BondsText (acct : Acct) (text : Text) (gap : Gap) (old new : Heap) (extent : ℕ) : Type 0 where
   pub raw : ℕ
   pub source : ℕ
@@ -57,6 +60,7 @@ pub record BondsText (acct : Acct) (text : Text) (gap : Gap) (old new : Heap) (e
       (chained gap.next (front ++ bonded_extent (bonded_at c raw source extent) ∷ [])
       ++ bonded_source acct (bonded_at c raw source extent))
   pub made : Made (moves_of text.bytes text.of raw source extent) old new
+  pub fresh : Fresh (moves_of text.bytes text.of raw source extent) old.blocks new.blocks
 
 -- these are the moves in which it becomes one
 pub record IsTextRow (text : Text) (moves : List Move) : Type 0 where

@@ -14,6 +14,7 @@ use Rattle.sdr_model.specs.Things.{raw_need, source_need}
 use Rattle.zco_obj.specs.Appending.{taking_over}
 use Rattle.zco_obj.specs.Walks.{KeepsCapsule, SomeCapsule}
 use Rattle.zco_ref.specs.Kept.{counted_entries}
+use Rattle.zco_bond.specs.Fresh.{TakesFree, is_free}
 use Rattle.zco_bond.specs.declared.text.Text.{Text}
 
 -- some header or trailer stands there, and whichever does has a text of so many bytes
@@ -34,11 +35,13 @@ pub record CopiesText (text : Text) (old new : Heap) (raw : ℕ) : Type 0 where
 abbrev pub source_moves : ℕ → ℕ → ℕ → List Move
 source_moves bytes raw source = Took (raw_need bytes) raw ∷ Took (source_need 0) source ∷ []
 
--- a raw object of the text of whichever stands there was made, and a source, which has taken it over and which no extent names
+-- a raw object of the text of whichever stands there was made, and a source, which has taken it over and which no extent names,
+-- each where nothing was
 pub record MakesSource (text : Text) (old new : Heap) (source : ℕ) : Type 0 where
   pub raw : ℕ
   pub raw_small : raw < 2 ^ 32
   pub small : source < 2 ^ 32
+  pub takes : TakesFree (is_free old.blocks) (source_moves text.bytes raw source)
   pub makes : (next : ℕ) (c : CapsuleRow) → KeepsCapsule (old.blocks text.of) next c →
       Changes old.blocks new.blocks [] (counted_entries source (taking_over raw c.text) ++ raw_entries raw source c.text)
   pub made : Made (source_moves text.bytes raw source) old new
