@@ -25,10 +25,7 @@ use Rattle.zco_obj.proofs.KeptLemmas.{object_words}
 use Rattle.zco_bond.specs.Bonded.{BondedCapsule, IsSmall, bonded_extent, bonded_extents, bonded_sources, bonding_moves, capsules_of, joined, whole_of}
 use Rattle.zco_bond.specs.Bonding.{BondsObject, BondsParts, BondStops, PartsBonded, PartsStop, SetsWhole, SomeBond, SomeToBond}
 use Rattle.zco_bond.specs.Fresh.{is_free}
-use Rattle.zco_bond.proofs.FreshLemmas.{free_unlisted, takes_more, times_charged, unlisted}
-use Rattle.zco_acct.specs.Charges.{charged}
-use Rattle.zco_acct.specs.Kept.{queue_entries}
-use Rattle.sdr_base.proofs.StandingLemmas.{times-append}
+use Rattle.zco_bond.proofs.FreshLemmas.{free_charged, takes_more}
 use Rattle.zco_bond.specs.Chaining.{IsBondRow}
 use Rattle.zco_bond.specs.Charging.{BondAllowed, BondChargeStops, BondRefused, ChargesBond, bond_amounts, ends_of}
 use Rattle.zco_bond.specs.Rows.{MadeAmong, RowStops}
@@ -146,21 +143,8 @@ module _ {object : ℕ} {old : Heap} (is : IsKind (old.blocks object) kinds.Obje
     free_still : {row : ObjectRow} {tickets : List Ticket} → KeepsWithQueue old object row tickets → (q : ℕ) → is_free mid.blocks q →
         is_free old.blocks q
     free_still {row} {tickets} k q free =
-        let E = object_entries object row in
-        let Q = queue_entries row.account tickets in
-        let Q' = queue_entries row.account (charged tickets number (bond_amounts row)) in
-        let none = unlisted q (stands_still (c.charges row tickets k) (queue_of k) E k.rest k.stands) free in
-        let same = times_charged q number (bond_amounts row) row.account tickets in
-        free_unlisted q k.stands
-        (omega (
-          arith,
-          none,
-          same,
-          times-append q E (Q' ++ k.rest),
-          times-append q Q' k.rest,
-          times-append q E (Q ++ k.rest),
-          times-append q Q k.rest,
-        ))
+        free_charged q number (bond_amounts row) row.account tickets (object_entries object row) k.rest k.stands
+        (stands_still (c.charges row tickets k) (queue_of k) (object_entries object row) k.rest k.stands) free
 
     pub to_bond : SomeToBond mid object
     to_bond = record { row = q.row; keeps = object_then q.keeps; room = let r = q.room in let e = spare_still in omega (arith, r, e) }

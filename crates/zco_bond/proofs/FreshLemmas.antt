@@ -2,7 +2,7 @@
 use Rattle.std.proofs.Common.{◌≡◌, ◌≢◌, ◌∙◌, ◌+◌, ◌⊎◌, ◌++◌, ◌==◌, ℕ, List, [], ◌∷◌, Bool, true, false, cond, inl, inr, refl, sym, ap, arith, eq-eqb}
 use Rattle.std.proofs.lemmas.Bool.{ne_eqb}
 use Rattle.std.specs.Prelude.{if◌then◌else◌}
-use Rattle.sdr_base.proofs.StandingLemmas.{at-nowhere, nowhere-at}
+use Rattle.sdr_base.proofs.StandingLemmas.{at-nowhere, nowhere-at, times-append}
 use Rattle.sdr_base.specs.Blocks.{Block, Blocks}
 use Rattle.sdr_base.specs.Entries.{Entries, Stands, times}
 use Rattle.sdr_base.specs.Linked.{linked}
@@ -99,10 +99,28 @@ times_used q number amounts acct prev next (t ∷ ts) =
       | false ↦ ap (λ (n : ℕ). cond (t.block == q) 1 0 + n) ih
     ]
 
-pub times_charged : (q number : ℕ) (amounts : Amounts) (acct : Acct) (ts : List Ticket) →
+times_charged : (q number : ℕ) (amounts : Amounts) (acct : Acct) (ts : List Ticket) →
     times q (queue_entries acct (charged ts number amounts)) ≡ times q (queue_entries acct ts)
 times_charged q number amounts acct ts =
     elim (number == 0) as (λ b. times q (queue_entries acct (if b then ts else with_used number amounts ts)) ≡ times q (queue_entries acct ts)) [
       | true ↦ refl
       | false ↦ times_used q number amounts acct 0 0 ts
     ]
+
+-- what is free once an account was charged was so before
+pub free_charged : {old new : Blocks} (q number : ℕ) (amounts : Amounts) (acct : Acct) (ts : List Ticket) (es rest : Entries) →
+    Stands old (es ++ (queue_entries acct ts ++ rest)) → Stands new (es ++ (queue_entries acct (charged ts number amounts) ++ rest)) →
+    is_free new q → is_free old q
+free_charged q number amounts acct ts es rest s t free =
+    let was = queue_entries acct ts in
+    let now = queue_entries acct (charged ts number amounts) in
+    free_unlisted q s
+    (omega (
+      arith,
+      unlisted q t free,
+      times_charged q number amounts acct ts,
+      times-append q es (now ++ rest),
+      times-append q now rest,
+      times-append q es (was ++ rest),
+      times-append q was rest,
+    ))
