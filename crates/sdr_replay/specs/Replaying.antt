@@ -76,13 +76,13 @@ pub record ReplaysOn {D M : Type 0} (d : DiskGhosts D) (m : MediaGhosts M) (disk
   pub failed : ran.failed ≡ not (is_sound ran.journal)
 
 -- No schedule was run on the disk, for this reason.
-pub record IsNotRun {D : Type 0} (d : DiskGhosts D) (disk disk' : D) (why : OpenError) : Type 0 where
+pub record IsNotRun {D : Type 0} (d : DiskGhosts D) (disk disk' : D) (cause : OpenError) : Type 0 where
   -- why its heap wasn't opened, or that there was no memory for a run
-  pub why : ExplainsOpen (d.bytes disk) (d.faults disk) (d.faults disk') why
+  pub why : ExplainsOpen (d.bytes disk) (d.faults disk) (d.faults disk') cause
   -- the disk is as long, and tells its bytes if it did: the same, where it gives no heap; and the open batches are put back, where
   -- the heap is damaged
   pub keeps : KeepsDisk d.size d.bytes disk disk'
-  pub bytes : LeavesBytes (d.bytes disk) (d.bytes disk') why
+  pub bytes : LeavesBytes (d.bytes disk) (d.bytes disk') cause
   -- at each moment of the call a crash leaves what gives the same heap, or none as before
   pub any_moment : IfTold (d.bytes disk) (λ x. AtEach d.moment d.may_leave disk disk' (GivesSame x))
   -- no count of faults has fallen
