@@ -2,6 +2,7 @@
 use Rattle.std.proofs.Common.{◌≡◌, ◌≤◌, ◌+◌, ◌*◌, ◌++◌, ℕ, List, [], ◌∷◌, true, true≢false, inl, refl, sym, ap, length, arith}
 use Rattle.std.proofs.lemmas.List.{length-append, length-map}
 use Rattle.std.specs.Prelude.{slice_index}
+use Rattle.sdr_served.proofs.CutLemmas.{cut_enough}
 use Rattle.sdr_served.proofs.HashLemmas.{entries_are}
 use Rattle.sdr_answers.proofs.ListLemmas.{IsSmall, elements_told}
 use Rattle.sdr_audit.specs.Standing.{HeapStandsFor}
@@ -23,6 +24,7 @@ use Rattle.sdr_model.specs.declared.call.Call.TheVariants as calls
 use Rattle.sdr_answers.specs.Answering.{IsServed}
 use Rattle.zco_answers.proofs.DemandLemmas.{enough as objects_enough}
 use Rattle.zco_granted.proofs.DemandLemmas.{enough as tickets_enough}
+use Rattle.zco_part_answers.proofs.DemandLemmas.{enough as parts_enough}
 use Rattle.sdr_served.specs.Serving.{built, call_lines}
 
 -- a call that is answered by its row asks for as many lines as it touches
@@ -162,6 +164,10 @@ enough d heap w call o is s served small row answered =
     by (calls.Destroy addr) is there moves = objects_enough d w (calls.Destroy addr) o refl there answered
     by (calls.ZcoLength addr) is there moves = objects_enough d w (calls.ZcoLength addr) o refl there answered
     by (calls.SourceLength addr) is there moves = objects_enough d w (calls.SourceLength addr) o refl there answered
+    by (calls.ClonePart addr ticket offset bytes) is there moves =
+        parts_enough d w (calls.ClonePart addr ticket offset bytes) o refl there answered
+    by (calls.Delimit addr offset bytes) is there moves = parts_enough d w (calls.Delimit addr offset bytes) o refl there answered
+    by (calls.Strip addr) is there moves = cut_enough d w addr o there answered moves
     by c is there moves = absurd (true≢false (sym is))
 
 -- a call that reads touches none
@@ -230,6 +236,9 @@ reading_lines heap w (calls.AppendTrailer addr ticket text) is reads = absurd (t
 reading_lines heap w (calls.DiscardFirstHeader addr) is reads = absurd (true≢false (sym reads))
 reading_lines heap w (calls.DiscardLastTrailer addr) is reads = absurd (true≢false (sym reads))
 reading_lines heap w (calls.Destroy addr) is reads = absurd (true≢false (sym reads))
+reading_lines heap w (calls.ClonePart addr ticket offset bytes) is reads = absurd (true≢false (sym reads))
+reading_lines heap w (calls.Delimit addr offset bytes) is reads = absurd (true≢false (sym reads))
+reading_lines heap w (calls.Strip addr) is reads = absurd (true≢false (sym reads))
 reading_lines heap w (calls.ZcoLength addr) is reads = refl
 reading_lines heap w (calls.SourceLength addr) is reads = refl
 reading_lines heap w call is reads = absurd (true≢false (sym is))

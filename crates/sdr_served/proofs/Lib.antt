@@ -11,4 +11,5 @@ pub mod NameCalls
 pub mod FreeLemmas
 pub mod GoodLemmas
 pub mod NextLemmas
+pub mod CutLemmas
 pub mod DemandLemmas

@@ -15,18 +15,20 @@ use Rattle.sdr_model.proofs.FewLemmas.{in_takes_one}
 use Rattle.sdr_model.specs.AccountSteps.{new_ticket, pending_of, with_maximum, with_request, without_ticket}
 use Rattle.sdr_model.specs.Accounts.{account_of, most_amount, pending_in, tickets_of, with_account, with_ticket}
 use Rattle.sdr_model.specs.Amounts.{amounts_by, first_above, in_space, minus}
-use Rattle.sdr_model.specs.Charges.{bytes_charge, capsule_bytes, object_bytes, rooms}
+use Rattle.sdr_model.specs.Charges.{bytes_charge, capsule_bytes, object_bytes, object_charge, rooms}
 use Rattle.sdr_model.specs.Charging.{Charges, grant_left, no_space, with_used}
+use Rattle.sdr_model.specs.Cuts.{placed}
 use Rattle.sdr_model.specs.Gone.{gone_things, without_things}
 use Rattle.sdr_model.specs.Limits.{is_no_capsule, is_no_path, longest_source}
 use Rattle.sdr_model.specs.ObjectSteps.{AddsCapsule, Discards, last_capsule, raw_append_moves, with_extent, with_header, with_object, with_trailer, without_header, without_trailer}
+use Rattle.sdr_model.specs.PartSteps.{asked_extents, clone_moves, object_of, outside_part, stripped}
 use Rattle.sdr_model.specs.Queue.{barrier, with_served}
 use Rattle.sdr_model.specs.Rows.{ByRow}
 use Rattle.sdr_model.specs.SourceSteps.{new_source}
 use Rattle.sdr_model.specs.Steps.{DoesWith, Outcome, RefusedFor, Takes, taken_at, with_thing, without_thing}
 use Rattle.sdr_model.specs.Things.{capsule_need, extent_need, object_need}
 use Rattle.sdr_model.specs.World.{World, as_raw, thing_at}
-use Rattle.sdr_model.specs.Zco.{empty_object, object_at, owned_raw, source_at, source_on, space_of, uses_of}
+use Rattle.sdr_model.specs.Zco.{empty_object, extents_length, object_at, owned_raw, source_at, source_on, space_of, uses_of}
 use Rattle.sdr_model.specs.declared.accounts.Accounts.{Accounts}
 use Rattle.sdr_model.specs.declared.accounts.Pending.{Pending}
 use Rattle.sdr_model.specs.declared.accounts.Ticket.{Ticket}
@@ -206,7 +208,19 @@ module _ (w : World) (o : Outcome) where
       let gone = gone_things w z.extents z.extents in
       same_next _ h.1 (served_next (without_thing (without_things w gone) addr) z.account ∙ without_next w gone))
   next_kept (calls.Bond addr ticket) is row = absurd (true≢false (sym is))
-  next_kept (calls.ClonePart addr ticket offset bytes) is row = absurd (true≢false (sym is))
-  next_kept (calls.Delimit addr offset bytes) is row = absurd (true≢false (sym is))
-  next_kept (calls.Strip addr) is row = absurd (true≢false (sym is))
+  next_kept (calls.ClonePart addr number offset bytes) is row =
+      from_option (object_at w addr) row (λ _ h. same_next _ h.1 refl) (λ z _ h.
+      from_test (bytes == 0 || nat_lt z.part.length (offset + bytes)) h (λ _ h. same_next _ h.1 refl) (λ _ h.
+      let extents = asked_extents z offset bytes in
+      charged_next z.account number (λ (space : Space). object_charge w space (object_of z.account extents)) _ h (λ used same h.
+      does_next (λ at. clone_moves at extents)
+      (λ at. with_object used (at 0) (object_of z.account (placed at 1 extents)))
+      (λ at. replies.At (at 0)) h (λ at. same))))
+  next_kept (calls.Delimit addr offset bytes) is row =
+      from_option (object_at w addr) row (λ _ h. same_next _ h.1 refl) (λ z _ h.
+      from_test (nat_lt (extents_length z.extents) (offset + bytes)) h (λ _ h. same_next _ h.1 refl) (λ _ h. same_next _ h.1 refl))
+  next_kept (calls.Strip addr) is row =
+      from_option (object_at w addr) row (λ _ h. same_next _ h.1 refl) (λ z _ h.
+      let gone = gone_things w (outside_part z) (outside_part z) in
+      same_next _ h.1 (served_next (with_object (without_things w gone) addr (stripped z)) z.account ∙ without_next w gone))
   next_kept call is row = row_change w call o row (λ _ plain. plain_next plain) (λ zco. absurd zco)

@@ -7,12 +7,14 @@ ghost use Rattle.sdr_base.specs.Moves.{KeepsSome};
 ghost use Rattle.sdr_base.specs.Works.{Works};
 ghost use Rattle.sdr_model.specs.Fields.{FitsCall};
 ghost use Rattle.sdr_model.specs.World.{World};
-ghost use Rattle.sdr_served.specs.Serving.{IsGood, built, call_lines};
+ghost use Rattle.sdr_served.specs.Serving.{IsGood, built, call_lines, is_cut_call};
 ghost use Rattle.zco_answers.specs.Answering.{is_object_call};
 ghost use Rattle.zco_granted.specs.Answering.{is_account_call};
+ghost use Rattle.zco_part_answers.specs.Answering.{is_part_call};
 ghost use Rattle.zco_served.specs.Answering.{is_source_call};
 
-use crate::{freeing, hashes, names, tables};
+use crate::cutting::is_cut_call;
+use crate::{cutting, freeing, hashes, names, tables};
 use sdr_answers::{
     Page, is_free_call, is_hash_call, is_list_call, is_name_call, is_raw_call, is_string_call,
     is_table_call, lists, raws, strings,
@@ -22,6 +24,7 @@ use sdr_model::{Call, Reply};
 use zco_acct::{Notice, Notify};
 use zco_answers::is_object_call;
 use zco_granted::is_account_call;
+use zco_part_answers::is_part_call;
 use zco_served::is_source_call;
 
 /// Whether the call is served yet.
@@ -38,6 +41,8 @@ pub fn built(call: &Call) -> bool
         || is_source_call(call)
         || is_account_call(call)
         || is_object_call(call)
+        || is_part_call(call)
+        || is_cut_call(call)
 }
 
 // Answers a call that is served, but one on sources, accounts, tickets or zero-copy objects.
@@ -50,6 +55,8 @@ fn answer_other<O: Objects>(o: &mut O, call: &Call, page: &mut Page) -> Result<R
     requires no_source { is_source_call call.now ≡ false }
     requires no_account { is_account_call call.now ≡ false }
     requires no_object { is_object_call call.now ≡ false }
+    requires no_part { is_part_call call.now ≡ false }
+    requires no_cut { is_cut_call call.now ≡ false }
     ensures comes { Comes call.now (O.heap o.old) (O.heap o.new) page.old page.new result }
     ensures works { Works O.HasHeap
         (answers.call_lines (O.heap o.old) call.now) o.old o.new result }
@@ -101,6 +108,12 @@ pub fn answer<O: Objects, F: Notify>(
     }
     if is_object_call(call) {
         return zco_answers::answer(o, call, notice, page);
+    }
+    if is_part_call(call) {
+        return zco_part_answers::answer(o, call, page);
+    }
+    if is_cut_call(call) {
+        return cutting::answer(o, call, notice, page);
     }
     answer_other(o, call, page)
 }

@@ -7,6 +7,7 @@
 #![tactic(auto)]
 
 mod answering;
+mod cutting;
 mod freeing;
 mod hashes;
 mod names;

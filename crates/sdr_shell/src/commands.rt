@@ -175,7 +175,8 @@ pub fn still<D: Disk, M: Media, S: Source, K: Sink>(
                 status,
                 journal,
                 disk,
-            } = replay_input(alloc, disk, input, output);
+                media,
+            } = replay_input(alloc, disk, media, input, output);
             Outcome {
                 status,
                 journal,

@@ -1,8 +1,9 @@
 -- What a call comes to on a ground.
-use Rattle.std.proofs.Common.{◌≡◌, ◌∙◌, ◌≤◌, ◌⊎◌, ℕ, List, [], Bool, true, false, not, Option, None, Result, Ok, Err, true≢false, refl, sym, ap, subst, arith}
+use Rattle.std.proofs.Common.{◌≡◌, ◌∙◌, ◌≤◌, ◌⊎◌, ℕ, List, [], Bool, true, false, not, Option, Result, Ok, Err, true≢false, refl, sym, ap, subst, arith}
 use Rattle.sdr_base.specs.KeptHeap.{KeepsRegion}
 use Rattle.sdr_base.specs.Moves.{KeepsSome}
 use Rattle.sdr_base.specs.Works.{Works}
+use Rattle.sdr_base.specs.declared.media.Media.{Ghosts as MediaGhosts}
 use Rattle.sdr_base.specs.declared.refusal.Refusal.{Refusal}
 use Rattle.sdr_base.specs.declared.stop.Stop.{Stop}
 use Rattle.sdr_base.specs.declared.stop.Stop.TheVariants as stops
@@ -29,20 +30,20 @@ use Rattle.sdr_station.specs.Giving.{Gives}
 use Rattle.sdr_station.specs.Grounded.{Grounded, IsGround, StandsForBoth, StandsInMemory, heap_in}
 
 -- what a call came to on a ground
-pub record CameTo {D : Type 0} (told : D → Option (List ℕ)) (moment faults : D → ℕ) (may_leave : D → ℕ → List ℕ → Type 0) (call : Call)
-    (reply : Reply) (old new : Grounded D) : Type 0 where
-  pub memory : Brings StandsInMemory old new (Calls None call reply)
-  pub answered : Brings (λ g v. StandsForBoth told moment may_leave g v) old new (Calls None call reply)
+pub record CameTo {D M : Type 0} (told : D → Option (List ℕ)) (moment faults : D → ℕ) (may_leave : D → ℕ → List ℕ → Type 0)
+    (media : MediaGhosts M) (call : Call) (reply : Reply) (old new : Grounded D M) : Type 0 where
+  pub memory : Brings StandsInMemory old new (Calls (media.told old.media) call reply)
+  pub answered : Brings (λ g v. StandsForBoth told moment may_leave g v) old new (Calls (media.told old.media) call reply)
   pub stopped : new.stopped ≡ dooms call reply
   pub gives : Gives reply new
   pub sound : new.heap.cells.failed ≡ false
-  pub keeps : KeepsGround (heap_ground told moment faults may_leave) true old new
-  pub any_moment : LeavesBefore (heap_ground told moment faults may_leave) old new
+  pub keeps : KeepsGround (heap_ground told moment faults may_leave media) true old new
+  pub any_moment : LeavesBefore (heap_ground told moment faults may_leave media) old new
   pub is_ground : IsGround moment new
 
 -- A served call on a ground in which none was stopped, from this heap before it, without moves.
-module _ {D : Type 0} (told : D → Option (List ℕ)) (moment faults : D → ℕ) (may_leave : D → ℕ → List ℕ → Type 0) (old : Grounded D)
-    (ground : IsGround moment old) (going : old.stopped ≡ false) (call : Call) (is : built call ≡ true) (fit : FitsCall call)
+module _ {D M : Type 0} (told : D → Option (List ℕ)) (moment faults : D → ℕ) (may_leave : D → ℕ → List ℕ → Type 0)
+    (media : MediaGhosts M) (old : Grounded D M) (ground : IsGround moment old) (going : old.stopped ≡ false) (call : Call) (is : built call ≡ true) (fit : FitsCall call)
     (before : Held (Opened D)) (from : before ≡ record old.heap { moves = []; spare = before.spare })
     (heap : Held (Opened D)) (page : List ℕ) where
   sound : old.heap.cells.failed ≡ false
@@ -60,17 +61,17 @@ module _ {D : Type 0} (told : D → Option (List ℕ)) (moment faults : D → �
       → Works {T = Reply} (image_heap faults) (call_lines (heap_in h) w call) h heap result) from works
 
   -- what it brings in memory, it comes to
-  comes_to : (reply : Reply) (new : Grounded D) → IsQuiet old.heap.cells new.heap.cells → new.moment ≡ old.moment
+  comes_to : (reply : Reply) (new : Grounded D M) → IsQuiet old.heap.cells new.heap.cells → new.moment ≡ old.moment → new.media ≡ old.media
       → faults old.heap.cells.disk ≤ faults new.heap.cells.disk → new.stopped ≡ dooms call reply → new.idle ≡ false → Gives reply new
-      → Brings StandsInMemory old new (Calls None call reply) → CameTo told moment faults may_leave call reply old new
-  comes_to reply new quiet same later stopped made gives memory = record {
+      → Brings StandsInMemory old new (Calls (media.told old.media) call reply) → CameTo told moment faults may_leave media call reply old new
+  comes_to reply new quiet same unread later stopped made gives memory = record {
     memory = memory;
     answered = brings_quiet told moment may_leave old new quiet same memory;
     stopped = stopped;
     gives = gives;
     sound = quiet.failed ∙ sound;
-    keeps = keeps_more (heap_ground told moment faults may_leave) (keeps_later told moment faults may_leave old new later);
-    any_moment = leaves_quiet told moment faults may_leave old new quiet.disk same;
+    keeps = keeps_more (heap_ground told moment faults may_leave media) (keeps_later told moment faults may_leave media old new unread later);
+    any_moment = leaves_quiet told moment faults may_leave media old new quiet.disk same;
     is_ground = ground_brought moment old new ground (omega (arith, ap moment quiet.disk, same, ground.seen)) sound (quiet.failed ∙ sound)
         (λ idle. absurd (true≢false (sym idle ∙ made))) memory;
   }
@@ -78,8 +79,8 @@ module _ {D : Type 0} (told : D → Option (List ℕ)) (moment faults : D → �
   -- an answered call
   pub came_answered : (reply : Reply) → Comes call (heap_in before) (heap_in heap) old.shown page (Ok reply)
       → WorksFrom (Ok reply)
-      → CameTo told moment faults may_leave call reply old
-      (record { heap = heap; shown = page; stopped = old.stopped; idle = false; moment = old.moment; restored = old.restored })
+      → CameTo told moment faults may_leave media call reply old
+      (record { heap = heap; media = old.media; shown = page; stopped = old.stopped; idle = false; moment = old.moment; restored = old.restored })
   came_answered reply comes' works' =
       let fresh : Held (Opened D) = record old.heap { moves = []; spare = before.spare } in
       let comes = subst (λ (h : Held (Opened D)). Comes call (heap_in h) (heap_in heap) old.shown page (Ok reply)) from comes' in
@@ -90,20 +91,20 @@ module _ {D : Type 0} (told : D → Option (List ℕ)) (moment faults : D → �
       let works = each some.for.now.world stands (served_in w) in
       let quiet : IsQuiet old.heap.cells heap.cells =
       (works.quiet fresh (record { disk = refl; frame = refl; begun = refl; failed = refl }, refl)).0 in
-      let new : Grounded D = record { heap = heap; shown = page; stopped = old.stopped; idle = false; moment = old.moment; restored = old.restored } in
+      let new : Grounded D M = record { heap = heap; media = old.media; shown = page; stopped = old.stopped; idle = false; moment = old.moment; restored = old.restored } in
       let ans = comes.each some.for.now.world stands (served_in w) in
       let outcome : Outcome = record { moves = heap.moves; after = ans.after; reply = reply } in
-      comes_to reply new quiet refl works.cause.later (going ∙ sym (answers_no_doom call reply ans.answered)) refl
+      comes_to reply new quiet refl refl works.cause.later (going ∙ sym (answers_no_doom call reply ans.answered)) refl
       (gives_shown new some.for.now.world call outcome is w.whole ans.row ans.gave (λ _. going) reply refl)
-      (brings_answered faults old going call is fit before.spare heap page reply comes each)
+      (brings_answered faults old going call is fit before.spare heap page (media.told old.media) reply comes each)
 
   -- a refused call, which tells these moves, and dooms where it doesn't read
   pub came_refused : (refusal : Refusal) (stop : Stop) → stop ≡ stops.Refused refusal → (left : Held (Opened D))
       → left ≡ record heap { moves = moves_left refusal heap.moves; spare = left.spare } → (reads : Bool) → reads ≡ is_reading call
       → Comes call (heap_in before) (heap_in heap) old.shown page (Err stop)
       → WorksFrom (Err stop)
-      → CameTo told moment faults may_leave call (replies.Refused refusal) old
-      (record { heap = left; shown = page; stopped = not reads; idle = false; moment = old.moment; restored = old.restored })
+      → CameTo told moment faults may_leave media call (replies.Refused refusal) old
+      (record { heap = left; media = old.media; shown = page; stopped = not reads; idle = false; moment = old.moment; restored = old.restored })
   came_refused refusal stop stop_is left left_is reads reads_is comes' works' =
       let fresh : Held (Opened D) = record old.heap { moves = []; spare = before.spare } in
       let comes = subst (λ (s : Stop). Comes call (heap_in fresh) (heap_in heap) old.shown page (Err s)) stop_is
@@ -115,22 +116,23 @@ module _ {D : Type 0} (told : D → Option (List ℕ)) (moment faults : D → �
       let works = each some.for.now.world stands (served_in w) in
       let quiet : IsQuiet old.heap.cells heap.cells =
       (works.quiet fresh (record { disk = refl; frame = refl; begun = refl; failed = refl }, refl)).0 in
-      let new : Grounded D = record {
+      let new : Grounded D M = record {
         heap = record heap { moves = moves_left refusal heap.moves; spare = left.spare };
+        media = old.media;
         shown = page;
         stopped = not (is_reading call);
         idle = false;
         moment = old.moment;
         restored = old.restored;
       } in
-      let came : CameTo told moment faults may_leave call (replies.Refused refusal) old new =
-      comes_to (replies.Refused refusal) new quiet refl works.cause.later refl refl tt
-      (brings_refused faults old going call is fit before.spare heap page refusal left.spare comes each) in
-      subst (λ (g : Grounded D). CameTo told moment faults may_leave call (replies.Refused refusal) old g)
-      (λ i. record { heap = sym left_is i; shown = page; stopped = not (sym reads_is i); idle = false; moment = old.moment; restored = old.restored }) came
+      let came : CameTo told moment faults may_leave media call (replies.Refused refusal) old new =
+      comes_to (replies.Refused refusal) new quiet refl refl works.cause.later refl refl tt
+      (brings_refused faults old going call is fit before.spare heap page (media.told old.media) refusal left.spare comes each) in
+      subst (λ (g : Grounded D M). CameTo told moment faults may_leave media call (replies.Refused refusal) old g)
+      (λ i. record { heap = sym left_is i; media = old.media; shown = page; stopped = not (sym reads_is i); idle = false; moment = old.moment; restored = old.restored }) came
 
 -- The heap before a served call on a ground in which none was stopped, without moves.
-module _ {D : Type 0} (moment : D → ℕ) (old : Grounded D) (ground : IsGround moment old) (going : old.stopped ≡ false) (before : Held (Opened D))
+module _ {D M : Type 0} (moment : D → ℕ) (old : Grounded D M) (ground : IsGround moment old) (going : old.stopped ≡ false) (before : Held (Opened D))
     (from : before ≡ record old.heap { moves = []; spare = before.spare }) where
   -- there is a heap in it
   pub keeps_before : KeepsSome (KeepsRegion before.size before.cells.bytes)

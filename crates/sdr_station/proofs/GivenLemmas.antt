@@ -25,8 +25,9 @@ use Rattle.sdr_base.specs.declared.account.Amounts.{Amounts}
 use Rattle.sdr_model.specs.AccountSteps.{pending_of}
 use Rattle.sdr_model.specs.Accounts.{account_of, most_amount, pending_in, tickets_of}
 use Rattle.sdr_model.specs.Amounts.{amount, amounts_by, first_above, in_space, minus}
-use Rattle.sdr_model.specs.Charges.{bytes_charge, capsule_bytes, object_bytes, rooms}
+use Rattle.sdr_model.specs.Charges.{bytes_charge, capsule_bytes, object_bytes, object_charge, rooms}
 use Rattle.sdr_model.specs.Charging.{Charges, grant_left, no_space, with_used}
+use Rattle.sdr_model.specs.Cuts.{placed}
 use Rattle.sdr_model.specs.HashSteps.{OnHash, OnKey, as_hash, has_key, is_no_count, is_no_key_length, value_at}
 use Rattle.sdr_model.specs.Hashes.{Hash}
 use Rattle.sdr_model.specs.Limits.{is_no_capsule, is_no_name, is_no_path, longest_capsule, longest_key, longest_name, longest_path, longest_raw, longest_read, longest_source, longest_string, most_buckets}
@@ -34,6 +35,7 @@ use Rattle.sdr_model.specs.ListSteps.{as_list}
 use Rattle.sdr_model.specs.NameSteps.{OnName}
 use Rattle.sdr_model.specs.Names.{name_of}
 use Rattle.sdr_model.specs.ObjectSteps.{AddsCapsule, last_capsule, raw_append_moves, with_extent, with_header, with_object, with_trailer}
+use Rattle.sdr_model.specs.PartSteps.{asked_extents, clone_moves, object_of}
 use Rattle.sdr_model.specs.Queue.{barrier}
 use Rattle.sdr_model.specs.RawSteps.{FreesThing}
 use Rattle.sdr_model.specs.Rows.{ByRow}
@@ -45,7 +47,7 @@ use Rattle.sdr_model.specs.Whole.{IsWhole}
 use Rattle.sdr_model.specs.World.{World, as_raw, as_text, block_at, is_marked, misnamed, spot_of, thing_at}
 use Rattle.sdr_model.specs.SourceSteps.{OnUnnamed, new_source}
 use Rattle.sdr_model.specs.Things.{capsule_need, extent_need, object_need}
-use Rattle.sdr_model.specs.Zco.{empty_object, object_at, owned_raw, source_at, source_on, space_of, uses_of}
+use Rattle.sdr_model.specs.Zco.{empty_object, extents_length, object_at, owned_raw, source_at, source_on, space_of, uses_of}
 use Rattle.sdr_model.specs.declared.accounts.Pending.{Pending}
 use Rattle.sdr_model.specs.declared.answer.Answer.TheVariants as answers
 use Rattle.sdr_model.specs.declared.answer.Reply.{Reply}
@@ -397,4 +399,15 @@ module _ (w : World) (o : Outcome) where
   given_row (calls.ZcoLength addr) is whole h = on addr (object_at w addr) h (λ z _ h. shows_none h.1 h.2 refl refl)
   given_row (calls.SourceLength addr) is whole h = on addr (object_at w addr) h (λ z _ h. shows_none h.1 h.2 refl refl)
   given_row (calls.Destroy addr) is whole h = on addr (object_at w addr) h (λ z _ h. shows_none h.1 h.2 refl refl)
+  given_row (calls.ClonePart addr number offset bytes) is whole h = on addr (object_at w addr) h (λ z _ h.
+      let extents = asked_extents z offset bytes in
+      unless (bytes == 0 || nat_lt z.part.length (offset + bytes)) (refusals.BadRange offset bytes z.part.length) h (λ _ h.
+      charged z.account number (λ (space : Space). object_charge w space (object_of z.account extents)) _ h (λ used h.
+      does (λ at. clone_moves at extents)
+      (λ at. with_object used (at 0) (object_of z.account (placed at 1 extents)))
+      (λ at. replies.At (at 0)) h refl)))
+  given_row (calls.Delimit addr offset bytes) is whole h = on addr (object_at w addr) h (λ z _ h.
+      let all = extents_length z.extents in
+      unless (nat_lt all (offset + bytes)) (refusals.BadRange offset bytes all) h (λ _ h. shows_none h.1 h.2 refl refl))
+  given_row (calls.Strip addr) is whole h = on addr (object_at w addr) h (λ z _ h. shows_none h.1 h.2 refl refl)
   given_row call is whole h = absurd (true≢false (sym is))

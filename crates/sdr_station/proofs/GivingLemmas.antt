@@ -20,7 +20,7 @@ undoomed call (replies.Refused refusal) count told = absurd (let no : None ≡ S
 undoomed call reply count told = refl
 
 -- where the reply tells of bytes, a ground that shows them gives them
-pub gives_shown : {D : Type 0} (g : Grounded D) (w : World) (call : Call) (o : Outcome) → built call ≡ true → IsWhole w
+pub gives_shown : {D M : Type 0} (g : Grounded D M) (w : World) (call : Call) (o : Outcome) → built call ≡ true → IsWhole w
     → ByRow w o call
     → o.after.shown ≡ g.shown → (dooms call o.reply ≡ false → g.stopped ≡ false) → (reply : Reply) → o.reply ≡ reply
     → Gives reply g

@@ -14,7 +14,7 @@ use Rattle.sdr_model.specs.HashSteps.{as_hash, has_key}
 use Rattle.sdr_model.specs.Hashes.{Hash}
 use Rattle.sdr_model.specs.AccountSteps.{pending_of}
 use Rattle.sdr_model.specs.ObjectSteps.{last_capsule}
-use Rattle.sdr_model.specs.RowMoves.{append_moves, block_of, block_of_capsule, block_of_ticket, destroyed_blocks, elements_in, entries_in, first_header, keyed_at, keyed_in, last_trailer, row_moves}
+use Rattle.sdr_model.specs.RowMoves.{append_moves, block_of, block_of_capsule, block_of_ticket, destroyed_blocks, elements_in, entries_in, first_header, keyed_at, keyed_in, last_trailer, row_moves, stripped_blocks}
 use Rattle.sdr_model.specs.Names.{name_of}
 use Rattle.sdr_model.specs.Rows.{ByRow}
 use Rattle.sdr_model.specs.Step.{StopsWith}
@@ -31,7 +31,7 @@ use Rattle.sdr_model.specs.declared.zco.Capsule.{Capsule}
 use Rattle.sdr_model.specs.declared.zco.ZcoObject.{ZcoObject}
 use Rattle.sdr_model.specs.declared.zco.ZcoSource.{ZcoSource}
 use Rattle.sdr_served.specs.Serving.{built}
-use Rattle.sdr_station.proofs.StoodLemmas.{elements_few, entries_few, gone_few}
+use Rattle.sdr_station.proofs.StoodLemmas.{clones_few, cut_few, elements_few, entries_few, gone_few}
 use Rattle.sdr_station.specs.Grounded.{HasStood}
 use Rattle.sdr_station.specs.Rooming.{MovesAtMost}
 
@@ -120,14 +120,40 @@ moves_object size object = moves_at_most size (calls.Destroy object) (size / 16 
     let all = length-map gone (λ (a : ℕ). Gave a) in
     omega (arith, few, all))
 
--- so whichever of them goes has so many at most
-pub moves_destroy : (size : ℕ) (call : Call)
+-- so has one that is cut for those that go, and one that is cloned for itself and its extents
+moves_strip : (size object : ℕ) → MovesAtMost size (calls.Strip object) (size / 16 + 1)
+moves_strip size object = moves_at_most size (calls.Strip object) (size / 16 + 1) (λ w stood changes at.
+    let gone = stripped_blocks w (object_at w object) in
+    let few = cut_few size w object stood in
+    let all = length-map gone (λ (a : ℕ). Gave a) in
+    omega (arith, few, all))
+
+moves_clone : (size object ticket offset bytes : ℕ) → MovesAtMost size (calls.ClonePart object ticket offset bytes) (size / 16 + 1)
+moves_clone size object ticket offset bytes =
+    moves_at_most size (calls.ClonePart object ticket offset bytes) (size / 16 + 1) (λ w stood changes at.
+    let few = clones_few size w object offset bytes stood at in
+    omega (arith, few))
+
+-- so whichever of these a call is has so many at most
+pub moves_long : (size : ℕ) (call : Call)
     → ((list : ℕ) × (call ≡ calls.ListDestroy list)) ⊎ (((hash : ℕ) × (call ≡ calls.HashDestroy hash))
-    ⊎ ((object : ℕ) × (call ≡ calls.Destroy object)))
+    ⊎ (((object : ℕ) × (call ≡ calls.Destroy object)) ⊎ (((object : ℕ) × (call ≡ calls.Strip object))
+    ⊎ ((object : ℕ) × (ticket : ℕ) × (offset : ℕ) × (bytes : ℕ) × (call ≡ calls.ClonePart object ticket offset bytes)))))
     → MovesAtMost size call (size / 16 + 1)
-moves_destroy size call (inl l) = subst (λ call. MovesAtMost size call (size / 16 + 1)) (sym l.1) (moves_list size l.0)
-moves_destroy size call (inr (inl h)) = subst (λ call. MovesAtMost size call (size / 16 + 1)) (sym h.1) (moves_hash size h.0)
-moves_destroy size call (inr (inr z)) = subst (λ call. MovesAtMost size call (size / 16 + 1)) (sym z.1) (moves_object size z.0)
+moves_long size call long = by long
+  where
+    as_one : (other : Call) → call ≡ other → MovesAtMost size other (size / 16 + 1) → MovesAtMost size call (size / 16 + 1)
+    as_one other is most = subst (λ (c : Call). MovesAtMost size c (size / 16 + 1)) (sym is) most
+
+    by : ((list : ℕ) × (call ≡ calls.ListDestroy list)) ⊎ (((hash : ℕ) × (call ≡ calls.HashDestroy hash))
+        ⊎ (((object : ℕ) × (call ≡ calls.Destroy object)) ⊎ (((object : ℕ) × (call ≡ calls.Strip object))
+        ⊎ ((object : ℕ) × (ticket : ℕ) × (offset : ℕ) × (bytes : ℕ) × (call ≡ calls.ClonePart object ticket offset bytes)))))
+        → MovesAtMost size call (size / 16 + 1)
+    by (inl l) = as_one (calls.ListDestroy l.0) l.1 (moves_list size l.0)
+    by (inr (inl h)) = as_one (calls.HashDestroy h.0) h.1 (moves_hash size h.0)
+    by (inr (inr (inl z))) = as_one (calls.Destroy z.0) z.1 (moves_object size z.0)
+    by (inr (inr (inr (inl z)))) = as_one (calls.Strip z.0) z.1 (moves_strip size z.0)
+    by (inr (inr (inr (inr z)))) = as_one (calls.ClonePart z.0 z.1 z.2 z.3) z.4 (moves_clone size z.0 z.1 z.2 z.3)
 
 -- a name that goes has one at most
 one_name : (found : Option Name) → length (gave (block_of found)) ≤ 1
@@ -180,18 +206,24 @@ abbrev pub IsOther : Call → Type 0
 IsOther (calls.ListDestroy list) = ⊥
 IsOther (calls.HashDestroy hash) = ⊥
 IsOther (calls.Destroy object) = ⊥
+IsOther (calls.Strip object) = ⊥
+IsOther (calls.ClonePart object ticket offset bytes) = ⊥
 IsOther (calls.AppendExtent object ticket named offset bytes) = ⊥
 IsOther call = ⊤
 
 pub is_other : (call : Call) → ((list : ℕ) → call ≡ calls.ListDestroy list → ⊥) → ((hash : ℕ) → call ≡ calls.HashDestroy hash → ⊥)
-    → ((object : ℕ) → call ≡ calls.Destroy object → ⊥)
+    → ((object : ℕ) → call ≡ calls.Destroy object → ⊥) → ((object : ℕ) → call ≡ calls.Strip object → ⊥)
+    → ((object ticket offset bytes : ℕ) → call ≡ calls.ClonePart object ticket offset bytes → ⊥)
     → ((object ticket named offset bytes : ℕ) → call ≡ calls.AppendExtent object ticket named offset bytes → ⊥) → IsOther call
-is_other (calls.ListDestroy list) no_list no_hash no_object no_extent = absurd (no_list list refl)
-is_other (calls.HashDestroy hash) no_list no_hash no_object no_extent = absurd (no_hash hash refl)
-is_other (calls.Destroy object) no_list no_hash no_object no_extent = absurd (no_object object refl)
-is_other (calls.AppendExtent object ticket named offset bytes) no_list no_hash no_object no_extent =
+is_other (calls.ListDestroy list) no_list no_hash no_object no_cut no_clone no_extent = absurd (no_list list refl)
+is_other (calls.HashDestroy hash) no_list no_hash no_object no_cut no_clone no_extent = absurd (no_hash hash refl)
+is_other (calls.Destroy object) no_list no_hash no_object no_cut no_clone no_extent = absurd (no_object object refl)
+is_other (calls.Strip object) no_list no_hash no_object no_cut no_clone no_extent = absurd (no_cut object refl)
+is_other (calls.ClonePart object ticket offset bytes) no_list no_hash no_object no_cut no_clone no_extent =
+    absurd (no_clone object ticket offset bytes refl)
+is_other (calls.AppendExtent object ticket named offset bytes) no_list no_hash no_object no_cut no_clone no_extent =
     absurd (no_extent object ticket named offset bytes refl)
-is_other call no_list no_hash no_object no_extent = tt
+is_other call no_list no_hash no_object no_cut no_clone no_extent = tt
 
 -- any other that is served has one at most
 pub moves_one : (size : ℕ) (call : Call) → built call ≡ true → IsOther call → MovesAtMost size call 1
@@ -263,4 +295,7 @@ moves_one size call is other = moves_at_most size call 1 (λ w stood changes at.
     by w at (calls.SourceLength addr) is other = omega arith
     by w at (calls.AppendExtent addr ticket named offset bytes) is other = absurd other
     by w at (calls.Destroy addr) is other = absurd other
+    by w at (calls.ClonePart addr ticket offset bytes) is other = absurd other
+    by w at (calls.Delimit addr offset bytes) is other = omega arith
+    by w at (calls.Strip addr) is other = absurd other
     by w at call is other = absurd (true≢false (sym is))

@@ -1,5 +1,5 @@
 -- A call that a heap on an image has answered, as a step of the machine.
-use Rattle.std.proofs.Common.{◌≡◌, ◌∙◌, ◌≤◌, ◌+◌, ◌⊎◌, ℕ, List, [], Bool, true, false, true≢false, not, Option, None, Result, Ok, Err, inl, inr, refl, sym, ap, subst, length, arith}
+use Rattle.std.proofs.Common.{◌≡◌, ◌∙◌, ◌≤◌, ◌+◌, ◌⊎◌, ℕ, List, [], Bool, true, false, true≢false, not, Option, Result, Ok, Err, inl, inr, refl, sym, ap, subst, length, arith}
 use Rattle.sdr_audit.specs.Standing.{HeapStandsFor}
 use Rattle.sdr_base.proofs.MovesLemmas.{Moves-none}
 use Rattle.sdr_base.specs.KeptHeap.{KeepsRegion}
@@ -8,6 +8,8 @@ use Rattle.sdr_base.specs.Moves.{Leads, Moves, MovesPools}
 use Rattle.sdr_base.specs.Objects.{Heap}
 use Rattle.sdr_base.specs.Works.{Works}
 use Rattle.sdr_base.specs.declared.has_heap.HasHeap.{Ghosts as HeapGhosts}
+use Rattle.sdr_base.specs.Media.{Told}
+use Rattle.sdr_base.specs.declared.media.Media.{Ghosts as MediaGhosts}
 use Rattle.sdr_base.specs.declared.moves.Move.{Move}
 use Rattle.sdr_base.specs.declared.stop.Stop.{Stop}
 use Rattle.sdr_heap.specs.Noted.{Held}
@@ -19,10 +21,11 @@ use Rattle.sdr_laws.proofs.FieldLaws.{fields_fit}
 use Rattle.sdr_laws.proofs.WholeLaws.{whole_kept}
 use Rattle.sdr_lock.specs.Crash.{LeavesBefore}
 use Rattle.sdr_lock.specs.Demand.{Demand, MayFillLog, demand_after}
-use Rattle.sdr_lock.specs.Gaps.{HasGapCause, no_gaps}
+use Rattle.sdr_lock.specs.Gaps.{Gaps, HasGapCause}
 use Rattle.sdr_lock.specs.Ground.{Ground, State, Steps, StepsOn}
 use Rattle.sdr_lock.specs.Serving.{Brings, Calls}
 use Rattle.sdr_lock.specs.Standing.{Standing}
+use Rattle.sdr_lock.specs.Transaction.{bytes_given}
 use Rattle.sdr_log.specs.Frame.{room_of}
 use Rattle.sdr_log.specs.declared.frame.Frame.{Frame}
 use Rattle.sdr_base.specs.declared.refusal.Refusal.{Refusal}
@@ -40,7 +43,7 @@ use Rattle.sdr_served.proofs.GoodLemmas.{good_of}
 use Rattle.sdr_served.proofs.NextLemmas.{next_kept}
 use Rattle.sdr_station.proofs.StoodLemmas.{small_in, stood_of}
 use Rattle.sdr_station.proofs.GroundLemmas.{heap_ground}
-use Rattle.sdr_station.proofs.MediaLemmas.{gap_none, misses_none}
+use Rattle.sdr_station.proofs.MediaLemmas.{agrees_none, gap_none, misses_none}
 use Rattle.sdr_station.specs.CrashNow.{crash_now}
 use Rattle.sdr_answers.specs.Answering.{Aim, Answered, Comes, IsServed, dooms}
 use Rattle.sdr_served.specs.Serving.{IsGood, built, call_lines}
@@ -76,7 +79,7 @@ not_full room d w call (replies.Refused refusal) is = absurd (true≢false (sym 
 not_full room d w call reply is = tt
 
 -- A call on a heap that stood for a standing, and has not stopped.
-module _ {D : Type 0} (faults : D → ℕ) (old : Grounded D) (going : old.stopped ≡ false) (call : Call) (is : built call ≡ true) (fit : FitsCall call) (spare : ℕ)
+module _ {D M : Type 0} (faults : D → ℕ) (old : Grounded D M) (going : old.stopped ≡ false) (call : Call) (is : built call ≡ true) (fit : FitsCall call) (spare : ℕ)
     (heap : Held (Opened D)) (page : List ℕ) where
   -- the heap before the call, with no moves
   abbrev pub fresh_heap : Held (Opened D)
@@ -98,7 +101,7 @@ module _ {D : Type 0} (faults : D → ℕ) (old : Grounded D) (going : old.stopp
   quiet_of works = works.quiet fresh_heap (record { disk = refl; frame = refl; begun = refl; failed = refl }, refl)
 
   -- what stands still of a standing
-  stands_on : (new : Grounded D) (v : Standing) → StandsInMemory old v → IsQuiet old.heap.cells new.heap.cells → new.heap.size ≡ old.heap.size → (now : State) → now.world.taken ≡ 0
+  stands_on : (new : Grounded D M) (v : Standing) → StandsInMemory old v → IsQuiet old.heap.cells new.heap.cells → new.heap.size ≡ old.heap.size → (now : State) → now.world.taken ≡ 0
       → now.world.shown ≡ new.shown → HasStood old.heap.size now.world → (new.stopped ≡ false → StandsWithin new.heap new.shown now)
       → new.idle ≡ false
       → StandsInMemory new (record { before = v.before; now = now; moves = new.heap.moves })
@@ -196,10 +199,10 @@ module _ {D : Type 0} (faults : D → ℕ) (old : Grounded D) (going : old.stopp
         (λ i. record heap' { cells = sym cells i; size = sym size i; marks = sym marks i }) here
 
   -- an answered call brings what its row does
-  pub brings_answered : (reply : Reply) → Comes call (heap_in fresh_heap) (heap_in heap) old.shown page (Ok reply)
+  pub brings_answered : (tells : Option Told) (reply : Reply) → Comes call (heap_in fresh_heap) (heap_in heap) old.shown page (Ok reply)
       → WorksIn (Ok reply)
-      → Brings StandsInMemory old (record { heap = heap; shown = page; stopped = old.stopped; idle = false; moment = old.moment; restored = old.restored }) (Calls None call reply)
-  brings_answered reply comes each = record {
+      → Brings StandsInMemory old (record { heap = heap; media = old.media; shown = page; stopped = old.stopped; idle = false; moment = old.moment; restored = old.restored }) (Calls tells call reply)
+  brings_answered tells reply comes each = record {
     each = λ v at.
         let w = at.now going in
         let works = each v.now.world (fresh_stands v at) (served_in w) in
@@ -209,22 +212,23 @@ module _ {D : Type 0} (faults : D → ℕ) (old : Grounded D) (going : old.stopp
         let after = next v at moves ans.after reply in
         record {
           for = record { before = v.before; now = after; moves = heap.moves };
-          holds = stands_on (record { heap = heap; shown = page; stopped = old.stopped; idle = false; moment = old.moment; restored = old.restored }) v at q.0 q.1 after (ans.taken ∙ at.taken) ans.gave
+          holds = stands_on (record { heap = heap; media = old.media; shown = page; stopped = old.stopped; idle = false; moment = old.moment; restored = old.restored }) v at q.0 q.1 after (ans.taken ∙ at.taken) ans.gave
               (subst (λ (n : ℕ). HasStood n ans.after) q.1 (stood_of (within_answered v at moves reply q.0.frame works.room.most ans)))
               (λ _. within_answered v at moves reply q.0.frame works.room.most ans) refl;
           tells = record {
             steps = steps_to v at moves ans.after reply q.0.frame (inl ans.row)
                 (not_full (room_of old.heap.cells.frame) v.now.demand v.now.world call reply ans.answered);
-            media = tt;
+            media = agrees_none tells v.now.world call (answers.Reply reply) (bytes_given (answers.Reply reply) ans.after.shown) is;
             before = refl;
           };
         };
   }
 
   -- the ground after a call that was refused, with room for so many moves
-  abbrev pub refused_ground : Refusal → ℕ → Grounded D
+  abbrev pub refused_ground : Refusal → ℕ → Grounded D M
   refused_ground refusal n = record {
     heap = record heap { moves = moves_left refusal heap.moves; spare = n };
+    media = old.media;
     shown = page;
     stopped = not (is_reading call);
     idle = false;
@@ -237,15 +241,15 @@ module _ {D : Type 0} (faults : D → ℕ) (old : Grounded D) (going : old.stopp
   reads_only false is = absurd (true≢false is)
 
   -- a refused call for which there was log room
-  brings_stopped : (refusal : Refusal) (n : ℕ) → moves_left refusal heap.moves ≡ heap.moves
+  brings_stopped : (tells : Option Told) (refusal : Refusal) (n : ℕ) → moves_left refusal heap.moves ≡ heap.moves
       → ((w : World) → WorksIn (Err (stops.Refused refusal)) → HeapStandsFor (heap_in fresh_heap) w → IsServed w
       → Moves (KeepsRegion fresh_heap.size fresh_heap.cells.bytes) (KeepsRegion heap.size heap.cells.bytes) [] heap.moves)
       → ((room : ℕ) (d : Demand) (w : World) → MayFillLog room d w call (replies.Refused refusal))
       → ((w : World) → HeapStandsFor (heap_in fresh_heap) w → IsServed w
       → StepTo w (record { moves = heap.moves; after = w; reply = replies.Refused refusal }) call × (is_reading call ≡ true → heap_in heap ≡ heap_in fresh_heap) × (page ≡ old.shown))
       → WorksIn (Err (stops.Refused refusal))
-      → Brings StandsInMemory old (refused_ground refusal n) (Calls None call (replies.Refused refusal))
-  brings_stopped refusal n same moved full steps each = record {
+      → Brings StandsInMemory old (refused_ground refusal n) (Calls tells call (replies.Refused refusal))
+  brings_stopped tells refusal n same moved full steps each = record {
     each = λ v at.
         let w = at.now going in
         let works = each v.now.world (fresh_stands v at) (served_in w) in
@@ -264,7 +268,7 @@ module _ {D : Type 0} (faults : D → ℕ) (old : Grounded D) (going : old.stopp
           tells = record {
             steps = subst (λ (ms : List Move). Steps v.now call (record { reply = replies.Refused refusal; moves = ms; after = after })) (sym same)
                 (steps_to v at moves v.now.world (replies.Refused refusal) q.0.frame s.0 (full (room_of old.heap.cells.frame) v.now.demand v.now.world));
-            media = tt;
+            media = agrees_none tells v.now.world call (answers.Reply (replies.Refused refusal)) [] is;
             before = refl;
           };
         };
@@ -279,12 +283,12 @@ module _ {D : Type 0} (faults : D → ℕ) (old : Grounded D) (going : old.stopp
   }
 
   -- a refused call for which there was none
-  brings_full : (lines room n : ℕ)
+  brings_full : (tells : Option Told) (lines room n : ℕ)
       → ((w : World) → HeapStandsFor (heap_in fresh_heap) w → IsServed w → Aim w call × (is_reading call ≡ false) × (page ≡ old.shown))
       → WorksIn (Err (stops.Refused (refusals.LogFull lines room)))
       → Brings StandsInMemory old (refused_ground (refusals.LogFull lines room) n)
-      (Calls None call (replies.Refused (refusals.LogFull lines room)))
-  brings_full lines room n aims each = record {
+      (Calls tells call (replies.Refused (refusals.LogFull lines room)))
+  brings_full tells lines room n aims each = record {
     each = λ v at.
         let w = at.now going in
         let works = each v.now.world (fresh_stands v at) (served_in w) in
@@ -323,20 +327,20 @@ module _ {D : Type 0} (faults : D → ℕ) (old : Grounded D) (going : old.stopp
               media = tt;
               demand = refl;
             });
-            media = tt;
+            media = agrees_none tells v.now.world call (answers.Reply reply) [] is;
             before = refl;
           };
         };
   }
 
   -- a refused call brings what its step does
-  pub brings_refused : (refusal : Refusal) (n : ℕ) → Comes call (heap_in fresh_heap) (heap_in heap) old.shown page (Err (stops.Refused refusal))
+  pub brings_refused : (tells : Option Told) (refusal : Refusal) (n : ℕ) → Comes call (heap_in fresh_heap) (heap_in heap) old.shown page (Err (stops.Refused refusal))
       → WorksIn (Err (stops.Refused refusal))
-      → Brings StandsInMemory old (refused_ground refusal n) (Calls None call (replies.Refused refusal))
-  brings_refused (refusals.LogFull lines room) n comes works =
-      brings_full lines room n (λ w stands served. let r = comes.each w stands served in (r.step.0, r.step.1, r.gave)) works
-  brings_refused refusal n comes works =
-      brings_stopped refusal n refl
+      → Brings StandsInMemory old (refused_ground refusal n) (Calls tells call (replies.Refused refusal))
+  brings_refused tells (refusals.LogFull lines room) n comes works =
+      brings_full tells lines room n (λ w stands served. let r = comes.each w stands served in (r.step.0, r.step.1, r.gave)) works
+  brings_refused tells refusal n comes works =
+      brings_stopped tells refusal n refl
       (λ w each stands served.
       (each w stands served).moved fresh_heap
       (Moves-none (KeepsRegion fresh_heap.size fresh_heap.cells.bytes) (KeepsRegion fresh_heap.size fresh_heap.cells.bytes) [] (λ P k. k)))
@@ -344,8 +348,8 @@ module _ {D : Type 0} (faults : D → ℕ) (old : Grounded D) (going : old.stopp
       (λ w stands served. let r = comes.each w stands served in (r.step, r.left, r.gave)) works
 
 -- what a call brings in memory it brings on its disk, where the disk is quiet and the moment the same
-pub brings_quiet : {D : Type 0} (told : D → Option (List ℕ)) (moment : D → ℕ) (may_leave : D → ℕ → List ℕ → Type 0)
-    {P : Standing → Standing → Type 0} (old new : Grounded D) → IsQuiet old.heap.cells new.heap.cells → new.moment ≡ old.moment
+pub brings_quiet : {D M : Type 0} (told : D → Option (List ℕ)) (moment : D → ℕ) (may_leave : D → ℕ → List ℕ → Type 0)
+    {P : Standing → Standing → Type 0} (old new : Grounded D M) → IsQuiet old.heap.cells new.heap.cells → new.moment ≡ old.moment
     → Brings StandsInMemory old new P → Brings (λ g v. StandsForBoth told moment may_leave g v) old new P
 brings_quiet told moment may_leave old new q same brings = record {
   each = λ v at.
@@ -362,9 +366,9 @@ brings_quiet told moment may_leave old new q same brings = record {
 }
 
 -- where the disk is the same and its moment too, a crash leaves the state before
-pub leaves_quiet : {D : Type 0} (told : D → Option (List ℕ)) (moment faults : D → ℕ) (may_leave : D → ℕ → List ℕ → Type 0) (old new : Grounded D)
-    → new.heap.cells.disk ≡ old.heap.cells.disk → new.moment ≡ old.moment → LeavesBefore (heap_ground told moment faults may_leave) old new
-leaves_quiet {D} told moment faults may_leave old new disk same = record {
+pub leaves_quiet : {D M : Type 0} (told : D → Option (List ℕ)) (moment faults : D → ℕ) (may_leave : D → ℕ → List ℕ → Type 0)
+    (media : MediaGhosts M) (old new : Grounded D M) → new.heap.cells.disk ≡ old.heap.cells.disk → new.moment ≡ old.moment → LeavesBefore (heap_ground told moment faults may_leave media) old new
+leaves_quiet {D} told moment faults may_leave media old new disk same = record {
   each = λ v at. record {
     later = omega (arith, same);
     each = λ m image ge le l.
@@ -395,12 +399,12 @@ answers_no_doom call (replies.Refused refusal) is = absurd (true≢false (sym is
 answers_no_doom call reply is = refl
 
 -- a call that is served tells of no media
-pub gap_brought : {D : Type 0} (old new : Grounded D) (call : Call) (reply : Reply) → built call ≡ true → old.stopped ≡ false → StandsSome old
-    → Brings StandsInMemory old new (Calls None call reply) → HasGapCause (answers.Reply reply) no_gaps no_gaps
-gap_brought old new call reply is going some brings =
+pub gap_brought : {D M : Type 0} (tells : Option Told) (before after : Gaps) (old new : Grounded D M) (call : Call) (reply : Reply) → built call ≡ true → old.stopped ≡ false → StandsSome old
+    → Brings StandsInMemory old new (Calls tells call reply) → HasGapCause (answers.Reply reply) before after
+gap_brought tells before after old new call reply is going some brings =
     let v = some.for in
     let s = brings.each v some.holds in
     let steps =
     subst (λ (b : Ground). StepsOn b v.now call (record { reply = reply; moves = s.for.moves; after = s.for.now }))
     (some.holds.now going).base s.tells.steps in
-    gap_none v.now.world call s.for.moves s.for.now.world reply no_gaps is steps.step
+    gap_none v.now.world call s.for.moves s.for.now.world reply before after is steps.step

@@ -12,14 +12,14 @@ bytes_told (replies.Named count kind addr) = Some count
 bytes_told reply = None
 
 -- where the reply tells of bytes, they are as many as are shown, and no call was stopped
-abbrev pub Gives : {D : Type 0} → Reply → Grounded D → Type 0
+abbrev pub Gives : {D M : Type 0} → Reply → Grounded D M → Type 0
 Gives reply g = IfSome (bytes_told reply) (λ count. (length g.shown ≡ count) × (g.stopped ≡ false))
 
 -- The first so many bytes of a buffer are what the current world shows, and the others stay.
-pub record HasShown {D : Type 0} (g : Grounded D) (count : ℕ) (old new : List ℕ) : Type 0 where
+pub record HasShown {D M : Type 0} (g : Grounded D M) (count : ℕ) (old new : List ℕ) : Type 0 where
   pub shown : (v : Standing) → StandsInMemory g v → take count new ≡ v.now.world.shown
   pub others : drop count new ≡ drop count old
 
 -- where the reply tells of bytes, they are in the buffer; else it stays
-abbrev pub Fills : {D : Type 0} → Grounded D → Reply → List ℕ → List ℕ → Type 0
+abbrev pub Fills : {D M : Type 0} → Grounded D M → Reply → List ℕ → List ℕ → Type 0
 Fills g reply old new = MatchOption (bytes_told reply) (new ≡ old) (λ count. HasShown g count old new)

@@ -17,12 +17,12 @@ abbrev pub MovesAtMost : ℕ → Call → ℕ → Type 0
 MovesAtMost size call most = (w : World) (o : Outcome) → HasStood size w → StepTo w o call → length o.moves ≤ most
 
 -- A room for moves is told: whatever the call that follows comes to, it has no more, and the heap has room for them.
-pub record IsRoom {D : Type 0} (g : Ghosts (Grounded D)) (call : Call) (s : Stationed D) (result : Result ℕ Stop) : Type 0 where
+pub record IsRoom {D M : Type 0} (g : Ghosts (Grounded D M)) (call : Call) (s : Stationed D M) (result : Result ℕ Stop) : Type 0 where
   pub room : ℕ
   pub told : result ≡ Ok room
   pub most : room ≤ s.ground.heap.size / 4 + 4
   pub enough : (v : Standing) → g.stands s.ground v → (o : Replied) → Steps v.now call o → length o.moves ≤ room
 
 -- such a room is told, or after a disk fault it fails
-abbrev pub TellsRoom : {D : Type 0} → Ghosts (Grounded D) → Call → Stationed D → Result ℕ Stop → Type 0
+abbrev pub TellsRoom : {D M : Type 0} → Ghosts (Grounded D M) → Call → Stationed D M → Result ℕ Stop → Type 0
 TellsRoom g call s result = MatchOption s.failed (IsRoom g call s result) (λ moment. result ≡ Err stops.Failed)

@@ -6,7 +6,7 @@ ghost use Rattle.sdr_station.specs.Telling.{BytesAtMost};
 use crate::HeapGround;
 use crate::station::most_moves;
 use sdr_answers::PAGE;
-use sdr_base::{Move, NoMemory};
+use sdr_base::{Media, Move, NoMemory};
 use sdr_disk::Disk;
 use sdr_lock::{Room, Tells};
 use sdr_model::Call;
@@ -26,7 +26,7 @@ fn most_bytes(call: &Call) -> usize
     }
 }
 
-impl<D: Disk, F: Notify + Drop> Tells for HeapGround<D, F> {
+impl<D: Disk, M: Media, F: Notify + Drop> Tells for HeapGround<D, M, F> {
     fn moves(&self) -> &[Move] {
         HeapGround::moves(self)
     }

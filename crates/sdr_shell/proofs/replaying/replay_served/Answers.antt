@@ -9,6 +9,7 @@ returns-in-Ok-clause-runs g c = inr (record {
   runs = c.in-Ok.ensures.ran;
   journal_is = search rules;
   disk_is = search rules;
+  media_is = search rules;
   later = c.replay.ensures.later;
   tells = c.tell_ran-status.ensures.told;
 })
@@ -17,6 +18,7 @@ pub returns-in-Err-clause-runs : goal.returns-in-Err-clause-runs
 returns-in-Err-clause-runs g c = inl (record {
   why = c.in-Err.shut.why;
   not_run = search rules;
+  unread = search rules;
   none = search rules;
   status = search rules;
   written = search rules;

@@ -1,6 +1,6 @@
 use Rattle.std.proofs.Common.{◌∙◌, arith, subst, sym}
 use Rattle.sdr_model.specs.declared.call.Call.{Call}
-use Rattle.sdr_station.proofs.RoomLemmas.{is_other, moves_append, moves_destroy, moves_none, moves_one}
+use Rattle.sdr_station.proofs.RoomLemmas.{is_other, moves_append, moves_long, moves_none, moves_one}
 use Rattle.sdr_station.specs.Rooming.{MovesAtMost}
 use Rattle.sdr_station.proofs.station.most_moves.Goals as goal
 
@@ -11,7 +11,7 @@ returns-then-is_reading c = record {
 }
 
 pub returns-in-ListDestroy-clause-most : goal.returns-in-ListDestroy-clause-most
-returns-in-ListDestroy-clause-most c = moves_destroy c.args.size c.args.call.now c.in-ListDestroy.is
+returns-in-ListDestroy-clause-most c = moves_long c.args.size c.args.call.now c.in-ListDestroy.is
 
 pub returns-in-AppendExtent-clause-most : goal.returns-in-AppendExtent-clause-most
 returns-in-AppendExtent-clause-most c =
@@ -25,6 +25,7 @@ returns-in_default c =
     record {
       most =
           moves_one c.args.size c.args.call.now c.requires
-          (is_other c.args.call.now d.not-ListDestroy d.not-HashDestroy d.not-Destroy d.not-AppendExtent);
+          (is_other c.args.call.now d.not-ListDestroy d.not-HashDestroy d.not-Destroy d.not-Strip d.not-ClonePart
+          d.not-AppendExtent);
       few = omega arith;
     }
