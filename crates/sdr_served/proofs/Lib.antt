@@ -13,3 +13,4 @@ pub mod GoodLemmas
 pub mod NextLemmas
 pub mod CutLemmas
 pub mod DemandLemmas
+pub mod GivingLemmas

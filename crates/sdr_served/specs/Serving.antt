@@ -9,6 +9,7 @@ use Rattle.sdr_model.specs.declared.call.Call.TheVariants as calls
 use Rattle.zco_answers.specs.Answering as objects
 use Rattle.zco_answers.specs.Answering.{is_object_call}
 use Rattle.zco_cut_answers.specs.Stripping.{IsToCut, strip_lines}
+use Rattle.zco_given.specs.Giving as given
 use Rattle.zco_granted.specs.Answering as tickets
 use Rattle.zco_granted.specs.Answering.{is_account_call}
 use Rattle.zco_part_answers.specs.Answering as parts
@@ -44,7 +45,7 @@ call_lines heap w call =
     else answers.call_lines heap call
 
 -- what is of a kind is kept, sources and the raw objects that they name too, the queues of both accounts, and objects with their
--- accounts' queues, with all that it takes to clone their parts and to cut them to these
+-- accounts' queues, with what their extents name, and with all that it takes to clone their parts and to cut them to these
 pub record IsGood (heap : Heap) : Type 0 where
   pub things : answers.IsGood heap
   pub sources : sources.IsGood heap
@@ -52,3 +53,4 @@ pub record IsGood (heap : Heap) : Type 0 where
   pub objects : objects.IsGood heap
   pub parts : parts.IsGood heap
   pub to_cut : (addr : ℕ) → IsToCut heap addr
+  pub given : given.IsGood heap
