@@ -32,7 +32,7 @@ use Rattle.zco_given.specs.Giving.{AgreesIn, AgreesRead, HasMediaCause, MissesMe
 use Rattle.zco_wire.specs.Stopping.{past_media, past_stop}
 
 -- a call that reads media touches no line
-media_lines : (heap : Heap) (w : World) (call : Call) → reads_media call ≡ true → call_lines heap w call ≡ 0
+pub media_lines : (heap : Heap) (w : World) (call : Call) → reads_media call ≡ true → call_lines heap w call ≡ 0
 media_lines heap w (calls.Transmit addr place count) reads = refl
 media_lines heap w (calls.ReceiveHeaders addr place count) reads = refl
 media_lines heap w (calls.ReceiveSource addr place count) reads = refl
@@ -87,13 +87,13 @@ works_past (Err stop) w = works_stopped stop w
 
 -- a call that reads media tells what it read
 pub tells_reading : {M : Type 0} (m : Ghosts M) (call : Call) (old new : Heap) (was shown : List ℕ) (before now : M)
-    (result : Result Reply Stop) → AgreesIn (m.told before) call old result shown → HasMediaCause m call old before now result → new ≡ old
+    (result : Result Reply Stop) → reads_media call ≡ true → AgreesIn (m.told before) call old result shown → HasMediaCause m call old before now result → new ≡ old
     → OnErr result (shown ≡ was) → AsksMedia m call old new was shown before now result
-tells_reading m call old new was shown before now result agrees cause same stays = record {
+tells_reading m call old new was shown before now result reads agrees cause same stays = record {
   each = λ w stands served. record {
     agrees = agrees.each w stands served;
     misses = cause.each w stands served;
-    stays = λ failed. (same, subst (λ (r : Result Reply Stop). OnErr r (shown ≡ was)) failed stays);
+    stays = λ failed. (reads, same, subst (λ (r : Result Reply Stop). OnErr r (shown ≡ was)) failed stays);
   };
 }
 
