@@ -1,6 +1,6 @@
 use Rattle.std.proofs.Common.{rules, inl, inr}
 use Rattle.sdr_shell.specs.Answers.{seen}
-use Rattle.sdr_shell.proofs.replaying.replay_served.Goals as goal
+use Rattle.sdr_shell.proofs.replaying.replay_script.Goals as goal
 
 pub returns-in-Ok-clause-runs : goal.returns-in-Ok-clause-runs
 returns-in-Ok-clause-runs g c = inr (record {
