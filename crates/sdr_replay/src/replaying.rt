@@ -1,11 +1,9 @@
 // A schedule that runs on the heap of a disk.
 ghost use Rattle.std.specs.Prelude.{◌≡◌, ◌≤◌, IfErr, IfOk, is_some, length};
-ghost use Rattle.std.specs.List.{AllByRecursion};
 ghost use Rattle.sdr_dry.specs.Schedule.{HaveFailed, from_to, seen_media};
 ghost use Rattle.sdr_replay.specs.Handed.{handed_as};
 ghost use Rattle.sdr_replay.specs.Playing.{output};
 ghost use Rattle.sdr_replay.specs.Replaying.{IsNotRun, IsSettled, ReplaysOn, with_base};
-ghost use Rattle.sdr_replay.specs.Serving.{IsServed};
 
 use crate::handed::{Handed, HandedIn, HandedMedia};
 use crate::playing::{Ran, play};
@@ -102,7 +100,6 @@ pub fn replay<D: Disk, M: Media, K: Sink>(
     out: &mut K,
 ) -> Result<Ran<(D, M)>, Shut<D, M>>
     requires few { length script.now ≤ 1_048_577 }
-    requires served { AllByRecursion IsServed script.now }
     requires settled { IsSettled D.Disk disk }
     ensures ran { IfOk result (ReplaysOn D.Disk M.Media disk media script.now
         (output K.taken K.faults out.old) (output K.taken K.faults out.new)) }

@@ -1,5 +1,5 @@
 -- What `replay` answers: by status, what was read, run and printed, and what is left of the disk.
-use Rattle.std.specs.Prelude.{◌≡◌, ◌≤◌, ℕ, Bool, List, [], ◌++◌, ◌⊎◌, Option, None, Some, IsErr, Ok, codes, true, false}
+use Rattle.std.specs.Prelude.{◌≡◌, ◌≤◌, ℕ, Bool, List, [], ◌++◌, ◌⊎◌, Option, None, Some, IsOk, IsErr, codes, true, false}
 use Rattle.std.specs.Io.KnownBytes.{Appends, IsAtEnd}
 use Rattle.sdr_audit.specs.Standing.{StandsForWhole}
 use Rattle.sdr_base.specs.Causes.{Rose}
@@ -18,11 +18,10 @@ use Rattle.sdr_model.specs.declared.journal.Entry.{Entry}
 use Rattle.sdr_model.specs.declared.script.Step.{Step}
 use Rattle.sdr_replay.specs.Playing.{Output, Replays, leave_of}
 use Rattle.sdr_replay.specs.Replaying.{IsNotRun, LeavesJournal, ReplaysOn}
-use Rattle.sdr_replay.specs.Serving.{first_unserved}
 use Rattle.sdr_replay.specs.declared.playing.Ran.{Ran}
 use Rattle.sdr_shell.specs.Answers.{Seen, Wrote}
 use Rattle.sdr_shell.specs.Shutting.{line_shut, status_shut}
-use Rattle.sdr_shell.specs.Still.{HadBadLine, HadScript, line_refused}
+use Rattle.sdr_shell.specs.Still.{HadScript, IsRefused}
 use Rattle.sdr_shell.specs.declared.replaying.Replayed.{Replayed}
 use Rattle.sdr_shell.specs.declared.status.TheConstants.{DONE, INPUT_FAULT, OUTPUT_FAULT, DISK_FAULT, NOT_FORMATTED, DAMAGED, REFUSED_LINE, NO_MEMORY}
 use Rattle.sdr_station.specs.Grounded.{Grounded}
@@ -34,28 +33,12 @@ use Rattle.sdr_words.specs.Script.{input_script}
 abbrev pub output_of : Seen → Output
 output_of sink = record { taken = sink.bytes; faults = sink.faults }
 
--- The source's input spelled a script, all of whose calls are served.
-pub record HadServed (left : Option (List ℕ)) : Type 0 where
-  pub script : List Step
-  pub input : HadScript left script
-  pub served : first_unserved script ≡ None
-
--- The source's input spelled a script, and the call on this line is the first that isn't served yet.
-pub record HadUnserved (left : Option (List ℕ)) (line : ℕ) : Type 0 where
-  pub script : List Step
-  pub input : HadScript left script
-  pub unserved : first_unserved script ≡ Some line
-
--- A line of the input was refused, or its call isn't served, and its number was written.
-pub record IsRefusedReplay (left : Option (List ℕ)) (sink sink' : Seen) : Type 0 where
-  pub line : ℕ
-  pub input : HadBadLine left line ⊎ HadUnserved left line
-  pub written : Wrote sink sink' (line_refused line)
-
--- No script was run on the disk, for this reason, and the last line tells it. There is no entry, and media weren't read.
+-- The script that the source's input spelled was not run on the disk, for this reason, and the last line tells it. There is no entry, and
+-- media weren't read.
 pub record WasShut {D M : Type 0} (d : DiskGhosts D) (left : Option (List ℕ)) (disk disk' : D) (files files' : M) (journal : List Entry)
     (sink sink' : Seen) (why : OpenError) : Type 0 where
-  pub had : HadServed left
+  pub script : List Step
+  pub input : HadScript left script
   pub not_run : IsNotRun d disk disk' why
   pub unread : files' ≡ files
   pub none : journal ≡ []
@@ -65,17 +48,18 @@ pub record WasShut {D M : Type 0} (d : DiskGhosts D) (left : Option (List ℕ)) 
 -- this leave. P tells of the steps that are left and the text of the answers.
 pub record HadReplay {D M : Type 0} (d : DiskGhosts D) (m : MediaGhosts M) (left : Option (List ℕ)) (disk disk' : D) (files files' : M)
     (journal : List Entry) (leave : Leave) (P : List Step → List ℕ → Type 0) : Type 0 where
-  pub had : HadServed left
+  pub script : List Step
+  pub input : HadScript left script
   -- what was opened
   pub ground : Grounded D M
   pub with_media : ground.media ≡ files
   pub open_so : IsOpen d.bytes d.moment d.may_leave disk ground
   -- the answers and the journal are those of the run of the script, from the world on it
-  pub replays : Replays (m.told files) (first_on ground) had.script leave journal P
+  pub replays : Replays (m.told files) (first_on ground) script leave journal P
   -- the journal is legal
-  pub legal : IsLegal (m.told files) (daemons_of had.script) (first_on ground) journal
+  pub legal : IsLegal (m.told files) (daemons_of script) (first_on ground) journal
   -- what a crash leaves, at each moment of the call and behind it, is told by the journal
-  pub leaves : LeavesJournal d (m.told files) (daemons_of had.script) (first_on ground) journal disk disk'
+  pub leaves : LeavesJournal d (m.told files) (daemons_of script) (first_on ground) journal disk disk'
   -- media tell the same, and no count of theirs has fallen
   pub media : HaveFailed 0 0 (media_change m.told m.faults m.short files files')
 
@@ -112,9 +96,9 @@ pub record WasRun {D M : Type 0} (d : DiskGhosts D) (m : MediaGhosts M) (disk : 
   pub later : sink.faults ≤ mid.faults
   pub tells : TellsRan ran r.status mid sink'
 
--- A script whose calls are all served was run, or not.
-abbrev pub RunsServed : {D M : Type 0} → DiskGhosts D → MediaGhosts M → D → M → List Step → Seen → Seen → Replayed D M → Type 0
-RunsServed d m disk files script sink sink' r = WasNotRun d disk files sink sink' r ⊎ WasRun d m disk files script sink sink' r
+-- A script was run on the heap of the disk, or not.
+abbrev pub RunsOrNot : {D M : Type 0} → DiskGhosts D → MediaGhosts M → D → M → List Step → Seen → Seen → Replayed D M → Type 0
+RunsOrNot d m disk files script sink sink' r = WasNotRun d disk files sink sink' r ⊎ WasRun d m disk files script sink sink' r
 
 -- All steps of the script were made, in none of which the disk failed, and all of the input was read. P tells of the text.
 pub record IsWhole {D M : Type 0} (d : DiskGhosts D) (m : MediaGhosts M) (left left' : Option (List ℕ)) (disk disk' : D) (files files' : M)
@@ -162,7 +146,7 @@ pub data ComesTo {D M : Type 0} (d : DiskGhosts D) (m : MediaGhosts M) (status :
   -- the input wasn't read: it failed, or one of its lines is refused, or memory was wanting
   unread : status ≡ INPUT_FAULT → Rose source.faults source'.faults → IsUntouched disk disk' files files' journal → Wrote sink sink' (codes "input fault\n")
       → ComesTo d m status source source' disk disk' files files' journal sink sink'
-  refused : status ≡ REFUSED_LINE → IsUntouched disk disk' files files' journal → IsRefusedReplay source.bytes sink sink'
+  refused : status ≡ REFUSED_LINE → IsUntouched disk disk' files files' journal → IsRefused source.bytes sink.bytes sink'.bytes sink.faults sink'.faults
       → ComesTo d m status source source' disk disk' files files' journal sink sink'
   unheld : status ≡ NO_MEMORY → IsUntouched disk disk' files files' journal → Wrote sink sink' (codes "no memory\n")
       → ComesTo d m status source source' disk disk' files files' journal sink sink'
@@ -176,12 +160,12 @@ pub record AnswersReplay {D M : Type 0} (d : DiskGhosts D) (m : MediaGhosts M) (
       (bytes : List ℕ) → source.bytes ≡ Some bytes → IsErr (input_script bytes)
       → IsUntouched disk disk' files files' journal × ((status ≡ INPUT_FAULT) ⊎ (status ≡ REFUSED_LINE) ⊎ (status ≡ NO_MEMORY))
   pub complete :
-      (bytes : List ℕ) (script : List Step) → source.bytes ≡ Some bytes → input_script bytes ≡ Ok script → first_unserved script ≡ None
+      (bytes : List ℕ) → source.bytes ≡ Some bytes → IsOk (input_script bytes)
       → ¬ Rose source.faults source'.faults → ¬ Rose sink.faults sink'.faults → ¬ Rose (d.faults disk) (d.faults disk')
       → (status ≡ DONE) ⊎ (status ≡ NOT_FORMATTED) ⊎ (status ≡ DAMAGED) ⊎ (status ≡ NO_MEMORY)
   -- each heap is taken for which a world stands
   pub taken :
-      (bytes : List ℕ) (script : List Step) → source.bytes ≡ Some bytes → input_script bytes ≡ Ok script → first_unserved script ≡ None
+      (bytes : List ℕ) → source.bytes ≡ Some bytes → IsOk (input_script bytes)
       → (x heap : List ℕ) (w : World) (P : Pools) → d.bytes disk ≡ Some x → put_back_of x ≡ Some heap → StandsForWhole heap w P
       → ¬ Rose source.faults source'.faults → ¬ Rose sink.faults sink'.faults → ¬ Rose (d.faults disk) (d.faults disk')
       → (status ≡ DONE) ⊎ (status ≡ NO_MEMORY)

@@ -1,21 +1,19 @@
 // A replay of the input's schedule on the heap of a disk, and what is said of it.
 ghost use Rattle.std.specs.Prelude.{◌≡◌, ◌≤◌, ◌+◌, [], length};
-ghost use Rattle.std.specs.List.{AllByRecursion};
 ghost use Rattle.sdr_dry.specs.Schedule.{HaveFailed, media_change};
 ghost use Rattle.sdr_log.specs.Calls.{KeepsDisk};
 ghost use Rattle.sdr_replay.specs.Replaying.{IsSettled};
-ghost use Rattle.sdr_replay.specs.Serving.{IsServed};
 ghost use Rattle.sdr_shell.specs.Answers.{Wrote, seen};
-ghost use Rattle.sdr_shell.specs.Replaying.{AnswersReplay, RunsServed, TellsRan};
+ghost use Rattle.sdr_shell.specs.Replaying.{AnswersReplay, RunsOrNot, TellsRan};
 
-use crate::commands::{refuse_line, tell};
+use crate::commands::tell;
 use crate::last_line::last_line;
 use crate::shutting::tell_shut;
-use crate::status::{DISK_FAULT, DONE, NO_MEMORY, OUTPUT_FAULT, REFUSED_LINE};
+use crate::status::{DISK_FAULT, DONE, NO_MEMORY, OUTPUT_FAULT};
 use sdr_base::{Media, Sink, Source};
 use sdr_disk::Disk;
 use sdr_model::{Journal, Step};
-use sdr_replay::{Ran, first_unserved, replay};
+use sdr_replay::{Ran, replay};
 use sdr_words::read_script;
 use std::alloc::Global;
 
@@ -62,8 +60,8 @@ fn unrun<D, M>(alloc: Global, status: u8, disk: D, media: M) -> Replayed<D, M>
     }
 }
 
-// Replays a schedule whose calls are all served.
-fn replay_served<D: Disk, M: Media, K: Sink>(
+// Replays a schedule that was read.
+fn replay_script<D: Disk, M: Media, K: Sink>(
     alloc: Global,
     script: &[Step],
     disk: D,
@@ -71,9 +69,8 @@ fn replay_served<D: Disk, M: Media, K: Sink>(
     output: &mut K,
 ) -> Replayed<D, M>
     requires few { length script.now ≤ 1_048_577 }
-    requires served { AllByRecursion IsServed script.now }
     requires settled { IsSettled D.Disk disk }
-    ensures runs { RunsServed D.Disk M.Media disk media script.now
+    ensures runs { RunsOrNot D.Disk M.Media disk media script.now
         (seen K.taken K.faults output.old) (seen K.taken K.faults output.new) result }
     ensures media { HaveFailed 0 0 (media_change M.told M.faults M.short media result.media) }
     ensures later { K.faults output.old ≤ K.faults output.new }
@@ -97,7 +94,7 @@ fn replay_served<D: Disk, M: Media, K: Sink>(
 }
 
 /// Replays the schedule of the input on the heap of the disk, whose sources name these media. A line
-/// that is refused, or whose call isn't served yet, is told before anything runs.
+/// that is refused is told before anything runs.
 #[tactic(auto, using(crate::proofs::ScriptRead::read_scripts))]
 pub fn replay_input<D: Disk, M: Media, S: Source, K: Sink>(
     alloc: Global,
@@ -118,13 +115,7 @@ pub fn replay_input<D: Disk, M: Media, S: Source, K: Sink>(
     ensures media { HaveFailed 0 0 (media_change M.told M.faults M.short media result.media) }
 {
     match read_script(alloc, input) {
-        Ok(script) => match first_unserved(alloc, script.as_slice()) {
-            Some(line) => {
-                refuse_line(output, line);
-                unrun(alloc, REFUSED_LINE, disk, media)
-            }
-            None => replay_served(alloc, script.as_slice(), disk, media, output),
-        },
+        Ok(script) => replay_script(alloc, script.as_slice(), disk, media, output),
         Err(error) => {
             let status = tell(&error, output);
             unrun(alloc, status, disk, media)

@@ -1,7 +1,4 @@
 // How often the callback of a station is called.
-ghost use Rattle.std.specs.Prelude.{◌≡◌, true};
-ghost use Rattle.sdr_served.specs.Serving.{built};
-
 use crate::disks::formatted;
 use sdr_base::{Acct, Amounts, NoMedia, Space};
 use sdr_disk::MemoryDisk;
@@ -46,9 +43,7 @@ const ROWS: [(Step, u64); 5] = [
     (Step::Maximum(6), 1),
 ];
 
-fn call_of(step: Step) -> Call
-    ensures { built result ≡ true }
-{
+fn call_of(step: Step) -> Call {
     match step {
         Step::Maximum(most) => Call::SetMaximum(Acct::Outbound, Space::File, most),
         Step::Request(asked) => Call::Request(Acct::Outbound, asked, 0, 0, 0, 0),
