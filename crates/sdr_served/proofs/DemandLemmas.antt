@@ -1,5 +1,5 @@
 -- How many lines a call may touch by what it asks.
-use Rattle.std.proofs.Common.{◌≡◌, ◌≤◌, ◌+◌, ◌*◌, ◌++◌, ℕ, List, [], ◌∷◌, true, true≢false, inl, refl, sym, ap, length, arith}
+use Rattle.std.proofs.Common.{◌≡◌, ◌≤◌, ◌+◌, ◌*◌, ◌++◌, ℕ, List, [], ◌∷◌, true, false, true≢false, inl, refl, sym, ap, length, arith}
 use Rattle.std.proofs.lemmas.List.{length-append, length-map}
 use Rattle.std.specs.Prelude.{slice_index}
 use Rattle.sdr_served.proofs.CutLemmas.{cut_enough}
@@ -13,7 +13,7 @@ use Rattle.sdr_laws.proofs.StepLemmas.{moves_are_the_rows}
 use Rattle.sdr_lock.specs.Demand.{Demand, bytes_taken, demand_after, most_lines}
 use Rattle.sdr_model.specs.HashSteps.{as_hash}
 use Rattle.sdr_model.specs.ListSteps.{as_list}
-use Rattle.sdr_model.specs.Reading.{is_reading}
+use Rattle.sdr_model.specs.Reading.{is_reading, reads_media}
 use Rattle.sdr_model.specs.RowMoves.{elements_in, entries_in, row_moves}
 use Rattle.sdr_model.specs.Rows.{ByRow}
 use Rattle.sdr_model.specs.Step.{is_answer}
@@ -23,12 +23,13 @@ use Rattle.sdr_model.specs.declared.call.Call.{Call}
 use Rattle.sdr_model.specs.declared.call.Call.TheVariants as calls
 use Rattle.sdr_answers.specs.Answering.{IsServed}
 use Rattle.zco_answers.proofs.DemandLemmas.{enough as objects_enough}
+use Rattle.zco_bond_answers.proofs.DemandLemmas.{enough as bond_enough}
 use Rattle.zco_granted.proofs.DemandLemmas.{enough as tickets_enough}
 use Rattle.zco_part_answers.proofs.DemandLemmas.{enough as parts_enough}
-use Rattle.sdr_served.specs.Serving.{built, call_lines}
+use Rattle.sdr_served.specs.Serving.{call_lines}
 
 -- a call that is answered by its row asks for as many lines as it touches
-pub enough : (d : Demand) (heap : Heap) (w : World) (call : Call) (o : Outcome) → built call ≡ true → HeapStandsFor heap w
+pub enough : (d : Demand) (heap : Heap) (w : World) (call : Call) (o : Outcome) → reads_media call ≡ false → HeapStandsFor heap w
     → IsServed w
     → IsSmall heap → ByRow w o call → is_answer o.reply ≡ true
     → most_lines d + call_lines heap w call ≤ most_lines (demand_after d w call o)
@@ -38,7 +39,7 @@ enough d heap w call o is s served small row answered =
     at : ℕ → ℕ
     at = slice_index (taken_addresses o.moves)
 
-    by : (c : Call) → built c ≡ true → ByRow w o c → o.moves ≡ row_moves w c at
+    by : (c : Call) → reads_media c ≡ false → ByRow w o c → o.moves ≡ row_moves w c at
         → most_lines d + call_lines heap w c ≤ most_lines (demand_after d w c o)
     by (calls.Malloc bytes) is there moves =
         let one : length o.moves ≡ 1 = ap (λ (ms : List Move). length ms) moves in
@@ -167,11 +168,12 @@ enough d heap w call o is s served small row answered =
     by (calls.ClonePart addr ticket offset bytes) is there moves =
         parts_enough d w (calls.ClonePart addr ticket offset bytes) o refl there answered
     by (calls.Delimit addr offset bytes) is there moves = parts_enough d w (calls.Delimit addr offset bytes) o refl there answered
+    by (calls.Bond addr ticket) is there moves = bond_enough d w addr ticket o there answered
     by (calls.Strip addr) is there moves = cut_enough d w addr o there answered moves
-    by c is there moves = absurd (true≢false (sym is))
+    by c is there moves = absurd (true≢false is)
 
 -- a call that reads touches none
-pub reading_lines : (heap : Heap) (w : World) (call : Call) → built call ≡ true → is_reading call ≡ true
+pub reading_lines : (heap : Heap) (w : World) (call : Call) → reads_media call ≡ false → is_reading call ≡ true
     → call_lines heap w call ≡ 0
 reading_lines heap w (calls.Malloc bytes) is reads = absurd (true≢false (sym reads))
 reading_lines heap w (calls.Free addr) is reads = absurd (true≢false (sym reads))
@@ -236,12 +238,13 @@ reading_lines heap w (calls.AppendTrailer addr ticket text) is reads = absurd (t
 reading_lines heap w (calls.DiscardFirstHeader addr) is reads = absurd (true≢false (sym reads))
 reading_lines heap w (calls.DiscardLastTrailer addr) is reads = absurd (true≢false (sym reads))
 reading_lines heap w (calls.Destroy addr) is reads = absurd (true≢false (sym reads))
+reading_lines heap w (calls.Bond addr ticket) is reads = absurd (true≢false (sym reads))
 reading_lines heap w (calls.ClonePart addr ticket offset bytes) is reads = absurd (true≢false (sym reads))
 reading_lines heap w (calls.Delimit addr offset bytes) is reads = absurd (true≢false (sym reads))
 reading_lines heap w (calls.Strip addr) is reads = absurd (true≢false (sym reads))
 reading_lines heap w (calls.ZcoLength addr) is reads = refl
 reading_lines heap w (calls.SourceLength addr) is reads = refl
-reading_lines heap w call is reads = absurd (true≢false (sym is))
+reading_lines heap w call is reads = absurd (true≢false is)
 
 -- no call takes back what was asked
 pub asks_more : (d : Demand) (w : World) (call : Call) (o : Outcome) → most_lines d ≤ most_lines (demand_after d w call o)

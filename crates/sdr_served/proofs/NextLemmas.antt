@@ -1,5 +1,5 @@
 -- The number of the next ticket never falls.
-use Rattle.std.proofs.Common.{◌≡◌, ◌≤◌, ◌+◌, ◌==◌, ◌∙◌, ℕ, List, [], ◌∷◌, Option, None, Some, true, true≢false, nat_lt, length, refl, sym, ap, arith}
+use Rattle.std.proofs.Common.{◌≡◌, ◌≤◌, ◌+◌, ◌==◌, ◌∙◌, ℕ, List, [], ◌∷◌, Option, None, Some, false, nat_lt, length, refl, ap, arith}
 use Rattle.std.specs.Prelude.{◌||◌, is_some, slice_get}
 use Rattle.sdr_base.specs.declared.account.Acct.{Acct}
 use Rattle.sdr_base.specs.declared.account.Acct.TheVariants as accts
@@ -8,6 +8,7 @@ use Rattle.sdr_base.specs.declared.kind.Space.{Space}
 use Rattle.sdr_base.specs.declared.kind.Space.TheVariants as spaces
 use Rattle.sdr_base.specs.declared.moves.Move.{Move}
 use Rattle.sdr_base.specs.declared.refusal.Refusal.TheVariants as refusals
+use Rattle.sdr_laws.proofs.BondLemmas.{bonded_rest}
 use Rattle.sdr_laws.proofs.Effects.{Plain}
 use Rattle.sdr_laws.proofs.PlainRows.{row_change}
 use Rattle.sdr_lock.proofs.StepLemmas.{from_option, from_test}
@@ -15,6 +16,7 @@ use Rattle.sdr_model.proofs.FewLemmas.{in_takes_one}
 use Rattle.sdr_model.specs.AccountSteps.{new_ticket, pending_of, with_maximum, with_request, without_ticket}
 use Rattle.sdr_model.specs.Accounts.{account_of, most_amount, pending_in, tickets_of, with_account, with_ticket}
 use Rattle.sdr_model.specs.Amounts.{amounts_by, first_above, in_space, minus}
+use Rattle.sdr_model.specs.BondSteps.{bond_charge, bond_moves, bonded, capsules_of, with_bonded}
 use Rattle.sdr_model.specs.Charges.{bytes_charge, capsule_bytes, object_bytes, object_charge, rooms}
 use Rattle.sdr_model.specs.Charging.{Charges, grant_left, no_space, with_used}
 use Rattle.sdr_model.specs.Cuts.{placed}
@@ -23,6 +25,7 @@ use Rattle.sdr_model.specs.Limits.{is_no_capsule, is_no_path, longest_source}
 use Rattle.sdr_model.specs.ObjectSteps.{AddsCapsule, Discards, last_capsule, raw_append_moves, with_extent, with_header, with_object, with_trailer, without_header, without_trailer}
 use Rattle.sdr_model.specs.PartSteps.{asked_extents, clone_moves, object_of, outside_part, stripped}
 use Rattle.sdr_model.specs.Queue.{barrier, with_served}
+use Rattle.sdr_model.specs.Reading.{reads_media}
 use Rattle.sdr_model.specs.Rows.{ByRow}
 use Rattle.sdr_model.specs.SourceSteps.{new_source}
 use Rattle.sdr_model.specs.Steps.{DoesWith, Outcome, RefusedFor, Takes, taken_at, with_thing, without_thing}
@@ -40,7 +43,6 @@ use Rattle.sdr_model.specs.declared.things.Thing.TheVariants as things
 use Rattle.sdr_model.specs.declared.zco.Capsule.{Capsule}
 use Rattle.sdr_model.specs.declared.zco.Subject.TheVariants as subjects
 use Rattle.sdr_model.specs.declared.zco.ZcoObject.{ZcoObject}
-use Rattle.sdr_served.specs.Serving.{built}
 
 -- the number of the next ticket of a world
 abbrev next_of : World → ℕ
@@ -83,7 +85,7 @@ without_next : (w : World) (addrs : List ℕ) → next_of (without_things w addr
 without_next w [] = refl
 without_next w (addr ∷ addrs) = without_next (without_thing w addr) addrs
 
--- what the row of a served call leaves
+-- what the row of a call leaves
 module _ (w : World) (o : Outcome) where
   -- the outcome has this world, whose number is the same
   same_next : (next : World) → o.after ≡ next → next_of next ≡ next_of w → next_of w ≤ next_of o.after
@@ -142,7 +144,7 @@ module _ (w : World) (o : Outcome) where
   discard_next addr z capsule after row =
       from_option capsule row (λ _ h. same_next _ h.1 refl) (λ c _ h. same_next _ h.1 (served_next (with_object w addr after) z.account))
 
-  pub next_kept : (call : Call) → built call ≡ true → ByRow w o call → next_of w ≤ next_of o.after
+  pub next_kept : (call : Call) → reads_media call ≡ false → ByRow w o call → next_of w ≤ next_of o.after
   next_kept (calls.FileRef path bytes) is row =
       from_test (is_no_path (length path)) row (λ _ h. same_next _ h.1 refl) (λ _ h.
       from_test (nat_lt longest_source bytes) h (λ _ h. same_next _ h.1 refl)
@@ -207,7 +209,13 @@ module _ (w : World) (o : Outcome) where
       from_option (object_at w addr) row (λ _ h. same_next _ h.1 refl) (λ z _ h.
       let gone = gone_things w z.extents z.extents in
       same_next _ h.1 (served_next (without_thing (without_things w gone) addr) z.account ∙ without_next w gone))
-  next_kept (calls.Bond addr ticket) is row = absurd (true≢false (sym is))
+  next_kept (calls.Bond addr number) is row =
+      from_option (object_at w addr) row (λ _ h. same_next _ h.1 refl) (λ z _ h.
+      let capsules = capsules_of z in
+      charged_next z.account number (bond_charge capsules) _ h (λ used same h.
+      does_next (λ at. bond_moves at 0 capsules)
+      (λ at. with_object (with_bonded used at 0 capsules) addr (bonded at z))
+      (λ at. replies.Done) h (λ at. ap next_of (bonded_rest used at 0 capsules) ∙ same)))
   next_kept (calls.ClonePart addr number offset bytes) is row =
       from_option (object_at w addr) row (λ _ h. same_next _ h.1 refl) (λ z _ h.
       from_test (bytes == 0 || nat_lt z.part.length (offset + bytes)) h (λ _ h. same_next _ h.1 refl) (λ _ h.

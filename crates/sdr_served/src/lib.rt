@@ -1,4 +1,4 @@
-//! The answer of each call that is served, over any blocks.
+//! The answer of each call, over any blocks and any media.
 //!
 //! 1. Each call is a step of the machine on the world that the blocks stand for: here `free` and those on tables, hashes and the
 //!    catalogue, and those of the crates below by what they are on. Those that ask an object's bytes read media, and no other does.
@@ -7,6 +7,7 @@
 #![tactic(auto)]
 
 mod answering;
+mod bonding;
 mod cutting;
 mod freeing;
 mod giving;
