@@ -108,6 +108,7 @@ module _ (old new : Heap) (w : World) (unmoved : old.moves ≡ []) (s : HeapStan
 
     -- so it stops on its way there
     stopped : (o : Outcome) → asked_count call ≤ longest_read → o.after ≡ w → StopsWith o.reply call [] o.moves → Stops w o call
+    unfolding aim_of
     stopped o few after with =
         let aim = aim_of few in
         record {
@@ -178,7 +179,8 @@ module _ (old new : Heap) (w : World) (unmoved : old.moves ≡ []) (s : HeapStan
         (g.1.0, g.0, g.1.1)
     refused_misses stops.MediaFault r =
         let at = object_is_at old w (asked_addr call) s served r.0 in
-        (aim_of at few, stops_asked at m was now stops.MediaFault r.2)
+        let g = stops_asked at m was now stops.MediaFault r.2 in
+        (aim_of at few, g.0, g.1)
     refused_misses stop r = tt
 
   -- too many bytes are asked
