@@ -47,9 +47,8 @@ pub struct Station<D: Disk, M: Media, F: Notify + Drop> {
     failed: Option<u64>,
 }
 
-/// How many moves a call that is served has at most, on a heap of so many bytes.
+/// How many moves a call has at most, on a heap of so many bytes.
 pub fn most_moves(call: &Call, size: u64) -> u64
-    requires { built call.now ≡ true }
     ensures most { MovesAtMost size call.now result }
     ensures few { result ≤ size / 4 + 4 }
 {
@@ -62,6 +61,7 @@ pub fn most_moves(call: &Call, size: u64) -> u64
         | Call::Destroy(_)
         | Call::Strip(_)
         | Call::ClonePart(_, _, _, _) => size / 16 + 1,
+        Call::Bond(_, _) => size / 4,
         Call::AppendExtent(_, _, _, _, _) => 2,
         _ => 1,
     }
