@@ -14,3 +14,4 @@ pub mod NextLemmas
 pub mod CutLemmas
 pub mod KindLemmas
 pub mod DemandLemmas
+pub mod GivingLemmas

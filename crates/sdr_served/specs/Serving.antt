@@ -1,4 +1,4 @@
--- The calls that are served over blocks but read no media, and what they ask for.
+-- Calls over blocks, and what they ask for.
 use Rattle.std.specs.Prelude.{ℕ, Bool, true, false, if◌then◌else◌}
 use Rattle.sdr_answers.specs.Answering as answers
 use Rattle.sdr_base.specs.Objects.{Heap}
@@ -9,6 +9,7 @@ use Rattle.zco_answers.specs.Answering as objects
 use Rattle.zco_answers.specs.Answering.{is_object_call}
 use Rattle.zco_bond_answers.specs.Answering.{bond_lines}
 use Rattle.zco_cut_answers.specs.Stripping.{IsToCut, strip_lines}
+use Rattle.zco_given.specs.Giving as given
 use Rattle.zco_granted.specs.Answering as tickets
 use Rattle.zco_granted.specs.Answering.{is_account_call}
 use Rattle.zco_part_answers.specs.Answering as parts
@@ -36,7 +37,7 @@ abbrev pub bonding_lines : World → Call → ℕ
 bonding_lines w (calls.Bond object ticket) = bond_lines w object
 bonding_lines w call = 0
 
--- so many lines a call that is served touches at most on this heap, which stands for the world
+-- so many lines a call touches at most on this heap, which stands for the world
 abbrev pub call_lines : Heap → World → Call → ℕ
 call_lines heap w call =
     if is_source_call call then sources.call_lines call
@@ -48,7 +49,8 @@ call_lines heap w call =
     else answers.call_lines heap call
 
 -- what is of a kind is kept, sources and the raw objects that they name too, the queues of both accounts, and objects with their
--- accounts' queues, with all that it takes to bond them, to clone their parts and to cut them to these
+-- accounts' queues, with what their extents name, and with all that it takes to bond them, to clone their parts and to cut them to
+-- these
 pub record IsGood (heap : Heap) : Type 0 where
   pub things : answers.IsGood heap
   pub sources : sources.IsGood heap
@@ -56,3 +58,4 @@ pub record IsGood (heap : Heap) : Type 0 where
   pub objects : objects.IsGood heap
   pub parts : parts.IsGood heap
   pub to_cut : (addr : ℕ) → IsToCut heap addr
+  pub given : given.IsGood heap

@@ -64,13 +64,22 @@ ground_failed moment g seen stopped made failed = record {
   stands = λ sound. absurd (true≢false (sym failed ∙ sound));
 }
 
--- what a ground keeps whose disk counts no fewer faults, and whose media are the same
+-- what a ground keeps whose disk counts no fewer faults, whose media tell the same, and no count of theirs falls
+pub keeps_read : {D M : Type 0} (told : D → Option (List ℕ)) (moment faults : D → ℕ) (may_leave : D → ℕ → List ℕ → Type 0)
+    (media : MediaGhosts M) (old new : Grounded D M) → media.told new.media ≡ media.told old.media
+    → GapsLast (gaps_of media old.media) (gaps_of media new.media) → faults old.heap.cells.disk ≤ faults new.heap.cells.disk
+    → KeepsGround (heap_ground told moment faults may_leave media) false old new
+keeps_read told moment faults may_leave media old new same gaps later = record {
+  later = later;
+  gaps = gaps;
+  media = same;
+  lasts = λ n lasts. tt;
+}
+
+-- so it is where media are the same
 pub keeps_later : {D M : Type 0} (told : D → Option (List ℕ)) (moment faults : D → ℕ) (may_leave : D → ℕ → List ℕ → Type 0)
     (media : MediaGhosts M) (old new : Grounded D M) → new.media ≡ old.media → faults old.heap.cells.disk ≤ faults new.heap.cells.disk
     → KeepsGround (heap_ground told moment faults may_leave media) false old new
-keeps_later {M} told moment faults may_leave media old new unread later = record {
-  later = later;
-  gaps = subst (λ (files : M). GapsLast (gaps_of media old.media) (gaps_of media files)) (sym unread) (gaps_same (gaps_of media old.media));
-  media = ap media.told unread;
-  lasts = λ n lasts. tt;
-}
+keeps_later {M = M} told moment faults may_leave media old new unread later =
+    keeps_read told moment faults may_leave media old new (ap media.told unread)
+    (subst (λ (files : M). GapsLast (gaps_of media old.media) (gaps_of media files)) (sym unread) (gaps_same (gaps_of media old.media))) later

@@ -4,6 +4,7 @@ use Rattle.sdr_base.specs.declared.refusal.Refusal.TheVariants as refusals
 use Rattle.sdr_base.specs.declared.stop.Stop.{Stop}
 use Rattle.sdr_base.specs.declared.stop.Stop.TheVariants as stops
 use Rattle.sdr_lock.specs.Crash.{LeavesOr, is_kept}
+use Rattle.sdr_lock.specs.Gaps.{HasGapCause}
 use Rattle.sdr_lock.specs.Nesting.{Inner, closing, deepened, nested, noted, unbegun}
 use Rattle.sdr_image.specs.Opened.{IsQuiet}
 use Rattle.sdr_lock.specs.Serving.{Brings, Calls, KeepsGround, MeetsFault, Settles, StandsStill, shown_in}
@@ -72,13 +73,14 @@ Begins old new result =
     (Deepens (deepened old.nesting) old new result))
     (λ moment. (result ≡ Err stops.Failed) × (new ≡ old))
 
--- A call in a transaction that isn't doomed is a step, and is noted.
+-- A call in a transaction that isn't doomed is a step, and is noted. That media failed, or had too few bytes, has its cause.
 pub record Says {D M : Type 0} (g : Ghosts (Grounded D M)) (call : Call) (reply : Reply) (old new : Stationed D M) : Type 0 where
   pub memory : Brings StandsInMemory old.ground new.ground (Calls (g.told old.ground) call reply)
   pub steps : Brings g.stands old.ground new.ground (Calls (g.told old.ground) call reply)
   pub nesting : new.nesting ≡ noted call reply old.nesting
   pub failed : new.failed ≡ None
   pub restored : new.ground.restored ≡ old.ground.restored
+  pub gap : HasGapCause (answers.Reply reply) (g.gaps old.ground) (g.gaps new.ground)
   pub keeps : KeepsGround g true old.ground new.ground
 
 -- what a call does: it is a step, or is refused where the transaction is doomed, or fails after a disk fault

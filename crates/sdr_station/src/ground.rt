@@ -1,5 +1,5 @@
 // A heap on an image as the ground of a lock.
-ghost use Rattle.std.specs.Prelude.{◌≡◌, ◌≤◌, ◌⊎◌, ◌↔◌, false, true, length};
+ghost use Rattle.std.specs.Prelude.{◌≡◌, ◌≤◌, ◌↔◌, false, true, length};
 ghost use Rattle.std.specs.Prelude.{IfErr, IfOk, IsErrOf, IsOk, OnErr, OnOk};
 ghost use Rattle.sdr_disk.specs.Moments.{AtEach};
 ghost use Rattle.sdr_disk.specs.Told.{IfTold};
@@ -12,7 +12,6 @@ ghost use Rattle.sdr_lock.specs.Standing.{Standing};
 ghost use Rattle.sdr_log.specs.Calls.{KeepsDisk};
 ghost use Rattle.sdr_log.specs.Logged.{GivesSame};
 ghost use Rattle.sdr_answers.specs.Answering.{dooms};
-ghost use Rattle.sdr_served.specs.Serving.{built};
 ghost use Rattle.sdr_station.specs.Grounded.{IsBefore, StandsForBoth, StandsInMemory};
 ghost use Rattle.sdr_station.specs.Giving.{Gives};
 ghost use Rattle.sdr_station.specs.Opening.{ExplainsOpen, IsOfAudit, IsOfImage, IsOpen, LeavesBytes, disk_of};
@@ -28,7 +27,7 @@ use sdr_heap::Heap;
 use sdr_image::{Image, ImageError};
 use sdr_lock::{Fault, Halt, HasGround, Serves};
 use sdr_model::{Answer, Call, Reply};
-use sdr_served::{answer, built};
+use sdr_served::answer;
 use std::alloc::Global;
 use std::marker::Model;
 use zco_acct::{Notice, Notify};
@@ -135,7 +134,7 @@ impl<D: Disk, M: Media, F: Notify + Drop> HeapGround<D, M, F> {
     /// Opens the heap on a disk. Where batches are open, their lines are put back. All memory is taken
     /// here. A crash on the way leaves the same heap as one before, where nothing is pending on the disk
     /// that is handed in, or a recovery of it was stopped. Each heap is opened for which a world stands, but for a
-    /// fault or want of memory. The media are kept, and not read.
+    /// fault or want of memory. The media are kept, and not read here.
     pub fn open(
         alloc: Global,
         disk: D,
@@ -192,11 +191,10 @@ impl<D: Disk, M: Media, F: Notify + Drop> HeapGround<D, M, F> {
         }
     }
 
-    /// Makes a call that is served, in a transaction in which none was stopped. Where a changing call is refused, the
-    /// transaction can only be put back.
+    /// Makes a call, in a transaction in which none was stopped. Where a changing call is refused, the
+    /// transaction can only be put back; one that media fail, or that gets too few bytes of them, changes nothing.
     pub fn serve(&mut self, call: &Call) -> Reply
         requires going { self.old.stopped ≡ false }
-        requires built { built call.now ≡ true }
         ensures memory { Brings StandsInMemory self.old self.new
             (Calls (M.told self.old.media) call.now result) }
         ensures answered { Brings ⟦<HeapGround<D, M, F> as HasGround>⟧.stands self.old self.new
@@ -205,20 +203,29 @@ impl<D: Disk, M: Media, F: Notify + Drop> HeapGround<D, M, F> {
         ensures gives { Gives result self.new }
         ensures sound { self.new.heap.cells.failed ≡ false }
         ensures restored { self.new.restored ≡ self.old.restored }
+        ensures gap { HasGapCause (Answer.Reply result)
+            (⟦<HeapGround<D, M, F> as HasGround>⟧.gaps self.old)
+            (⟦<HeapGround<D, M, F> as HasGround>⟧.gaps self.new) }
         ensures keeps { KeepsGround ⟦<HeapGround<D, M, F> as HasGround>⟧ true self.old self.new }
         ensures any_moment { LeavesBefore ⟦<HeapGround<D, M, F> as HasGround>⟧ self.old self.new }
     {
         self.heap.fresh();
         self.idle = false;
-        match answer(&mut self.heap, call, &self.notice, &mut self.shown) {
+        match answer(
+            &mut self.heap,
+            &mut self.media,
+            call,
+            &self.notice,
+            &mut self.shown,
+        ) {
             Ok(reply) => reply,
             Err(Stop::Refused(refusal)) => {
                 forget_moves(&mut self.heap, &refusal);
                 self.stopped = !call.is_reading();
                 Reply::Refused(refusal)
             }
+            Err(Stop::MediaFault) => Reply::MediaFault,
             Err(Stop::DiskFault) => unreachable!(),
-            Err(Stop::MediaFault) => unreachable!(),
             Err(Stop::Failed) => unreachable!(),
         }
     }
@@ -421,7 +428,7 @@ impl<D: Disk, M: Media, F: Notify + Drop> Serves for HeapGround<D, M, F> {
         self.moment
     }
 
-    // Want of memory comes just where a call was stopped, or where it isn't served yet.
+    // Want of memory comes just where a call was stopped.
     fn call(&mut self, call: &Call) -> Result<Reply, Halt>
         ensures answered { IfOk result (λ reply.
             Brings ⟦<HeapGround<D, M, F> as HasGround>⟧.stands self.old self.new
@@ -430,14 +437,13 @@ impl<D: Disk, M: Media, F: Notify + Drop> Serves for HeapGround<D, M, F> {
             (⟦<HeapGround<D, M, F> as HasGround>⟧.gaps self.old)
             (⟦<HeapGround<D, M, F> as HasGround>⟧.gaps self.new)) }
         ensures memory { IsErrOf result Halt.Memory → self.new ≡ self.old }
-        ensures stopped { IsErrOf result Halt.Memory
-            ↔ ((self.old.stopped ≡ true) ⊎ (built call.now ≡ false)) }
+        ensures stopped { IsErrOf result Halt.Memory ↔ (self.old.stopped ≡ true) }
         ensures fault { IsErrOf result Halt.Fault
             → MeetsFault ⟦<HeapGround<D, M, F> as HasGround>⟧ self.old self.new }
         ensures keeps { KeepsGround ⟦<HeapGround<D, M, F> as HasGround>⟧ true self.old self.new }
         ensures any_moment { LeavesBefore ⟦<HeapGround<D, M, F> as HasGround>⟧ self.old self.new }
     {
-        if self.stopped || !built(call) {
+        if self.stopped {
             return Err(Halt::Memory);
         }
         Ok(self.serve(call))

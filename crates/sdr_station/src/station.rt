@@ -172,7 +172,6 @@ impl<D: Disk, M: Media, F: Notify + Drop> Station<D, M, F> {
 
     /// How many moves the call that follows can have at most, which are no more than the heap has room for.
     pub fn room_for(&mut self, call: &Call) -> Result<u64, Stop>
-        requires { built call.now ≡ true }
         ensures room { TellsRoom ⟦<HeapGround<D, M, F> as HasGround>⟧ call.now self.old result }
         ensures same { self.new ≡ self.old }
     {
@@ -182,10 +181,10 @@ impl<D: Disk, M: Media, F: Notify + Drop> Station<D, M, F> {
         Ok(most_moves(call, self.ground.size()))
     }
 
-    /// Makes a call. Where it gives bytes, they are put at the front of the buffer, and the reply tells how many.
+    /// Makes a call. Where it gives bytes, they are put at the front of the buffer, and the reply tells how many. A fault
+    /// of media, or too few bytes of them, dooms nothing.
     pub fn call(&mut self, call: &Call, into: &mut [u8; PAGE]) -> Reply
         requires begun { 0 < self.old.nesting.depth }
-        requires built { built call.now ≡ true }
         ensures says { SaysOr ⟦<HeapGround<D, M, F> as HasGround>⟧ call.now result
             self.old self.new }
         ensures depth { self.new.nesting.depth ≡ self.old.nesting.depth }
@@ -212,7 +211,6 @@ impl<D: Disk, M: Media, F: Notify + Drop> Station<D, M, F> {
     // Makes a call.
     fn reply(&mut self, call: &Call) -> Reply
         requires begun { 0 < self.old.nesting.depth }
-        requires built { built call.now ≡ true }
         ensures says { SaysOr ⟦<HeapGround<D, M, F> as HasGround>⟧ call.now result
             self.old self.new }
         ensures depth { self.new.nesting.depth ≡ self.old.nesting.depth }

@@ -1,6 +1,4 @@
 // What a heap on an image tells of its calls.
-ghost use Rattle.std.specs.Prelude.{◌≡◌, true};
-ghost use Rattle.sdr_served.specs.Serving.{built};
 ghost use Rattle.sdr_station.specs.Telling.{BytesAtMost};
 
 use crate::HeapGround;
@@ -10,17 +8,19 @@ use sdr_base::{Media, Move, NoMemory};
 use sdr_disk::Disk;
 use sdr_lock::{Room, Tells};
 use sdr_model::Call;
-use sdr_served::built;
-use std::alloc::AllocError;
 use zco_acct::Notify;
 
-// How many bytes a call that is served gives at most.
+// How many bytes a call gives at most.
 fn most_bytes(call: &Call) -> usize
-    requires { built call.now ≡ true }
     ensures { BytesAtMost call.now result }
 {
     match call {
-        Call::Read(_, _, count) | Call::Stage(_, count) => (*count).min(PAGE as u64) as usize,
+        Call::Read(_, _, count)
+        | Call::Stage(_, count)
+        | Call::Transmit(_, _, count)
+        | Call::ReceiveHeaders(_, _, count)
+        | Call::ReceiveSource(_, _, count)
+        | Call::ReceiveTrailers(_, _, count) => (*count).min(PAGE as u64) as usize,
         Call::StringRead(_) | Call::Row(_, _) | Call::Entry(_) => PAGE,
         _ => 0,
     }
@@ -36,9 +36,6 @@ impl<D: Disk, M: Media, F: Notify + Drop> Tells for HeapGround<D, M, F> {
     }
 
     fn room_for(&self, call: &Call) -> Result<Room, NoMemory> {
-        if !built(call) {
-            return Err(AllocError);
-        }
         Ok(Room {
             moves: most_moves(call, self.size()) as usize,
             bytes: most_bytes(call),

@@ -4,7 +4,7 @@ use Rattle.std.specs.List.{list_any}
 use Rattle.std.proofs.lemmas.Bool.{le-ltb, lt-ltb}
 use Rattle.sdr_answers.proofs.ListLemmas.{IsSmall}
 use Rattle.sdr_answers.proofs.RowLemmas.{misnamed_refused, row_refused, shows, unmoved_answered}
-use Rattle.sdr_answers.specs.Answering.{Answered, IsRefused, IsServed}
+use Rattle.sdr_answers.specs.Answering.{Aim, Answered, IsRefused, IsServed}
 use Rattle.sdr_audit.specs.Rows.{object_row}
 use Rattle.sdr_audit.specs.Standing.{HeapStandsFor}
 use Rattle.sdr_base.specs.Blocks.{IsKind}
@@ -95,15 +95,26 @@ module _ (old new : Heap) (w : World) (unmoved : old.moves ≡ []) (s : HeapStan
     given_agrees (Some media) bytes given g = λ read. g.held ∙ ap (bytes_by media) (sym pieces_are)
 
     -- the call would have been answered by its row
-    stopped : (o : Outcome) → asked_count call ≤ longest_read → o.after ≡ w → StopsWith o.reply call [] o.moves → Stops w o call
-    stopped o few after with =
+    pub aim_of : asked_count call ≤ longest_read → Aim w call
+    aim_of few =
         let told = part_asked w call z in
         let spells = Spells-filled told in
         record {
-          aim = gives_outcome w (filled told);
+          to = gives_outcome w (filled told);
           row = row_there (gives_outcome w (filled told)) z there few
               (refl, refl, spells, ap (λ (n : ℕ). replies.Bytes n) (length-spelled told (filled told) spells));
           answered = refl;
+        }
+
+    -- so it stops on its way there
+    stopped : (o : Outcome) → asked_count call ≤ longest_read → o.after ≡ w → StopsWith o.reply call [] o.moves → Stops w o call
+    unfolding aim_of
+    stopped o few after with =
+        let aim = aim_of few in
+        record {
+          aim = aim.to;
+          row = aim.row;
+          answered = aim.answered;
           stopped = with;
           same = after;
         }
@@ -168,7 +179,8 @@ module _ (old new : Heap) (w : World) (unmoved : old.moves ≡ []) (s : HeapStan
         (g.1.0, g.0, g.1.1)
     refused_misses stops.MediaFault r =
         let at = object_is_at old w (asked_addr call) s served r.0 in
-        stops_asked at m was now stops.MediaFault r.2
+        let g = stops_asked at m was now stops.MediaFault r.2 in
+        (aim_of at few, g.0, g.1)
     refused_misses stop r = tt
 
   -- too many bytes are asked

@@ -1,6 +1,6 @@
 -- What the calls give that read an object's bytes, in the worlds that its blocks stand for.
 use Rattle.std.specs.Prelude.{◌≡◌, ◌≤◌, ◌<◌, ℕ, true, List, [], length, take, Option, Result, Ok, Err, ⊤}
-use Rattle.sdr_answers.specs.Answering.{IsServed}
+use Rattle.sdr_answers.specs.Answering.{Aim, IsServed}
 use Rattle.sdr_audit.specs.Standing.{HeapStandsFor}
 use Rattle.sdr_base.specs.Blocks.{Blocks, IsKind}
 use Rattle.sdr_base.specs.Causes.{Rose}
@@ -73,11 +73,13 @@ AgreesRead told w call (Err stop) shown = ⊤
 pub record AgreesIn (told : Option Told) (call : Call) (old : Heap) (result : Result Reply Stop) (shown : List ℕ) : Type 0 where
   pub each : (w : World) → HeapStandsFor old w → IsServed w → AgreesRead told w call result shown
 
--- where a call tells that media failed or had too few bytes, it asks bytes of them, and the count of that rose
+-- where a call tells that media failed or had too few bytes, it asks bytes of them, and the count of that rose; where they failed, its
+-- row would have answered it
 abbrev pub MissesMedia : {M : Type 0} → Ghosts M → World → Call → M → M → Result Reply Stop → Type 0
 MissesMedia m w call old new (Err (stops.Refused (SourceShort have want))) =
     (asks_media w call ≡ true) × (have < want) × Rose (m.short old) (m.short new)
-MissesMedia m w call old new (Err stops.MediaFault) = (asks_media w call ≡ true) × Rose (m.faults old) (m.faults new)
+MissesMedia m w call old new (Err stops.MediaFault) =
+    Aim w call × (asks_media w call ≡ true) × Rose (m.faults old) (m.faults new)
 MissesMedia m w call old new result = ⊤
 
 -- so it is in each world

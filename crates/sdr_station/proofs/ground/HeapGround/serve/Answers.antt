@@ -1,6 +1,6 @@
 use Rattle.std.proofs.Common.{◌∙◌, ap, inl, inr, not, subst, true, false}
 use Rattle.sdr_model.specs.declared.answer.Reply.TheVariants as replies
-use Rattle.sdr_station.proofs.CameLemmas.{CameTo, came_answered, came_refused, faults_never, good_before, keeps_before}
+use Rattle.sdr_station.proofs.CameLemmas.{CameTo, came_answered, came_missed, came_refused, faults_never, good_before, keeps_before}
 use Rattle.sdr_station.specs.Grounded.{Grounded}
 use Rattle.sdr_station.proofs.ground.HeapGround.serve.Goals as goal
 
@@ -18,17 +18,11 @@ unreachable-requires g c =
     g.D.Disk.faults c.args.call.now c.answer.new.o c.in-Err-DiskFault.field-0 c.in-Err-DiskFault.ensures.works
     (inl c.in-Err-DiskFault.field-0-is)
 
-pub unreachable-requires-in-Err-MediaFault : goal.unreachable-requires-in-Err-MediaFault
-unreachable-requires-in-Err-MediaFault g c =
-    faults_never g.D.Disk.moment _ c.self.invariant (ap (λ (o : Grounded g.row.D.Denot g.row.M.Denot). o.stopped) c.self.view_is ∙ c.requires.going) c.fresh.new.self c.fresh.ensures.none
-    g.D.Disk.faults c.args.call.now c.answer.new.o c.in-Err-MediaFault.field-0 c.in-Err-MediaFault.ensures.works
-    (inr (inl c.in-Err-MediaFault.field-0-is))
-
 pub unreachable-requires-in-Err-Failed : goal.unreachable-requires-in-Err-Failed
 unreachable-requires-in-Err-Failed g c =
     faults_never g.D.Disk.moment _ c.self.invariant (ap (λ (o : Grounded g.row.D.Denot g.row.M.Denot). o.stopped) c.self.view_is ∙ c.requires.going) c.fresh.new.self c.fresh.ensures.none
     g.D.Disk.faults c.args.call.now c.answer.new.o c.in-Err-Failed.field-0 c.in-Err-Failed.ensures.works
-    (inr (inr c.in-Err-Failed.field-0-is))
+    (inr c.in-Err-Failed.field-0-is)
 
 pub returns-in-Ok : goal.returns-in-Ok
 returns-in-Ok g c =
@@ -43,15 +37,16 @@ returns-in-Ok g c =
     let reply = c.in-Ok.reply in
     let new : Grounded D M = record {
       heap = c.answer.new.o;
-      media = c.self.inside.media;
+      media = c.answer.new.media;
       shown = c.answer.new.page;
       stopped = c.self.inside.stopped;
       idle = false;
       moment = c.self.inside.moment;
       restored = c.self.inside.restored;
     } in
-    let came = came_answered b m f l n _ c.self.invariant going c.args.call.now c.requires.built c.in-Ok.ensures.fits c.fresh.new.self
-    c.fresh.ensures.none c.answer.new.o c.answer.new.page reply c.in-Ok.ensures.comes c.in-Ok.ensures.works in
+    let came = came_answered b m f l n _ c.self.invariant going c.args.call.now c.in-Ok.ensures.fits c.fresh.new.self
+    c.fresh.ensures.none c.answer.new.o c.answer.new.media c.in-Ok.ensures.media c.answer.new.page reply c.in-Ok.ensures.comes c.in-Ok.ensures.works
+    c.in-Ok.ensures.tells in
     let at : CameTo b m f l n c.args.call.now reply c.args.self.now new =
     subst (λ (o : Grounded D M). CameTo b m f l n c.args.call.now reply o new) c.self.view_is came in
     record {
@@ -61,6 +56,7 @@ returns-in-Ok g c =
       gives = at.gives;
       sound = at.sound;
       restored = ap (λ (o : Grounded D M). o.restored) c.self.view_is;
+      gap = at.gap;
       keeps = at.keeps;
       any_moment = at.any_moment;
     }
@@ -79,16 +75,17 @@ returns-in-Err-Refused g c =
     let reply = replies.Refused e.refusal in
     let new : Grounded D M = record {
       heap = c.forget_moves.new.heap;
-      media = c.self.inside.media;
+      media = c.answer.new.media;
       shown = c.answer.new.page;
       stopped = not c.is_reading.result;
       idle = false;
       moment = c.self.inside.moment;
       restored = c.self.inside.restored;
     } in
-    let came = came_refused b m f l n _ c.self.invariant going c.args.call.now c.requires.built e.ensures.fits c.fresh.new.self
-    c.fresh.ensures.none c.answer.new.o c.answer.new.page e.refusal e.field-0 e.field-0-is c.forget_moves.new.heap
-    c.forget_moves.ensures c.is_reading.result c.is_reading.ensures e.ensures.comes e.ensures.works in
+    let came = came_refused b m f l n _ c.self.invariant going c.args.call.now e.ensures.fits c.fresh.new.self
+    c.fresh.ensures.none c.answer.new.o c.answer.new.media e.ensures.media c.answer.new.page e.refusal e.field-0 e.field-0-is c.forget_moves.new.heap
+    c.forget_moves.ensures c.is_reading.result c.is_reading.ensures e.ensures.comes e.ensures.works
+    e.ensures.tells in
     let at : CameTo b m f l n c.args.call.now reply c.args.self.now new =
     subst (λ (o : Grounded D M). CameTo b m f l n c.args.call.now reply o new) c.self.view_is came in
     record {
@@ -98,6 +95,43 @@ returns-in-Err-Refused g c =
       gives = at.gives;
       sound = at.sound;
       restored = ap (λ (o : Grounded D M). o.restored) c.self.view_is;
+      gap = at.gap;
+      keeps = at.keeps;
+      any_moment = at.any_moment;
+    }
+
+pub returns-in-Err-MediaFault : goal.returns-in-Err-MediaFault
+returns-in-Err-MediaFault g c =
+    let D = g.row.D.Denot in
+    let M = g.row.M.Denot in
+    let b = g.D.Disk.bytes in
+    let m = g.D.Disk.moment in
+    let l = g.D.Disk.may_leave in
+    let f = g.D.Disk.faults in
+    let n = g.M.Media in
+    let going = ap (λ (o : Grounded D M). o.stopped) c.self.view_is ∙ c.requires.going in
+    let e = c.in-Err-MediaFault in
+    let new : Grounded D M = record {
+      heap = c.answer.new.o;
+      media = c.answer.new.media;
+      shown = c.answer.new.page;
+      stopped = c.self.inside.stopped;
+      idle = false;
+      moment = c.self.inside.moment;
+      restored = c.self.inside.restored;
+    } in
+    let came = came_missed b m f l n _ c.self.invariant going c.args.call.now e.ensures.fits c.fresh.new.self c.fresh.ensures.none c.answer.new.o
+    c.answer.new.media e.ensures.media c.answer.new.page e.field-0 e.field-0-is e.ensures.works e.ensures.tells in
+    let at : CameTo b m f l n c.args.call.now replies.MediaFault c.args.self.now new =
+    subst (λ (o : Grounded D M). CameTo b m f l n c.args.call.now replies.MediaFault o new) c.self.view_is came in
+    record {
+      memory = at.memory;
+      answered = at.answered;
+      stopped = at.stopped;
+      gives = at.gives;
+      sound = at.sound;
+      restored = ap (λ (o : Grounded D M). o.restored) c.self.view_is;
+      gap = at.gap;
       keeps = at.keeps;
       any_moment = at.any_moment;
     }
@@ -112,8 +146,9 @@ invariant_of-self g c =
     let f = g.D.Disk.faults in
     let n = g.M.Media in
     let going = ap (λ (o : Grounded D M). o.stopped) c.self.view_is ∙ c.requires.going in
-    let came = came_answered b m f l n _ c.self.invariant going c.args.call.now c.requires.built c.in-Ok.ensures.fits c.fresh.new.self
-    c.fresh.ensures.none c.answer.new.o c.answer.new.page c.in-Ok.reply c.in-Ok.ensures.comes c.in-Ok.ensures.works in
+    let came = came_answered b m f l n _ c.self.invariant going c.args.call.now c.in-Ok.ensures.fits c.fresh.new.self
+    c.fresh.ensures.none c.answer.new.o c.answer.new.media c.in-Ok.ensures.media c.answer.new.page c.in-Ok.reply c.in-Ok.ensures.comes
+    c.in-Ok.ensures.works c.in-Ok.ensures.tells in
     came.is_ground
 
 pub invariant_of-self-in-Err-Refused : goal.invariant_of-self-in-Err-Refused
@@ -127,7 +162,17 @@ invariant_of-self-in-Err-Refused g c =
     let n = g.M.Media in
     let going = ap (λ (o : Grounded D M). o.stopped) c.self.view_is ∙ c.requires.going in
     let e = c.in-Err-Refused in
-    let came = came_refused b m f l n _ c.self.invariant going c.args.call.now c.requires.built e.ensures.fits c.fresh.new.self
-    c.fresh.ensures.none c.answer.new.o c.answer.new.page e.refusal e.field-0 e.field-0-is c.forget_moves.new.heap
-    c.forget_moves.ensures c.is_reading.result c.is_reading.ensures e.ensures.comes e.ensures.works in
+    let came = came_refused b m f l n _ c.self.invariant going c.args.call.now e.ensures.fits c.fresh.new.self
+    c.fresh.ensures.none c.answer.new.o c.answer.new.media e.ensures.media c.answer.new.page e.refusal e.field-0 e.field-0-is c.forget_moves.new.heap
+    c.forget_moves.ensures c.is_reading.result c.is_reading.ensures e.ensures.comes e.ensures.works
+    e.ensures.tells in
+    came.is_ground
+
+pub invariant_of-self-in-Err-MediaFault : goal.invariant_of-self-in-Err-MediaFault
+invariant_of-self-in-Err-MediaFault g c =
+    let going = ap (λ (o : Grounded g.row.D.Denot g.row.M.Denot). o.stopped) c.self.view_is ∙ c.requires.going in
+    let e = c.in-Err-MediaFault in
+    let came = came_missed g.D.Disk.bytes g.D.Disk.moment g.D.Disk.faults g.D.Disk.may_leave g.M.Media _ c.self.invariant going c.args.call.now
+    e.ensures.fits c.fresh.new.self c.fresh.ensures.none c.answer.new.o c.answer.new.media e.ensures.media c.answer.new.page e.field-0 e.field-0-is
+    e.ensures.works e.ensures.tells in
     came.is_ground

@@ -23,6 +23,7 @@ returns-clause-says g c =
       nesting = c.note.ensures;
       failed = c.in_default.is;
       restored = c.serve-reply.ensures.restored;
+      gap = c.serve-reply.ensures.gap;
       keeps = c.serve-reply.ensures.keeps;
     })))
 
