@@ -1,5 +1,5 @@
 // A transaction on the world that a disk keeps.
-ghost use Rattle.std.specs.Prelude.{◌≡◌, ◌≤◌, ◌<◌, ◌+◌, ◌/◌, None, true, false, IfErr, IfOk};
+ghost use Rattle.std.specs.Prelude.{◌≡◌, ◌≤◌, ◌<◌, ◌+◌, ◌/◌, None, false, IfErr, IfOk};
 ghost use Rattle.sdr_disk.specs.Moments.{AtEach};
 ghost use Rattle.sdr_disk.specs.Told.{IfTold};
 ghost use Rattle.sdr_image.specs.Opening.{MayBeOpened};
@@ -7,7 +7,6 @@ ghost use Rattle.sdr_lock.specs.Crash.{LeavesBefore, LeavesOr, is_kept, keeps_in
 ghost use Rattle.sdr_lock.specs.Nesting.{cancelled, closing, ended, unbegun};
 ghost use Rattle.sdr_log.specs.Calls.{KeepsDisk};
 ghost use Rattle.sdr_log.specs.Logged.{GivesSame};
-ghost use Rattle.sdr_served.specs.Serving.{built};
 ghost use Rattle.sdr_station.specs.Giving.{Fills, Gives};
 ghost use Rattle.sdr_station.specs.Opening.{ExplainsOpen, IsOpen, LeavesBytes};
 ghost use Rattle.sdr_station.specs.Rooming.{MovesAtMost, TellsRoom};
