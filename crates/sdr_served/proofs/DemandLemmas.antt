@@ -1,5 +1,5 @@
 -- How many lines a call may touch by what it asks.
-use Rattle.std.proofs.Common.{◌≡◌, ◌≤◌, ◌+◌, ◌*◌, ◌++◌, ℕ, List, [], ◌∷◌, true, false, true≢false, inl, refl, sym, ap, length, arith}
+use Rattle.std.proofs.Common.{◌≡◌, ◌≤◌, ◌+◌, ◌*◌, ◌++◌, ℕ, List, [], ◌∷◌, true, true≢false, inl, refl, sym, ap, length, arith}
 use Rattle.std.proofs.lemmas.List.{length-append, length-map}
 use Rattle.std.specs.Prelude.{slice_index}
 use Rattle.sdr_served.proofs.CutLemmas.{cut_enough}
@@ -170,34 +170,15 @@ enough d heap w call o s served small row answered =
     by (calls.Delimit addr offset bytes) there moves = parts_enough d w (calls.Delimit addr offset bytes) o refl there answered
     by (calls.Bond addr ticket) there moves = bond_enough d w addr ticket o there answered
     by (calls.Strip addr) there moves = cut_enough d w addr o there answered moves
-    by (calls.Transmit addr place count) there moves = omega (arith)
-    by (calls.ReceiveHeaders addr place count) there moves = omega (arith)
-    by (calls.ReceiveSource addr place count) there moves = omega (arith)
-    by (calls.ReceiveTrailers addr place count) there moves = omega (arith)
+    by c there moves = omega (arith)
 
 -- a call that reads touches none
-pub reading_lines : (heap : Heap) (w : World) (call : Call) → is_reading call ≡ true
-    → call_lines heap w call ≡ 0
-reading_lines heap w (calls.Malloc bytes) reads = absurd (true≢false (sym reads))
-reading_lines heap w (calls.Free addr) reads = absurd (true≢false (sym reads))
+pub reading_lines : (heap : Heap) (w : World) (call : Call) → is_reading call ≡ true → call_lines heap w call ≡ 0
 reading_lines heap w (calls.Length addr) reads = refl
 reading_lines heap w (calls.Read addr place count) reads = refl
-reading_lines heap w (calls.Write addr place bytes) reads = absurd (true≢false (sym reads))
 reading_lines heap w (calls.Stage addr count) reads = refl
-reading_lines heap w (calls.String text) reads = absurd (true≢false (sym reads))
 reading_lines heap w (calls.StringLength addr) reads = refl
 reading_lines heap w (calls.StringRead addr) reads = refl
-reading_lines heap w (calls.StringDup addr) reads = absurd (true≢false (sym reads))
-reading_lines heap w (calls.List user) reads = absurd (true≢false (sym reads))
-reading_lines heap w (calls.ListDestroy list) reads = absurd (true≢false (sym reads))
-reading_lines heap w (calls.SetListUser list user) reads = absurd (true≢false (sym reads))
-reading_lines heap w (calls.InsertFirst list datum) reads = absurd (true≢false (sym reads))
-reading_lines heap w (calls.InsertLast list datum) reads = absurd (true≢false (sym reads))
-reading_lines heap w (calls.InsertBefore element datum) reads = absurd (true≢false (sym reads))
-reading_lines heap w (calls.InsertAfter element datum) reads = absurd (true≢false (sym reads))
-reading_lines heap w (calls.InsertOrdered list datum keys) reads = absurd (true≢false (sym reads))
-reading_lines heap w (calls.Delete element) reads = absurd (true≢false (sym reads))
-reading_lines heap w (calls.SetDatum element datum) reads = absurd (true≢false (sym reads))
 reading_lines heap w (calls.ListLength list) reads = refl
 reading_lines heap w (calls.ListUser list) reads = refl
 reading_lines heap w (calls.Search list datum keys) reads = refl
@@ -206,51 +187,24 @@ reading_lines heap w (calls.Last list) reads = refl
 reading_lines heap w (calls.Next element) reads = refl
 reading_lines heap w (calls.Prev element) reads = refl
 reading_lines heap w (calls.Datum element) reads = refl
-reading_lines heap w (calls.Table rows size user) reads = absurd (true≢false (sym reads))
 reading_lines heap w (calls.Row table row) reads = refl
-reading_lines heap w (calls.SetRow table row bytes) reads = absurd (true≢false (sym reads))
 reading_lines heap w (calls.Dimensions table) reads = refl
 reading_lines heap w (calls.TableUser table) reads = refl
-reading_lines heap w (calls.TableDestroy table) reads = absurd (true≢false (sym reads))
-reading_lines heap w (calls.Hash key_length buckets) reads = absurd (true≢false (sym reads))
-reading_lines heap w (calls.HashInsert hash key value) reads = absurd (true≢false (sym reads))
 reading_lines heap w (calls.HashRetrieve hash key) reads = refl
-reading_lines heap w (calls.HashRevise hash key value) reads = absurd (true≢false (sym reads))
-reading_lines heap w (calls.HashRemove hash key) reads = absurd (true≢false (sym reads))
 reading_lines heap w (calls.HashCount hash) reads = refl
-reading_lines heap w (calls.HashDestroy hash) reads = absurd (true≢false (sym reads))
-reading_lines heap w (calls.Catlg name kind object) reads = absurd (true≢false (sym reads))
 reading_lines heap w (calls.Find name) reads = refl
-reading_lines heap w (calls.Uncatlg name) reads = absurd (true≢false (sym reads))
 reading_lines heap w (calls.Entry place) reads = refl
-reading_lines heap w (calls.FileRef path bytes) reads = absurd (true≢false (sym reads))
-reading_lines heap w (calls.BulkRef item bytes) reads = absurd (true≢false (sym reads))
-reading_lines heap w (calls.ObjRef raw) reads = absurd (true≢false (sym reads))
-reading_lines heap w (calls.DestroyRef source) reads = absurd (true≢false (sym reads))
 reading_lines heap w (calls.Count source) reads = refl
 reading_lines heap w (calls.Occupancy acct space) reads = refl
 reading_lines heap w (calls.Maximum acct space) reads = refl
-reading_lines heap w (calls.SetMaximum acct space value) reads = absurd (true≢false (sym reads))
-reading_lines heap w (calls.Request acct file bulk heap_bytes coarse fine) reads = absurd (true≢false (sym reads))
 reading_lines heap w (calls.Awarded number) reads = refl
-reading_lines heap w (calls.Shred number) reads = absurd (true≢false (sym reads))
-reading_lines heap w (calls.Create acct ticket) reads = absurd (true≢false (sym reads))
-reading_lines heap w (calls.AppendExtent addr ticket named offset bytes) reads = absurd (true≢false (sym reads))
-reading_lines heap w (calls.PrependHeader addr ticket text) reads = absurd (true≢false (sym reads))
-reading_lines heap w (calls.AppendTrailer addr ticket text) reads = absurd (true≢false (sym reads))
-reading_lines heap w (calls.DiscardFirstHeader addr) reads = absurd (true≢false (sym reads))
-reading_lines heap w (calls.DiscardLastTrailer addr) reads = absurd (true≢false (sym reads))
-reading_lines heap w (calls.Destroy addr) reads = absurd (true≢false (sym reads))
-reading_lines heap w (calls.Bond addr ticket) reads = absurd (true≢false (sym reads))
-reading_lines heap w (calls.ClonePart addr ticket offset bytes) reads = absurd (true≢false (sym reads))
-reading_lines heap w (calls.Delimit addr offset bytes) reads = absurd (true≢false (sym reads))
-reading_lines heap w (calls.Strip addr) reads = absurd (true≢false (sym reads))
 reading_lines heap w (calls.ZcoLength addr) reads = refl
 reading_lines heap w (calls.SourceLength addr) reads = refl
 reading_lines heap w (calls.Transmit addr place count) reads = refl
 reading_lines heap w (calls.ReceiveHeaders addr place count) reads = refl
 reading_lines heap w (calls.ReceiveSource addr place count) reads = refl
 reading_lines heap w (calls.ReceiveTrailers addr place count) reads = refl
+reading_lines heap w call reads = absurd (true≢false (sym reads))
 
 -- no call takes back what was asked
 pub asks_more : (d : Demand) (w : World) (call : Call) (o : Outcome) → most_lines d ≤ most_lines (demand_after d w call o)

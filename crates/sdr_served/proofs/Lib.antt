@@ -12,6 +12,5 @@ pub mod FreeLemmas
 pub mod GoodLemmas
 pub mod NextLemmas
 pub mod CutLemmas
-pub mod KindLemmas
 pub mod DemandLemmas
 pub mod GivingLemmas

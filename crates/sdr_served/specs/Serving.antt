@@ -1,4 +1,4 @@
--- The calls that are served over blocks but read no media, and what they ask for.
+-- Calls over blocks, and what they ask for.
 use Rattle.std.specs.Prelude.{ℕ, Bool, true, false, if◌then◌else◌}
 use Rattle.sdr_answers.specs.Answering as answers
 use Rattle.sdr_base.specs.Objects.{Heap}
@@ -37,7 +37,7 @@ abbrev pub bonding_lines : World → Call → ℕ
 bonding_lines w (calls.Bond object ticket) = bond_lines w object
 bonding_lines w call = 0
 
--- so many lines a call that is served touches at most on this heap, which stands for the world
+-- so many lines a call touches at most on this heap, which stands for the world
 abbrev pub call_lines : Heap → World → Call → ℕ
 call_lines heap w call =
     if is_source_call call then sources.call_lines call
@@ -49,7 +49,8 @@ call_lines heap w call =
     else answers.call_lines heap call
 
 -- what is of a kind is kept, sources and the raw objects that they name too, the queues of both accounts, and objects with their
--- accounts' queues, with what their extents name, and with all that it takes to bond them, to clone their parts and to cut them to these
+-- accounts' queues, with what their extents name, and with all that it takes to bond them, to clone their parts and to cut them to
+-- these
 pub record IsGood (heap : Heap) : Type 0 where
   pub things : answers.IsGood heap
   pub sources : sources.IsGood heap

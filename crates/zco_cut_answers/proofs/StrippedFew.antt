@@ -1,5 +1,5 @@
 -- The blocks that go where an object is cut to its part are no more than a heap has room for.
-use Rattle.std.proofs.Common.{◌≡◌, ◌≤◌, ◌*◌, ◌++◌, ℕ, List, Option, Some, map, length, refl, ap, arith}
+use Rattle.std.proofs.Common.{◌≡◌, ◌≤◌, ◌*◌, ◌++◌, ℕ, List, Some, map, length, ap, arith}
 use Rattle.std.proofs.lemmas.List.{length-append, length-map}
 use Rattle.sdr_audit.specs.Rows.{extent_row, object_row}
 use Rattle.sdr_audit.specs.Standing.{HeapStandsFor, other_entries}

@@ -1,14 +1,11 @@
 -- Calls that read the bytes of objects, as steps.
-use Rattle.std.proofs.Common.{◌≡◌, ◌∙◌, ◌≤◌, ◌<◌, ◌||◌, ℕ, Bool, true, false, List, [], ◌∷◌, Option, Some, None, IfSome, Result, Ok, Err, length, take, inl, inr, refl, sym, ap, subst, arith, nat_lt}
-use Rattle.std.specs.List.{list_any}
+use Rattle.std.proofs.Common.{◌≡◌, ◌∙◌, ◌≤◌, ◌<◌, ℕ, true, List, [], Option, Some, None, IfSome, Err, length, take, inl, inr, refl, sym, ap, subst, arith, nat_lt}
 use Rattle.std.proofs.lemmas.Bool.{le-ltb, lt-ltb}
 use Rattle.sdr_answers.proofs.ListLemmas.{IsSmall}
 use Rattle.sdr_answers.proofs.RowLemmas.{misnamed_refused, row_refused, shows, unmoved_answered}
 use Rattle.sdr_answers.specs.Answering.{Aim, Answered, IsRefused, IsServed}
 use Rattle.sdr_audit.specs.Rows.{object_row}
 use Rattle.sdr_audit.specs.Standing.{HeapStandsFor}
-use Rattle.sdr_base.specs.Blocks.{IsKind}
-use Rattle.sdr_base.specs.Causes.{Rose}
 use Rattle.sdr_base.specs.Media.{Told}
 use Rattle.sdr_base.specs.Objects.{Heap, Misses}
 use Rattle.sdr_base.specs.declared.kind.Kind.TheVariants as kinds
@@ -20,20 +17,17 @@ use Rattle.sdr_base.specs.declared.stop.Stop.TheVariants as stops
 use Rattle.sdr_gather.specs.Gathering.{AreGathered}
 use Rattle.sdr_lock.proofs.WorkLemmas.{on_false, on_some, on_true}
 use Rattle.sdr_lock.specs.Agreeing.{AgreesWith, IsFirstShort}
-use Rattle.sdr_lock.specs.Ground.{asks_media, lies_with_media}
-use Rattle.sdr_lock.specs.Transaction.{bytes_given}
 use Rattle.sdr_model.proofs.PiecesLemmas.{Spells-filled, length-spelled, pieces_told-part, row-asked}
 use Rattle.sdr_model.specs.Limits.{longest_read}
-use Rattle.sdr_model.specs.Pieces.{asked_addr, asked_count, bytes_by, extent_pieces, filled, part_asked, part_pieces, pieces_asked, pieces_of, pieces_told}
-use Rattle.sdr_model.specs.Reading.{is_reading, reads_media}
+use Rattle.sdr_model.specs.Pieces.{asked_addr, asked_count, bytes_by, extent_pieces, filled, part_asked, part_pieces, pieces_asked, pieces_of}
+use Rattle.sdr_model.specs.Reading.{reads_media}
 use Rattle.sdr_model.specs.Rows.{ByRow}
 use Rattle.sdr_model.specs.Step.{Stops, StopsWith}
 use Rattle.sdr_model.specs.Steps.{Outcome}
-use Rattle.sdr_model.specs.Wire.{Gives, GivesOf, Spells, ToldBytes}
+use Rattle.sdr_model.specs.Wire.{Gives, Spells, ToldBytes}
 use Rattle.sdr_model.specs.World.{World}
 use Rattle.sdr_model.specs.Zco.{as_object, object_at}
 use Rattle.sdr_model.specs.declared.answer.Answer.TheVariants as answers
-use Rattle.sdr_model.specs.declared.answer.Reply.{Reply}
 use Rattle.sdr_model.specs.declared.answer.Reply.TheVariants as replies
 use Rattle.sdr_model.specs.declared.call.Call.{Call}
 use Rattle.sdr_model.specs.declared.event.Event.TheVariants as events

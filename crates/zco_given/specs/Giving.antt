@@ -9,7 +9,6 @@ use Rattle.sdr_base.specs.Objects.{Heap, Misses}
 use Rattle.sdr_base.specs.ZcoObjects.{ObjectRow}
 use Rattle.sdr_base.specs.declared.kind.Kind.TheVariants as kinds
 use Rattle.sdr_base.specs.declared.media.Media.{Ghosts}
-use Rattle.sdr_base.specs.declared.refusal.Refusal.{Refusal}
 use Rattle.sdr_base.specs.declared.refusal.Refusal.TheVariants.{BadLength, SourceShort}
 use Rattle.sdr_base.specs.declared.stop.Stop.{Stop}
 use Rattle.sdr_base.specs.declared.stop.Stop.TheVariants as stops

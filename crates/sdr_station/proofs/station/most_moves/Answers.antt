@@ -1,3 +1,4 @@
+-- No call has more moves than are told.
 use Rattle.std.proofs.Common.{◌/◌, ◌∙◌, arith, subst, sym}
 use Rattle.sdr_model.specs.declared.call.Call.{Call}
 use Rattle.sdr_station.proofs.RoomLemmas.{is_other, moves_append, moves_bond, moves_long, moves_none, moves_one}

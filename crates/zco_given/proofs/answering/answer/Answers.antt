@@ -1,5 +1,5 @@
 -- More than a page is asked, which is refused.
-use Rattle.std.proofs.Common.{◌≡◌, ◌≤◌, ℕ, IfErr, subst}
+use Rattle.std.proofs.Common.{ℕ, IfErr, subst}
 use Rattle.sdr_answers.proofs.CallLemmas.{comes_never}
 use Rattle.sdr_answers.proofs.ListLemmas.{IsSmall}
 use Rattle.sdr_model.specs.Pieces.{asked_addr, asked_count}
