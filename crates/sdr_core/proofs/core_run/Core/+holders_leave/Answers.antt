@@ -36,9 +36,6 @@ returns-in-Some-clause-daemons g t c =
     c.holders_leave.ensures.daemons
     ∙ leave_many g.T.HasGround 0 c.args.leave c.make_leave.result self.lock next.lock self.log next.log d c.make_leave.ensures c.roll.ensures.stands c.roll.ensures.first served
 
-pub returns-in-Some-clause-told : goal.returns-in-Some-clause-told
-returns-in-Some-clause-told g t c = c.holders_leave.ensures.told ∙ c.make_leave.ensures.asks.kept.media
-
 pub returns-in-Some-clause-drawn : goal.returns-in-Some-clause-drawn
 returns-in-Some-clause-drawn g t c =
     let self = c.args.self.now in

@@ -38,6 +38,6 @@ returns g c =
     (c.daemons.ensures ∙ ap (λ (r : Roll). r.daemons) c.roll.ensures.roll) in
     record {
       left = all_leave g.T.HasGround told c.args.leave self mid next c.holders_leave.ensures.left
-          (subst (λ t. RunLeads g.T.HasGround (LeaveInTurn t c.args.leave (staying mid.lock.roll)) mid next) c.holders_leave.ensures.told
+          (subst (λ t. RunLeads g.T.HasGround (LeaveInTurn t c.args.leave (staying mid.lock.roll)) mid next) c.holders_leave.ensures.left.media
           (subst (λ (ds : List ℕ). RunLeads g.T.HasGround (LeaveInTurn (g.T.HasGround.told mid.lock.base) c.args.leave ds) mid next) items c.leave_in_turn.ensures.left));
     }
