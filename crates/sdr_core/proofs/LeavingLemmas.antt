@@ -1,19 +1,18 @@
 -- The leaves at the end of a run, one after another.
-use Rattle.std.proofs.Common.{◌≡◌, ◌∙◌, ◌≤◌, ◌<◌, ◌+◌, ◌==◌, ◌++◌, ◌⊎◌, ℕ, suc, List, [], ◌∷◌, Bool, true, false, true≢false, not, filter, map, Option, None, Some, IsSome, is_some, MatchOption, inl, length, ◌-◌, drop, slice_index_or, take, refl, sym, ap, subst, arith}
+use Rattle.std.proofs.Common.{◌≡◌, ◌∙◌, ◌≤◌, ◌<◌, ◌+◌, ◌==◌, ◌++◌, ℕ, suc, List, [], ◌∷◌, Bool, true, false, true≢false, not, filter, Option, None, Some, IsSome, inl, length, ◌-◌, drop, slice_index_or, take, refl, sym, ap, subst, arith}
 use Rattle.std.proofs.lemmas.Bool.Decides.{nat_tests}
 use Rattle.std.proofs.lemmas.List.{length-map, take_all}
 use Rattle.std.proofs.lemmas.List.Filters.{length-filter_both}
 use Rattle.std.specs.Option.{option_map_or, option_and_then}
 use Rattle.sdr_base.specs.Media.{Told}
-use Rattle.sdr_model.specs.declared.event.Event.{Event}
 use Rattle.sdr_model.specs.declared.event.Event.TheVariants as events
 use Rattle.sdr_model.specs.declared.event.Leave.{Leave}
 use Rattle.sdr_lock.specs.Core.{Core, CoreStep, Log}
 use Rattle.sdr_lock.specs.Gaps.{Gaps, GapsLast}
 use Rattle.sdr_lock.specs.Holders.{HoldFirst, holders}
-use Rattle.sdr_lock.specs.Leaving.{AllLeave, HoldersLeave, LeaveInTurn, LeavesThen, MakesLeave, holds_number, served_daemon, staying}
-use Rattle.sdr_lock.specs.Machine.{Machine, Made, MachineStep}
-use Rattle.sdr_lock.specs.Roll.{MayDraw, Roll, daemon_of, held_by, put_daemon, served_number}
+use Rattle.sdr_lock.specs.Leaving.{AllLeave, HoldersLeave, LeaveInTurn, MakesLeave, holds_number, served_daemon, staying}
+use Rattle.sdr_lock.specs.Machine.{Made, MachineStep}
+use Rattle.sdr_lock.specs.Roll.{MayDraw, Roll, held_by, served_number}
 use Rattle.sdr_lock.specs.Serving.{Locked, StoodFor, machine_at, made_by}
 use Rattle.sdr_lock.specs.Standing.{Standing}
 use Rattle.sdr_lock.specs.declared.came.Came.{Came}

@@ -1,4 +1,4 @@
-use Rattle.std.proofs.Common.{◌≡◌, ◌∙◌, ◌++◌, ℕ, List, ap, arith, filter, length, map, not, subst, sym}
+use Rattle.std.proofs.Common.{◌≡◌, ◌∙◌, ◌++◌, ℕ, List, ap, arith, filter, length, map, not, subst}
 use Rattle.sdr_lock.proofs.HolderLemmas.{holders_few}
 use Rattle.sdr_lock.specs.Leaving.{LeaveInTurn, staying}
 use Rattle.sdr_lock.specs.Roll.{Roll}
