@@ -10,14 +10,14 @@ use Rattle.sdr_core.specs.CoreKept.{Begins, BeginsOn, IsRunOf, Kept, core_at}
 use Rattle.sdr_core.specs.Leaving.{RunLeads}
 use Rattle.sdr_dry.proofs.MediaLemmas.{caused_later, caused_more, failed_refl}
 use Rattle.sdr_dry.proofs.ScheduleLemmas.{bindings_after, bindings_after-push, follows-push, run_text-push, runs-push}
-use Rattle.sdr_dry.specs.Schedule.{AreCaused, IsCaused, MakesEvent, daemons_of, from_to, run_text}
+use Rattle.sdr_dry.specs.Schedule.{AreCaused, HaveFailed, IsCaused, MakesEvent, daemons_of, from_to, run_text}
 use Rattle.sdr_lock.specs.Core.{CoreStep, RunsCore, first_core}
 use Rattle.sdr_lock.specs.Crash.{is_sound}
-use Rattle.sdr_lock.specs.Gaps.{Gaps, HasGapCause}
+use Rattle.sdr_lock.specs.Gaps.{GapsLast, HasGapCause}
 use Rattle.sdr_lock.specs.Leaving.{AllLeave}
 use Rattle.sdr_lock.specs.Machine.{Made}
 use Rattle.sdr_lock.specs.Roll.{first_roll}
-use Rattle.sdr_lock.specs.Serving.{KeepsGround, StoodFor, made_by}
+use Rattle.sdr_lock.specs.Serving.{StoodFor, made_by}
 use Rattle.sdr_lock.specs.Standing.{standing_at}
 use Rattle.sdr_lock.specs.declared.has_ground.HasGround.{Ghosts}
 use Rattle.sdr_model.specs.declared.answer.Answer.{Answer}
@@ -61,15 +61,19 @@ printed_none p old line is =
     subst (λ (b : Bool). PrintsMore b b old old line) (sym is)
     (λ first text below printed. (printed.0, part_more first.taken old.taken text line printed.1))
 
--- an answer that tells that media failed, or gave too few bytes, is caused where the ground's counts tell its cause
-answer_caused : {T : Type 0} (g : Ghosts T) (old new : T) (answer : Answer) → KeepsGround g true old new → HasGapCause answer (g.gaps old) (g.gaps new)
-    → IsCaused answer (from_to (media_on g old) (media_on g new))
-answer_caused g old new (answers.Reply replies.MediaFault) kept rose =
-    record { told = kept.media; faults = omega (arith, rose); short = omega (arith, kept.gaps.short) }
-answer_caused g old new (answers.Reply (replies.Refused (refusals.SourceShort have want))) kept rose =
-    record { told = kept.media; faults = omega (arith, kept.gaps.faults); short = omega (arith, rose) }
-answer_caused g old new answer kept rose =
-    record { told = kept.media; faults = omega (arith, kept.gaps.faults); short = omega (arith, kept.gaps.short) }
+-- the media of a ground tell the same, and no count of theirs has fallen
+media_later : {T : Type 0} (g : Ghosts T) (old new : T) → g.told new ≡ g.told old → GapsLast (g.gaps old) (g.gaps new)
+    → HaveFailed 0 0 (from_to (media_on g old) (media_on g new))
+media_later g old new same later = record { told = same; faults = omega (arith, later.faults); short = omega (arith, later.short) }
+
+-- so an answer that tells that they failed, or gave too few bytes, is caused where the ground tells its cause
+answer_caused : {T : Type 0} (g : Ghosts T) (old new : T) (answer : Answer) → g.told new ≡ g.told old → GapsLast (g.gaps old) (g.gaps new)
+    → HasGapCause answer (g.gaps old) (g.gaps new) → IsCaused answer (from_to (media_on g old) (media_on g new))
+answer_caused g old new (answers.Reply replies.MediaFault) same later rose =
+    record { told = same; faults = rose; short = omega (arith, later.short) }
+answer_caused g old new (answers.Reply (replies.Refused (refusals.SourceShort have want))) same later rose =
+    record { told = same; faults = omega (arith, later.faults); short = rose }
+answer_caused g old new answer same later rose = media_later g old new same later
 
 -- nothing was made yet
 pub running_start : {T : Type 0} (g : Ghosts T) (b : Begins) (script : List Step) (daemons : List ℕ) (base : T) (k : Kept T) (out : Output)
@@ -121,7 +125,7 @@ module _ {T : Type 0} (g : Ghosts T) (b : Begins) (base : T) (script : List Step
         (subst (λ told. CoreStep told (core_at old r.at.for) e (core_at new stood.for)) r.at.media stood.tells);
     media = a.makes.asks.kept.media ∙ r.at.media;
     caused = caused_more r.at.made e (media_on g base) (media_on g old.lock.base) (media_on g new.lock.base) r.at.caused
-        (answer_caused g old.lock.base new.lock.base a.came.answer a.makes.asks.kept a.makes.asks.gap);
+        (answer_caused g old.lock.base new.lock.base a.came.answer a.makes.asks.kept.media a.makes.asks.kept.gaps a.makes.asks.gap);
     printed =
         subst (IsPrinted going first after) (sym (run_text-push r.at.made e))
         (a.prints stood.for (λ called. stood.stood (a.makes.called called)) first (run_text r.at.made) below r.at.printed);
@@ -176,7 +180,7 @@ plays_out {T} g b base begun left script k last starved printing failed out out'
     let s = leads.each r.at.for r.at.stood in
     let caused : AreCaused r.at.made (from_to (media_on g begun) (media_on g last.lock.base)) =
     caused_later r.at.made (media_on g begun) (media_on g k.lock.base) (media_on g last.lock.base) r.at.caused
-    (record { told = leads.media; faults = omega (arith, leads.gaps.faults); short = omega (arith, leads.gaps.short) }) in
+    (media_later g k.lock.base last.lock.base leads.media leads.gaps) in
     record {
       replays = record {
         front = r.at.front;
