@@ -1,3 +1,2 @@
-pub mod HandedLemmas
 pub mod PlayingLemmas
 pub mod ReplayingLemmas

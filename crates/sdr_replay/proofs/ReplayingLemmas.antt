@@ -7,7 +7,7 @@ use Rattle.sdr_core.specs.CoreKept.{BeginsOn, IsRunOf}
 use Rattle.sdr_disk.specs.Moments.{AtEach}
 use Rattle.sdr_disk.specs.Told.{IfTold}
 use Rattle.sdr_disk.specs.declared.disk.Disk.{Ghosts as DiskGhosts}
-use Rattle.sdr_dry.specs.Schedule.{HaveFailed, SeenMedia, daemons_of, from_to, media_change, seen_media}
+use Rattle.sdr_dry.specs.Schedule.{SeenMedia, daemons_of, from_to, media_change, seen_media}
 use Rattle.sdr_image.specs.Opening.{MayBeOpened}
 use Rattle.sdr_lock.specs.Legal.{IsLegal}
 use Rattle.sdr_lock.specs.Standing.{standing_at}
@@ -134,22 +134,25 @@ module _ {D M : Type 0} (d : DiskGhosts D) (m : MediaGhosts M) (read_now : (x : 
       }
 
   replays_now : (out out' : Output) (ran : Ran (Grounded D M)) (parts : D × M)
-      → PlaysOut (ground_of d m) (begins_on m (handed_as d disk) script g) script out out' ran → parts.0 ≡ ran.base.heap.cells.disk
-      → KeepsDisk d.size d.bytes disk ran.base.heap.cells.disk → d.moment ran.base.heap.cells.disk ≤ ran.base.moment
-      → HaveFailed 0 0 (media_change m.told m.faults m.short files parts.1) → ReplaysOn d m disk files script out out' (with_base ran parts)
-  replays_now out out' ran parts plays on keeps seen lasts =
+      → PlaysOut (ground_of d m) (begins_on m (handed_as d disk) script g) script g out out' ran → parts.0 ≡ ran.base.heap.cells.disk
+      → KeepsDisk d.size d.bytes disk ran.base.heap.cells.disk → d.moment ran.base.heap.cells.disk ≤ ran.base.moment → parts.1 ≡ ran.base.media
+      → ReplaysOn d m disk files script out out' (with_base ran parts)
+  replays_now out out' ran parts plays on keeps seen media_is =
       let tells : m.told g.media ≡ m.told files = ap m.told o.with_media in
+      let shows : M → SeenMedia = seen_media m.told m.faults m.short in
       record {
         ground = g;
         with_media = o.with_media;
         open_so = o.open_so;
-        replays = subst (λ (told : Option Told). RunsScript told (first_on g) script out out' (with_base ran parts)) tells plays.replays;
+        replays =
+            subst (λ (x : M). RunsScript (from_to (shows x) (shows parts.1)) (first_on g) script out out' (with_base ran parts)) o.with_media
+            (subst (λ (x : M). RunsScript (from_to (shows g.media) (shows x)) (first_on g) script out out' (with_base ran parts)) (sym media_is)
+            plays.replays);
         legal = subst (λ (told : Option Told). IsLegal told (daemons_of script) (first_on g) ran.journal) tells plays.run.legal;
         leaves =
             subst (λ (told : Option Told). LeavesJournal d told (daemons_of script) (first_on g) ran.journal disk parts.0) tells
             (subst (λ (x : D). LeavesJournal d (m.told g.media) (daemons_of script) (first_on g) ran.journal disk x) (sym on)
             (leaves_journal ran.journal ran.base plays.run keeps seen));
-        media = lasts;
         failed = plays.failed;
       }
 
@@ -160,17 +163,16 @@ module _ {D M : Type 0} (d : DiskGhosts D) (m : MediaGhosts M) (read_now : (x : 
     begins_opened =
         subst (λ (w : HandedDisk). BeginsOn (ground_of d m) (begins_on m w script g) (daemons_of script) g) (sym handed) begins_now
 
-    -- what it has come to, on a disk that stays as long and tells its bytes if it did, and with media that are still as they were
+    -- what it has come to, on a disk that stays as long and tells its bytes if it did
     pub replayed : (out out' : Output) (ran : Ran (Grounded D M)) (result : Ran (D × M))
-        → PlaysOut (ground_of d m) (begins_on m was script g) script out out' ran → result ≡ with_base ran result.base
+        → PlaysOut (ground_of d m) (begins_on m was script g) script g out out' ran → result ≡ with_base ran result.base
         → result.base.0 ≡ ran.base.heap.cells.disk → d.size result.base.0 ≡ was.size → is_some (d.bytes result.base.0) ≡ was.tells
-        → d.moment result.base.0 ≤ ran.base.moment → (shown : SeenMedia) → shown ≡ seen_media m.told m.faults m.short files
-        → HaveFailed 0 0 (from_to shown (seen_media m.told m.faults m.short result.base.1)) → ReplaysOn d m disk files script out out' result
-    replayed out out' ran result plays is on size tells seen shown shown_is lasts =
+        → d.moment result.base.0 ≤ ran.base.moment → result.base.1 ≡ ran.base.media → ReplaysOn d m disk files script out out' result
+    replayed out out' ran result plays is on size tells seen media_is =
         let keeps : KeepsDisk d.size d.bytes disk result.base.0 =
         record { size = size ∙ ap (λ (w : HandedDisk). w.size) handed; tells = tells ∙ ap (λ (w : HandedDisk). w.tells) handed } in
         subst (λ (r : Ran (D × M)). ReplaysOn d m disk files script out out' r) (sym is)
         (replays_now out out' ran result.base
-        (subst (λ (w : HandedDisk). PlaysOut (ground_of d m) (begins_on m w script g) script out out' ran) handed plays) on
+        (subst (λ (w : HandedDisk). PlaysOut (ground_of d m) (begins_on m w script g) script g out out' ran) handed plays) on
         (subst (λ (x : D). KeepsDisk d.size d.bytes disk x) on keeps) (subst (λ (x : D). d.moment x ≤ ran.base.moment) on seen)
-        (subst (λ (s : SeenMedia). HaveFailed 0 0 (from_to s (seen_media m.told m.faults m.short result.base.1))) shown_is lasts))
+        media_is)

@@ -1,7 +1,6 @@
--- What is told of a disk and media as they were handed in.
-use Rattle.std.specs.Prelude.{ℕ, Bool, None, false, is_some}
+-- What is told of a disk as it was handed in.
+use Rattle.std.specs.Prelude.{ℕ, Bool, false, is_some}
 use Rattle.sdr_disk.specs.declared.disk.Disk.{Ghosts as DiskGhosts}
-use Rattle.sdr_dry.specs.Schedule.{SeenMedia}
 
 -- how long a disk is, whether it tells its bytes, its moment, and how often it has failed
 pub record HandedDisk : Type 0 where
@@ -17,7 +16,3 @@ handed_as d disk = record { size = d.size disk; tells = is_some (d.bytes disk); 
 -- a disk of no bytes, which tells none
 abbrev pub no_disk : HandedDisk
 no_disk = record { size = 0; tells = false; moment = 0; faults = 0 }
-
--- media that tell nothing, and have not failed
-abbrev pub untold_media : SeenMedia
-untold_media = record { told = None; faults = 0; short = 0 }

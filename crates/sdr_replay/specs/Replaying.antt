@@ -7,7 +7,7 @@ use Rattle.sdr_core.specs.CoreKept.{Begins}
 use Rattle.sdr_disk.specs.Moments.{AtEach}
 use Rattle.sdr_disk.specs.Told.{IfTold}
 use Rattle.sdr_disk.specs.declared.disk.Disk.{Ghosts as DiskGhosts}
-use Rattle.sdr_dry.specs.Schedule.{HaveFailed, daemons_of, media_change}
+use Rattle.sdr_dry.specs.Schedule.{daemons_of, media_change}
 use Rattle.sdr_image.specs.Opening.{MayBeOpened}
 use Rattle.sdr_lock.specs.Crash.{IsCrashSafe, OpensAfter, OpensTo, done_by, is_sound}
 use Rattle.sdr_lock.specs.Ground.{State}
@@ -65,13 +65,11 @@ pub record ReplaysOn {D M : Type 0} (d : DiskGhosts D) (m : MediaGhosts M) (disk
   pub with_media : ground.media ≡ files
   pub open_so : IsOpen d.bytes d.moment d.may_leave disk ground
   -- the answers that were printed and the journal are those of the run of the script, from the world on it
-  pub replays : RunsScript (m.told files) (first_on ground) script out out' ran
+  pub replays : RunsScript (media_change m.told m.faults m.short files ran.base.1) (first_on ground) script out out' ran
   -- the journal is legal
   pub legal : IsLegal (m.told files) (daemons_of script) (first_on ground) ran.journal
   -- what a crash leaves is told by the journal
   pub leaves : LeavesJournal d (m.told files) (daemons_of script) (first_on ground) ran.journal disk ran.base.0
-  -- media tell the same, and no count of theirs has fallen
-  pub media : HaveFailed 0 0 (media_change m.told m.faults m.short files ran.base.1)
   -- the disk failed just where it did in an entry
   pub failed : ran.failed ≡ not (is_sound ran.journal)
 

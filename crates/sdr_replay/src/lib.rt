@@ -7,8 +7,8 @@
 //! 3. `play` runs on any ground that tells what its calls did. The journal is that of the run.
 //! 4. `replay` opens the heap of a disk and plays on it, with the media that its sources name. At each
 //!    moment of the call a crash leaves the state after some first entries, and all that are done.
-//! 5. The disk and the media are wrapped while a schedule runs (`handed`), in types that keep what no
-//!    call changes: how long the disk is and whether it tells its bytes, and what the media tell.
+//! 5. The answers that tell that media failed, or gave too few bytes, are at most as many as the counts
+//!    of these rose by. The media come back with the disk.
 #![tactic(auto)]
 
 mod handed;

@@ -1,11 +1,10 @@
 // A schedule that runs on the heap of a disk.
 ghost use Rattle.std.specs.Prelude.{◌≡◌, ◌≤◌, IfErr, IfOk, is_some, length};
-ghost use Rattle.sdr_dry.specs.Schedule.{HaveFailed, from_to, seen_media};
 ghost use Rattle.sdr_replay.specs.Handed.{handed_as};
 ghost use Rattle.sdr_replay.specs.Playing.{output};
 ghost use Rattle.sdr_replay.specs.Replaying.{IsNotRun, IsSettled, ReplaysOn, with_base};
 
-use crate::handed::{Handed, HandedIn, HandedMedia};
+use crate::handed::{Handed, HandedIn};
 use crate::playing::{Ran, play};
 use sdr_base::{Media, Sink};
 use sdr_disk::Disk;
@@ -17,15 +16,14 @@ use zco_acct::{Compares, Notice};
 
 // What a schedule has come to, with the disk of the heap on which it ran, and its media.
 fn with_parts<D: Disk, M: Media, J: HandedIn>(
-    ran: Ran<HeapGround<Handed<D, J>, HandedMedia<M, J>, Compares>>,
+    ran: Ran<HeapGround<Handed<D, J>, M, Compares>>,
 ) -> Ran<(D, M)>
     ensures same { result ≡ with_base ran result.base }
     ensures disk { result.base.0 ≡ ran.base.heap.cells.disk }
     ensures size { D.size result.base.0 ≡ J.was.size }
     ensures tells { is_some (D.bytes result.base.0) ≡ J.was.tells }
     ensures seen { D.moment result.base.0 ≤ ran.base.moment }
-    ensures media { HaveFailed 0 0 (from_to J.media
-        (seen_media M.told M.faults M.short result.base.1)) }
+    ensures media { result.base.1 ≡ ran.base.media }
 {
     let Ran {
         journal,
@@ -37,7 +35,7 @@ fn with_parts<D: Disk, M: Media, J: HandedIn>(
     let (disk, media) = base.into_parts();
     Ran {
         journal,
-        base: (disk.into_disk(), media.into_media()),
+        base: (disk.into_disk(), media),
         failed,
         starved,
         printing,
@@ -55,7 +53,6 @@ fn replay_on<D: Disk, M: Media, J: HandedIn, K: Sink>(
     requires few { length script.now ≤ 1_048_577 }
     requires settled { IsSettled D.Disk disk }
     requires handed { J.was ≡ handed_as D.Disk disk }
-    requires seen { J.media ≡ seen_media M.told M.faults M.short media }
     ensures ran { IfOk result (ReplaysOn D.Disk M.Media disk media script.now
         (output K.taken K.faults out.old) (output K.taken K.faults out.new)) }
     ensures shut { IfErr result (λ shut. IsNotRun D.Disk disk shut.disk shut.why) }
@@ -64,27 +61,24 @@ fn replay_on<D: Disk, M: Media, J: HandedIn, K: Sink>(
     ensures later { K.faults out.old ≤ K.faults out.new }
 {
     let held = Handed::<D, J>::new(disk);
-    let kept = HandedMedia::<M, J>::new(media);
-    let ground = match HeapGround::open(alloc, held, kept, Notice::new(Compares)) {
+    let ground = match HeapGround::open(alloc, held, media, Notice::new(Compares)) {
         Ok(ground) => ground,
         Err(Shut { why, disk, media }) => {
             return Err(Shut {
                 why,
                 disk: disk.into_disk(),
-                media: media.into_media(),
+                media,
             });
         }
     };
-    match play::<HeapGround<Handed<D, J>, HandedMedia<M, J>, Compares>, Brand, K>(
-        alloc, script, ground, out,
-    ) {
+    match play::<HeapGround<Handed<D, J>, M, Compares>, Brand, K>(alloc, script, ground, out) {
         Ok(ran) => Ok(with_parts(ran)),
         Err(ground) => {
             let (disk, media) = ground.into_parts();
             Err(Shut {
                 why: OpenError::NoMemory,
                 disk: disk.into_disk(),
-                media: media.into_media(),
+                media,
             })
         }
     }

@@ -64,11 +64,11 @@ module _ {D M : Type 0} (d : DiskGhosts D) (m : MediaGhosts M) (source source' s
       last = h.replays.last;
       leaves = h.replays.leaves;
       journal_is = h.replays.journal_is;
+      caused = h.replays.caused;
       printed = more h.replays.rest _ h.replays.printed;
     };
     legal = h.legal;
     leaves = h.leaves;
-    media = h.media;
   }
 
   -- what stopped one that was run is told by the status
@@ -228,5 +228,4 @@ script_answers {D} {M} d m source source' sink sink' disk files script r read ha
       replays = was.runs.replays;
       legal = was.runs.legal;
       leaves = was.runs.leaves;
-      media = was.runs.media;
     })))))

@@ -7,7 +7,7 @@ use Rattle.sdr_base.specs.Pools.{Pools}
 use Rattle.sdr_base.specs.Written.{AppendsPart}
 use Rattle.sdr_base.specs.declared.media.Media.{Ghosts as MediaGhosts}
 use Rattle.sdr_disk.specs.declared.disk.Disk.{Ghosts as DiskGhosts}
-use Rattle.sdr_dry.specs.Schedule.{HaveFailed, daemons_of, media_change}
+use Rattle.sdr_dry.specs.Schedule.{daemons_of, media_change}
 use Rattle.sdr_lock.specs.Crash.{is_sound}
 use Rattle.sdr_lock.specs.Legal.{IsLegal}
 use Rattle.sdr_log.specs.Log.{put_back_of}
@@ -54,14 +54,13 @@ pub record HadReplay {D M : Type 0} (d : DiskGhosts D) (m : MediaGhosts M) (left
   pub ground : Grounded D M
   pub with_media : ground.media ≡ files
   pub open_so : IsOpen d.bytes d.moment d.may_leave disk ground
-  -- the answers and the journal are those of the run of the script, from the world on it
-  pub replays : Replays (m.told files) (first_on ground) script leave journal P
+  -- the answers and the journal are those of the run of the script, from the world on it; media tell the same, and the answers that tell
+  -- of faults of theirs, and of too few bytes, are caused
+  pub replays : Replays (media_change m.told m.faults m.short files files') (first_on ground) script leave journal P
   -- the journal is legal
   pub legal : IsLegal (m.told files) (daemons_of script) (first_on ground) journal
   -- what a crash leaves, at each moment of the call and behind it, is told by the journal
   pub leaves : LeavesJournal d (m.told files) (daemons_of script) (first_on ground) journal disk disk'
-  -- media tell the same, and no count of theirs has fallen
-  pub media : HaveFailed 0 0 (media_change m.told m.faults m.short files files')
 
 -- what is told behind the text of a run, by what stopped it: whether the disk failed, memory was wanting, the output failed
 abbrev pub Telling : (failed starved printing : Bool) → ℕ → Seen → Seen → Type 0

@@ -11,7 +11,7 @@ play-requires-clause-begins g c =
     let d = g.D.Disk in
     let e = c.in-Ok.ensures in
     let o =
-    opened_so d c.new-held.result c.args.disk c.args.media c.in-Ok.ground c.new-held.ensures (e.media ∙ c.new-kept.ensures) c.requires.settled
+    opened_so d c.new-held.result c.args.disk c.args.media c.in-Ok.ground c.new-held.ensures e.media c.requires.settled
     e.opened e.disk e.later e.any_moment in
     begins_opened d g.M.Media g.met.D.Disk.read_now c.args.disk c.args.media c.args.script.now c.in-Ok.ground c.requires.settled o
     g.J.HandedIn.was c.requires.handed
@@ -44,9 +44,9 @@ returns-in-Ok-play-clause-ran g c =
     let seen : g.row.K.Denot → Output = output g.K.Sink.taken g.K.Sink.faults in
     let e = c.in-Ok.ensures in
     let o =
-    opened_so d c.new-held.result c.args.disk c.args.media c.in-Ok.ground c.new-held.ensures (e.media ∙ c.new-kept.ensures) c.requires.settled
+    opened_so d c.new-held.result c.args.disk c.args.media c.in-Ok.ground c.new-held.ensures e.media c.requires.settled
     e.opened e.disk e.later e.any_moment in
     let w = c.with_parts.ensures in
     replayed d g.M.Media g.met.D.Disk.read_now c.args.disk c.args.media c.args.script.now c.in-Ok.ground c.requires.settled o
     g.J.HandedIn.was c.requires.handed (seen c.args.out.now) (seen c.play.new.out) c.in-Ok-play.ran c.with_parts.result
-    c.in-Ok-play.ensures.ran w.same w.disk w.size w.tells w.seen g.J.HandedIn.media c.requires.seen w.media
+    c.in-Ok-play.ensures.ran w.same w.disk w.size w.tells w.seen w.media

@@ -1,4 +1,5 @@
 use Rattle.std.proofs.Common.{rules, inl, inr}
+use Rattle.sdr_dry.proofs.MediaLemmas.{failed_ever}
 use Rattle.sdr_shell.specs.Answers.{seen}
 use Rattle.sdr_shell.proofs.replaying.replay_script.Goals as goal
 
@@ -23,3 +24,6 @@ returns-in-Err-clause-runs g c = inl (record {
   status = search rules;
   written = search rules;
 })
+
+pub returns-in-Ok-clause-media : goal.returns-in-Ok-clause-media
+returns-in-Ok-clause-media g c = failed_ever _ _ _ c.in-Ok.ensures.ran.replays.caused
