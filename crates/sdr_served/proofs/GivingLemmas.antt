@@ -1,5 +1,5 @@
 -- What the answer to a call tells of media, by whether it reads them.
-use Rattle.std.proofs.Common.{◌≡◌, ◌∙◌, ◌≤◌, ℕ, List, [], true, false, true≢false, Option, None, Some, Result, Ok, Err, OnErr, inl, inr, refl, sym, subst, arith}
+use Rattle.std.proofs.Common.{◌≡◌, ◌∙◌, ℕ, List, [], true, false, true≢false, Option, None, Some, Result, Ok, Err, OnErr, inl, inr, refl, sym, subst, arith}
 use Rattle.sdr_answers.specs.Answering.{Comes, ComesIn, IsServed}
 use Rattle.sdr_audit.specs.Standing.{HeapStandsFor}
 use Rattle.sdr_base.proofs.WorksLemmas.{looks_works, works_more, works_ok}
@@ -26,7 +26,7 @@ use Rattle.sdr_model.specs.declared.answer.Reply.TheVariants as replies
 use Rattle.sdr_model.specs.declared.call.Call.{Call}
 use Rattle.sdr_model.specs.declared.call.Call.TheVariants as calls
 use Rattle.sdr_model.specs.declared.event.Event.TheVariants as events
-use Rattle.sdr_served.specs.Giving.{AsksMedia, TellsMedia}
+use Rattle.sdr_served.specs.Giving.{AsksMedia}
 use Rattle.sdr_served.specs.Serving.{call_lines}
 use Rattle.zco_given.specs.Giving.{AgreesIn, AgreesRead, HasMediaCause, MissesMedia}
 use Rattle.zco_wire.specs.Stopping.{past_media, past_stop}
