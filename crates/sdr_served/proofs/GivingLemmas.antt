@@ -26,7 +26,7 @@ use Rattle.sdr_model.specs.declared.answer.Reply.TheVariants as replies
 use Rattle.sdr_model.specs.declared.call.Call.{Call}
 use Rattle.sdr_model.specs.declared.call.Call.TheVariants as calls
 use Rattle.sdr_model.specs.declared.event.Event.TheVariants as events
-use Rattle.sdr_served.specs.Giving.{AsksMedia}
+use Rattle.sdr_served.specs.Giving.{TellsInEach}
 use Rattle.sdr_served.specs.Serving.{call_lines}
 use Rattle.zco_given.specs.Giving.{AgreesIn, AgreesRead, HasMediaCause, MissesMedia}
 use Rattle.zco_wire.specs.Stopping.{past_media, past_stop}
@@ -88,7 +88,7 @@ works_past (Err stop) w = works_stopped stop w
 -- a call that reads media tells what it read
 pub tells_reading : {M : Type 0} (m : Ghosts M) (call : Call) (old new : Heap) (was shown : List ℕ) (before now : M)
     (result : Result Reply Stop) → reads_media call ≡ true → AgreesIn (m.told before) call old result shown → HasMediaCause m call old before now result → new ≡ old
-    → OnErr result (shown ≡ was) → AsksMedia m call old new was shown before now result
+    → OnErr result (shown ≡ was) → TellsInEach m call old new was shown before now result
 tells_reading m call old new was shown before now result reads agrees cause same stays = record {
   each = λ w stands served. record {
     agrees = agrees.each w stands served;
@@ -136,7 +136,7 @@ module _ {M S : Type 0} (m : Ghosts M) (h : HeapGhosts S) (a b : S) (w : World) 
 pub tells_unread : {M S : Type 0} (m : Ghosts M) (h : HeapGhosts S) (lines : World → ℕ) (a b : S) (call : Call) (was shown : List ℕ)
     (media : M) (result : Result Reply Stop) → reads_media call ≡ false → Comes call (h.heap a) (h.heap b) was shown result
     → ((w : World) → HeapStandsFor (h.heap a) w → IsServed w → Works h (lines w) a b result)
-    → AsksMedia m call (h.heap a) (h.heap b) was shown media media result
+    → TellsInEach m call (h.heap a) (h.heap b) was shown media media result
 tells_unread m h lines a b call was shown media result none comes works = record {
   each = λ w stands served.
       let done = works w stands served in

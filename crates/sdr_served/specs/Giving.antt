@@ -21,6 +21,6 @@ pub record TellsMedia {M : Type 0} (m : Ghosts M) (w : World) (call : Call) (old
   pub stays : result ≡ Err stops.MediaFault → (reads_media call ≡ true) × (new ≡ old) × (shown ≡ was)
 
 -- so it is in each world in which calls are served and for which the heap stood
-pub record AsksMedia {M : Type 0} (m : Ghosts M) (call : Call) (old new : Heap) (was shown : List ℕ) (before now : M)
+pub record TellsInEach {M : Type 0} (m : Ghosts M) (call : Call) (old new : Heap) (was shown : List ℕ) (before now : M)
     (result : Result Reply Stop) : Type 0 where
   pub each : (w : World) → HeapStandsFor old w → IsServed w → TellsMedia m w call old new was shown before now result

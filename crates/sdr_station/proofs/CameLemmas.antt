@@ -24,14 +24,15 @@ use Rattle.sdr_model.specs.declared.answer.Reply.TheVariants as replies
 use Rattle.sdr_model.specs.declared.call.Call.{Call}
 use Rattle.sdr_station.proofs.GivingLemmas.{gives_shown}
 use Rattle.sdr_station.proofs.GroundLemmas.{gaps_of, ground_brought, heap_ground, keeps_read}
-use Rattle.sdr_station.proofs.MediaLemmas.{answered_gap, refused_gap}
+use Rattle.sdr_station.proofs.MediaLemmas.{answered_gap, answered_reads, refused_gap, refused_reads}
 use Rattle.sdr_station.proofs.ServingLemmas.{AsksIn, WorksIn, answers_no_doom, brings_answered, brings_missed, brings_quiet, brings_refused, going_ground, good_in, image_heap, leaves_quiet, no_fault, quiet_of, refused_ground, served_in}
 use Rattle.sdr_answers.specs.Answering.{Comes, IsServed, dooms}
-use Rattle.sdr_served.specs.Giving.{AsksMedia}
+use Rattle.sdr_served.specs.Giving.{TellsInEach}
 use Rattle.sdr_served.specs.Serving.{IsGood, call_lines}
 use Rattle.zco_wire.specs.Stopping.{KeepsTold, past_media, past_stop}
 use Rattle.sdr_station.specs.Closing.{moves_left}
-use Rattle.sdr_station.specs.Giving.{Gives}
+use Rattle.sdr_station.specs.Giving.{Gives, reads_by}
+use Rattle.zco_given.specs.Giving.{may_read}
 use Rattle.sdr_station.specs.Grounded.{Grounded, IsGround, StandsForBoth, StandsInMemory, StandsSome, StandsWithin, heap_in}
 
 -- what a call came to on a ground
@@ -42,6 +43,7 @@ pub record CameTo {D M : Type 0} (told : D → Option (List ℕ)) (moment faults
   pub stopped : new.stopped ≡ dooms call reply
   pub gives : Gives reply new
   pub gap : HasGapCause (answers.Reply reply) (gaps_of media old.media) (gaps_of media new.media)
+  pub unread : reads_by call reply ≡ false → new.media ≡ old.media
   pub sound : new.heap.cells.failed ≡ false
   pub keeps : KeepsGround (heap_ground told moment faults may_leave media) true old new
   pub any_moment : LeavesBefore (heap_ground told moment faults may_leave media) old new
@@ -63,7 +65,7 @@ module _ {D M : Type 0} (told : D → Option (List ℕ)) (moment faults : D → 
 
   -- what it tells of media
   abbrev pub AsksFrom : Result Reply Stop → Type 0
-  AsksFrom result = AsksMedia media call (heap_in before) (heap_in heap) old.shown page old.media files result
+  AsksFrom result = TellsInEach media call (heap_in before) (heap_in heap) old.shown page old.media files result
 
   -- the heap before it is the one of the ground
   abbrev fresh : Held (Opened D)
@@ -76,7 +78,7 @@ module _ {D M : Type 0} (told : D → Option (List ℕ)) (moment faults : D → 
 
   asks_from : (result : Result Reply Stop) → AsksFrom result → AsksIn faults media old going call fit before.spare heap files page result
   asks_from result asks =
-      subst (λ (h : Held (Opened D)). AsksMedia media call (heap_in h) (heap_in heap) old.shown page old.media files result) from asks
+      subst (λ (h : Held (Opened D)). TellsInEach media call (heap_in h) (heap_in heap) old.shown page old.media files result) from asks
 
   comes_from : (result : Result Reply Stop) → Comes call (heap_in before) (heap_in heap) old.shown page result
       → Comes call (heap_in fresh) (heap_in heap) old.shown page result
@@ -104,14 +106,15 @@ module _ {D M : Type 0} (told : D → Option (List ℕ)) (moment faults : D → 
   -- what it brings in memory, it comes to
   comes_to : (reply : Reply) (new : Grounded D M) → IsQuiet old.heap.cells new.heap.cells → new.moment ≡ old.moment → new.media ≡ files
       → faults old.heap.cells.disk ≤ faults new.heap.cells.disk → new.stopped ≡ dooms call reply → new.idle ≡ false → Gives reply new
-      → HasGapCause (answers.Reply reply) (gaps_of media old.media) (gaps_of media files)
+      → HasGapCause (answers.Reply reply) (gaps_of media old.media) (gaps_of media files) → (reads_by call reply ≡ false → files ≡ old.media)
       → Brings StandsInMemory old new (Calls (media.told old.media) call reply) → CameTo told moment faults may_leave media call reply old new
-  comes_to reply new quiet same read later stopped made gives gap memory = record {
+  comes_to reply new quiet same read later stopped made gives gap unread memory = record {
     memory = memory;
     answered = brings_quiet told moment may_leave old new quiet same memory;
     stopped = stopped;
     gives = gives;
     gap = subst (λ (f : M). HasGapCause (answers.Reply reply) (gaps_of media old.media) (gaps_of media f)) (sym read) gap;
+    unread = λ none. read ∙ unread none;
     sound = quiet.failed ∙ sound;
     keeps = keeps_more (heap_ground told moment faults may_leave media)
         (keeps_read told moment faults may_leave media old new (ap media.told read ∙ lasts.told)
@@ -128,8 +131,9 @@ module _ {D M : Type 0} (told : D → Option (List ℕ)) (moment faults : D → 
 
   -- an answered call
   pub came_answered : (reply : Reply) → Comes call (heap_in before) (heap_in heap) old.shown page (Ok reply)
-      → WorksFrom (Ok reply) → AsksFrom (Ok reply) → CameTo told moment faults may_leave media call reply old going_on
-  came_answered reply comes' works asks =
+      → WorksFrom (Ok reply) → AsksFrom (Ok reply) → (may_read call (Ok reply) ≡ false → files ≡ old.media)
+      → CameTo told moment faults may_leave media call reply old going_on
+  came_answered reply comes' works asks unread =
       let comes = comes_from (Ok reply) comes' in
       let ans = comes.each some.for.now.world stands (served_in within) in
       let outcome : Outcome = record { moves = heap.moves; after = ans.after; reply = reply } in
@@ -137,25 +141,28 @@ module _ {D M : Type 0} (told : D → Option (List ℕ)) (moment faults : D → 
       (going ∙ sym (answers_no_doom call reply ans.answered)) refl
       (gives_shown going_on some.for.now.world call outcome within.whole ans.row ans.gave (λ _. going) reply refl)
       (answered_gap (gaps_of media old.media) (gaps_of media files) reply ans.answered)
+      (λ none. unread (answered_reads call reply ans.answered none))
       (brings_answered faults media old going call fit before.spare heap files page reply comes (works_from (Ok reply) works) (asks_from (Ok reply) asks))
 
   -- a call that media failed
   pub came_missed : (stop : Stop) → stop ≡ stops.MediaFault → WorksFrom (Err stop) → AsksFrom (Err stop)
-      → CameTo told moment faults may_leave media call replies.MediaFault old going_on
-  came_missed stop is works' asks' =
+      → (may_read call (Err stop) ≡ false → files ≡ old.media) → CameTo told moment faults may_leave media call replies.MediaFault old going_on
+  came_missed stop is works' asks' unread =
       let works = subst (λ (s : Stop). WorksFrom (Err s)) is works' in
       let asks = asks_from (Err stops.MediaFault) (subst (λ (s : Stop). AsksFrom (Err s)) is asks') in
       comes_to replies.MediaFault going_on (quiet_from (Err stops.MediaFault) works) refl refl (later_from (Err stops.MediaFault) works) going refl tt
       (asks.each some.for.now.world stands (served_in within)).misses.2
+      (subst (λ (s : Stop). may_read call (Err s) ≡ false → files ≡ old.media) is unread)
       (brings_missed faults media old going call fit before.spare heap files page (works_from (Err stops.MediaFault) works) asks)
 
   -- a refused call, which tells these moves, and dooms where it doesn't read
   pub came_refused : (refusal : Refusal) (stop : Stop) → stop ≡ stops.Refused refusal → (left : Held (Opened D))
       → left ≡ record heap { moves = moves_left refusal heap.moves; spare = left.spare } → (reads : Bool) → reads ≡ is_reading call
       → Comes call (heap_in before) (heap_in heap) old.shown page (Err stop) → WorksFrom (Err stop) → AsksFrom (Err stop)
+      → (may_read call (Err stop) ≡ false → files ≡ old.media)
       → CameTo told moment faults may_leave media call (replies.Refused refusal) old
       (record { heap = left; media = files; shown = page; stopped = not reads; idle = false; moment = old.moment; restored = old.restored })
-  came_refused refusal stop is left left_is reads reads_is comes' works' asks' =
+  came_refused refusal stop is left left_is reads reads_is comes' works' asks' unread =
       let comes = comes_from (Err (stops.Refused refusal))
       (subst (λ (s : Stop). Comes call (heap_in before) (heap_in heap) old.shown page (Err s)) is comes') in
       let works = subst (λ (s : Stop). WorksFrom (Err s)) is works' in
@@ -164,6 +171,7 @@ module _ {D M : Type 0} (told : D → Option (List ℕ)) (moment faults : D → 
       let came : CameTo told moment faults may_leave media call (replies.Refused refusal) old new =
       comes_to (replies.Refused refusal) new (quiet_from (Err (stops.Refused refusal)) works) refl refl (later_from (Err (stops.Refused refusal)) works) refl refl tt
       (refused_gap media some.for.now.world call old.media files refusal (asks.each some.for.now.world stands (served_in within)).misses)
+      (λ none. subst (λ (s : Stop). may_read call (Err s) ≡ false → files ≡ old.media) is unread (refused_reads call refusal none))
       (brings_refused faults media old going call fit before.spare heap files page refusal left.spare comes
       (works_from (Err (stops.Refused refusal)) works) asks) in
       subst (λ (g : Grounded D M). CameTo told moment faults may_leave media call (replies.Refused refusal) old g)

@@ -102,27 +102,14 @@ given_told o most count (Given.gives n is long few) told =
 abbrev pub most_given : Call → ℕ
 most_given (calls.Read addr place count) = min count 4096
 most_given (calls.Stage addr count) = min count 4096
-most_given (calls.StringRead addr) = 4096
+most_given (calls.StringRead addr) = longest_string
 most_given (calls.Row table row) = 4096
-most_given (calls.Entry place) = 4096
+most_given (calls.Entry place) = longest_name
 most_given (calls.Transmit addr place count) = min count 4096
 most_given (calls.ReceiveHeaders addr place count) = min count 4096
 most_given (calls.ReceiveSource addr place count) = min count 4096
 most_given (calls.ReceiveTrailers addr place count) = min count 4096
 most_given call = 0
-
--- which is a page at most
-pub given_page : (call : Call) → most_given call ≤ 4096
-given_page (calls.Read addr place count) = omega arith
-given_page (calls.Stage addr count) = omega arith
-given_page (calls.StringRead addr) = omega arith
-given_page (calls.Row table row) = omega arith
-given_page (calls.Entry place) = omega arith
-given_page (calls.Transmit addr place count) = omega arith
-given_page (calls.ReceiveHeaders addr place count) = omega arith
-given_page (calls.ReceiveSource addr place count) = omega arith
-given_page (calls.ReceiveTrailers addr place count) = omega arith
-given_page call = omega arith
 
 -- so many bytes are no more than are asked
 some_few : (place count : ℕ) (told : ToldBytes) → length (some_of place count told) ≤ count
@@ -287,8 +274,7 @@ module _ (w : World) (o : Outcome) where
   given_row (calls.StringLength addr) whole h =
       on addr (as_text (thing_at w addr)) h (λ text _ h. shows_none h.1 h.2 refl refl)
   given_row (calls.StringRead addr) whole h = on addr (as_text (thing_at w addr)) h (λ text there h.
-      let short = text_short w addr text whole there in
-      shows w text (length text) refl refl (omega (arith, short)) h)
+      shows w text (length text) refl refl (text_short w addr text whole there) h)
   given_row (calls.StringDup addr) whole h =
       on addr (as_text (thing_at w addr)) h (λ text _ h. in_takes_one o.moves _ _ h (λ addr p. shows_none p.0 p.1 refl refl))
   given_row (calls.List user) whole h = in_takes_one o.moves _ _ h (λ addr p. shows_none p.0 p.1 refl refl)
@@ -360,8 +346,7 @@ module _ (w : World) (o : Outcome) where
       on_name name h (λ h. refused refusals.NotFound h) (λ n h. shows_none h.1 h.2 refl refl)
   given_row (calls.Entry place) whole h =
       from_option (slice_get w.names place) h (λ _ h. refused refusals.NotFound h) (λ n there h.
-      let short = name_short w place n whole there in
-      shows w n.name (length n.name) refl refl (omega (arith, short)) h)
+      shows w n.name (length n.name) refl refl (name_short w place n whole there) h)
   given_row (calls.FileRef path bytes) whole h =
       unless (is_no_path (length path)) (refusals.BadLength (length path) longest_path) h (λ _ h.
       unless (nat_lt longest_source bytes) (refusals.BadLength bytes longest_source) h

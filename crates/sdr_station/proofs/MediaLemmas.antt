@@ -1,12 +1,12 @@
 -- What the answer to a call tells of media.
-use Rattle.std.proofs.Common.{◌≡◌, ℕ, List, true, true≢false, Option, Result, Ok, Err, refl, sym, subst}
-use Rattle.sdr_base.specs.Media.{Told}
+use Rattle.std.proofs.Common.{◌≡◌, true, false, true≢false, Result, Err, refl, sym}
 use Rattle.sdr_base.specs.declared.media.Media.{Ghosts as MediaGhosts}
 use Rattle.sdr_base.specs.declared.refusal.Refusal.{Refusal}
 use Rattle.sdr_base.specs.declared.refusal.Refusal.TheVariants as refusals
 use Rattle.sdr_base.specs.declared.stop.Stop.TheVariants as stops
 use Rattle.sdr_lock.specs.Gaps.{Gaps, HasGapCause}
 use Rattle.sdr_lock.specs.Ground.{MayMissMedia}
+use Rattle.sdr_model.specs.Reading.{reads_media}
 use Rattle.sdr_model.specs.Step.{is_answer}
 use Rattle.sdr_model.specs.World.{World}
 use Rattle.sdr_model.specs.declared.answer.Answer.TheVariants as answers
@@ -14,7 +14,8 @@ use Rattle.sdr_model.specs.declared.answer.Reply.{Reply}
 use Rattle.sdr_model.specs.declared.answer.Reply.TheVariants as replies
 use Rattle.sdr_model.specs.declared.call.Call.{Call}
 use Rattle.sdr_station.proofs.GroundLemmas.{gaps_of}
-use Rattle.zco_given.specs.Giving.{MissesMedia}
+use Rattle.sdr_station.specs.Giving.{reads_by}
+use Rattle.zco_given.specs.Giving.{MissesMedia, may_read}
 
 -- a reply that answers tells of no gap
 pub answered_misses : (w : World) (call : Call) (reply : Reply) → is_answer reply ≡ true → MayMissMedia w call reply
@@ -26,6 +27,16 @@ pub answered_gap : (before now : Gaps) (reply : Reply) → is_answer reply ≡ t
 answered_gap before now replies.MediaFault is = absurd (true≢false (sym is))
 answered_gap before now (replies.Refused refusal) is = absurd (true≢false (sym is))
 answered_gap before now reply is = tt
+
+-- a call that may not have read media by its reply may not by what it came to
+pub answered_reads : (call : Call) (reply : Reply) → is_answer reply ≡ true → reads_by call reply ≡ false → reads_media call ≡ false
+answered_reads call (replies.Refused refusal) is none = absurd (true≢false (sym is))
+answered_reads call reply is none = none
+
+pub refused_reads : (call : Call) (refusal : Refusal) → reads_by call (replies.Refused refusal) ≡ false
+    → may_read call (Err (stops.Refused refusal)) ≡ false
+refused_reads call (refusals.SourceShort have want) none = none
+refused_reads call refusal none = refl
 
 module _ {M : Type 0} (m : MediaGhosts M) (w : World) (call : Call) (before now : M) where
   -- a refusal that tells of one asks bytes of media

@@ -48,7 +48,7 @@ use Rattle.sdr_station.proofs.GroundLemmas.{heap_ground}
 use Rattle.sdr_station.proofs.MediaLemmas.{answered_misses, refused_misses}
 use Rattle.sdr_station.specs.CrashNow.{crash_now}
 use Rattle.sdr_answers.specs.Answering.{Aim, Answered, Comes, IsServed, dooms}
-use Rattle.sdr_served.specs.Giving.{AsksMedia}
+use Rattle.sdr_served.specs.Giving.{TellsInEach}
 use Rattle.sdr_served.specs.Serving.{IsGood, call_lines}
 use Rattle.zco_wire.specs.Stopping.{past_media, past_stop}
 use Rattle.sdr_station.specs.Closing.{moves_left}
@@ -106,7 +106,7 @@ module _ {D M : Type 0} (faults : D → ℕ) (m : MediaGhosts M) (old : Grounded
 
   -- what it tells of media
   abbrev pub AsksIn : Result Reply Stop → Type 0
-  AsksIn result = AsksMedia m call (heap_in fresh_heap) (heap_in heap) old.shown page old.media files result
+  AsksIn result = TellsInEach m call (heap_in fresh_heap) (heap_in heap) old.shown page old.media files result
 
   -- the ground after a call that stopped none
   abbrev pub going_ground : Grounded D M

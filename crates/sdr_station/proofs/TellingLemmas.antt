@@ -13,7 +13,7 @@ use Rattle.sdr_model.specs.declared.answer.Reply.{Reply}
 use Rattle.sdr_model.specs.declared.answer.Reply.TheVariants as replies
 use Rattle.sdr_model.specs.declared.call.Call.{Call}
 use Rattle.sdr_model.specs.declared.call.Call.TheVariants as calls
-use Rattle.sdr_station.proofs.GivenLemmas.{given_few, given_page, given_row, most_given}
+use Rattle.sdr_station.proofs.GivenLemmas.{given_few, given_row, most_given}
 use Rattle.sdr_station.proofs.RoomLemmas.{steps_at_most}
 use Rattle.sdr_station.specs.Grounded.{HasStood}
 use Rattle.sdr_station.specs.Rooming.{MovesAtMost}
@@ -34,12 +34,9 @@ pub bytes_at_most : (call : Call) → BytesAtMost call (most_given call)
 bytes_at_most call w o whole (inl row) = given_few o (most_given call) (given_row w o call whole row)
 bytes_at_most call w o whole (inr s) = few_stopped o call s.aim.moves (most_given call) s.stopped
 
--- which is a page at most
-pub bytes_page : (call : Call) → BytesAtMost call 4096
-bytes_page call w o whole step =
-    let few = bytes_at_most call w o whole step in
-    let page = given_page call in
-    omega (arith, few, page)
+-- so many, where its row does
+pub bytes_so_many : (call : Call) (most : ℕ) → most_given call ≡ most → BytesAtMost call most
+bytes_so_many call most is = subst (λ (n : ℕ). BytesAtMost call n) is (bytes_at_most call)
 
 -- the call asks to read so many bytes
 abbrev pub AsksToRead : Call → ℕ → Type 0
@@ -52,7 +49,7 @@ AsksToRead call count =
 
 -- it gives no more than that, nor than a page
 pub bytes_read : (call : Call) (count : ℕ) → AsksToRead call count → BytesAtMost call (min count 4096)
-bytes_read call count reads = subst (λ (n : ℕ). BytesAtMost call n) (asked reads) (bytes_at_most call)
+bytes_read call count reads = bytes_so_many call (min count 4096) (asked reads)
   where
     asked : AsksToRead call count → most_given call ≡ min count 4096
     asked (inl r) = ap most_given r.2
@@ -72,7 +69,7 @@ pub bytes_none : (call : Call) → ((addr place count : ℕ) → call ≡ calls.
     → ((addr : ℕ) → call ≡ calls.StringRead addr → ⊥) → ((addr row : ℕ) → call ≡ calls.Row addr row → ⊥)
     → ((place : ℕ) → call ≡ calls.Entry place → ⊥) → BytesAtMost call 0
 bytes_none call read stage wire headers source trailers text row entry =
-    subst (λ (n : ℕ). BytesAtMost call n) (none call read stage wire headers source trailers text row entry) (bytes_at_most call)
+    bytes_so_many call 0 (none call read stage wire headers source trailers text row entry)
   where
     none : (call : Call) → ((addr place count : ℕ) → call ≡ calls.Read addr place count → ⊥)
         → ((addr count : ℕ) → call ≡ calls.Stage addr count → ⊥)

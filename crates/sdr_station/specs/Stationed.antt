@@ -19,6 +19,7 @@ use Rattle.sdr_model.specs.declared.answer.Reply.{Reply}
 use Rattle.sdr_model.specs.declared.answer.Reply.TheVariants as replies
 use Rattle.sdr_model.specs.declared.call.Call.{Call}
 use Rattle.sdr_model.specs.declared.event.Event.{Event}
+use Rattle.sdr_station.specs.Giving.{reads_by}
 use Rattle.sdr_station.specs.Grounded.{Grounded, StandsInMemory}
 use Rattle.sdr_station.specs.declared.error.Shut.{Shut}
 use Rattle.sdr_station.specs.declared.station.Closed.{Closed}
@@ -73,7 +74,8 @@ Begins old new result =
     (Deepens (deepened old.nesting) old new result))
     (λ moment. (result ≡ Err stops.Failed) × (new ≡ old))
 
--- A call in a transaction that isn't doomed is a step, and is noted. That media failed, or had too few bytes, has its cause.
+-- A call in a transaction that isn't doomed is a step, and is noted. That media failed, or had too few bytes, has its cause, and
+-- media are as they were where the call may not have read them.
 pub record Says {D M : Type 0} (g : Ghosts (Grounded D M)) (call : Call) (reply : Reply) (old new : Stationed D M) : Type 0 where
   pub memory : Brings StandsInMemory old.ground new.ground (Calls (g.told old.ground) call reply)
   pub steps : Brings g.stands old.ground new.ground (Calls (g.told old.ground) call reply)
@@ -81,6 +83,7 @@ pub record Says {D M : Type 0} (g : Ghosts (Grounded D M)) (call : Call) (reply 
   pub failed : new.failed ≡ None
   pub restored : new.ground.restored ≡ old.ground.restored
   pub gap : HasGapCause (answers.Reply reply) (g.gaps old.ground) (g.gaps new.ground)
+  pub unread : reads_by call reply ≡ false → new.ground.media ≡ old.ground.media
   pub keeps : KeepsGround g true old.ground new.ground
 
 -- what a call does: it is a step, or is refused where the transaction is doomed, or fails after a disk fault
@@ -124,6 +127,7 @@ pub record Closes {D M : Type 0} (g : Ghosts (Grounded D M)) (close : Close) (ol
   pub closes : ClosesWith g close old new result
   pub nesting : new.nesting ≡ unbegun
   pub restored : new.ground.restored ≡ old.ground.restored
+  pub media : new.ground.media ≡ old.ground.media
   pub keeps : KeepsGround g false old.ground new.ground
   pub any_moment : LeavesOr (is_kept close) g old.ground new.ground
 

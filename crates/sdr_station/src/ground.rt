@@ -13,7 +13,7 @@ ghost use Rattle.sdr_log.specs.Calls.{KeepsDisk};
 ghost use Rattle.sdr_log.specs.Logged.{GivesSame};
 ghost use Rattle.sdr_answers.specs.Answering.{dooms};
 ghost use Rattle.sdr_station.specs.Grounded.{IsBefore, StandsForBoth, StandsInMemory};
-ghost use Rattle.sdr_station.specs.Giving.{Gives};
+ghost use Rattle.sdr_station.specs.Giving.{Gives, reads_by};
 ghost use Rattle.sdr_station.specs.Opening.{ExplainsOpen, IsOfAudit, IsOfImage, IsOpen, LeavesBytes, disk_of};
 ghost use Rattle.sdr_station.specs.Opening.{media_of};
 
@@ -206,6 +206,7 @@ impl<D: Disk, M: Media, F: Notify + Drop> HeapGround<D, M, F> {
         ensures gap { HasGapCause (Answer.Reply result)
             (⟦<HeapGround<D, M, F> as HasGround>⟧.gaps self.old)
             (⟦<HeapGround<D, M, F> as HasGround>⟧.gaps self.new) }
+        ensures unread { reads_by call.now result ≡ false → self.new.media ≡ self.old.media }
         ensures keeps { KeepsGround ⟦<HeapGround<D, M, F> as HasGround>⟧ true self.old self.new }
         ensures any_moment { LeavesBefore ⟦<HeapGround<D, M, F> as HasGround>⟧ self.old self.new }
     {
@@ -240,6 +241,7 @@ impl<D: Disk, M: Media, F: Notify + Drop> HeapGround<D, M, F> {
         ensures idle { OnOk result (self.new.idle ≡ true) }
         ensures sound { OnOk result (self.new.heap.cells.failed ≡ false) }
         ensures restored { self.new.restored ≡ self.old.restored }
+        ensures media { self.new.media ≡ self.old.media }
         ensures fault { OnErr result
             (MeetsFault ⟦<HeapGround<D, M, F> as HasGround>⟧ self.old self.new) }
         ensures keeps { KeepsGround ⟦<HeapGround<D, M, F> as HasGround>⟧ false self.old self.new }
@@ -273,6 +275,7 @@ impl<D: Disk, M: Media, F: Notify + Drop> HeapGround<D, M, F> {
             (self.old.heap.cells.failed ≡ false → self.new.idle ≡ true) }
         ensures sound { OnOk result (self.new.heap.cells.failed ≡ self.old.heap.cells.failed) }
         ensures restored { self.new.restored ≡ self.old.restored }
+        ensures media { self.new.media ≡ self.old.media }
         ensures fault { OnErr result
             (MeetsFault ⟦<HeapGround<D, M, F> as HasGround>⟧ self.old self.new) }
         ensures keeps { KeepsGround ⟦<HeapGround<D, M, F> as HasGround>⟧ false self.old self.new }
@@ -310,6 +313,7 @@ impl<D: Disk, M: Media, F: Notify + Drop> HeapGround<D, M, F> {
         ensures fault { OnErr result
             (MeetsFault ⟦<HeapGround<D, M, F> as HasGround>⟧ self.old self.new) }
         ensures restored { self.new.restored ≡ self.old.restored }
+        ensures media { self.new.media ≡ self.old.media }
         ensures keeps { KeepsGround ⟦<HeapGround<D, M, F> as HasGround>⟧ false self.old self.new }
         ensures any_moment { LeavesBefore ⟦<HeapGround<D, M, F> as HasGround>⟧ self.old self.new }
     {
@@ -436,6 +440,9 @@ impl<D: Disk, M: Media, F: Notify + Drop> Serves for HeapGround<D, M, F> {
         ensures gap { IfOk result (λ reply. HasGapCause (Answer.Reply reply)
             (⟦<HeapGround<D, M, F> as HasGround>⟧.gaps self.old)
             (⟦<HeapGround<D, M, F> as HasGround>⟧.gaps self.new)) }
+        ensures dooms { IfOk result (λ reply. self.new.stopped ≡ dooms call.now reply) }
+        ensures unread { IfOk result (λ reply.
+            reads_by call.now reply ≡ false → self.new.media ≡ self.old.media) }
         ensures memory { IsErrOf result Halt.Memory → self.new ≡ self.old }
         ensures stopped { IsErrOf result Halt.Memory ↔ (self.old.stopped ≡ true) }
         ensures fault { IsErrOf result Halt.Fault

@@ -171,7 +171,7 @@ impl<D: Disk, M: Media, F: Notify + Drop> Station<D, M, F> {
 
     /// How many moves the call that follows can have at most, which are no more than the heap has room for.
     pub fn room_for(&mut self, call: &Call) -> Result<u64, Stop>
-        ensures room { TellsRoom ⟦<HeapGround<D, M, F> as HasGround>⟧ call.now self.old result }
+        ensures room { TellsRoom call.now self.old result }
         ensures same { self.new ≡ self.old }
     {
         if let Some(_) = self.failed {

@@ -1,4 +1,5 @@
 // What a heap on an image tells of its calls.
+ghost use Rattle.std.specs.Prelude.{◌≤◌, ◌+◌, ◌/◌, IfOk, IsOk};
 ghost use Rattle.sdr_station.specs.Telling.{BytesAtMost};
 
 use crate::HeapGround;
@@ -8,11 +9,13 @@ use sdr_base::{Media, Move, NoMemory};
 use sdr_disk::Disk;
 use sdr_lock::{Room, Tells};
 use sdr_model::Call;
+use sdr_model::limits::{LONGEST_NAME, LONGEST_STRING};
 use zco_acct::Notify;
 
 // How many bytes a call gives at most.
 fn most_bytes(call: &Call) -> usize
-    ensures { BytesAtMost call.now result }
+    ensures most { BytesAtMost call.now result }
+    ensures few { result ≤ 4096 }
 {
     match call {
         Call::Read(_, _, count)
@@ -21,7 +24,9 @@ fn most_bytes(call: &Call) -> usize
         | Call::ReceiveHeaders(_, _, count)
         | Call::ReceiveSource(_, _, count)
         | Call::ReceiveTrailers(_, _, count) => (*count).min(PAGE as u64) as usize,
-        Call::StringRead(_) | Call::Row(_, _) | Call::Entry(_) => PAGE,
+        Call::StringRead(_) => LONGEST_STRING as usize,
+        Call::Entry(_) => LONGEST_NAME as usize,
+        Call::Row(_, _) => PAGE,
         _ => 0,
     }
 }
@@ -35,7 +40,12 @@ impl<D: Disk, M: Media, F: Notify + Drop> Tells for HeapGround<D, M, F> {
         HeapGround::shown(self)
     }
 
-    fn room_for(&self, call: &Call) -> Result<Room, NoMemory> {
+    // A room is told for each call, and it is no more than a heap of this size and a page need.
+    fn room_for(&self, call: &Call) -> Result<Room, NoMemory>
+        ensures served { IsOk result }
+        ensures few { IfOk result (λ room.
+            (room.moves ≤ self.now.heap.size / 4 + 4) × (room.bytes ≤ 4096)) }
+    {
         Ok(Room {
             moves: most_moves(call, self.size()) as usize,
             bytes: most_bytes(call),

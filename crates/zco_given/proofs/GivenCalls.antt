@@ -1,11 +1,12 @@
 -- Calls that read the bytes of objects, as steps.
-use Rattle.std.proofs.Common.{◌≡◌, ◌∙◌, ◌≤◌, ◌<◌, ℕ, true, List, [], Option, Some, None, IfSome, Err, length, take, inl, inr, refl, sym, ap, subst, arith, nat_lt}
+use Rattle.std.proofs.Common.{◌≡◌, ◌∙◌, ◌≤◌, ◌<◌, ℕ, true, false, true≢false, List, [], Option, Some, None, IfSome, Err, length, take, inl, inr, refl, sym, ap, subst, arith, nat_lt}
 use Rattle.std.proofs.lemmas.Bool.{le-ltb, lt-ltb}
 use Rattle.sdr_answers.proofs.ListLemmas.{IsSmall}
 use Rattle.sdr_answers.proofs.RowLemmas.{misnamed_refused, row_refused, shows, unmoved_answered}
 use Rattle.sdr_answers.specs.Answering.{Aim, Answered, IsRefused, IsServed}
 use Rattle.sdr_audit.specs.Rows.{object_row}
 use Rattle.sdr_audit.specs.Standing.{HeapStandsFor}
+use Rattle.sdr_base.specs.Blocks.{Blocks}
 use Rattle.sdr_base.specs.Media.{Told}
 use Rattle.sdr_base.specs.Objects.{Heap, Misses}
 use Rattle.sdr_base.specs.declared.kind.Kind.TheVariants as kinds
@@ -34,13 +35,24 @@ use Rattle.sdr_model.specs.declared.event.Event.TheVariants as events
 use Rattle.sdr_model.specs.declared.piece.Piece.{Piece}
 use Rattle.sdr_model.specs.declared.zco.ZcoObject.{ZcoObject}
 use Rattle.zco_answers.proofs.ObjectLemmas.{IsObjectAt, no_object, object_is_at}
-use Rattle.zco_given.specs.Giving.{AgreesRead, CountStops, MissesMedia, ReadsCall, asked_by}
+use Rattle.zco_given.specs.Giving.{AgreesRead, CountStops, MissesMedia, ReadsCall, asked_by, may_read}
 use Rattle.zco_given.proofs.KeptLemmas.{asked_same, wire_kept}
 use Rattle.zco_wire.specs.Stopping.{ReadStops, StopsObject, StopsPieces}
 
 -- the outcome of a call that gives these bytes
 abbrev pub gives_outcome : World → List ℕ → Outcome
 gives_outcome w bytes = record { moves = []; after = record w { shown = bytes }; reply = replies.Bytes (length bytes) }
+
+-- a read that was refused for another reason than too few bytes of media has not asked them
+pub read_unasked : {M : Type 0} (m : Ghosts M) (blocks : Blocks) (call : Call) → reads_media call ≡ true → (was now : M) (stop : Stop) →
+    ReadStops m blocks (asked_addr call) (asked_count call) (asked_by call) was now stop → may_read call (Err stop) ≡ false → now ≡ was
+read_unasked m blocks call reads was now (stops.Refused (refusals.SourceShort have want)) r none = absurd (true≢false (sym reads ∙ none))
+read_unasked m blocks call reads was now (stops.Refused (refusals.BadAddress addr)) r none = r.0
+read_unasked m blocks call reads was now (stops.Refused (refusals.WrongKind addr number)) r none = r.0
+read_unasked m blocks call reads was now (stops.Refused (refusals.BadLength bytes most)) r none = r.4
+read_unasked m blocks call reads was now (stops.Refused refusal) r none = absurd r
+read_unasked m blocks call reads was now stops.MediaFault r none = absurd (true≢false (sym reads ∙ none))
+read_unasked m blocks call reads was now stop r none = absurd (true≢false (sym reads ∙ none))
 
 -- a call on a heap that stands for a world in which it is served, of at most a page
 module _ (old new : Heap) (w : World) (unmoved : old.moves ≡ []) (s : HeapStandsFor old w) (served : IsServed w) (small : IsSmall old)

@@ -1,5 +1,5 @@
 -- What the calls give that read an object's bytes, in the worlds that its blocks stand for.
-use Rattle.std.specs.Prelude.{◌≡◌, ◌≤◌, ◌<◌, ℕ, true, List, [], length, take, Option, Result, Ok, Err, ⊤}
+use Rattle.std.specs.Prelude.{◌≡◌, ◌≤◌, ◌<◌, ℕ, Bool, true, false, List, [], length, take, Option, Result, Ok, Err, ⊤}
 use Rattle.sdr_answers.specs.Answering.{Aim, IsServed}
 use Rattle.sdr_audit.specs.Standing.{HeapStandsFor}
 use Rattle.sdr_base.specs.Blocks.{Blocks, IsKind}
@@ -17,6 +17,7 @@ use Rattle.sdr_lock.specs.Agreeing.{AgreesWith}
 use Rattle.sdr_lock.specs.Ground.{asks_media}
 use Rattle.sdr_lock.specs.Transaction.{bytes_given}
 use Rattle.sdr_model.specs.Limits.{longest_read}
+use Rattle.sdr_model.specs.Reading.{reads_media}
 use Rattle.sdr_model.specs.World.{World}
 use Rattle.sdr_model.specs.declared.answer.Answer.TheVariants as answers
 use Rattle.sdr_model.specs.declared.answer.Reply.{Reply}
@@ -71,6 +72,12 @@ AgreesRead told w call (Err stop) shown = ⊤
 -- so it is in each world in which calls are served and for which the heap stood
 pub record AgreesIn (told : Option Told) (call : Call) (old : Heap) (result : Result Reply Stop) (shown : List ℕ) : Type 0 where
   pub each : (w : World) → HeapStandsFor old w → IsServed w → AgreesRead told w call result shown
+
+-- whether media may have been read in a call that came to this: it asks for their bytes, and wasn't refused but for too few of them
+abbrev pub may_read : Call → Result Reply Stop → Bool
+may_read call (Err (stops.Refused (SourceShort have want))) = reads_media call
+may_read call (Err (stops.Refused refusal)) = false
+may_read call result = reads_media call
 
 -- where a call tells that media failed or had too few bytes, it asks bytes of them, and the count of that rose; where they failed, its
 -- row would have answered it

@@ -1,12 +1,12 @@
 // Answers to the calls that read an object's bytes.
-ghost use Rattle.std.specs.Prelude.{◌≡◌, ◌≤◌, ◌<◌, [], true, IfErr, IfOk, OnErr, OnOk, length};
+ghost use Rattle.std.specs.Prelude.{◌≡◌, ◌≤◌, ◌<◌, [], true, false, IfErr, IfOk, OnErr, OnOk, length};
 ghost use Rattle.sdr_answers.specs.Answering.{Comes};
 ghost use Rattle.sdr_base.specs.Moves.{KeepsSome};
 ghost use Rattle.sdr_base.specs.Works.{Looks};
 ghost use Rattle.sdr_model.specs.Limits.{longest_read};
 ghost use Rattle.sdr_model.specs.Pieces.{asked_addr, asked_count};
 ghost use Rattle.sdr_model.specs.Reading.{reads_media};
-ghost use Rattle.zco_given.specs.Giving.{AgreesIn, CountStops, HasMediaCause, IsGood, ReadsCall, asked_by, place_of};
+ghost use Rattle.zco_given.specs.Giving.{AgreesIn, CountStops, HasMediaCause, IsGood, ReadsCall, asked_by, may_read, place_of};
 ghost use Rattle.zco_wire.specs.Naming.{IsWire};
 ghost use Rattle.zco_wire.specs.Stopping.{KeepsTold, ReadStops, past_media};
 
@@ -92,6 +92,7 @@ fn give<O: Objects, M: Media>(
     ensures cause { HasMediaCause M.Media call.now (O.heap o.old) media.old media.new result }
     ensures shown { OnErr result (page.new ≡ page.old) }
     ensures media { KeepsTold M.Media media.old media.new }
+    ensures unread { may_read call.now result ≡ false → media.new ≡ media.old }
     ensures looks { Looks O.HasHeap o.old o.new (past_media result) }
 {
     let mut at = reader;
@@ -115,7 +116,12 @@ fn refuse_count<O: Objects>(o: &mut O, object: Addr, count: u64) -> Result<Reply
     }))
 }
 
-/// Answers a call that reads an object's bytes. Media are asked for those that lie with them.
+/// Answers a call that reads an object's bytes, at most 4,096 of them. Media are asked for those that lie
+/// with them.
+///
+/// It is refused `BadAddress` or `WrongKind` where its object isn't there, and `BadLength` where it asks more bytes;
+/// for these media aren't asked. It is refused `SourceShort` where media have fewer bytes of an extent than they are asked
+/// for, and answers `MediaFault` where they fail. On all of these the heap and the bytes that are shown stay.
 pub fn answer<O: Objects, M: Media>(
     o: &mut O,
     media: &mut M,
@@ -131,6 +137,7 @@ pub fn answer<O: Objects, M: Media>(
     ensures cause { HasMediaCause M.Media call.now (O.heap o.old) media.old media.new result }
     ensures shown { OnErr result (page.new ≡ page.old) }
     ensures media { KeepsTold M.Media media.old media.new }
+    ensures unread { may_read call.now result ≡ false → media.new ≡ media.old }
     ensures looks { Looks O.HasHeap o.old o.new (past_media result) }
 {
     let (reader, count) = reader_of(call);

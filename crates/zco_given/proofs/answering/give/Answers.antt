@@ -11,7 +11,7 @@ use Rattle.sdr_model.specs.declared.answer.Reply.TheVariants as replies
 use Rattle.sdr_model.specs.declared.event.Event.TheVariants as events
 use Rattle.zco_answers.proofs.ObjectLemmas.{object_is_at}
 use Rattle.zco_given.specs.Giving.{asked_by}
-use Rattle.zco_given.proofs.GivenCalls.{gathered_of, given_agrees, given_answered, read_refused, refused_agrees, refused_misses}
+use Rattle.zco_given.proofs.GivenCalls.{gathered_of, given_agrees, given_answered, read_refused, read_unasked, refused_agrees, refused_misses}
 use Rattle.zco_wire.specs.Stopping.{ReadStops}
 use Rattle.zco_given.proofs.answering.give.Goals as goal
 
@@ -65,6 +65,14 @@ returns-in_err-given-clause-cause g c =
           refused_misses old new w c.requires.unmoved stands served small c.in_err-given.ensures.looks.same c.args.call.now c.requires.reads g.M.Media
           c.args.media.now c.read.new.media c.requires.few c.in_err-given.field-0.0 c.in_err-given.ensures.stops;
     })
+
+pub returns-in_err-given-clause-unread : goal.returns-in_err-given-clause-unread
+returns-in_err-given-clause-unread g c =
+    let p = err_from_is_err_and c.from_residual.result c.from_residual.ensures.1 in
+    let stop = c.in_err-given.field-0.0 in
+    let unread = read_unasked g.M.Media (g.O.HasHeap.heap c.args.o.now).blocks c.args.call.now c.requires.reads c.args.media.now c.read.new.media stop
+    c.in_err-given.ensures.stops in
+    rw (p.1, p.2) unread
 
 pub returns-clause-comes : goal.returns-clause-comes
 returns-clause-comes g c =

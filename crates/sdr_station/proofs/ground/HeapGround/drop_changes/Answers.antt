@@ -61,6 +61,7 @@ returns-in-Ok g c =
       failed = λ was. absurd (true≢false was);
       fault = tt;
       restored = ap (λ (o : Grounded D M). o.restored) c.self.view_is;
+      media = ap (λ (o : Grounded D M). o.media) c.self.view_is;
       keeps = all.keeps;
       any_moment = all.any_moment;
     }

@@ -56,6 +56,7 @@ returns-in-Ok g c =
       idle = λ _. refl;
       sound = all.sound ∙ sym (ap (λ (o : Grounded D M). o.heap.cells.failed) (sym c.self.view_is) ∙ sound);
       restored = ap (λ (o : Grounded D M). o.restored) c.self.view_is;
+      media = ap (λ (o : Grounded D M). o.media) c.self.view_is;
       fault = tt;
       keeps = all.keeps;
       any_moment = all.any_moment;

@@ -55,6 +55,7 @@ returns-in-Ok g c =
       idle = refl;
       sound = all.sound;
       restored = ap (λ (o : Grounded D M). o.restored) c.self.view_is;
+      media = ap (λ (o : Grounded D M). o.media) c.self.view_is;
       fault = tt;
       keeps = all.keeps;
       any_moment = all.any_moment;

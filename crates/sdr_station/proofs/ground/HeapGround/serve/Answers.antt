@@ -46,7 +46,7 @@ returns-in-Ok g c =
     } in
     let came = came_answered b m f l n _ c.self.invariant going c.args.call.now c.in-Ok.ensures.fits c.fresh.new.self
     c.fresh.ensures.none c.answer.new.o c.answer.new.media c.in-Ok.ensures.media c.answer.new.page reply c.in-Ok.ensures.comes c.in-Ok.ensures.works
-    c.in-Ok.ensures.tells in
+    c.in-Ok.ensures.tells c.in-Ok.ensures.unread in
     let at : CameTo b m f l n c.args.call.now reply c.args.self.now new =
     subst (λ (o : Grounded D M). CameTo b m f l n c.args.call.now reply o new) c.self.view_is came in
     record {
@@ -57,6 +57,7 @@ returns-in-Ok g c =
       sound = at.sound;
       restored = ap (λ (o : Grounded D M). o.restored) c.self.view_is;
       gap = at.gap;
+      unread = at.unread;
       keeps = at.keeps;
       any_moment = at.any_moment;
     }
@@ -85,7 +86,7 @@ returns-in-Err-Refused g c =
     let came = came_refused b m f l n _ c.self.invariant going c.args.call.now e.ensures.fits c.fresh.new.self
     c.fresh.ensures.none c.answer.new.o c.answer.new.media e.ensures.media c.answer.new.page e.refusal e.field-0 e.field-0-is c.forget_moves.new.heap
     c.forget_moves.ensures c.is_reading.result c.is_reading.ensures e.ensures.comes e.ensures.works
-    e.ensures.tells in
+    e.ensures.tells e.ensures.unread in
     let at : CameTo b m f l n c.args.call.now reply c.args.self.now new =
     subst (λ (o : Grounded D M). CameTo b m f l n c.args.call.now reply o new) c.self.view_is came in
     record {
@@ -96,6 +97,7 @@ returns-in-Err-Refused g c =
       sound = at.sound;
       restored = ap (λ (o : Grounded D M). o.restored) c.self.view_is;
       gap = at.gap;
+      unread = at.unread;
       keeps = at.keeps;
       any_moment = at.any_moment;
     }
@@ -121,7 +123,7 @@ returns-in-Err-MediaFault g c =
       restored = c.self.inside.restored;
     } in
     let came = came_missed b m f l n _ c.self.invariant going c.args.call.now e.ensures.fits c.fresh.new.self c.fresh.ensures.none c.answer.new.o
-    c.answer.new.media e.ensures.media c.answer.new.page e.field-0 e.field-0-is e.ensures.works e.ensures.tells in
+    c.answer.new.media e.ensures.media c.answer.new.page e.field-0 e.field-0-is e.ensures.works e.ensures.tells e.ensures.unread in
     let at : CameTo b m f l n c.args.call.now replies.MediaFault c.args.self.now new =
     subst (λ (o : Grounded D M). CameTo b m f l n c.args.call.now replies.MediaFault o new) c.self.view_is came in
     record {
@@ -132,6 +134,7 @@ returns-in-Err-MediaFault g c =
       sound = at.sound;
       restored = ap (λ (o : Grounded D M). o.restored) c.self.view_is;
       gap = at.gap;
+      unread = at.unread;
       keeps = at.keeps;
       any_moment = at.any_moment;
     }
@@ -148,7 +151,7 @@ invariant_of-self g c =
     let going = ap (λ (o : Grounded D M). o.stopped) c.self.view_is ∙ c.requires.going in
     let came = came_answered b m f l n _ c.self.invariant going c.args.call.now c.in-Ok.ensures.fits c.fresh.new.self
     c.fresh.ensures.none c.answer.new.o c.answer.new.media c.in-Ok.ensures.media c.answer.new.page c.in-Ok.reply c.in-Ok.ensures.comes
-    c.in-Ok.ensures.works c.in-Ok.ensures.tells in
+    c.in-Ok.ensures.works c.in-Ok.ensures.tells c.in-Ok.ensures.unread in
     came.is_ground
 
 pub invariant_of-self-in-Err-Refused : goal.invariant_of-self-in-Err-Refused
@@ -165,7 +168,7 @@ invariant_of-self-in-Err-Refused g c =
     let came = came_refused b m f l n _ c.self.invariant going c.args.call.now e.ensures.fits c.fresh.new.self
     c.fresh.ensures.none c.answer.new.o c.answer.new.media e.ensures.media c.answer.new.page e.refusal e.field-0 e.field-0-is c.forget_moves.new.heap
     c.forget_moves.ensures c.is_reading.result c.is_reading.ensures e.ensures.comes e.ensures.works
-    e.ensures.tells in
+    e.ensures.tells e.ensures.unread in
     came.is_ground
 
 pub invariant_of-self-in-Err-MediaFault : goal.invariant_of-self-in-Err-MediaFault
@@ -174,5 +177,5 @@ invariant_of-self-in-Err-MediaFault g c =
     let e = c.in-Err-MediaFault in
     let came = came_missed g.D.Disk.bytes g.D.Disk.moment g.D.Disk.faults g.D.Disk.may_leave g.M.Media _ c.self.invariant going c.args.call.now
     e.ensures.fits c.fresh.new.self c.fresh.ensures.none c.answer.new.o c.answer.new.media e.ensures.media c.answer.new.page e.field-0 e.field-0-is
-    e.ensures.works e.ensures.tells in
+    e.ensures.works e.ensures.tells e.ensures.unread in
     came.is_ground

@@ -22,6 +22,7 @@ returns-in-Ok g c =
       };
       nesting = c.none-self-inside.ensures;
       restored = c.in-Ok.ensures.restored;
+      media = c.in-Ok.ensures.media;
       keeps = c.in-Ok.ensures.keeps;
       any_moment = leaves_unkept h close old.ground new.ground c.requires.unkept c.in-Ok.ensures.any_moment;
     })
@@ -38,6 +39,7 @@ returns-in-Err g c =
       closes = record { is_fault = refl; fault = c.in-Err.ensures.fault; failed = ap (λ (m : ℕ). Some m) c.moment.ensures };
       nesting = c.none-self-inside-in-Err.ensures;
       restored = c.in-Err.ensures.restored;
+      media = c.in-Err.ensures.media;
       keeps = c.in-Err.ensures.keeps;
       any_moment = leaves_unkept h close old.ground new.ground c.requires.unkept c.in-Err.ensures.any_moment;
     })

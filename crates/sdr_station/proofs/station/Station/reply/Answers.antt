@@ -24,6 +24,7 @@ returns-clause-says g c =
       failed = c.in_default.is;
       restored = c.serve-reply.ensures.restored;
       gap = c.serve-reply.ensures.gap;
+      unread = c.serve-reply.ensures.unread;
       keeps = c.serve-reply.ensures.keeps;
     })))
 

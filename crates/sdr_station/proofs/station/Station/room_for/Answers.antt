@@ -20,5 +20,5 @@ returns-clause-room g c =
       most = omega (arith, few, size);
       enough = λ v at o steps.
           steps_at_most _ c.args.call.now room c.most_moves.ensures.most v.now.base v.now
-          (subst (λ (n : ℕ). HasStood n v.now.world) (sym size) at.memory.stood) o steps;
+          (subst (λ (n : ℕ). HasStood n v.now.world) (sym size) at.stood) o steps;
     })
