@@ -85,7 +85,8 @@ fn replay_on<D: Disk, M: Media, J: HandedIn, K: Sink>(
 }
 
 /// Makes the steps of a script in order on the heap of a disk, whose sources name these media, and prints the line
-/// of each answer. Where the heap isn't opened, or memory is wanting before the first step, nothing is printed.
+/// of each answer. Where the heap isn't opened, or memory is wanting before the first step, nothing is printed, and
+/// the cause comes with the disk and the media: not formatted, damaged, a disk fault, or want of memory.
 pub fn replay<D: Disk, M: Media, K: Sink>(
     alloc: Global,
     script: &[Step],

@@ -22,7 +22,6 @@ use Rattle.sdr_lock.specs.Serving.{Brings, Keeps, KeepsGround, MeetsFault, PutsB
 use Rattle.sdr_lock.specs.Standing.{Standing}
 use Rattle.sdr_log.specs.Frame.{room_of}
 use Rattle.sdr_log.specs.Logged.{Gives}
-use Rattle.sdr_model.specs.World.{World}
 use Rattle.sdr_station.specs.Closing as closing
 use Rattle.sdr_station.specs.Grounded.{Grounded, IsGround, Opens, StandsAtRest, StandsForBoth, StandsInMemory, StandsWithin, heap_in}
 use Rattle.sdr_station.proofs.GroundLemmas.{ground_brought, heap_ground, keeps_later, unmarked}

@@ -1,5 +1,5 @@
 -- The bytes that the row of a call gives.
-use Rattle.std.proofs.Common.{◌≡◌, ◌∙◌, ◌≤◌, ◌+◌, ◌*◌, ◌==◌, ◌++◌, ◌∷◌, ℕ, List, [], Bool, true, false, true≢false, Option, None, Some, MatchBool, length, take, drop, max, min, nat_lt, nat_le, position, refl, sym, ap, subst, arith}
+use Rattle.std.proofs.Common.{◌≡◌, ◌∙◌, ◌≤◌, ◌+◌, ◌*◌, ◌==◌, ◌++◌, ◌∷◌, ℕ, List, [], Bool, false, Option, None, Some, MatchBool, length, take, drop, max, min, nat_lt, nat_le, position, refl, sym, ap, subst, arith}
 use Rattle.std.specs.Prelude.{◌||◌, IfSome, get_or, is_some, slice_get}
 use Rattle.std.proofs.lemmas.Bool.{ltb-false}
 use Rattle.std.proofs.lemmas.Bool.Decides.{nat_tests}

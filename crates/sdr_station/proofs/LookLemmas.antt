@@ -1,21 +1,19 @@
 -- A look at a ticket on a ground.
-use Rattle.std.proofs.Common.{◌≡◌, ◌∙◌, ◌≤◌, ◌++◌, ◌⊎◌, ℕ, List, [], Bool, true, false, true≢false, Option, None, Result, Ok, Err, refl, sym, ap, subst, length, arith}
+use Rattle.std.proofs.Common.{◌≡◌, ◌∙◌, ◌≤◌, ℕ, List, [], Bool, true, false, true≢false, Option, None, Result, Err, refl, sym, ap, subst, length, arith}
 use Rattle.std.proofs.lemmas.List.{append-nil, append_cancel_left}
-use Rattle.sdr_answers.specs.Answering.{IsServed}
 use Rattle.sdr_audit.specs.Standing.{HeapStandsFor}
 use Rattle.sdr_base.proofs.MovesLemmas.{Moves-none}
 use Rattle.sdr_base.specs.KeptHeap.{KeepsRegion}
 use Rattle.sdr_base.specs.Moves.{KeepsSome, MovesPools}
 use Rattle.sdr_base.specs.Objects.{Heap, OnlyFault}
 use Rattle.sdr_base.specs.Pools.{Pools}
-use Rattle.sdr_base.specs.Transaction.{Explains}
 use Rattle.sdr_base.specs.Works.{Looks}
 use Rattle.sdr_base.specs.declared.media.Media.{Ghosts as MediaGhosts}
 use Rattle.sdr_base.specs.declared.moves.Move.{Move}
 use Rattle.sdr_base.specs.declared.stop.Stop.{Stop}
 use Rattle.sdr_base.specs.declared.stop.Stop.TheVariants as stops
 use Rattle.sdr_heap.specs.Noted.{Held}
-use Rattle.sdr_image.specs.Opened.{IsQuiet, Opened, transaction_of}
+use Rattle.sdr_image.specs.Opened.{IsQuiet, Opened}
 use Rattle.sdr_lock.specs.Crash.{LeavesBefore}
 use Rattle.sdr_lock.specs.Demand.{most_lines}
 use Rattle.sdr_lock.specs.Ground.{Ground, State}
@@ -23,11 +21,10 @@ use Rattle.sdr_lock.specs.Serving.{Brings, Shows, StandsStill, shown_in}
 use Rattle.sdr_lock.specs.Standing.{Standing}
 use Rattle.sdr_log.specs.Frame.{room_of}
 use Rattle.sdr_log.specs.declared.frame.Frame.{Frame}
-use Rattle.sdr_model.specs.World.{World}
 use Rattle.sdr_station.proofs.ClosingLemmas.{dropped_ground, within_of}
 use Rattle.sdr_station.proofs.GroundLemmas.{heap_ground}
 use Rattle.sdr_station.proofs.ServingLemmas.{image_heap}
-use Rattle.sdr_station.specs.Grounded.{Grounded, HasStood, HoldsWorld, IsBefore, IsGround, Leaves, StandsAtRest, StandsForBoth, StandsInMemory, StandsSome, StandsWithin, heap_in}
+use Rattle.sdr_station.specs.Grounded.{Grounded, HasStood, HoldsWorld, IsBefore, IsGround, Leaves, StandsAtRest, StandsForBoth, StandsInMemory, StandsWithin, heap_in}
 use Rattle.zco_granted.proofs.GoodLemmas.{good_of}
 use Rattle.zco_granted.specs.Answering.{IsGood, Sees}
 

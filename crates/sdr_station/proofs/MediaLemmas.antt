@@ -1,5 +1,5 @@
 -- What the answer to a call tells of media.
-use Rattle.std.proofs.Common.{◌≡◌, true, false, true≢false, Result, Err, refl, sym}
+use Rattle.std.proofs.Common.{◌≡◌, true, false, true≢false, Err, refl, sym}
 use Rattle.sdr_base.specs.declared.media.Media.{Ghosts as MediaGhosts}
 use Rattle.sdr_base.specs.declared.refusal.Refusal.{Refusal}
 use Rattle.sdr_base.specs.declared.refusal.Refusal.TheVariants as refusals

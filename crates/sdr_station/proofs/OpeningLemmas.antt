@@ -1,8 +1,7 @@
 -- A heap that was opened.
-use Rattle.std.proofs.Common.{◌≡◌, ◌∙◌, ◌≤◌, ◌*◌, ℕ, List, [], false, true, Option, Some, refl, sym, ap, subst, length}
+use Rattle.std.proofs.Common.{◌≡◌, ◌∙◌, ◌≤◌, ℕ, List, [], false, true, Option, Some, refl, sym, ap, subst, length}
 use Rattle.std.specs.Prelude.{replicate}
 use Rattle.sdr_audit.specs.Standing.{StandsForWhole}
-use Rattle.sdr_check.specs.Checked.{IsNoWorld, OnlyReads, TellsFirst}
 use Rattle.sdr_check.specs.declared.error.AuditError.{AuditError}
 use Rattle.sdr_check.specs.declared.error.AuditError.TheVariants as audits
 use Rattle.sdr_disk.specs.Told.{Both}

@@ -1,5 +1,5 @@
 -- Room for whatever a call may come to.
-use Rattle.std.proofs.Common.{◌≡◌, ◌≤◌, ◌⊎◌, ℕ, List, true, ap, inl, inr, length, min, refl, subst, arith}
+use Rattle.std.proofs.Common.{◌≡◌, ◌≤◌, ◌⊎◌, ℕ, List, ap, inl, inr, length, min, refl, subst, arith}
 use Rattle.sdr_base.specs.declared.moves.Move.{Move}
 use Rattle.sdr_lock.specs.Ground.{Ground, State, StepsOn}
 use Rattle.sdr_lock.specs.Room.{HoldsAny}

@@ -169,7 +169,8 @@ impl<D: Disk, M: Media, F: Notify + Drop> Station<D, M, F> {
         }
     }
 
-    /// How many moves the call that follows can have at most, which are no more than the heap has room for.
+    /// How many moves the call that follows can have at most, which are no more than the heap has room for. After a
+    /// disk fault it answers `Failed`.
     pub fn room_for(&mut self, call: &Call) -> Result<u64, Stop>
         ensures room { TellsRoom call.now self.old result }
         ensures same { self.new ≡ self.old }
@@ -180,8 +181,11 @@ impl<D: Disk, M: Media, F: Notify + Drop> Station<D, M, F> {
         Ok(most_moves(call, self.ground.size()))
     }
 
-    /// Makes a call. Where it gives bytes, they are put at the front of the buffer, and the reply tells how many. A fault
-    /// of media, or too few bytes of them, dooms nothing.
+    /// Makes a call. Where it gives bytes, they are put at the front of the buffer, and the reply tells how many.
+    ///
+    /// In a doomed transaction it is refused `Doomed`, and after a disk fault it answers `Failed`. Else it is refused as its
+    /// row has it, or for want of a block (`NoBlock`) or of log room (`LogFull`), which dooms where it is a change. A fault of
+    /// media, or too few bytes of them (`SourceShort`), dooms nothing.
     pub fn call(&mut self, call: &Call, into: &mut [u8; PAGE]) -> Reply
         requires begun { 0 < self.old.nesting.depth }
         ensures says { SaysOr ⟦<HeapGround<D, M, F> as HasGround>⟧ call.now result

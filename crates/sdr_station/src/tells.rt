@@ -1,5 +1,7 @@
 // What a heap on an image tells of its calls.
 ghost use Rattle.std.specs.Prelude.{◌≤◌, ◌+◌, ◌/◌, IfOk, IsOk};
+ghost use Rattle.sdr_lock.specs.Room.{HoldsAny};
+ghost use Rattle.sdr_lock.specs.Standing.{Standing};
 ghost use Rattle.sdr_station.specs.Telling.{BytesAtMost};
 
 use crate::HeapGround;
@@ -7,7 +9,7 @@ use crate::station::most_moves;
 use sdr_answers::PAGE;
 use sdr_base::{Media, Move, NoMemory};
 use sdr_disk::Disk;
-use sdr_lock::{Room, Tells};
+use sdr_lock::{HasGround, Room, Tells};
 use sdr_model::Call;
 use sdr_model::limits::{LONGEST_NAME, LONGEST_STRING};
 use zco_acct::Notify;
@@ -42,6 +44,8 @@ impl<D: Disk, M: Media, F: Notify + Drop> Tells for HeapGround<D, M, F> {
 
     // A room is told for each call, and it is no more than a heap of this size and a page need.
     fn room_for(&self, call: &Call) -> Result<Room, NoMemory>
+        ensures holds { IfOk result (λ room. (v : Standing) →
+            ⟦<HeapGround<D, M, F> as HasGround>⟧.stands self.now v → HoldsAny room v.now call.now) }
         ensures served { IsOk result }
         ensures few { IfOk result (λ room.
             (room.moves ≤ self.now.heap.size / 4 + 4) × (room.bytes ≤ 4096)) }

@@ -15,7 +15,8 @@ use zco_acct::{Notice, Notify};
 use zco_granted::serve;
 
 /// Cuts an object to its part, gives back what goes with the extents outside, and serves the queue
-/// of its account.
+/// of its account. It is refused `BadAddress` or `WrongKind` where the object isn't there, and `LogFull` for
+/// want of log room. It is linear in the object's extents.
 pub fn strip<O: Objects, F: Notify>(
     o: &mut O,
     object: Addr,

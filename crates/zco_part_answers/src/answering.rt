@@ -21,7 +21,9 @@ pub fn is_part_call(call: &Call) -> bool
     matches!(call, Call::ClonePart(_, _, _, _) | Call::Delimit(_, _, _))
 }
 
-/// Answers a call on parts of zero-copy objects.
+/// Answers a call on parts of zero-copy objects. It is refused `BadAddress` or `WrongKind` where its object
+/// isn't there, and `BadRange` where the object, or its part, hasn't the range. A clone is refused for what the account
+/// says to the charge, and for want of a block or of log room, in this order.
 pub fn answer<O: Objects>(o: &mut O, call: &Call, page: &mut Page) -> Result<Reply, Stop>
     requires kept { KeepsSome (O.keeps o.old) }
     requires room { (O.heap o.old).size / 4 + 4 ≤ (O.heap o.old).spare }

@@ -1,8 +1,7 @@
 -- A ticket is seen in the world before the transaction, once changes that were made in it are dropped.
-use Rattle.std.proofs.Common.{◌≡◌, ◌∙◌, None, refl, sym, ap, subst}
-use Rattle.sdr_lock.specs.Serving.{Brings, Shows}
+use Rattle.std.proofs.Common.{None, ap, subst}
+use Rattle.sdr_lock.specs.Serving.{Shows}
 use Rattle.sdr_station.proofs.ClosingLemmas.{brings_failed}
-use Rattle.sdr_station.proofs.GroundLemmas.{heap_ground}
 use Rattle.sdr_station.proofs.LookLemmas.{before_idle, leaves_later, shows_failed, shows_later}
 use Rattle.sdr_station.proofs.ServingLemmas.{leaves_quiet}
 use Rattle.sdr_station.specs.Grounded.{Grounded, IsBefore, StandsForBoth, StandsInMemory}

@@ -1,5 +1,5 @@
 -- A ticket is seen in the heap in memory, which stays.
-use Rattle.std.proofs.Common.{◌≡◌, ◌∙◌, false, refl, sym, ap, subst}
+use Rattle.std.proofs.Common.{◌∙◌, refl, sym, ap, subst}
 use Rattle.sdr_image.specs.Opened.{IsQuiet}
 use Rattle.sdr_lock.specs.Serving.{Brings, Shows}
 use Rattle.sdr_station.proofs.LookLemmas.{keeps_before_look, looked_ground, looked_quiet, looks_never, queues_before_look, shows_seen}

@@ -1,4 +1,4 @@
-use Rattle.std.proofs.Common.{◌∙◌, ap, inl, inr, not, subst, true, false}
+use Rattle.std.proofs.Common.{◌∙◌, ap, inl, inr, not, subst, false}
 use Rattle.sdr_model.specs.declared.answer.Reply.TheVariants as replies
 use Rattle.sdr_station.proofs.CameLemmas.{CameTo, came_answered, came_missed, came_refused, faults_never, good_before, keeps_before}
 use Rattle.sdr_station.specs.Grounded.{Grounded}
