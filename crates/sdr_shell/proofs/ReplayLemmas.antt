@@ -1,5 +1,5 @@
 -- What a replay answers follows from what it came to.
-use Rattle.std.proofs.Common.{◌≡◌, ◌≤◌, ◌⊎◌, ℕ, List, [], ◌++◌, Bool, true, false, not, Option, Some, IsOk, IsErr, refl, sym, subst, inl, inr, arith}
+use Rattle.std.proofs.Common.{◌≡◌, ◌≤◌, ◌⊎◌, ℕ, List, [], ◌++◌, Bool, true, false, not, Some, IsOk, IsErr, refl, sym, subst, inl, inr, arith}
 use Rattle.std.specs.Prelude.{codes}
 use Rattle.std.specs.Io.KnownBytes.{Appends, IsAtEnd}
 use Rattle.sdr_audit.specs.Standing.{StandsForWhole}

@@ -1,5 +1,5 @@
 -- What `replay` answers: by status, what was read, run and printed, and what is left of the disk.
-use Rattle.std.specs.Prelude.{◌≡◌, ◌≤◌, ℕ, Bool, List, [], ◌++◌, ◌⊎◌, Option, None, Some, IsOk, IsErr, codes, true, false}
+use Rattle.std.specs.Prelude.{◌≡◌, ◌≤◌, ℕ, Bool, List, [], ◌++◌, ◌⊎◌, Option, Some, IsOk, IsErr, codes, true, false}
 use Rattle.std.specs.Io.KnownBytes.{Appends, IsAtEnd}
 use Rattle.sdr_audit.specs.Standing.{StandsForWhole}
 use Rattle.sdr_base.specs.Causes.{Rose}
