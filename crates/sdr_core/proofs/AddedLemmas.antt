@@ -13,10 +13,10 @@ use Rattle.sdr_model.specs.declared.journal.Entry.{Entry}
 use Rattle.sdr_model.specs.declared.journal.Said.{Said}
 use Rattle.sdr_model.specs.declared.journal.What.{What}
 use Rattle.sdr_model.specs.declared.journal.What.TheVariants as whats
-use Rattle.sdr_lock.specs.Core.{Core, Under, all_said, closed_by, entry_of, said_by, under, what_else, what_of, with_said}
+use Rattle.sdr_lock.specs.Core.{Core, Under, all_said, closed_by, entry_of, said_by, under, what_else, what_of}
 use Rattle.sdr_lock.specs.Crash.{end_told}
 use Rattle.sdr_lock.specs.Ground.{State, kept}
-use Rattle.sdr_lock.specs.Legal.{MayStand, is_fault}
+use Rattle.sdr_lock.specs.Legal.{is_fault}
 use Rattle.sdr_lock.specs.Machine.{Machine, Made}
 use Rattle.sdr_lock.specs.Roll.{daemon_of, number_of}
 use Rattle.sdr_lock.specs.Transaction.{ClosesSo, Finishes, IsAnswered, Runs, is_closing, transaction_of}

@@ -1,5 +1,5 @@
 -- What holds of a core after an event.
-use Rattle.std.proofs.Common.{◌≡◌, ◌∙◌, ◌≤◌, ◌*◌, ◌⊎◌, ℕ, List, [], ◌∷◌, true≢false, map, Result, Ok, Err, IfOk, OnErr, inl, inr, length, refl, sym, ap, subst, arith, vec_len, vec_capacity}
+use Rattle.std.proofs.Common.{◌≡◌, ◌≤◌, ◌*◌, ℕ, List, [], ◌∷◌, true≢false, map, Result, Ok, Err, IfOk, OnErr, inl, inr, length, refl, sym, ap, subst, arith}
 use Rattle.std.proofs.lemmas.List.{length-map}
 use Rattle.std.specs.declared.alloc.AllocError.{AllocError}
 use Rattle.sdr_lock.specs.Crash.{keeps_by}

@@ -1,5 +1,5 @@
 -- Who holds a number after an event, and what is kept of what its daemon has said.
-use Rattle.std.proofs.Common.{◌≡◌, ◌∙◌, ◌≤◌, ◌==◌, ◌*◌, ℕ, List, [], ◌∷◌, ◌⊎◌, Bool, true, false, true≢false, Option, None, Some, IsSome, MatchBool, inl, inr, length, map, refl, sym, ap, subst, arith, find}
+use Rattle.std.proofs.Common.{◌≡◌, ◌∙◌, ◌==◌, ℕ, List, [], ◌∷◌, Bool, true, false, true≢false, Option, None, Some, IsSome, MatchBool, length, refl, sym, ap, subst, arith}
 use Rattle.std.proofs.lemmas.List.{length-map}
 use Rattle.std.specs.Option.{option_map_or}
 use Rattle.std.specs.Prelude.{if◌then◌else◌}
@@ -7,7 +7,7 @@ use Rattle.sdr_base.specs.Media.{Told}
 use Rattle.sdr_model.specs.declared.event.Event.{Event}
 use Rattle.sdr_model.specs.declared.event.Event.TheVariants as events
 use Rattle.sdr_model.specs.declared.journal.Said.{Said}
-use Rattle.sdr_lock.specs.Core.{Core, Work, said_by}
+use Rattle.sdr_lock.specs.Core.{Core, said_by}
 use Rattle.sdr_lock.specs.Ground.{State}
 use Rattle.sdr_lock.specs.Holders.{HoldFirst}
 use Rattle.sdr_lock.specs.Machine.{Machine, Made, MachineStep, roll_acting, roll_coming, roll_failed, roll_holding}
@@ -15,7 +15,7 @@ use Rattle.sdr_lock.specs.Roll.{Roll, after_leave, daemon_of, served_number, wit
 use Rattle.sdr_lock.specs.Transaction.{transaction_of}
 use Rattle.sdr_lock.specs.declared.daemon.Daemon.{Daemon}
 use Rattle.sdr_lock.specs.declared.daemon.Holding.{Holding}
-use Rattle.sdr_lock.proofs.HolderSteps.{KeepsHolders, keeps_holders, put_holders, same_holders}
+use Rattle.sdr_lock.proofs.HolderSteps.{keeps_holders, put_holders}
 use Rattle.sdr_lock.proofs.StepLemmas.{from_option}
 use Rattle.sdr_runs.proofs.CoreLemmas.{KeepsCore}
 use Rattle.sdr_runs.proofs.CurrentLemmas.{Current}

@@ -1,27 +1,25 @@
 -- What a leave does to the roll, and how many entries leaves may still add.
-use Rattle.std.proofs.Common.{◌≡◌, ◌∙◌, ◌≤◌, ◌+◌, ◌*◌, ◌==◌, ◌&&◌, ◌||◌, ℕ, List, [], ◌∷◌, Bool, true, false, true≢false, not, cond, length, map, Option, None, Some, IsSome, MatchOption, inl, inr, ◌⊎◌, refl, sym, ap, subst, arith}
+use Rattle.std.proofs.Common.{◌≡◌, ◌∙◌, ◌≤◌, ◌+◌, ◌*◌, ◌==◌, ◌&&◌, ◌||◌, ℕ, List, [], ◌∷◌, Bool, true, false, true≢false, not, cond, length, Option, None, Some, MatchOption, inl, inr, ◌⊎◌, refl, sym, ap, subst, arith}
 use Rattle.std.specs.Option.{option_map_or}
-use Rattle.std.specs.Prelude.{if◌then◌else◌, ⊤}
-use Rattle.sdr_base.specs.Media.{Told}
+use Rattle.std.specs.Prelude.{if◌then◌else◌}
 use Rattle.sdr_base.specs.declared.refusal.Refusal.TheVariants as refusals
 use Rattle.sdr_model.specs.declared.answer.Answer.{Answer}
 use Rattle.sdr_model.specs.declared.answer.Answer.TheVariants as answers
 use Rattle.sdr_model.specs.declared.answer.Close.{Close}
 use Rattle.sdr_model.specs.declared.answer.Close.TheVariants as closes
 use Rattle.sdr_model.specs.declared.answer.Reply.TheVariants as replies
-use Rattle.sdr_model.specs.declared.event.Event.{Event}
 use Rattle.sdr_model.specs.declared.event.Event.TheVariants as events
 use Rattle.sdr_model.specs.declared.event.Leave.{Leave}
 use Rattle.sdr_model.specs.declared.journal.What.{What}
 use Rattle.sdr_model.specs.declared.journal.What.TheVariants as whats
 use Rattle.sdr_lock.specs.Core.{Under, Work, all_said, closed_by, has_left, is_failed, is_passed_over, under, what_else, what_of}
-use Rattle.sdr_lock.specs.Machine.{Closes, Comes, Departs, FaultsWithin, Goes, Holds, Machine, Made, MachineStep, roll_acting, roll_coming, roll_failed, roll_holding, with_roll}
-use Rattle.sdr_lock.specs.Roll.{Roll, after_entry, after_leave, daemon_of, newcomer, put_daemon, served_number, with_daemon, with_drawn, with_number}
+use Rattle.sdr_lock.specs.Machine.{Closes, Comes, FaultsWithin, Goes, Holds, Machine, Made, MachineStep, roll_acting, roll_coming, roll_failed, roll_holding, with_roll}
+use Rattle.sdr_lock.specs.Roll.{Roll, after_entry, after_leave, daemon_of, put_daemon, served_number, with_daemon, with_drawn, with_number}
 use Rattle.sdr_lock.specs.Nesting.{nested}
 use Rattle.sdr_lock.specs.Transaction.{refused}
 use Rattle.sdr_lock.specs.declared.daemon.Daemon.{Daemon}
 use Rattle.sdr_lock.specs.declared.daemon.Holding.{Holding}
-use Rattle.sdr_lock.proofs.StepLemmas.{IsQuiet, Kind, from_option, from_test, step_is}
+use Rattle.sdr_lock.proofs.StepLemmas.{Kind, from_option, from_test, step_is}
 use Rattle.sdr_runs.proofs.RollLemmas.{among, found_number, found_put, put_here, put_later, same_number}
 use Rattle.sdr_core.specs.Logging.{PassesUnlessClosing, entries_of, leaves_ahead, leaves_of}
 

@@ -1,14 +1,13 @@
 -- What is noted of a leave.
-use Rattle.std.proofs.Common.{◌≡◌, ◌∙◌, ◌≤◌, ◌+◌, ◌==◌, ◌&&◌, ℕ, List, [], Bool, false, not, Option, None, Some, IsSome, MatchOption, refl, sym, ap, subst, arith, vec_len, vec_capacity}
+use Rattle.std.proofs.Common.{◌≡◌, ◌∙◌, ◌≤◌, ◌+◌, ℕ, [], Bool, false, Option, None, Some, IsSome, MatchOption, refl, sym, ap, subst, arith}
 use Rattle.std.specs.Prelude.{⊤}
-use Rattle.sdr_model.specs.declared.answer.Answer.{Answer}
 use Rattle.sdr_model.specs.declared.answer.Close.{Close}
 use Rattle.sdr_model.specs.declared.event.Event.{Event}
 use Rattle.sdr_model.specs.declared.event.Event.TheVariants as events
 use Rattle.sdr_model.specs.declared.event.Leave.{Leave}
-use Rattle.sdr_lock.specs.Core.{Under, closed_by, has_left, looks_again, under, what_of}
+use Rattle.sdr_lock.specs.Core.{Under, closed_by, looks_again, under, what_of}
 use Rattle.sdr_lock.specs.Machine.{Machine, Made, MachineStep}
-use Rattle.sdr_lock.specs.Roll.{daemon_of, number_of}
+use Rattle.sdr_lock.specs.Roll.{daemon_of}
 use Rattle.sdr_lock.specs.Serving.{Acts, Locked, StoodFor, Makes, machine_at, made_by, made_with}
 use Rattle.sdr_lock.specs.declared.came.Came.{Came}
 use Rattle.sdr_lock.specs.declared.daemon.Daemon.{Daemon}

@@ -1,29 +1,37 @@
 -- The leaves at the end of a run, one after another.
-use Rattle.std.proofs.Common.{◌≡◌, ◌∙◌, ◌≤◌, ◌<◌, ◌+◌, ◌==◌, ◌++◌, ◌⊎◌, ℕ, suc, List, [], ◌∷◌, Bool, true, false, true≢false, not, filter, map, Option, None, Some, IsSome, is_some, MatchOption, inl, length, ◌-◌, drop, slice_index_or, take, refl, sym, ap, subst, arith}
+use Rattle.std.proofs.Common.{◌≡◌, ◌∙◌, ◌≤◌, ◌<◌, ◌+◌, ◌==◌, ◌++◌, ℕ, suc, List, [], ◌∷◌, Bool, true, false, true≢false, not, filter, Option, None, Some, IsSome, inl, length, ◌-◌, drop, slice_index_or, take, refl, sym, ap, subst, arith}
 use Rattle.std.proofs.lemmas.Bool.Decides.{nat_tests}
 use Rattle.std.proofs.lemmas.List.{length-map, take_all}
 use Rattle.std.proofs.lemmas.List.Filters.{length-filter_both}
 use Rattle.std.specs.Option.{option_map_or, option_and_then}
 use Rattle.sdr_base.specs.Media.{Told}
-use Rattle.sdr_model.specs.declared.event.Event.{Event}
 use Rattle.sdr_model.specs.declared.event.Event.TheVariants as events
 use Rattle.sdr_model.specs.declared.event.Leave.{Leave}
 use Rattle.sdr_lock.specs.Core.{Core, CoreStep, Log}
+use Rattle.sdr_lock.specs.Gaps.{Gaps, GapsLast}
 use Rattle.sdr_lock.specs.Holders.{HoldFirst, holders}
-use Rattle.sdr_lock.specs.Leaving.{AllLeave, HoldersLeave, LeaveInTurn, LeavesThen, MakesLeave, holds_number, served_daemon, staying}
-use Rattle.sdr_lock.specs.Machine.{Machine, Made, MachineStep}
-use Rattle.sdr_lock.specs.Roll.{MayDraw, Roll, daemon_of, held_by, put_daemon, served_number}
+use Rattle.sdr_lock.specs.Leaving.{AllLeave, HoldersLeave, LeaveInTurn, MakesLeave, holds_number, served_daemon, staying}
+use Rattle.sdr_lock.specs.Machine.{Made, MachineStep}
+use Rattle.sdr_lock.specs.Roll.{MayDraw, Roll, held_by, served_number}
 use Rattle.sdr_lock.specs.Serving.{Locked, StoodFor, machine_at, made_by}
 use Rattle.sdr_lock.specs.Standing.{Standing}
 use Rattle.sdr_lock.specs.declared.came.Came.{Came}
 use Rattle.sdr_lock.specs.declared.daemon.Daemon.{Daemon}
 use Rattle.sdr_lock.specs.declared.daemon.Holding.{Holding}
 use Rattle.sdr_lock.specs.declared.has_ground.HasGround.{Ghosts}
+use Rattle.sdr_lock.proofs.GroundLemmas.{gaps_same}
 use Rattle.sdr_lock.proofs.HolderLemmas.{IsFirst, find_first, put_fewer, put_length, served_holds}
 use Rattle.sdr_lock.proofs.WorkLemmas.{on_some}
 use Rattle.sdr_core.proofs.LeaveLemmas.{LeaveIs, leave_is}
 use Rattle.sdr_core.specs.CoreKept.{Kept, Makes, StandsStill, core_at}
 use Rattle.sdr_core.specs.Leaving.{LastsOn, RunLeads}
+
+-- counts that didn't fall, and then didn't
+gaps_then : (a b c : Gaps) → GapsLast a b → GapsLast b c → GapsLast a c
+gaps_then a b c first second = record {
+  faults = omega (arith, first.faults, second.faults);
+  short = omega (arith, first.short, second.short);
+}
 
 -- the daemon whose number is served is the first of its id, and hasn't left
 module _ (r : Roll) (d : Daemon) (may : HoldFirst [] r.daemons) (served : served_daemon r ≡ Some d) where
@@ -121,6 +129,8 @@ module _ {T : Type 0} (g : Ghosts T) (line : ℕ) (leave : Leave) (a : Came) (ol
             });
           };
         };
+    media = rest.media ∙ makes.asks.kept.media;
+    gaps = gaps_then _ _ _ makes.asks.kept.gaps rest.gaps;
   }
 
   pub turn_more : (daemon : ℕ) (daemons : List ℕ) (next : Kept T) → Makes g daemon line (events.Leaves leave) a old was new log
@@ -142,16 +152,24 @@ module _ {T : Type 0} (g : Ghosts T) (line : ℕ) (leave : Leave) (a : Came) (ol
             };
           };
         };
+    media = rest.media ∙ makes.asks.kept.media;
+    gaps = gaps_then _ _ _ makes.asks.kept.gaps rest.gaps;
   }
 
 -- nobody is served, or nobody is left
 pub holders_none : {T : Type 0} (g : Ghosts T) (told : Option Told) (leave : Leave) (k : Kept T) → served_daemon k.lock.roll ≡ None → RunLeads g (HoldersLeave told leave) k k
 holders_none g told leave k none = record {
   each = λ v stood. record { for = v; stood = stood; tells = record { made = []; tells = (refl, none) } };
+  media = refl;
+  gaps = gaps_same (g.gaps k.lock.base);
 }
 
 pub turn_none : {T : Type 0} (g : Ghosts T) (told : Option Told) (leave : Leave) (k : Kept T) → RunLeads g (LeaveInTurn told leave []) k k
-turn_none g told leave k = record { each = λ v stood. record { for = v; stood = stood; tells = record { made = []; tells = refl } } }
+turn_none g told leave k = record {
+  each = λ v stood. record { for = v; stood = stood; tells = record { made = []; tells = refl } };
+  media = refl;
+  gaps = gaps_same (g.gaps k.lock.base);
+}
 
 -- the holders leave, and then those that stay
 pub all_leave : {T : Type 0} (g : Ghosts T) (told : Option Told) (leave : Leave) (old mid new : Kept T) → RunLeads g (HoldersLeave told leave) old mid
@@ -168,6 +186,8 @@ all_leave g told leave old mid new first last = record {
           tells = record { first = s.tells.made; last = r.tells.made; all = refl; between = core_at mid s.for; holders = s.tells.tells; others = r.tells.tells };
         };
       };
+  media = last.media ∙ first.media;
+  gaps = gaps_then _ _ _ first.gaps last.gaps;
 }
 
 -- a list without an item, and one with a first

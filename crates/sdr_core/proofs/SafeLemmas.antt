@@ -1,23 +1,18 @@
 -- What a crash leaves after an event more of a core run.
-use Rattle.std.proofs.Common.{◌≡◌, ◌∙◌, ◌≤◌, ◌<◌, ◌++◌, ◌&&◌, ℕ, List, [], ◌∷◌, Bool, true, false, true≢false, not, Option, None, Some, IsSome, IfOk, OnErr, Result, Ok, Err, is_none, inl, MatchBool, MatchOption, length, nat_le, refl, sym, ap, subst, arith, append-nil, length-append}
+use Rattle.std.proofs.Common.{◌≡◌, ◌∙◌, ◌≤◌, ◌<◌, ◌++◌, ◌&&◌, ℕ, List, [], ◌∷◌, Bool, true, false, true≢false, not, Option, None, Some, IsSome, is_none, inl, MatchBool, MatchOption, length, nat_le, refl, sym, ap, subst, arith, append-nil, length-append}
 use Rattle.std.proofs.lemmas.Bool.Decides.{nat_tests}
 use Rattle.std.specs.Option.{option_to_list}
-use Rattle.std.specs.declared.alloc.AllocError.{AllocError}
 use Rattle.sdr_base.proofs.WrittenLemmas.{rose_later}
-use Rattle.sdr_base.specs.Causes.{Rose}
 use Rattle.sdr_lock.specs.Core.{Core, CoreStep, all_said, closed_by}
-use Rattle.sdr_lock.specs.Crash.{LeavesBefore, LeavesOr, OpensAfter, as_ended, done_by, end_told, is_sound, is_whole, keeps_by}
+use Rattle.sdr_lock.specs.Crash.{LeavesOr, OpensAfter, as_ended, done_by, end_told, is_sound, is_whole, keeps_by}
 use Rattle.sdr_lock.specs.Ground.{kept}
 use Rattle.sdr_lock.specs.Legal.{IsAfter, MayStand, is_fault}
-use Rattle.sdr_lock.specs.Machine.{Machine, Made, MachineStep}
+use Rattle.sdr_lock.specs.Machine.{Made, MachineStep}
 use Rattle.sdr_lock.specs.Roll.{first_roll, number_of}
 use Rattle.sdr_lock.specs.Serving.{Asks, Locked, StoodFor, is_disk_fault, is_fault_answer, made_by}
-use Rattle.sdr_lock.specs.Standing.{Standing}
 use Rattle.sdr_lock.specs.Transaction.{IsAnswered, Runs}
 use Rattle.sdr_lock.specs.declared.came.Came.{Came}
-use Rattle.sdr_lock.specs.declared.daemon.Daemon.{Daemon}
 use Rattle.sdr_lock.specs.declared.has_ground.HasGround.{Ghosts}
-use Rattle.sdr_model.specs.declared.answer.Answer.{Answer}
 use Rattle.sdr_model.specs.declared.answer.Answer.TheVariants as answers
 use Rattle.sdr_model.specs.declared.answer.Close.TheVariants as closes
 use Rattle.sdr_model.specs.declared.answer.Reply.TheVariants as replies

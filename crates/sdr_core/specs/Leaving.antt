@@ -1,6 +1,7 @@
 -- What a core has come to by some events.
-use Rattle.std.specs.Prelude.{ℕ, List}
+use Rattle.std.specs.Prelude.{◌≡◌, ℕ, List}
 use Rattle.sdr_lock.specs.Core.{Core}
+use Rattle.sdr_lock.specs.Gaps.{GapsLast}
 use Rattle.sdr_lock.specs.Machine.{Made}
 use Rattle.sdr_lock.specs.Serving.{Stood, StoodFor}
 use Rattle.sdr_lock.specs.Standing.{Standing}
@@ -12,9 +13,12 @@ pub record Ran (P : List Made → Core → Type 0) (core : Core) : Type 0 where
   pub made : List Made
   pub tells : P made core
 
--- Whatever core it was, some events of which P tells were made of it, by which it has come to one that it is now.
+-- Whatever core it was, some events of which P tells were made of it, by which it has come to one that it is now. Its media tell the
+-- same, and no count of theirs has fallen.
 pub record RunLeads {T : Type 0} (g : Ghosts T) (P : Core → List Made → Core → Type 0) (old new : Kept T) : Type 0 where
   pub each : (v : Standing) → Stood g.stands old.lock v → StoodFor g.stands new.lock (λ v'. Ran (P (core_at old v)) (core_at new v'))
+  pub media : g.told new.lock.base ≡ g.told old.lock.base
+  pub gaps : GapsLast (g.gaps old.lock.base) (g.gaps new.lock.base)
 
 -- the ground lasts for as many calls as are made
 abbrev pub LastsOn : {T : Type 0} → Ghosts T → T → Type 0

@@ -23,7 +23,7 @@ pub struct Draft {
     pub first: Vec<Said>,
 }
 
-// The moves of the call that was made, if one was.
+// The moves of the call that was made, if one was. Room that it has left is given back.
 fn moves_of(mut room: Vec<Move>, came: Came, moves: &[Move]) -> Moves
     requires blank { room.items ≡ [] }
     requires fit { length (if came.called then moves.now else []) ≤ vec_capacity room }
@@ -34,6 +34,7 @@ fn moves_of(mut room: Vec<Move>, came: Came, moves: &[Move]) -> Moves
             unreachable!();
         };
     }
+    room.shrink_to_fit();
     Items::of(room)
 }
 
@@ -48,7 +49,7 @@ fn gives_bytes(answer: Answer) -> bool
     }
 }
 
-// The bytes that the call gave, if one was made.
+// The bytes that the call gave, if one was made. Room that it has left is given back.
 fn bytes_of(mut room: Vec<u8>, came: Came, shown: &[u8]) -> Bytes
     requires blank { room.items ≡ [] }
     requires fit { length (if came.called then bytes_given came.answer shown.now else []) ≤
@@ -60,6 +61,7 @@ fn bytes_of(mut room: Vec<u8>, came: Came, shown: &[u8]) -> Bytes
             unreachable!();
         };
     }
+    room.shrink_to_fit();
     Bytes::of(room)
 }
 

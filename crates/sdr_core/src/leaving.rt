@@ -47,7 +47,6 @@ impl<T: Tells, J: Origin> Core<T, J> {
         ensures left { RunLeads T.HasGround (HoldersLeave (T.told self.old.lock.base) leave)
             self.old self.new }
         ensures lasts { LastsOn T.HasGround self.new.lock.base }
-        ensures told { T.told self.new.lock.base ≡ T.told self.old.lock.base }
         ensures daemons { length self.new.lock.roll.daemons ≡ length self.old.lock.roll.daemons }
         ensures drawn { self.new.lock.roll.drawn ≤ self.old.lock.roll.drawn
             + holders self.old.lock.roll.daemons }

@@ -1,12 +1,15 @@
 -- A run that begins on a heap that was just opened, and what it leaves of the disk.
 use Rattle.std.proofs.Common.{◌≡◌, ◌∙◌, ◌≤◌, ℕ, List, [], true≢false, Option, None, Some, refl, sym, ap, subst, inl, arith}
 use Rattle.std.specs.Prelude.{is_some}
+use Rattle.sdr_base.specs.Media.{Told}
+use Rattle.sdr_base.specs.declared.media.Media.{Ghosts as MediaGhosts}
 use Rattle.sdr_core.specs.CoreKept.{BeginsOn, IsRunOf}
 use Rattle.sdr_disk.specs.Moments.{AtEach}
 use Rattle.sdr_disk.specs.Told.{IfTold}
 use Rattle.sdr_disk.specs.declared.disk.Disk.{Ghosts as DiskGhosts}
-use Rattle.sdr_dry.specs.Schedule.{daemons_of}
+use Rattle.sdr_dry.specs.Schedule.{SeenMedia, daemons_of, from_to, media_change, seen_media}
 use Rattle.sdr_image.specs.Opening.{MayBeOpened}
+use Rattle.sdr_lock.specs.Legal.{IsLegal}
 use Rattle.sdr_lock.specs.Standing.{standing_at}
 use Rattle.sdr_lock.specs.declared.has_ground.HasGround.{Ghosts}
 use Rattle.sdr_log.specs.Calls.{KeepsDisk}
@@ -15,7 +18,7 @@ use Rattle.sdr_log.specs.Logged.{GivesSame}
 use Rattle.sdr_model.specs.declared.journal.Entry.{Entry}
 use Rattle.sdr_model.specs.declared.script.Step.{Step}
 use Rattle.sdr_replay.specs.Handed.{HandedDisk, handed_as}
-use Rattle.sdr_replay.specs.Playing.{Output, PlaysOut}
+use Rattle.sdr_replay.specs.Playing.{Output, PlaysOut, RunsScript}
 use Rattle.sdr_replay.specs.Replaying.{IsNotRun, IsSettled, LeavesJournal, ReplaysOn, begins_on, with_base}
 use Rattle.sdr_replay.specs.declared.playing.Ran.{Ran}
 use Rattle.sdr_station.proofs.GroundLemmas.{heap_ground}
@@ -29,37 +32,37 @@ told_before : (old new : Option (List ℕ)) (y : List ℕ) → new ≡ Some y �
 told_before None new y is tells = absurd (true≢false (sym (ap is_some is) ∙ tells))
 told_before (Some x) new y is tells = (x, refl)
 
--- the heap on a disk as a ground
-abbrev pub ground_of : {D : Type 0} → DiskGhosts D → Ghosts (Grounded D)
-ground_of d = heap_ground d.bytes d.moment d.faults d.may_leave
+-- the heap on a disk, with media, as a ground
+abbrev pub ground_of : {D M : Type 0} → DiskGhosts D → MediaGhosts M → Ghosts (Grounded D M)
+ground_of d m = heap_ground d.bytes d.moment d.faults d.may_leave m
 
--- The heap of a disk was opened: what opening tells of it.
-pub record OpenedSo {D : Type 0} (d : DiskGhosts D) (disk : D) (g : Grounded D) : Type 0 where
+-- The heap of a disk was opened with media: what opening tells of it.
+pub record OpenedSo {D M : Type 0} (d : DiskGhosts D) (disk : D) (files : M) (g : Grounded D M) : Type 0 where
+  pub with_media : g.media ≡ files
   pub open_so : IsOpen d.bytes d.moment d.may_leave disk g
   pub keeps : KeepsDisk d.size d.bytes disk g.heap.cells.disk
   pub later : d.faults disk ≤ d.faults g.heap.cells.disk
   pub same : IfTold (d.bytes disk) (λ x. AtEach d.moment d.may_leave disk g.heap.cells.disk (GivesSame x))
 
 -- what opening told of the same disk
-pub opened_so : {D : Type 0} (d : DiskGhosts D) (given disk : D) (g : Grounded D) → given ≡ disk → IsSettled d disk
+pub opened_so : {D M : Type 0} (d : DiskGhosts D) (given disk : D) (files : M) (g : Grounded D M) → given ≡ disk → g.media ≡ files → IsSettled d disk
     → IsOpen d.bytes d.moment d.may_leave given g → KeepsDisk d.size d.bytes given g.heap.cells.disk → d.faults given ≤ d.faults g.heap.cells.disk
     → IfTold (d.bytes given) (λ x. MayBeOpened x (d.may_leave given (d.moment given))
-    → AtEach d.moment d.may_leave given g.heap.cells.disk (GivesSame x)) → OpenedSo d disk g
-opened_so {D} d given disk g same settled open_so keeps later any_moment =
+    → AtEach d.moment d.may_leave given g.heap.cells.disk (GivesSame x)) → OpenedSo d disk files g
+opened_so {D} d given disk files g same with_media settled open_so keeps later any_moment =
     let settled_given : IsSettled d given = subst (λ (x : D). IsSettled d x) (sym same) settled in
-    subst (λ (x : D). OpenedSo d x g) same
-    (record { open_so = open_so; keeps = keeps; later = later; same = λ x is. any_moment x is (settled_given x is) })
+    subst (λ (x : D). OpenedSo d x files g) same
+    (record { with_media = with_media; open_so = open_so; keeps = keeps; later = later; same = λ x is. any_moment x is (settled_given x is) })
 
 -- what is told of a disk that is left is told of the same one
 pub not_run : {D : Type 0} (d : DiskGhosts D) (given disk left now : D) (why : OpenError) → given ≡ disk → now ≡ left
-    → IsNotRun d given (record { why = why; disk = left }) → IsNotRun d disk (record { why = why; disk = now })
+    → IsNotRun d given left why → IsNotRun d disk now why
 not_run {D} d given disk left now why same left_is is =
-    subst (λ (x : D). IsNotRun d x (record { why = why; disk = now })) same
-    (subst (λ (y : D). IsNotRun d given (record { why = why; disk = y })) (sym left_is) is)
+    subst (λ (x : D). IsNotRun d x now why) same (subst (λ (y : D). IsNotRun d given y why) (sym left_is) is)
 
--- A heap that was opened on a disk, whose bytes as read are one of the images now.
-module _ {D : Type 0} (d : DiskGhosts D) (read_now : (x : D) → IfTold (d.bytes x) (d.may_leave x (d.moment x))) (disk : D) (script : List Step)
-    (g : Grounded D) (settled : IsSettled d disk) (o : OpenedSo d disk g) where
+-- A heap that was opened on a disk, whose bytes as read are one of the images now, with media.
+module _ {D M : Type 0} (d : DiskGhosts D) (m : MediaGhosts M) (read_now : (x : D) → IfTold (d.bytes x) (d.may_leave x (d.moment x)))
+    (disk : D) (files : M) (script : List Step) (g : Grounded D M) (settled : IsSettled d disk) (o : OpenedSo d disk files g) where
   -- what was opened stands for the first state
   stands : StandsForBoth d.bytes d.moment d.may_leave g (standing_at (first_on g) [])
   stands = o.open_so.stands settled
@@ -85,7 +88,7 @@ module _ {D : Type 0} (d : DiskGhosts D) (read_now : (x : D) → IfTold (d.bytes
       let then_same : put_back_of image ≡ put_back_of was.0 = at.each m image from (omega (arith, here, to)) left.left in
       record { heap = opened.heap; back = then_same ∙ sym now_same ∙ opened.back; room = opened.room; stands = opened.stands }
 
-  begins_now : BeginsOn (ground_of d) (begins_on (handed_as d disk) script g) (daemons_of script) g
+  begins_now : BeginsOn (ground_of d m) (begins_on m (handed_as d disk) script g) (daemons_of script) g
   begins_now = record {
     told = refl;
     daemons_are = refl;
@@ -100,9 +103,9 @@ module _ {D : Type 0} (d : DiskGhosts D) (read_now : (x : D) → IfTold (d.bytes
   }
 
   -- what the run leaves of the disk
-  leaves_journal : (journal : List Entry) (base : Grounded D) → IsRunOf (ground_of d) (begins_on (handed_as d disk) script g) journal base
+  leaves_journal : (journal : List Entry) (base : Grounded D M) → IsRunOf (ground_of d m) (begins_on m (handed_as d disk) script g) journal base
       → KeepsDisk d.size d.bytes disk base.heap.cells.disk → d.moment base.heap.cells.disk ≤ base.moment
-      → LeavesJournal d (daemons_of script) (first_on g) journal disk base.heap.cells.disk
+      → LeavesJournal d (m.told g.media) (daemons_of script) (first_on g) journal disk base.heap.cells.disk
   leaves_journal journal base run keeps seen =
       let now = base.heap.cells.disk in
       record {
@@ -130,33 +133,46 @@ module _ {D : Type 0} (d : DiskGhosts D) (read_now : (x : D) → IfTold (d.bytes
         cause = run.cause;
       }
 
-  replays_now : (out out' : Output) (ran : Ran (Grounded D)) → PlaysOut (ground_of d) (begins_on (handed_as d disk) script g) script out out' ran
-      → KeepsDisk d.size d.bytes disk ran.base.heap.cells.disk → d.moment ran.base.heap.cells.disk ≤ ran.base.moment
-      → ReplaysOn d disk script out out' (with_base ran ran.base.heap.cells.disk)
-  replays_now out out' ran plays keeps seen = record {
-    ground = g;
-    open_so = o.open_so;
-    replays = plays.replays;
-    legal = plays.run.legal;
-    leaves = leaves_journal ran.journal ran.base plays.run keeps seen;
-    failed = plays.failed;
-  }
+  replays_now : (out out' : Output) (ran : Ran (Grounded D M)) (parts : D × M)
+      → PlaysOut (ground_of d m) (begins_on m (handed_as d disk) script g) script g out out' ran → parts.0 ≡ ran.base.heap.cells.disk
+      → KeepsDisk d.size d.bytes disk ran.base.heap.cells.disk → d.moment ran.base.heap.cells.disk ≤ ran.base.moment → parts.1 ≡ ran.base.media
+      → ReplaysOn d m disk files script out out' (with_base ran parts)
+  replays_now out out' ran parts plays on keeps seen media_is =
+      let tells : m.told g.media ≡ m.told files = ap m.told o.with_media in
+      let shows : M → SeenMedia = seen_media m.told m.faults m.short in
+      record {
+        ground = g;
+        with_media = o.with_media;
+        open_so = o.open_so;
+        replays =
+            subst (λ (x : M). RunsScript (from_to (shows x) (shows parts.1)) (first_on g) script out out' (with_base ran parts)) o.with_media
+            (subst (λ (x : M). RunsScript (from_to (shows g.media) (shows x)) (first_on g) script out out' (with_base ran parts)) (sym media_is)
+            plays.replays);
+        legal = subst (λ (told : Option Told). IsLegal told (daemons_of script) (first_on g) ran.journal) tells plays.run.legal;
+        leaves =
+            subst (λ (told : Option Told). LeavesJournal d told (daemons_of script) (first_on g) ran.journal disk parts.0) tells
+            (subst (λ (x : D). LeavesJournal d (m.told g.media) (daemons_of script) (first_on g) ran.journal disk x) (sym on)
+            (leaves_journal ran.journal ran.base plays.run keeps seen));
+        failed = plays.failed;
+      }
 
-  -- What is told of the disk as it was handed in is told so.
+  -- What is told of the disk and media as they were handed in is told so.
   module _ (was : HandedDisk) (handed : was ≡ handed_as d disk) where
     -- a run begins on the heap
-    pub begins_opened : BeginsOn (ground_of d) (begins_on was script g) (daemons_of script) g
-    begins_opened = subst (λ (w : HandedDisk). BeginsOn (ground_of d) (begins_on w script g) (daemons_of script) g) (sym handed) begins_now
+    pub begins_opened : BeginsOn (ground_of d m) (begins_on m was script g) (daemons_of script) g
+    begins_opened =
+        subst (λ (w : HandedDisk). BeginsOn (ground_of d m) (begins_on m w script g) (daemons_of script) g) (sym handed) begins_now
 
     -- what it has come to, on a disk that stays as long and tells its bytes if it did
-    pub replayed : (out out' : Output) (ran : Ran (Grounded D)) (result : Ran D) → PlaysOut (ground_of d) (begins_on was script g) script out out' ran
-        → result ≡ with_base ran ran.base.heap.cells.disk → d.size result.base ≡ was.size → is_some (d.bytes result.base) ≡ was.tells
-        → d.moment result.base ≤ ran.base.moment → ReplaysOn d disk script out out' result
-    replayed out out' ran result plays is size tells seen =
-        let base : result.base ≡ ran.base.heap.cells.disk = ap (λ (r : Ran D). r.base) is in
-        let keeps : KeepsDisk d.size d.bytes disk result.base =
+    pub replayed : (out out' : Output) (ran : Ran (Grounded D M)) (result : Ran (D × M))
+        → PlaysOut (ground_of d m) (begins_on m was script g) script g out out' ran → result ≡ with_base ran result.base
+        → result.base.0 ≡ ran.base.heap.cells.disk → d.size result.base.0 ≡ was.size → is_some (d.bytes result.base.0) ≡ was.tells
+        → d.moment result.base.0 ≤ ran.base.moment → result.base.1 ≡ ran.base.media → ReplaysOn d m disk files script out out' result
+    replayed out out' ran result plays is on size tells seen media_is =
+        let keeps : KeepsDisk d.size d.bytes disk result.base.0 =
         record { size = size ∙ ap (λ (w : HandedDisk). w.size) handed; tells = tells ∙ ap (λ (w : HandedDisk). w.tells) handed } in
-        subst (λ (r : Ran D). ReplaysOn d disk script out out' r) (sym is)
-        (replays_now out out' ran
-        (subst (λ (w : HandedDisk). PlaysOut (ground_of d) (begins_on w script g) script out out' ran) handed plays)
-        (subst (λ (x : D). KeepsDisk d.size d.bytes disk x) base keeps) (subst (λ (x : D). d.moment x ≤ ran.base.moment) base seen))
+        subst (λ (r : Ran (D × M)). ReplaysOn d m disk files script out out' r) (sym is)
+        (replays_now out out' ran result.base
+        (subst (λ (w : HandedDisk). PlaysOut (ground_of d m) (begins_on m w script g) script g out out' ran) handed plays) on
+        (subst (λ (x : D). KeepsDisk d.size d.bytes disk x) on keeps) (subst (λ (x : D). d.moment x ≤ ran.base.moment) on seen)
+        media_is)

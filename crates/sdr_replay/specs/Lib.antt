@@ -2,4 +2,3 @@ pub mod Handed
 pub mod Playing
 pub mod Replaying
 pub mod Running
-pub mod Serving

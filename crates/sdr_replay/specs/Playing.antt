@@ -2,10 +2,9 @@
 use Rattle.std.specs.Prelude.{◌≡◌, ◌≤◌, ℕ, List, [], ◌++◌, Bool, true, false, not, Option, if◌then◌else◌}
 use Rattle.std.specs.Io.KnownBytes.{Appends}
 use Rattle.sdr_base.specs.Causes.{Rose}
-use Rattle.sdr_base.specs.Media.{Told}
 use Rattle.sdr_base.specs.Written.{AppendsPart}
 use Rattle.sdr_core.specs.CoreKept.{Begins, IsRunOf}
-use Rattle.sdr_dry.specs.Schedule.{Follows, daemons_of, run_text}
+use Rattle.sdr_dry.specs.Schedule.{AreCaused, Follows, MediaChange, SeenMedia, daemons_of, from_to, run_text}
 use Rattle.sdr_lock.specs.Core.{Core, RunsCore, first_core}
 use Rattle.sdr_lock.specs.Crash.{is_sound}
 use Rattle.sdr_lock.specs.Ground.{State}
@@ -49,9 +48,13 @@ abbrev pub leave_of : Bool → Leave
 leave_of true = leaves.Memory
 leave_of false = leaves.Done
 
+-- what is seen of the media of a ground
+abbrev pub media_on : {T : Type 0} → Ghosts T → T → SeenMedia
+media_on g base = record { told = g.told base; faults = (g.gaps base).faults; short = (g.gaps base).short }
+
 -- The script's steps but the last ones of these were made in order, on a core of the script's daemons, with these answers; then
 -- all made their leaves, and the journal is the one of this run. P tells of the steps that are left and the text of the answers.
-pub record Replays (told : Option Told) (first : State) (script : List Step) (leave : Leave) (journal : List Entry)
+pub record Replays (media : MediaChange) (first : State) (script : List Step) (leave : Leave) (journal : List Entry)
     (P : List Step → List ℕ → Type 0) : Type 0 where
   pub front : List Step
   pub rest : List Step
@@ -59,23 +62,24 @@ pub record Replays (told : Option Told) (first : State) (script : List Step) (le
   pub made : List Made
   pub follows : Follows [] front made
   pub core : Core
-  pub runs : RunsCore told (first_core (daemons_of script) first) made core
+  pub runs : RunsCore media.before.told (first_core (daemons_of script) first) made core
   pub leaving : List Made
   pub last : Core
-  pub leaves : AllLeave told leave core leaving last
+  pub leaves : AllLeave media.before.told leave core leaving last
   pub journal_is : last.log.journal ≡ journal
+  pub caused : AreCaused made media
   pub printed : P rest (run_text made)
 
 -- The steps were made, all of them unless memory was wanting, and their answers were printed; the leaves tell whether it was.
-abbrev pub RunsScript : {T : Type 0} → Option Told → State → List Step → Output → Output → Ran T → Type 0
-RunsScript told first script out out' ran =
-    Replays told first script (leave_of ran.starved) ran.journal
+abbrev pub RunsScript : {T : Type 0} → MediaChange → State → List Step → Output → Output → Ran T → Type 0
+RunsScript media first script out out' ran =
+    Replays media first script (leave_of ran.starved) ran.journal
     (λ rest text. (ran.starved ≡ false → rest ≡ []) × IsPrinted ran.printing out out' text)
 
--- A schedule was run on a ground.
-pub record PlaysOut {T : Type 0} (g : Ghosts T) (b : Begins) (script : List Step) (out out' : Output) (ran : Ran T) : Type 0 where
+-- A schedule was run on a ground, which was this one before.
+pub record PlaysOut {T : Type 0} (g : Ghosts T) (b : Begins) (script : List Step) (before : T) (out out' : Output) (ran : Ran T) : Type 0 where
   -- the answers that were printed and the journal are those of the run of the script
-  pub replays : RunsScript b.told b.first script out out' ran
+  pub replays : RunsScript (from_to (media_on g before) (media_on g ran.base)) b.first script out out' ran
   -- what a crash leaves is told by the journal
   pub run : IsRunOf g b ran.journal ran.base
   -- the disk failed just where it did in an entry

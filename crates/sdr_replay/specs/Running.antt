@@ -2,7 +2,7 @@
 use Rattle.std.specs.Prelude.{◌≡◌, ℕ, List, [], ◌++◌, true}
 use Rattle.sdr_core.specs.CoreKept.{Begins, Kept, Makes, core_at}
 use Rattle.sdr_dry.proofs.ScheduleLemmas.{bindings_after}
-use Rattle.sdr_dry.specs.Schedule.{Follows, daemons_of, run_text}
+use Rattle.sdr_dry.specs.Schedule.{AreCaused, Follows, daemons_of, from_to, run_text}
 use Rattle.sdr_lock.specs.Core.{RunsCore, first_core}
 use Rattle.sdr_lock.specs.Machine.{Made}
 use Rattle.sdr_lock.specs.Serving.{Stood}
@@ -10,12 +10,13 @@ use Rattle.sdr_lock.specs.Standing.{Standing}
 use Rattle.sdr_lock.specs.declared.came.Came.{Came}
 use Rattle.sdr_lock.specs.declared.has_ground.HasGround.{Ghosts}
 use Rattle.sdr_model.specs.declared.script.Step.{Step}
-use Rattle.sdr_replay.specs.Playing.{bytes_by}
+use Rattle.sdr_replay.specs.Playing.{bytes_by, media_on}
 use Rattle.sdr_text.specs.Text.{line_text}
 use Rattle.sdr_words.specs.Bindings.{Binding, bound, event_of}
 
--- The script's steps but these last ones were made in order, and the core has come to this. P tells of the text of the answers.
-pub record HasMade {T : Type 0} (g : Ghosts T) (b : Begins) (script rest : List Step) (k : Kept T) (P : List ℕ → Type 0) : Type 0 where
+-- The script's steps but these last ones were made in order, on a ground that was this one before, and the core has come to this. P tells
+-- of the text of the answers.
+pub record HasMade {T : Type 0} (g : Ghosts T) (b : Begins) (before : T) (script rest : List Step) (k : Kept T) (P : List ℕ → Type 0) : Type 0 where
   pub made : List Made
   pub for : Standing
   pub stood : Stood g.stands k.lock for
@@ -24,17 +25,19 @@ pub record HasMade {T : Type 0} (g : Ghosts T) (b : Begins) (script rest : List 
   pub follows : Follows [] front made
   pub runs : RunsCore b.told (first_core (daemons_of script) b.first) made (core_at k for)
   pub media : g.told k.lock.base ≡ b.told
+  pub caused : AreCaused made (from_to (media_on g before) (media_on g k.lock.base))
   pub printed : P (run_text made)
 
 -- The same, and the names hold what the answers gave.
-pub record Running {T : Type 0} (g : Ghosts T) (b : Begins) (script rest : List Step) (bindings : List Binding) (k : Kept T) (P : List ℕ → Type 0) : Type 0 where
-  pub at : HasMade g b script rest k P
+pub record Running {T : Type 0} (g : Ghosts T) (b : Begins) (before : T) (script rest : List Step) (bindings : List Binding) (k : Kept T)
+    (P : List ℕ → Type 0) : Type 0 where
+  pub at : HasMade g b before script rest k P
   pub names : bindings ≡ bindings_after [] at.front at.made
 
 -- Some of the steps were made, of which P tells by those that are left and the text of the answers.
-pub record HasRun {T : Type 0} (g : Ghosts T) (b : Begins) (script : List Step) (k : Kept T) (P : List Step → List ℕ → Type 0) : Type 0 where
+pub record HasRun {T : Type 0} (g : Ghosts T) (b : Begins) (before : T) (script : List Step) (k : Kept T) (P : List Step → List ℕ → Type 0) : Type 0 where
   pub rest : List Step
-  pub at : HasMade g b script rest k (P rest)
+  pub at : HasMade g b before script rest k (P rest)
 
 -- The event of a step was made, and Prints tells of the line of its answer.
 pub record AnswersStep {T : Type 0} (g : Ghosts T) (bindings : List Binding) (step : Step) (old new : Kept T) (Prints : List ℕ → Type 0) : Type 0 where

@@ -5,16 +5,15 @@
 //! 2. Behind the last step all daemons make their leaves, which print nothing. Where an event or a name
 //!    finds no memory, no further step is made, and the leaves tell so. They take no memory.
 //! 3. `play` runs on any ground that tells what its calls did. The journal is that of the run.
-//! 4. `replay` opens the heap of a disk and plays on it. At each moment of the call a crash leaves the
-//!    state after some first entries, and all that are done.
-//! 5. Not all calls are served yet: `first_unserved` tells the first step whose call isn't.
+//! 4. `replay` opens the heap of a disk and plays on it, with the media that its sources name. At each
+//!    moment of the call a crash leaves the state after some first entries, and all that are done.
+//! 5. The answers that tell that media failed, or gave too few bytes, are at most as many as the counts
+//!    of these rose by. The media come back with the disk.
 #![tactic(auto)]
 
 mod handed;
 mod playing;
 mod replaying;
-mod serving;
 
 pub use playing::{Ran, play};
 pub use replaying::replay;
-pub use serving::first_unserved;

@@ -118,12 +118,13 @@ fn play_on<T: Tells, J: Origin, K: Sink>(
     printing: &mut bool,
 ) -> bool
     requires few { length script.now ≤ 1_048_577 }
-    requires running { Running T.HasGround J.begins script.now script.now [] core.old
+    requires running { Running T.HasGround J.begins core.old.lock.base script.now script.now []
+        core.old
         (IsPrinted printing.old
         (output K.taken K.faults out.old) (output K.taken K.faults out.old)) }
     requires lasts { LastsOn T.HasGround core.old.lock.base }
     requires drawn { core.old.lock.roll.drawn ≡ 0 }
-    ensures ran { HasRun T.HasGround J.begins script.now core.new (λ rest text.
+    ensures ran { HasRun T.HasGround J.begins core.old.lock.base script.now core.new (λ rest text.
         (result ≡ false → rest ≡ []) × IsPrinted printing.new
         (output K.taken K.faults out.old) (output K.taken K.faults out.new) text) }
     ensures lasts { LastsOn T.HasGround core.new.lock.base }
@@ -193,7 +194,7 @@ pub fn play<T: Tells, J: Origin, K: Sink>(
     requires few { length script.now ≤ 1_048_577 }
     requires begins { BeginsOn T.HasGround J.begins (daemons_of script.now) base }
     requires lasts { LastsOn T.HasGround base }
-    ensures ran { IfOk result (PlaysOut T.HasGround J.begins script.now
+    ensures ran { IfOk result (PlaysOut T.HasGround J.begins script.now base
         (output K.taken K.faults out.old) (output K.taken K.faults out.new)) }
     ensures back { IfErr result (λ back. (back ≡ base) × (out.new ≡ out.old)) }
     ensures later { K.faults out.old ≤ K.faults out.new }

@@ -11,7 +11,10 @@ use Rattle.sdr_answers.specs.Answering as answers
 use Rattle.sdr_answers.specs.Answering.{IsServed}
 use Rattle.sdr_served.specs.Serving.{IsGood}
 use Rattle.zco_answers.proofs.GoodLemmas.{good_of as objects_good}
+use Rattle.zco_cut_answers.proofs.GoodLemmas.{to_cut as object_to_cut}
+use Rattle.zco_given.proofs.GoodLemmas.{good_of as given_good}
 use Rattle.zco_granted.proofs.GoodLemmas.{good_of as tickets_good}
+use Rattle.zco_part_answers.proofs.GoodLemmas.{good_of as parts_good}
 use Rattle.zco_served.proofs.GoodLemmas.{good_of as sources_good}
 use Rattle.sdr_audit.specs.Rows.{hash_row, list_row, name_row, table_row}
 use Rattle.sdr_audit.specs.Standing.{HeapStandsFor}
@@ -59,4 +62,7 @@ good_of heap w s served small = record {
   sources = sources_good heap w s served small;
   tickets = tickets_good heap w s served;
   objects = objects_good heap w s served small;
+  parts = parts_good heap w s served small;
+  to_cut = object_to_cut heap w s served small;
+  given = given_good heap w s served small;
 }

@@ -11,4 +11,6 @@ pub mod NameCalls
 pub mod FreeLemmas
 pub mod GoodLemmas
 pub mod NextLemmas
+pub mod CutLemmas
 pub mod DemandLemmas
+pub mod GivingLemmas

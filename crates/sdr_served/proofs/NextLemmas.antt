@@ -1,5 +1,5 @@
 -- The number of the next ticket never falls.
-use Rattle.std.proofs.Common.{◌≡◌, ◌≤◌, ◌+◌, ◌==◌, ◌∙◌, ℕ, List, [], ◌∷◌, Option, None, Some, true, true≢false, nat_lt, length, refl, sym, ap, arith}
+use Rattle.std.proofs.Common.{◌≡◌, ◌≤◌, ◌+◌, ◌==◌, ◌∙◌, ℕ, List, [], ◌∷◌, Option, None, Some, nat_lt, length, refl, ap, arith}
 use Rattle.std.specs.Prelude.{◌||◌, is_some, slice_get}
 use Rattle.sdr_base.specs.declared.account.Acct.{Acct}
 use Rattle.sdr_base.specs.declared.account.Acct.TheVariants as accts
@@ -8,6 +8,7 @@ use Rattle.sdr_base.specs.declared.kind.Space.{Space}
 use Rattle.sdr_base.specs.declared.kind.Space.TheVariants as spaces
 use Rattle.sdr_base.specs.declared.moves.Move.{Move}
 use Rattle.sdr_base.specs.declared.refusal.Refusal.TheVariants as refusals
+use Rattle.sdr_laws.proofs.BondLemmas.{bonded_rest}
 use Rattle.sdr_laws.proofs.Effects.{Plain}
 use Rattle.sdr_laws.proofs.PlainRows.{row_change}
 use Rattle.sdr_lock.proofs.StepLemmas.{from_option, from_test}
@@ -15,18 +16,21 @@ use Rattle.sdr_model.proofs.FewLemmas.{in_takes_one}
 use Rattle.sdr_model.specs.AccountSteps.{new_ticket, pending_of, with_maximum, with_request, without_ticket}
 use Rattle.sdr_model.specs.Accounts.{account_of, most_amount, pending_in, tickets_of, with_account, with_ticket}
 use Rattle.sdr_model.specs.Amounts.{amounts_by, first_above, in_space, minus}
-use Rattle.sdr_model.specs.Charges.{bytes_charge, capsule_bytes, object_bytes, rooms}
+use Rattle.sdr_model.specs.BondSteps.{bond_charge, bond_moves, bonded, capsules_of, with_bonded}
+use Rattle.sdr_model.specs.Charges.{bytes_charge, capsule_bytes, object_bytes, object_charge, rooms}
 use Rattle.sdr_model.specs.Charging.{Charges, grant_left, no_space, with_used}
+use Rattle.sdr_model.specs.Cuts.{placed}
 use Rattle.sdr_model.specs.Gone.{gone_things, without_things}
 use Rattle.sdr_model.specs.Limits.{is_no_capsule, is_no_path, longest_source}
 use Rattle.sdr_model.specs.ObjectSteps.{AddsCapsule, Discards, last_capsule, raw_append_moves, with_extent, with_header, with_object, with_trailer, without_header, without_trailer}
+use Rattle.sdr_model.specs.PartSteps.{asked_extents, clone_moves, object_of, outside_part, stripped}
 use Rattle.sdr_model.specs.Queue.{barrier, with_served}
 use Rattle.sdr_model.specs.Rows.{ByRow}
 use Rattle.sdr_model.specs.SourceSteps.{new_source}
 use Rattle.sdr_model.specs.Steps.{DoesWith, Outcome, RefusedFor, Takes, taken_at, with_thing, without_thing}
 use Rattle.sdr_model.specs.Things.{capsule_need, extent_need, object_need}
 use Rattle.sdr_model.specs.World.{World, as_raw, thing_at}
-use Rattle.sdr_model.specs.Zco.{empty_object, object_at, owned_raw, source_at, source_on, space_of, uses_of}
+use Rattle.sdr_model.specs.Zco.{empty_object, extents_length, object_at, owned_raw, source_at, source_on, space_of, uses_of}
 use Rattle.sdr_model.specs.declared.accounts.Accounts.{Accounts}
 use Rattle.sdr_model.specs.declared.accounts.Pending.{Pending}
 use Rattle.sdr_model.specs.declared.accounts.Ticket.{Ticket}
@@ -38,7 +42,6 @@ use Rattle.sdr_model.specs.declared.things.Thing.TheVariants as things
 use Rattle.sdr_model.specs.declared.zco.Capsule.{Capsule}
 use Rattle.sdr_model.specs.declared.zco.Subject.TheVariants as subjects
 use Rattle.sdr_model.specs.declared.zco.ZcoObject.{ZcoObject}
-use Rattle.sdr_served.specs.Serving.{built}
 
 -- the number of the next ticket of a world
 abbrev next_of : World → ℕ
@@ -81,7 +84,7 @@ without_next : (w : World) (addrs : List ℕ) → next_of (without_things w addr
 without_next w [] = refl
 without_next w (addr ∷ addrs) = without_next (without_thing w addr) addrs
 
--- what the row of a served call leaves
+-- what the row of a call leaves
 module _ (w : World) (o : Outcome) where
   -- the outcome has this world, whose number is the same
   same_next : (next : World) → o.after ≡ next → next_of next ≡ next_of w → next_of w ≤ next_of o.after
@@ -140,27 +143,27 @@ module _ (w : World) (o : Outcome) where
   discard_next addr z capsule after row =
       from_option capsule row (λ _ h. same_next _ h.1 refl) (λ c _ h. same_next _ h.1 (served_next (with_object w addr after) z.account))
 
-  pub next_kept : (call : Call) → built call ≡ true → ByRow w o call → next_of w ≤ next_of o.after
-  next_kept (calls.FileRef path bytes) is row =
+  pub next_kept : (call : Call) → ByRow w o call → next_of w ≤ next_of o.after
+  next_kept (calls.FileRef path bytes) row =
       from_test (is_no_path (length path)) row (λ _ h. same_next _ h.1 refl) (λ _ h.
       from_test (nat_lt longest_source bytes) h (λ _ h. same_next _ h.1 refl)
       (λ _ h. in_takes_one o.moves _ _ h (λ addr p. same_next _ p.0 refl)))
-  next_kept (calls.BulkRef item bytes) is row =
+  next_kept (calls.BulkRef item bytes) row =
       from_test (nat_lt longest_source bytes) row (λ _ h. same_next _ h.1 refl)
       (λ _ h. in_takes_one o.moves _ _ h (λ addr p. same_next _ p.0 refl))
-  next_kept (calls.ObjRef raw) is row =
+  next_kept (calls.ObjRef raw) row =
       from_option (as_raw (thing_at w raw)) row (λ _ h. same_next _ h.1 refl) (λ bytes _ h.
       from_option (source_on w raw) h (λ _ h. in_takes_one o.moves _ _ h (λ addr p. same_next _ p.0 refl))
       (λ source _ h. same_next _ h.1 refl))
-  next_kept (calls.DestroyRef addr) is row =
+  next_kept (calls.DestroyRef addr) row =
       from_option (source_at w addr) row (λ _ h. same_next _ h.1 refl) (λ source _ h.
       from_test (is_some (owned_raw source)) h (λ _ h. same_next _ h.1 refl) (λ _ h.
       from_test source.flagged h (λ _ h. same_next _ h.1 refl) (λ _ h.
       from_test (uses_of w addr == 0) h (λ _ h. same_next _ h.1 refl) (λ _ h. same_next _ h.1 refl))))
-  next_kept (calls.SetMaximum acct space value) is row =
+  next_kept (calls.SetMaximum acct space value) row =
       from_test (nat_lt most_amount value) row (λ _ h. same_next _ h.1 refl)
       (λ _ h. same_next _ h.1 (served_next (maxed w acct space value) acct ∙ maximum_next w acct space value))
-  next_kept (calls.Request acct file bulk heap coarse fine) is row =
+  next_kept (calls.Request acct file bulk heap coarse fine) row =
       let asked : Amounts = record { file = file; bulk = bulk; heap = heap } in
       from_option (first_above asked (account_of w.accounts acct).maxima) row (λ _ h.
       from_test (w.accounts.next == most_amount) h (λ _ h. same_next _ h.1 refl)
@@ -169,12 +172,12 @@ module _ (w : World) (o : Outcome) where
       let one = request_next w acct (new_ticket w.accounts.next addr asked coarse fine) in
       omega (arith, later, one))))
       (λ space _ h. same_next _ h.1 refl)
-  next_kept (calls.Shred number) is row =
+  next_kept (calls.Shred number) row =
       from_option (pending_of w number) row (λ _ h. same_next _ h.1 refl) (λ p _ h. same_next _ h.1 (gone_next w p))
-  next_kept (calls.Create acct number) is row =
+  next_kept (calls.Create acct number) row =
       charged_next acct number (in_space spaces.Heap object_bytes) _ row (λ used same h.
       takes_next object_need (λ addr. with_object used addr (empty_object acct)) (λ addr. replies.At addr) h (λ addr. same))
-  next_kept (calls.AppendExtent addr number named offset bytes) is row =
+  next_kept (calls.AppendExtent addr number named offset bytes) row =
       from_option (object_at w addr) row (λ _ h. same_next _ h.1 refl) (λ z _ h.
       from_option (source_at w named) h (λ _ h.
       from_option (as_raw (thing_at w named)) h (λ _ h. same_next _ h.1 refl) (λ text _ h.
@@ -193,20 +196,38 @@ module _ (w : World) (o : Outcome) where
       takes_next extent_need (λ block. with_object used addr
       (with_extent z (record { block = block; source = named; offset = offset; length = bytes })))
       (λ block. replies.Done) h (λ block. same))))))
-  next_kept (calls.PrependHeader addr number text) is row = capsule_next addr number text with_header row
-  next_kept (calls.AppendTrailer addr number text) is row = capsule_next addr number text with_trailer row
-  next_kept (calls.DiscardFirstHeader addr) is row =
+  next_kept (calls.PrependHeader addr number text) row = capsule_next addr number text with_header row
+  next_kept (calls.AppendTrailer addr number text) row = capsule_next addr number text with_trailer row
+  next_kept (calls.DiscardFirstHeader addr) row =
       from_option (object_at w addr) row (λ _ h. same_next _ h.1 refl) (λ z _ h.
       discard_next addr z (slice_get z.headers 0) (without_header z) h)
-  next_kept (calls.DiscardLastTrailer addr) is row =
+  next_kept (calls.DiscardLastTrailer addr) row =
       from_option (object_at w addr) row (λ _ h. same_next _ h.1 refl) (λ z _ h.
       discard_next addr z (last_capsule z.trailers) (without_trailer z) h)
-  next_kept (calls.Destroy addr) is row =
+  next_kept (calls.Destroy addr) row =
       from_option (object_at w addr) row (λ _ h. same_next _ h.1 refl) (λ z _ h.
       let gone = gone_things w z.extents z.extents in
       same_next _ h.1 (served_next (without_thing (without_things w gone) addr) z.account ∙ without_next w gone))
-  next_kept (calls.Bond addr ticket) is row = absurd (true≢false (sym is))
-  next_kept (calls.ClonePart addr ticket offset bytes) is row = absurd (true≢false (sym is))
-  next_kept (calls.Delimit addr offset bytes) is row = absurd (true≢false (sym is))
-  next_kept (calls.Strip addr) is row = absurd (true≢false (sym is))
-  next_kept call is row = row_change w call o row (λ _ plain. plain_next plain) (λ zco. absurd zco)
+  next_kept (calls.Bond addr number) row =
+      from_option (object_at w addr) row (λ _ h. same_next _ h.1 refl) (λ z _ h.
+      let capsules = capsules_of z in
+      charged_next z.account number (bond_charge capsules) _ h (λ used same h.
+      does_next (λ at. bond_moves at 0 capsules)
+      (λ at. with_object (with_bonded used at 0 capsules) addr (bonded at z))
+      (λ at. replies.Done) h (λ at. ap next_of (bonded_rest used at 0 capsules) ∙ same)))
+  next_kept (calls.ClonePart addr number offset bytes) row =
+      from_option (object_at w addr) row (λ _ h. same_next _ h.1 refl) (λ z _ h.
+      from_test (bytes == 0 || nat_lt z.part.length (offset + bytes)) h (λ _ h. same_next _ h.1 refl) (λ _ h.
+      let extents = asked_extents z offset bytes in
+      charged_next z.account number (λ (space : Space). object_charge w space (object_of z.account extents)) _ h (λ used same h.
+      does_next (λ at. clone_moves at extents)
+      (λ at. with_object used (at 0) (object_of z.account (placed at 1 extents)))
+      (λ at. replies.At (at 0)) h (λ at. same))))
+  next_kept (calls.Delimit addr offset bytes) row =
+      from_option (object_at w addr) row (λ _ h. same_next _ h.1 refl) (λ z _ h.
+      from_test (nat_lt (extents_length z.extents) (offset + bytes)) h (λ _ h. same_next _ h.1 refl) (λ _ h. same_next _ h.1 refl))
+  next_kept (calls.Strip addr) row =
+      from_option (object_at w addr) row (λ _ h. same_next _ h.1 refl) (λ z _ h.
+      let gone = gone_things w (outside_part z) (outside_part z) in
+      same_next _ h.1 (served_next (with_object (without_things w gone) addr (stripped z)) z.account ∙ without_next w gone))
+  next_kept call row = row_change w call o row (λ _ plain. plain_next plain) (λ zco. absurd zco)

@@ -1,35 +1,61 @@
--- Which calls are served over blocks, and what they ask for.
-use Rattle.std.specs.Prelude.{ℕ, Bool, ◌||◌, if◌then◌else◌}
+-- Calls over blocks, and what they ask for.
+use Rattle.std.specs.Prelude.{ℕ, Bool, true, false, if◌then◌else◌}
 use Rattle.sdr_answers.specs.Answering as answers
-use Rattle.sdr_answers.specs.Answering.{is_free_call, is_hash_call, is_list_call, is_name_call, is_raw_call, is_string_call, is_table_call}
 use Rattle.sdr_base.specs.Objects.{Heap}
 use Rattle.sdr_model.specs.World.{World}
 use Rattle.sdr_model.specs.declared.call.Call.{Call}
+use Rattle.sdr_model.specs.declared.call.Call.TheVariants as calls
 use Rattle.zco_answers.specs.Answering as objects
 use Rattle.zco_answers.specs.Answering.{is_object_call}
+use Rattle.zco_bond_answers.specs.Answering.{bond_lines}
+use Rattle.zco_cut_answers.specs.Stripping.{IsToCut, strip_lines}
+use Rattle.zco_given.specs.Giving as given
 use Rattle.zco_granted.specs.Answering as tickets
 use Rattle.zco_granted.specs.Answering.{is_account_call}
+use Rattle.zco_part_answers.specs.Answering as parts
+use Rattle.zco_part_answers.specs.Answering.{is_part_call}
 use Rattle.zco_served.specs.Answering as sources
 use Rattle.zco_served.specs.Answering.{is_source_call}
 
--- whether the call is served
-abbrev pub built : Call → Bool
-built call =
-    is_raw_call call || is_free_call call || is_string_call call || is_list_call call || is_table_call call || is_hash_call call
-    || is_name_call call || is_source_call call || is_account_call call || is_object_call call
+-- whether the call cuts an object to its part
+abbrev pub is_cut_call : Call → Bool
+is_cut_call (calls.Strip object) = true
+is_cut_call call = false
 
--- so many lines a call that is served touches at most on this heap, which stands for the world
+-- so many lines such a call touches at most
+abbrev pub cut_lines : World → Call → ℕ
+cut_lines w (calls.Strip object) = strip_lines w object
+cut_lines w call = 0
+
+-- whether the call bonds an object
+abbrev pub is_bond_call : Call → Bool
+is_bond_call (calls.Bond object ticket) = true
+is_bond_call call = false
+
+-- so many lines such a call touches at most
+abbrev pub bonding_lines : World → Call → ℕ
+bonding_lines w (calls.Bond object ticket) = bond_lines w object
+bonding_lines w call = 0
+
+-- so many lines a call touches at most on this heap, which stands for the world
 abbrev pub call_lines : Heap → World → Call → ℕ
 call_lines heap w call =
     if is_source_call call then sources.call_lines call
     else if is_account_call call then tickets.call_lines w call
     else if is_object_call call then objects.call_lines w call
+    else if is_part_call call then parts.call_lines w call
+    else if is_cut_call call then cut_lines w call
+    else if is_bond_call call then bonding_lines w call
     else answers.call_lines heap call
 
 -- what is of a kind is kept, sources and the raw objects that they name too, the queues of both accounts, and objects with their
--- accounts' queues
+-- accounts' queues, with what their extents name, and with all that it takes to bond them, to clone their parts and to cut them to
+-- these
 pub record IsGood (heap : Heap) : Type 0 where
   pub things : answers.IsGood heap
   pub sources : sources.IsGood heap
   pub tickets : tickets.IsGood heap
   pub objects : objects.IsGood heap
+  pub parts : parts.IsGood heap
+  pub to_cut : (addr : ℕ) → IsToCut heap addr
+  pub given : given.IsGood heap

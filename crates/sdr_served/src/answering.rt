@@ -1,4 +1,4 @@
-// The answer of each call that is served.
+// The answer of each call but those that read media.
 ghost use Rattle.std.specs.Prelude.{◌≡◌, ◌≤◌, ◌+◌, ◌/◌, [], true, false};
 ghost use Rattle.sdr_answers.specs.Answering as answers;
 ghost use Rattle.sdr_answers.specs.Answering.{Comes, IsServed};
@@ -6,50 +6,42 @@ ghost use Rattle.sdr_audit.specs.Standing.{HeapStandsFor};
 ghost use Rattle.sdr_base.specs.Moves.{KeepsSome};
 ghost use Rattle.sdr_base.specs.Works.{Works};
 ghost use Rattle.sdr_model.specs.Fields.{FitsCall};
+ghost use Rattle.sdr_model.specs.Reading.{reads_media};
 ghost use Rattle.sdr_model.specs.World.{World};
-ghost use Rattle.sdr_served.specs.Serving.{IsGood, built, call_lines};
+ghost use Rattle.sdr_served.specs.Serving.{IsGood, call_lines, is_bond_call, is_cut_call};
 ghost use Rattle.zco_answers.specs.Answering.{is_object_call};
 ghost use Rattle.zco_granted.specs.Answering.{is_account_call};
+ghost use Rattle.zco_part_answers.specs.Answering.{is_part_call};
 ghost use Rattle.zco_served.specs.Answering.{is_source_call};
 
-use crate::{freeing, hashes, names, tables};
+use crate::bonding::is_bond_call;
+use crate::cutting::is_cut_call;
+use crate::{bonding, cutting, freeing, hashes, names, tables};
 use sdr_answers::{
-    Page, is_free_call, is_hash_call, is_list_call, is_name_call, is_raw_call, is_string_call,
-    is_table_call, lists, raws, strings,
+    Page, is_free_call, is_hash_call, is_list_call, is_raw_call, is_string_call, is_table_call,
+    lists, raws, strings,
 };
 use sdr_base::{Objects, Stop};
 use sdr_model::{Call, Reply};
 use zco_acct::{Notice, Notify};
 use zco_answers::is_object_call;
 use zco_granted::is_account_call;
+use zco_part_answers::is_part_call;
 use zco_served::is_source_call;
 
-/// Whether the call is served yet.
-pub fn built(call: &Call) -> bool
-    ensures { result ≡ built call.now }
-{
-    is_raw_call(call)
-        || is_free_call(call)
-        || is_string_call(call)
-        || is_list_call(call)
-        || is_table_call(call)
-        || is_hash_call(call)
-        || is_name_call(call)
-        || is_source_call(call)
-        || is_account_call(call)
-        || is_object_call(call)
-}
-
-// Answers a call that is served, but one on sources, accounts, tickets or zero-copy objects.
+// Answers a call, but one that reads media, or is on sources, accounts, tickets or zero-copy objects.
 fn answer_other<O: Objects>(o: &mut O, call: &Call, page: &mut Page) -> Result<Reply, Stop>
     requires kept { KeepsSome (O.keeps o.old) }
     requires room { (O.heap o.old).size / 4 + 4 ≤ (O.heap o.old).spare }
     requires good { IsGood (O.heap o.old) }
     requires unmoved { (O.heap o.old).moves ≡ [] }
-    requires built { built call.now ≡ true }
+    requires here { reads_media call.now ≡ false }
     requires no_source { is_source_call call.now ≡ false }
     requires no_account { is_account_call call.now ≡ false }
     requires no_object { is_object_call call.now ≡ false }
+    requires no_part { is_part_call call.now ≡ false }
+    requires no_cut { is_cut_call call.now ≡ false }
+    requires no_bond { is_bond_call call.now ≡ false }
     ensures comes { Comes call.now (O.heap o.old) (O.heap o.new) page.old page.new result }
     ensures works { Works O.HasHeap
         (answers.call_lines (O.heap o.old) call.now) o.old o.new result }
@@ -76,7 +68,7 @@ fn answer_other<O: Objects>(o: &mut O, call: &Call, page: &mut Page) -> Result<R
     names::answer(o, call, page)
 }
 
-/// Answers a call that is served. A callback is told each time space is made available.
+/// Answers a call, but one that reads media. A callback is told each time space is made available.
 pub fn answer<O: Objects, F: Notify>(
     o: &mut O,
     call: &Call,
@@ -87,7 +79,7 @@ pub fn answer<O: Objects, F: Notify>(
     requires room { (O.heap o.old).size / 4 + 4 ≤ (O.heap o.old).spare }
     requires good { IsGood (O.heap o.old) }
     requires unmoved { (O.heap o.old).moves ≡ [] }
-    requires built { built call.now ≡ true }
+    requires here { reads_media call.now ≡ false }
     ensures comes { Comes call.now (O.heap o.old) (O.heap o.new) page.old page.new result }
     ensures works { (w : World) → HeapStandsFor (O.heap o.old) w → IsServed w →
         Works O.HasHeap (call_lines (O.heap o.old) w call.now) o.old o.new result }
@@ -101,6 +93,15 @@ pub fn answer<O: Objects, F: Notify>(
     }
     if is_object_call(call) {
         return zco_answers::answer(o, call, notice, page);
+    }
+    if is_part_call(call) {
+        return zco_part_answers::answer(o, call, page);
+    }
+    if is_cut_call(call) {
+        return cutting::answer(o, call, notice, page);
+    }
+    if is_bond_call(call) {
+        return bonding::answer(o, call, page);
     }
     answer_other(o, call, page)
 }

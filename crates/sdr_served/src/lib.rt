@@ -1,15 +1,18 @@
-//! The answer of each call that is served, over any blocks.
+//! The answer of each call, over any blocks and any media.
 //!
 //! 1. Each call is a step of the machine on the world that the blocks stand for: here `free` and those on tables, hashes and the
-//!    catalogue, and those of the crates below by what they are on. Which are served stands here (`built`).
+//!    catalogue, and those of the crates below by what they are on. Those that ask an object's bytes read media, and no other does.
 //! 2. What is of a kind is kept wherever a heap stands for a world in which calls are served, and a call that its row answers
 //!    touches no more lines than its transaction may by what it has asked.
 #![tactic(auto)]
 
 mod answering;
+mod bonding;
+mod cutting;
 mod freeing;
+mod giving;
 mod hashes;
 mod names;
 mod tables;
 
-pub use answering::{answer, built};
+pub use giving::answer;

@@ -15,10 +15,10 @@ use Rattle.sdr_shell.specs.Shutting.{line_shut, status_shut}
 use Rattle.sdr_shell.specs.declared.status.TheConstants.{DONE, OUTPUT_FAULT, USAGE}
 use Rattle.sdr_station.specs.Grounded.{Grounded}
 use Rattle.sdr_station.specs.Opening.{ExplainsOpen, IsOpen, LeavesBytes, first_on}
-use Rattle.sdr_station.specs.declared.error.Shut.{Shut}
+use Rattle.sdr_station.specs.declared.error.OpenError.{OpenError}
 
 -- a heap that was opened is put back
-pub opened_recovered : {D : Type 0} (d : DiskGhosts D) (disk : D) (g : Grounded D) → IsOpen d.bytes d.moment d.may_leave disk g
+pub opened_recovered : {D M : Type 0} (d : DiskGhosts D) (disk : D) (g : Grounded D M) → IsOpen d.bytes d.moment d.may_leave disk g
     → IsRecovered d disk g.heap.cells.disk g.restored
 opened_recovered d disk g o = record {
   frame = g.heap.cells.frame;
@@ -53,7 +53,7 @@ recover_answers d status disk disk' sink sink' comes moments = record {
 }
 
 -- a heap that was opened answers so, where the line that tells of it was written, or the output failed
-pub opened_answers : {D : Type 0} (d : DiskGhosts D) (status : ℕ) (disk disk' : D) (sink sink' : Seen) (g : Grounded D) (count : ℕ)
+pub opened_answers : {D M : Type 0} (d : DiskGhosts D) (status : ℕ) (disk disk' : D) (sink sink' : Seen) (g : Grounded D M) (count : ℕ)
     → count ≡ g.restored → disk' ≡ g.heap.cells.disk → IsOpen d.bytes d.moment d.may_leave disk g
     → IfTold (d.bytes disk) (λ x. MayBeOpened x (d.may_leave disk (d.moment disk))
     → AtEach d.moment d.may_leave disk g.heap.cells.disk (GivesSame x))
@@ -70,12 +70,12 @@ opened_answers {D} d status disk disk' sink sink' g count count_is same opened m
     ]) moments)
 
 -- one that wasn't opened answers so, where the last line tells why
-pub shut_answers : {D : Type 0} (d : DiskGhosts D) (status : ℕ) (disk : D) (shut : Shut D) (sink sink' : Seen) → status ≡ status_shut shut.why
-    → ExplainsOpen (d.bytes disk) (d.faults disk) (d.faults shut.disk) shut.why → LeavesBytes (d.bytes disk) (d.bytes shut.disk) shut.why
-    → IfTold (d.bytes disk) (λ x. MayBeOpened x (d.may_leave disk (d.moment disk)) → AtEach d.moment d.may_leave disk shut.disk (GivesSame x))
-    → Wrote sink sink' (line_shut shut.why) → AnswersRecover d status disk shut.disk sink sink'
-shut_answers d status disk shut sink sink' is explained bytes moments written =
-    recover_answers d status disk shut.disk sink sink' (RecoversTo.shut shut.why is (record { explained = explained; bytes = bytes }) written) moments
+pub shut_answers : {D : Type 0} (d : DiskGhosts D) (status : ℕ) (disk disk' : D) (why : OpenError) (sink sink' : Seen) → status ≡ status_shut why
+    → ExplainsOpen (d.bytes disk) (d.faults disk) (d.faults disk') why → LeavesBytes (d.bytes disk) (d.bytes disk') why
+    → IfTold (d.bytes disk) (λ x. MayBeOpened x (d.may_leave disk (d.moment disk)) → AtEach d.moment d.may_leave disk disk' (GivesSame x))
+    → Wrote sink sink' (line_shut why) → AnswersRecover d status disk disk' sink sink'
+shut_answers d status disk disk' why sink sink' is explained bytes moments written =
+    recover_answers d status disk disk' sink sink' (RecoversTo.shut why is (record { explained = explained; bytes = bytes }) written) moments
 
 -- no recovery answers that the words are no form
 pub never_usage : {D : Type 0} (d : DiskGhosts D) (status : ℕ) (disk disk' : D) (sink sink' : Seen) → RecoversTo d status disk disk' sink sink'

@@ -1,11 +1,12 @@
 -- What a replay answers follows from what it came to.
-use Rattle.std.proofs.Common.{◌≡◌, ◌≤◌, ◌⊎◌, ℕ, List, [], ◌++◌, Bool, true, false, not, true≢false, Option, None, Some, Ok, IsErr, refl, sym, subst, inl, inr, arith}
+use Rattle.std.proofs.Common.{◌≡◌, ◌≤◌, ◌⊎◌, ℕ, List, [], ◌++◌, Bool, true, false, not, Some, IsOk, IsErr, refl, sym, subst, inl, inr, arith}
 use Rattle.std.specs.Prelude.{codes}
 use Rattle.std.specs.Io.KnownBytes.{Appends, IsAtEnd}
 use Rattle.sdr_audit.specs.Standing.{StandsForWhole}
 use Rattle.sdr_base.specs.Causes.{Rose}
 use Rattle.sdr_base.specs.Pools.{Pools}
 use Rattle.sdr_base.specs.Written.{AppendsPart}
+use Rattle.sdr_base.specs.declared.media.Media.{Ghosts as MediaGhosts}
 use Rattle.sdr_disk.specs.declared.disk.Disk.{Ghosts as DiskGhosts}
 use Rattle.sdr_lock.specs.Crash.{is_sound}
 use Rattle.sdr_log.specs.Log.{put_back_of}
@@ -14,12 +15,11 @@ use Rattle.sdr_model.specs.declared.event.Leave.{Leave}
 use Rattle.sdr_model.specs.declared.journal.Entry.{Entry}
 use Rattle.sdr_model.specs.declared.script.Step.{Step}
 use Rattle.sdr_replay.specs.Playing.{IsPrinted, leave_of}
-use Rattle.sdr_replay.specs.Serving.{first_unserved}
 use Rattle.sdr_shell.proofs.ShutLemmas.{by_shut, shut_status}
-use Rattle.sdr_shell.proofs.StillLemmas.{told_line, told_script, writes_behind}
+use Rattle.sdr_shell.proofs.StillLemmas.{none_refused, spells_none, writes_behind}
 use Rattle.sdr_shell.specs.Answers.{Seen, Wrote}
-use Rattle.sdr_shell.specs.Replaying.{AnswersReplay, ComesTo, HadReplay, HadServed, HadUnserved, IsUntouched, RunsServed, Telling, output_of}
-use Rattle.sdr_shell.specs.Still.{HadBadLine, HadScript, NamesBadLine, Tells, line_refused}
+use Rattle.sdr_shell.specs.Replaying.{AnswersReplay, ComesTo, HadReplay, IsUntouched, RunsOrNot, Telling, output_of}
+use Rattle.sdr_shell.specs.Still.{HadScript, NamesBadLine, Tells}
 use Rattle.sdr_shell.specs.declared.replaying.Replayed.{Replayed}
 use Rattle.sdr_shell.specs.declared.status.TheConstants.{DONE, USAGE, INPUT_FAULT, NOT_FORMATTED, DAMAGED, REFUSED_LINE, NO_MEMORY}
 use Rattle.sdr_station.specs.declared.error.OpenError.TheVariants as errors
@@ -27,18 +27,6 @@ use Rattle.sdr_text.proofs.TextLemmas.{part_front}
 use Rattle.sdr_words.specs.Script.{input_script}
 use Rattle.sdr_words.specs.declared.error.ScriptError.{ScriptError}
 use Rattle.sdr_words.specs.declared.error.ScriptError.TheVariants as scripts
-
--- an input that is refused spells no script
-had_none : (left : Option (List ℕ)) (bytes : List ℕ) → left ≡ Some bytes → IsErr (input_script bytes) → HadServed left → ⊥
-had_none left bytes told refused had = absurd (true≢false (sym (subst IsErr (told_script left bytes had.script told had.input) refused)))
-
--- one that is accepted has no refused line
-none_refused : (left : Option (List ℕ)) (bytes : List ℕ) (script : List Step) → left ≡ Some bytes → input_script bytes ≡ Ok script
-    → first_unserved script ≡ None → (line : ℕ) → HadBadLine left line ⊎ HadUnserved left line → ⊥
-none_refused left bytes script told ok served line (inl bad) = let e = told_line left bytes line told bad in cc
-none_refused left bytes script told ok served line (inr had) =
-    let same = told_script left bytes had.script told had.input in
-    cc (same, ok, served, had.unserved)
 
 -- what was printed was written whole or in part
 wrote_of : (printing : Bool) (old now : Seen) (text : List ℕ) → IsPrinted printing (output_of old) (output_of now) text → Wrote old now text
@@ -53,13 +41,16 @@ not_true : (b : Bool) → false ≡ not b → b ≡ true
 not_true true is = refl
 not_true false is = is
 
-module _ {D : Type 0} (d : DiskGhosts D) (source source' sink sink' : Seen) (disk disk' : D) (journal : List Entry) where
+module _ {D M : Type 0} (d : DiskGhosts D) (m : MediaGhosts M) (source source' sink sink' : Seen) (disk disk' : D) (files files' : M)
+    (journal : List Entry) where
   -- what was run is told of more weakly
   had_weaker : {leave : Leave} (P Q : List Step → List ℕ → Type 0) → ((rest : List Step) (text : List ℕ) → P rest text → Q rest text)
-      → HadReplay d source.bytes disk disk' journal leave P → HadReplay d source.bytes disk disk' journal leave Q
+      → HadReplay d m source.bytes disk disk' files files' journal leave P → HadReplay d m source.bytes disk disk' files files' journal leave Q
   had_weaker P Q more h = record {
-    had = h.had;
+    script = h.script;
+    input = h.input;
     ground = h.ground;
+    with_media = h.with_media;
     open_so = h.open_so;
     replays = record {
       front = h.replays.front;
@@ -73,6 +64,7 @@ module _ {D : Type 0} (d : DiskGhosts D) (source source' sink sink' : Seen) (dis
       last = h.replays.last;
       leaves = h.replays.leaves;
       journal_is = h.replays.journal_is;
+      caused = h.replays.caused;
       printed = more h.replays.rest _ h.replays.printed;
     };
     legal = h.legal;
@@ -82,9 +74,9 @@ module _ {D : Type 0} (d : DiskGhosts D) (source source' sink sink' : Seen) (dis
   -- what stopped one that was run is told by the status
   ran_comes : (failed starved printing : Bool) (status : ℕ) (mid : Seen) → IsAtEnd source'.bytes → sink.faults ≤ mid.faults
       → Telling failed starved printing status mid sink' → failed ≡ not (is_sound journal)
-      → HadReplay d source.bytes disk disk' journal (leave_of starved)
+      → HadReplay d m source.bytes disk disk' files files' journal (leave_of starved)
       (λ rest text. (starved ≡ false → rest ≡ []) × IsPrinted printing (output_of sink) (output_of mid) text)
-      → ComesTo d status source source' disk disk' journal sink sink'
+      → ComesTo d m status source source' disk disk' files files' journal sink sink'
   ran_comes true starved printing status mid read later tells failed had =
       ComesTo.failed tells.0 (record {
         starved = starved;
@@ -121,58 +113,58 @@ module _ {D : Type 0} (d : DiskGhosts D) (source source' sink sink' : Seen) (dis
       })
 
   -- why no script was read is told by the status
-  tell_comes : (error : ScriptError) (status : ℕ) → IsUntouched disk disk' journal → Tells error status sink.bytes sink'.bytes sink.faults sink'.faults
+  tell_comes : (error : ScriptError) (status : ℕ) → IsUntouched disk disk' files files' journal → Tells error status sink.bytes sink'.bytes sink.faults sink'.faults
       → NamesBadLine source.bytes error → (error ≡ scripts.Input → Rose source.faults source'.faults)
-      → ComesTo d status source source' disk disk' journal sink sink'
+      → ComesTo d m status source source' disk disk' files files' journal sink sink'
   tell_comes scripts.Input status same tells bad cause = ComesTo.unread tells.0 (cause refl) same tells.1
   tell_comes (scripts.Line line) status same tells bad cause =
-      ComesTo.refused tells.0 same (record { line = line; input = inl bad; written = tells.1 })
+      ComesTo.refused tells.0 same (record { line = line; input = bad; written = tells.1 })
   tell_comes scripts.NoMemory status same tells bad cause = ComesTo.unheld tells.0 same tells.1
 
   refused_only : (status : ℕ) (bytes : List ℕ) → source.bytes ≡ Some bytes → IsErr (input_script bytes)
-      → ComesTo d status source source' disk disk' journal sink sink'
-      → IsUntouched disk disk' journal × ((status ≡ INPUT_FAULT) ⊎ (status ≡ REFUSED_LINE) ⊎ (status ≡ NO_MEMORY))
-  refused_only status bytes told refused (ComesTo.done is whole) = absurd (had_none source.bytes bytes told refused whole.ran.had)
-  refused_only status bytes told refused (ComesTo.unwritten is rose whole) = absurd (had_none source.bytes bytes told refused whole.ran.had)
-  refused_only status bytes told refused (ComesTo.failed is ran) = absurd (had_none source.bytes bytes told refused ran.ran.had)
-  refused_only status bytes told refused (ComesTo.starved is ran) = absurd (had_none source.bytes bytes told refused ran.ran.had)
-  refused_only status bytes told refused (ComesTo.shut why is was) = absurd (had_none source.bytes bytes told refused was.had)
+      → ComesTo d m status source source' disk disk' files files' journal sink sink'
+      → IsUntouched disk disk' files files' journal × ((status ≡ INPUT_FAULT) ⊎ (status ≡ REFUSED_LINE) ⊎ (status ≡ NO_MEMORY))
+  refused_only status bytes told refused (ComesTo.done is whole) = absurd (spells_none source.bytes bytes whole.ran.script told refused whole.ran.input)
+  refused_only status bytes told refused (ComesTo.unwritten is rose whole) = absurd (spells_none source.bytes bytes whole.ran.script told refused whole.ran.input)
+  refused_only status bytes told refused (ComesTo.failed is ran) = absurd (spells_none source.bytes bytes ran.ran.script told refused ran.ran.input)
+  refused_only status bytes told refused (ComesTo.starved is ran) = absurd (spells_none source.bytes bytes ran.ran.script told refused ran.ran.input)
+  refused_only status bytes told refused (ComesTo.shut why is was) = absurd (spells_none source.bytes bytes was.script told refused was.input)
   refused_only status bytes told refused (ComesTo.unread is rose same wrote) = (same, inl is)
   refused_only status bytes told refused (ComesTo.refused is same line) = (same, inr (inl is))
   refused_only status bytes told refused (ComesTo.unheld is same wrote) = (same, inr (inr is))
 
-  completes : (status : ℕ) (bytes : List ℕ) (script : List Step) → source.bytes ≡ Some bytes → input_script bytes ≡ Ok script → first_unserved script ≡ None
+  completes : (status : ℕ) (bytes : List ℕ) → source.bytes ≡ Some bytes → IsOk (input_script bytes)
       → ¬ Rose source.faults source'.faults → ¬ Rose sink.faults sink'.faults → ¬ Rose (d.faults disk) (d.faults disk')
-      → ComesTo d status source source' disk disk' journal sink sink'
+      → ComesTo d m status source source' disk disk' files files' journal sink sink'
       → (status ≡ DONE) ⊎ (status ≡ NOT_FORMATTED) ⊎ (status ≡ DAMAGED) ⊎ (status ≡ NO_MEMORY)
-  completes status bytes script told ok served no_input no_output no_disk (ComesTo.done is whole) = inl is
-  completes status bytes script told ok served no_input no_output no_disk (ComesTo.unwritten is rose whole) = absurd (no_output rose)
-  completes status bytes script told ok served no_input no_output no_disk (ComesTo.failed is ran) = absurd (no_disk (ran.ran.leaves.cause ran.failed))
-  completes status bytes script told ok served no_input no_output no_disk (ComesTo.starved is ran) = inr (inr (inr is))
-  completes status bytes script told ok served no_input no_output no_disk (ComesTo.shut why is was) = shut_status why status _ _ _ no_disk is was.not_run.why
-  completes status bytes script told ok served no_input no_output no_disk (ComesTo.unread is rose same wrote) = absurd (no_input rose)
-  completes status bytes script told ok served no_input no_output no_disk (ComesTo.refused is same line) =
-      absurd (none_refused source.bytes bytes script told ok served line.line line.input)
-  completes status bytes script told ok served no_input no_output no_disk (ComesTo.unheld is same wrote) = inr (inr (inr is))
+  completes status bytes told ok no_input no_output no_disk (ComesTo.done is whole) = inl is
+  completes status bytes told ok no_input no_output no_disk (ComesTo.unwritten is rose whole) = absurd (no_output rose)
+  completes status bytes told ok no_input no_output no_disk (ComesTo.failed is ran) = absurd (no_disk (ran.ran.leaves.cause ran.failed))
+  completes status bytes told ok no_input no_output no_disk (ComesTo.starved is ran) = inr (inr (inr is))
+  completes status bytes told ok no_input no_output no_disk (ComesTo.shut why is was) = shut_status why status _ _ _ no_disk is was.not_run.why
+  completes status bytes told ok no_input no_output no_disk (ComesTo.unread is rose same wrote) = absurd (no_input rose)
+  completes status bytes told ok no_input no_output no_disk (ComesTo.refused is same line) =
+      absurd (none_refused source.bytes bytes line.line told ok line.input)
+  completes status bytes told ok no_input no_output no_disk (ComesTo.unheld is same wrote) = inr (inr (inr is))
 
-  takes_standing : (status : ℕ) (bytes : List ℕ) (script : List Step) → source.bytes ≡ Some bytes → input_script bytes ≡ Ok script → first_unserved script ≡ None
+  takes_standing : (status : ℕ) (bytes : List ℕ) → source.bytes ≡ Some bytes → IsOk (input_script bytes)
       → (x heap : List ℕ) (w : World) (P : Pools) → d.bytes disk ≡ Some x → put_back_of x ≡ Some heap → StandsForWhole heap w P
       → ¬ Rose source.faults source'.faults → ¬ Rose sink.faults sink'.faults → ¬ Rose (d.faults disk) (d.faults disk')
-      → ComesTo d status source source' disk disk' journal sink sink' → (status ≡ DONE) ⊎ (status ≡ NO_MEMORY)
-  takes_standing status bytes script told ok served x heap w P has gives stands no_input no_output no_disk (ComesTo.done is whole) = inl is
-  takes_standing status bytes script told ok served x heap w P has gives stands no_input no_output no_disk (ComesTo.unwritten is rose whole) = absurd (no_output rose)
-  takes_standing status bytes script told ok served x heap w P has gives stands no_input no_output no_disk (ComesTo.failed is ran) =
+      → ComesTo d m status source source' disk disk' files files' journal sink sink' → (status ≡ DONE) ⊎ (status ≡ NO_MEMORY)
+  takes_standing status bytes told ok x heap w P has gives stands no_input no_output no_disk (ComesTo.done is whole) = inl is
+  takes_standing status bytes told ok x heap w P has gives stands no_input no_output no_disk (ComesTo.unwritten is rose whole) = absurd (no_output rose)
+  takes_standing status bytes told ok x heap w P has gives stands no_input no_output no_disk (ComesTo.failed is ran) =
       absurd (no_disk (ran.ran.leaves.cause ran.failed))
-  takes_standing status bytes script told ok served x heap w P has gives stands no_input no_output no_disk (ComesTo.starved is ran) = inr is
-  takes_standing status bytes script told ok served x heap w P has gives stands no_input no_output no_disk (ComesTo.shut why is was) =
+  takes_standing status bytes told ok x heap w P has gives stands no_input no_output no_disk (ComesTo.starved is ran) = inr is
+  takes_standing status bytes told ok x heap w P has gives stands no_input no_output no_disk (ComesTo.shut why is was) =
       (by_shut why status _ _ _ x has no_disk is was.not_run.why).taken heap w P gives stands
-  takes_standing status bytes script told ok served x heap w P has gives stands no_input no_output no_disk (ComesTo.unread is rose same wrote) = absurd (no_input rose)
-  takes_standing status bytes script told ok served x heap w P has gives stands no_input no_output no_disk (ComesTo.refused is same line) =
-      absurd (none_refused source.bytes bytes script told ok served line.line line.input)
-  takes_standing status bytes script told ok served x heap w P has gives stands no_input no_output no_disk (ComesTo.unheld is same wrote) = inr is
+  takes_standing status bytes told ok x heap w P has gives stands no_input no_output no_disk (ComesTo.unread is rose same wrote) = absurd (no_input rose)
+  takes_standing status bytes told ok x heap w P has gives stands no_input no_output no_disk (ComesTo.refused is same line) =
+      absurd (none_refused source.bytes bytes line.line told ok line.input)
+  takes_standing status bytes told ok x heap w P has gives stands no_input no_output no_disk (ComesTo.unheld is same wrote) = inr is
 
   -- no replay answers that the words are no form
-  pub never_usage : (status : ℕ) → ComesTo d status source source' disk disk' journal sink sink' → status ≡ USAGE → ⊥
+  pub never_usage : (status : ℕ) → ComesTo d m status source source' disk disk' files files' journal sink sink' → status ≡ USAGE → ⊥
   never_usage status (ComesTo.done is whole) usage = omega (arith, is, usage)
   never_usage status (ComesTo.unwritten is rose whole) usage = omega (arith, is, usage)
   never_usage status (ComesTo.failed is ran) usage = omega (arith, is, usage)
@@ -186,59 +178,54 @@ module _ {D : Type 0} (d : DiskGhosts D) (source source' sink sink' : Seen) (dis
   never_usage status (ComesTo.unheld is same wrote) usage = omega (arith, is, usage)
 
   -- so the answer is one of a replay
-  answers_of : (status : ℕ) → ComesTo d status source source' disk disk' journal sink sink' → AnswersReplay d status source source' disk disk' journal sink sink'
+  answers_of : (status : ℕ) → ComesTo d m status source source' disk disk' files files' journal sink sink' → AnswersReplay d m status source source' disk disk' files files' journal sink sink'
   answers_of status comes = record {
     comes = comes;
     exact = λ bytes told refused. refused_only status bytes told refused comes;
-    complete = λ bytes script told ok served no_input no_output no_disk. completes status bytes script told ok served no_input no_output no_disk comes;
-    taken = λ bytes script told ok served x heap w P has gives stands no_input no_output no_disk.
-        takes_standing status bytes script told ok served x heap w P has gives stands no_input no_output no_disk comes;
+    complete = λ bytes told ok no_input no_output no_disk. completes status bytes told ok no_input no_output no_disk comes;
+    taken = λ bytes told ok x heap w P has gives stands no_input no_output no_disk.
+        takes_standing status bytes told ok x heap w P has gives stands no_input no_output no_disk comes;
   }
 
 -- where no script was read, it is answered so
-pub tell_answers : {D : Type 0} (d : DiskGhosts D) (source source' sink sink' : Seen) (disk : D) (r : Replayed D) (error : ScriptError) (status : ℕ)
-    → r.status ≡ status → IsUntouched disk r.disk r.journal → Tells error status sink.bytes sink'.bytes sink.faults sink'.faults
-    → NamesBadLine source.bytes error → (error ≡ scripts.Input → Rose source.faults source'.faults)
-    → AnswersReplay d r.status source source' disk r.disk r.journal sink sink'
-tell_answers d source source' sink sink' disk r error status is same tells bad cause =
-    answers_of d source source' sink sink' disk r.disk r.journal r.status
-    (subst (λ status. ComesTo d status source source' disk r.disk r.journal sink sink') (sym is)
-    (tell_comes d source source' sink sink' disk r.disk r.journal error status same tells bad cause))
-
--- a script of which a call isn't served is refused
-pub unserved_answers : {D : Type 0} (d : DiskGhosts D) (source source' sink sink' : Seen) (disk : D) (r : Replayed D) (script : List Step) (line : ℕ)
-    → r.status ≡ REFUSED_LINE → IsUntouched disk r.disk r.journal → HadScript source.bytes script → first_unserved script ≡ Some line
-    → Wrote sink sink' (line_refused line) → AnswersReplay d r.status source source' disk r.disk r.journal sink sink'
-unserved_answers d source source' sink sink' disk r script line is same had unserved written =
-    answers_of d source source' sink sink' disk r.disk r.journal r.status (ComesTo.refused is same (record {
-      line = line;
-      input = inr (record { script = script; input = had; unserved = unserved });
-      written = written;
-    }))
+pub tell_answers : {D M : Type 0} (d : DiskGhosts D) (m : MediaGhosts M) (source source' sink sink' : Seen) (disk : D) (files : M) (r : Replayed D M)
+    (error : ScriptError) (status : ℕ) → r.status ≡ status → IsUntouched disk r.disk files r.media r.journal
+    → Tells error status sink.bytes sink'.bytes sink.faults sink'.faults → NamesBadLine source.bytes error
+    → (error ≡ scripts.Input → Rose source.faults source'.faults)
+    → AnswersReplay d m r.status source source' disk r.disk files r.media r.journal sink sink'
+tell_answers d m source source' sink sink' disk files r error status is same tells bad cause =
+    answers_of d m source source' sink sink' disk r.disk files r.media r.journal r.status
+    (subst (λ status. ComesTo d m status source source' disk r.disk files r.media r.journal sink sink') (sym is)
+    (tell_comes d m source source' sink sink' disk r.disk files r.media r.journal error status same tells bad cause))
 
 -- a script that was run, or not, on the heap of the disk is what the input spelled
-pub served_answers : {D : Type 0} (d : DiskGhosts D) (source source' sink sink' : Seen) (disk : D) (script : List Step) (r : Replayed D)
-    → IsAtEnd source'.bytes → HadScript source.bytes script → first_unserved script ≡ None → RunsServed d disk script sink sink' r
-    → AnswersReplay d r.status source source' disk r.disk r.journal sink sink'
-served_answers {D} d source source' sink sink' disk script r read had served (inl not) =
-    answers_of d source source' sink sink' disk r.disk r.journal r.status
+pub script_answers : {D M : Type 0} (d : DiskGhosts D) (m : MediaGhosts M) (source source' sink sink' : Seen) (disk : D) (files : M)
+    (script : List Step) (r : Replayed D M) → IsAtEnd source'.bytes → HadScript source.bytes script
+    → RunsOrNot d m disk files script sink sink' r → AnswersReplay d m r.status source source' disk r.disk files r.media r.journal sink sink'
+script_answers d m source source' sink sink' disk files script r read had (inl not) =
+    answers_of d m source source' sink sink' disk r.disk files r.media r.journal r.status
     (ComesTo.shut not.why not.status (record {
-      had = record { script = script; input = had; served = served };
+      script = script;
+      input = had;
       not_run = not.not_run;
+      unread = not.unread;
       none = not.none;
       written = not.written;
     }))
-served_answers {D} d source source' sink sink' disk script r read had served (inr was) =
+script_answers {D} {M} d m source source' sink sink' disk files script r read had (inr was) =
     let ran = was.ran in
-    subst (λ (j : List Entry). AnswersReplay d r.status source source' disk r.disk j sink sink') (sym was.journal_is)
-    (subst (λ (n : D). AnswersReplay d r.status source source' disk n ran.journal sink sink') (sym was.disk_is)
-    (answers_of d source source' sink sink' disk ran.base ran.journal r.status
-    (ran_comes d source source' sink sink' disk ran.base ran.journal ran.failed ran.starved ran.printing r.status was.mid read was.later was.tells
-    was.runs.failed (record {
-      had = record { script = script; input = had; served = served };
+    subst (λ (j : List Entry). AnswersReplay d m r.status source source' disk r.disk files r.media j sink sink') (sym was.journal_is)
+    (subst (λ (n : D). AnswersReplay d m r.status source source' disk n files r.media ran.journal sink sink') (sym was.disk_is)
+    (subst (λ (n : M). AnswersReplay d m r.status source source' disk ran.base.0 files n ran.journal sink sink') (sym was.media_is)
+    (answers_of d m source source' sink sink' disk ran.base.0 files ran.base.1 ran.journal r.status
+    (ran_comes d m source source' sink sink' disk ran.base.0 files ran.base.1 ran.journal ran.failed ran.starved ran.printing r.status was.mid read
+    was.later was.tells was.runs.failed (record {
+      script = script;
+      input = had;
       ground = was.runs.ground;
+      with_media = was.runs.with_media;
       open_so = was.runs.open_so;
       replays = was.runs.replays;
       legal = was.runs.legal;
       leaves = was.runs.leaves;
-    }))))
+    })))))

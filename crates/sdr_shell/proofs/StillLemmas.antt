@@ -38,10 +38,15 @@ pub told_script : (left : Option (List ℕ)) (bytes : List ℕ) (script : List S
 told_script None bytes script told h = cc
 told_script (Some input) bytes script told h = cc (told, h.had, h.spells)
 
--- an input that is refused was not run
+-- an input that is refused spells no script
+pub spells_none : (left : Option (List ℕ)) (bytes : List ℕ) (script : List Step) → left ≡ Some bytes → IsErr (input_script bytes)
+    → HadScript left script → ⊥
+spells_none left bytes script told refused had = absurd (true≢false (sym (subst IsErr (told_script left bytes script told had) refused)))
+
+-- so it was not run
 pub not_run : (left : Option (List ℕ)) (bytes : List ℕ) (media : MediaChange) (P : List Step → List ℕ → Type 0)
     → left ≡ Some bytes → IsErr (input_script bytes) → HadRun left media P → ⊥
-not_run left bytes media P told refused run = absurd (true≢false (sym (subst IsErr (told_script left bytes run.script told run.input) refused)))
+not_run left bytes media P told refused run = spells_none left bytes run.script told refused run.input
 
 -- a status that tells of a refused line stands for one
 pub tells_refused : (error : ScriptError) (status : ℕ) (left old new : Option (List ℕ)) (before now : ℕ)
@@ -51,9 +56,14 @@ tells_refused errors.Input status left old new before now t is bad = absurd (ome
 tells_refused (errors.Line line) status left old new before now t is bad = record { line = line; input = bad; written = t.1 }
 tells_refused errors.NoMemory status left old new before now t is bad = absurd (omega (arith, t.0, is))
 
+-- what a told input has refused
 pub told_line : (left : Option (List ℕ)) (bytes : List ℕ) (line : ℕ) → left ≡ Some bytes → HadBadLine left line → input_script bytes ≡ Err line
 told_line None bytes line told h = cc
 told_line (Some input) bytes line told h = cc (told, h.had, h.refused)
+
+-- an input that is accepted has no refused line
+pub none_refused : (left : Option (List ℕ)) (bytes : List ℕ) (line : ℕ) → left ≡ Some bytes → IsOk (input_script bytes) → HadBadLine left line → ⊥
+none_refused left bytes line told ok bad = absurd (true≢false (sym (subst IsOk (told_line left bytes line told bad) ok)))
 
 -- a dry run of an accepted script ends well, unless there is a fault or no memory
 pub dry_completes : (status : ℕ) (left old new : Option (List ℕ)) (source source' before now : ℕ) (bytes : List ℕ) → IsDryStatus status
@@ -64,7 +74,7 @@ dry_completes status left old new source source' before now bytes known input ou
       | inl done ↦ inl done
       | inr (inl is) ↦ absurd (no_input (input is))
       | inr (inr (inl is)) ↦ absurd (no_output (output is))
-      | inr (inr (inr (inl is))) ↦ absurd (true≢false (sym (subst IsOk (told_line left bytes (refused is).line told (refused is).input) ok)))
+      | inr (inr (inr (inl is))) ↦ absurd (none_refused left bytes (refused is).line told ok (refused is).input)
       | inr (inr (inr (inr is))) ↦ inr is
     ]
 

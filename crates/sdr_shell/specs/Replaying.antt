@@ -1,12 +1,13 @@
 -- What `replay` answers: by status, what was read, run and printed, and what is left of the disk.
-use Rattle.std.specs.Prelude.{◌≡◌, ◌≤◌, ℕ, Bool, List, [], ◌++◌, ◌⊎◌, Option, None, Some, IsErr, Ok, codes, true, false}
+use Rattle.std.specs.Prelude.{◌≡◌, ◌≤◌, ℕ, Bool, List, [], ◌++◌, ◌⊎◌, Option, Some, IsOk, IsErr, codes, true, false}
 use Rattle.std.specs.Io.KnownBytes.{Appends, IsAtEnd}
 use Rattle.sdr_audit.specs.Standing.{StandsForWhole}
 use Rattle.sdr_base.specs.Causes.{Rose}
 use Rattle.sdr_base.specs.Pools.{Pools}
 use Rattle.sdr_base.specs.Written.{AppendsPart}
+use Rattle.sdr_base.specs.declared.media.Media.{Ghosts as MediaGhosts}
 use Rattle.sdr_disk.specs.declared.disk.Disk.{Ghosts as DiskGhosts}
-use Rattle.sdr_dry.specs.Schedule.{daemons_of}
+use Rattle.sdr_dry.specs.Schedule.{daemons_of, media_change}
 use Rattle.sdr_lock.specs.Crash.{is_sound}
 use Rattle.sdr_lock.specs.Legal.{IsLegal}
 use Rattle.sdr_log.specs.Log.{put_back_of}
@@ -17,11 +18,10 @@ use Rattle.sdr_model.specs.declared.journal.Entry.{Entry}
 use Rattle.sdr_model.specs.declared.script.Step.{Step}
 use Rattle.sdr_replay.specs.Playing.{Output, Replays, leave_of}
 use Rattle.sdr_replay.specs.Replaying.{IsNotRun, LeavesJournal, ReplaysOn}
-use Rattle.sdr_replay.specs.Serving.{first_unserved}
 use Rattle.sdr_replay.specs.declared.playing.Ran.{Ran}
 use Rattle.sdr_shell.specs.Answers.{Seen, Wrote}
 use Rattle.sdr_shell.specs.Shutting.{line_shut, status_shut}
-use Rattle.sdr_shell.specs.Still.{HadBadLine, HadScript, line_refused}
+use Rattle.sdr_shell.specs.Still.{HadScript, IsRefused}
 use Rattle.sdr_shell.specs.declared.replaying.Replayed.{Replayed}
 use Rattle.sdr_shell.specs.declared.status.TheConstants.{DONE, INPUT_FAULT, OUTPUT_FAULT, DISK_FAULT, NOT_FORMATTED, DAMAGED, REFUSED_LINE, NO_MEMORY}
 use Rattle.sdr_station.specs.Grounded.{Grounded}
@@ -33,45 +33,34 @@ use Rattle.sdr_words.specs.Script.{input_script}
 abbrev pub output_of : Seen → Output
 output_of sink = record { taken = sink.bytes; faults = sink.faults }
 
--- The source's input spelled a script, all of whose calls are served.
-pub record HadServed (left : Option (List ℕ)) : Type 0 where
+-- The script that the source's input spelled was not run on the disk, for this reason, and the last line tells it. There is no entry, and
+-- media weren't read.
+pub record WasShut {D M : Type 0} (d : DiskGhosts D) (left : Option (List ℕ)) (disk disk' : D) (files files' : M) (journal : List Entry)
+    (sink sink' : Seen) (why : OpenError) : Type 0 where
   pub script : List Step
   pub input : HadScript left script
-  pub served : first_unserved script ≡ None
-
--- The source's input spelled a script, and the call on this line is the first that isn't served yet.
-pub record HadUnserved (left : Option (List ℕ)) (line : ℕ) : Type 0 where
-  pub script : List Step
-  pub input : HadScript left script
-  pub unserved : first_unserved script ≡ Some line
-
--- A line of the input was refused, or its call isn't served, and its number was written.
-pub record IsRefusedReplay (left : Option (List ℕ)) (sink sink' : Seen) : Type 0 where
-  pub line : ℕ
-  pub input : HadBadLine left line ⊎ HadUnserved left line
-  pub written : Wrote sink sink' (line_refused line)
-
--- No script was run on the disk, for this reason, and the last line tells it. There is no entry.
-pub record WasShut {D : Type 0} (d : DiskGhosts D) (left : Option (List ℕ)) (disk disk' : D) (journal : List Entry) (sink sink' : Seen) (why : OpenError) : Type 0 where
-  pub had : HadServed left
-  pub not_run : IsNotRun d disk (record { why = why; disk = disk' })
+  pub not_run : IsNotRun d disk disk' why
+  pub unread : files' ≡ files
   pub none : journal ≡ []
   pub written : Wrote sink sink' (line_shut why)
 
--- The script that the source's input spelled was run on the heap of the disk, behind whose steps all daemons made this leave. P
--- tells of the steps that are left and the text of the answers.
-pub record HadReplay {D : Type 0} (d : DiskGhosts D) (left : Option (List ℕ)) (disk disk' : D) (journal : List Entry) (leave : Leave)
-    (P : List Step → List ℕ → Type 0) : Type 0 where
-  pub had : HadServed left
+-- The script that the source's input spelled was run on the heap of the disk with these media, behind whose steps all daemons made
+-- this leave. P tells of the steps that are left and the text of the answers.
+pub record HadReplay {D M : Type 0} (d : DiskGhosts D) (m : MediaGhosts M) (left : Option (List ℕ)) (disk disk' : D) (files files' : M)
+    (journal : List Entry) (leave : Leave) (P : List Step → List ℕ → Type 0) : Type 0 where
+  pub script : List Step
+  pub input : HadScript left script
   -- what was opened
-  pub ground : Grounded D
+  pub ground : Grounded D M
+  pub with_media : ground.media ≡ files
   pub open_so : IsOpen d.bytes d.moment d.may_leave disk ground
-  -- the answers and the journal are those of the run of the script, from the world on it
-  pub replays : Replays None (first_on ground) had.script leave journal P
+  -- the answers and the journal are those of the run of the script, from the world on it; media tell the same, and the answers that tell
+  -- of faults of theirs, and of too few bytes, are caused
+  pub replays : Replays (media_change m.told m.faults m.short files files') (first_on ground) script leave journal P
   -- the journal is legal
-  pub legal : IsLegal None (daemons_of had.script) (first_on ground) journal
+  pub legal : IsLegal (m.told files) (daemons_of script) (first_on ground) journal
   -- what a crash leaves, at each moment of the call and behind it, is told by the journal
-  pub leaves : LeavesJournal d (daemons_of had.script) (first_on ground) journal disk disk'
+  pub leaves : LeavesJournal d (m.told files) (daemons_of script) (first_on ground) journal disk disk'
 
 -- what is told behind the text of a run, by what stopped it: whether the disk failed, memory was wanting, the output failed
 abbrev pub Telling : (failed starved printing : Bool) → ℕ → Seen → Seen → Type 0
@@ -86,89 +75,96 @@ abbrev pub TellsRan : {T : Type 0} → Ran T → ℕ → Seen → Seen → Type 
 TellsRan ran = Telling ran.failed ran.starved ran.printing
 
 -- A script was not run on the disk, for a reason that the status and the last line tell.
-pub record WasNotRun {D : Type 0} (d : DiskGhosts D) (disk : D) (sink sink' : Seen) (r : Replayed D) : Type 0 where
+pub record WasNotRun {D M : Type 0} (d : DiskGhosts D) (disk : D) (files : M) (sink sink' : Seen) (r : Replayed D M) : Type 0 where
   pub why : OpenError
-  pub not_run : IsNotRun d disk (record { why = why; disk = r.disk })
+  pub not_run : IsNotRun d disk r.disk why
+  pub unread : r.media ≡ files
   pub none : r.journal ≡ []
   pub status : r.status ≡ status_shut why
   pub written : Wrote sink sink' (line_shut why)
 
 -- A script was run on the heap of the disk, and what stopped it was told behind its text.
-pub record WasRun {D : Type 0} (d : DiskGhosts D) (disk : D) (script : List Step) (sink sink' : Seen) (r : Replayed D) : Type 0 where
-  pub ran : Ran D
+pub record WasRun {D M : Type 0} (d : DiskGhosts D) (m : MediaGhosts M) (disk : D) (files : M) (script : List Step) (sink sink' : Seen)
+    (r : Replayed D M) : Type 0 where
+  pub ran : Ran (D × M)
   pub mid : Seen
-  pub runs : ReplaysOn d disk script (output_of sink) (output_of mid) ran
+  pub runs : ReplaysOn d m disk files script (output_of sink) (output_of mid) ran
   pub journal_is : r.journal ≡ ran.journal
-  pub disk_is : r.disk ≡ ran.base
+  pub disk_is : r.disk ≡ ran.base.0
+  pub media_is : r.media ≡ ran.base.1
   pub later : sink.faults ≤ mid.faults
   pub tells : TellsRan ran r.status mid sink'
 
--- A script whose calls are all served was run, or not.
-abbrev pub RunsServed : {D : Type 0} → DiskGhosts D → D → List Step → Seen → Seen → Replayed D → Type 0
-RunsServed d disk script sink sink' r = WasNotRun d disk sink sink' r ⊎ WasRun d disk script sink sink' r
+-- A script was run on the heap of the disk, or not.
+abbrev pub RunsOrNot : {D M : Type 0} → DiskGhosts D → MediaGhosts M → D → M → List Step → Seen → Seen → Replayed D M → Type 0
+RunsOrNot d m disk files script sink sink' r = WasNotRun d disk files sink sink' r ⊎ WasRun d m disk files script sink sink' r
 
 -- All steps of the script were made, in none of which the disk failed, and all of the input was read. P tells of the text.
-pub record IsWhole {D : Type 0} (d : DiskGhosts D) (left left' : Option (List ℕ)) (disk disk' : D) (journal : List Entry) (P : List ℕ → Type 0) : Type 0 where
+pub record IsWhole {D M : Type 0} (d : DiskGhosts D) (m : MediaGhosts M) (left left' : Option (List ℕ)) (disk disk' : D) (files files' : M)
+    (journal : List Entry) (P : List ℕ → Type 0) : Type 0 where
   pub read : IsAtEnd left'
   pub sound : is_sound journal ≡ true
-  pub ran : HadReplay d left disk disk' journal leaves.Done (λ rest text. (rest ≡ []) × P text)
+  pub ran : HadReplay d m left disk disk' files files' journal leaves.Done (λ rest text. (rest ≡ []) × P text)
 
 -- A script was run in which the disk failed, all its steps unless memory was wanting too, which its leaves tell.
-pub record HasFailed {D : Type 0} (d : DiskGhosts D) (left : Option (List ℕ)) (disk disk' : D) (journal : List Entry) (P : List ℕ → Type 0) : Type 0 where
+pub record HasFailed {D M : Type 0} (d : DiskGhosts D) (m : MediaGhosts M) (left : Option (List ℕ)) (disk disk' : D) (files files' : M)
+    (journal : List Entry) (P : List ℕ → Type 0) : Type 0 where
   pub starved : Bool
   pub failed : is_sound journal ≡ false
-  pub ran : HadReplay d left disk disk' journal (leave_of starved) (λ rest text. (starved ≡ false → rest ≡ []) × P text)
+  pub ran : HadReplay d m left disk disk' files files' journal (leave_of starved) (λ rest text. (starved ≡ false → rest ≡ []) × P text)
 
 -- Memory was wanting behind some steps, in none of which the disk failed.
-pub record HasStarved {D : Type 0} (d : DiskGhosts D) (left : Option (List ℕ)) (disk disk' : D) (journal : List Entry) (P : List ℕ → Type 0) : Type 0 where
+pub record HasStarved {D M : Type 0} (d : DiskGhosts D) (m : MediaGhosts M) (left : Option (List ℕ)) (disk disk' : D) (files files' : M)
+    (journal : List Entry) (P : List ℕ → Type 0) : Type 0 where
   pub sound : is_sound journal ≡ true
-  pub ran : HadReplay d left disk disk' journal leaves.Memory (λ rest text. P text)
+  pub ran : HadReplay d m left disk disk' files files' journal leaves.Memory (λ rest text. P text)
 
--- the disk is as it was, and there is no entry
-abbrev pub IsUntouched : {D : Type 0} → D → D → List Entry → Type 0
-IsUntouched disk disk' journal = (disk' ≡ disk) × (journal ≡ [])
+-- the disk and media are as they were, and there is no entry
+abbrev pub IsUntouched : {D M : Type 0} → D → D → M → M → List Entry → Type 0
+IsUntouched disk disk' files files' journal = (disk' ≡ disk) × (files' ≡ files) × (journal ≡ [])
 
 -- what a replay came to, which its status tells
-pub data ComesTo {D : Type 0} (d : DiskGhosts D) (status : ℕ) (source source' : Seen) (disk disk' : D) (journal : List Entry) (sink sink' : Seen) : Type 0 where
+pub data ComesTo {D M : Type 0} (d : DiskGhosts D) (m : MediaGhosts M) (status : ℕ) (source source' : Seen) (disk disk' : D) (files files' : M)
+    (journal : List Entry) (sink sink' : Seen) : Type 0 where
   -- all steps were made, and their answers written
-  done : status ≡ DONE → IsWhole d source.bytes source'.bytes disk disk' journal (Appends sink.bytes sink'.bytes)
-      → ComesTo d status source source' disk disk' journal sink sink'
+  done : status ≡ DONE → IsWhole d m source.bytes source'.bytes disk disk' files files' journal (Appends sink.bytes sink'.bytes)
+      → ComesTo d m status source source' disk disk' files files' journal sink sink'
   -- the same, but the output failed
   unwritten : status ≡ OUTPUT_FAULT → Rose sink.faults sink'.faults
-      → IsWhole d source.bytes source'.bytes disk disk' journal (AppendsPart sink.bytes sink'.bytes)
-      → ComesTo d status source source' disk disk' journal sink sink'
+      → IsWhole d m source.bytes source'.bytes disk disk' files files' journal (AppendsPart sink.bytes sink'.bytes)
+      → ComesTo d m status source source' disk disk' files files' journal sink sink'
   -- the disk failed in an entry
-  failed : status ≡ DISK_FAULT → HasFailed d source.bytes disk disk' journal (Wrote sink sink')
-      → ComesTo d status source source' disk disk' journal sink sink'
+  failed : status ≡ DISK_FAULT → HasFailed d m source.bytes disk disk' files files' journal (Wrote sink sink')
+      → ComesTo d m status source source' disk disk' files files' journal sink sink'
   -- memory was wanting behind some steps
-  starved : status ≡ NO_MEMORY → HasStarved d source.bytes disk disk' journal (λ text. Wrote sink sink' (text ++ codes "no memory\n"))
-      → ComesTo d status source source' disk disk' journal sink sink'
+  starved : status ≡ NO_MEMORY → HasStarved d m source.bytes disk disk' files files' journal (λ text. Wrote sink sink' (text ++ codes "no memory\n"))
+      → ComesTo d m status source source' disk disk' files files' journal sink sink'
   -- no script was run: the disk gives no heap, or one that is damaged, or it failed, or memory was wanting
-  shut : (why : OpenError) → status ≡ status_shut why → WasShut d source.bytes disk disk' journal sink sink' why
-      → ComesTo d status source source' disk disk' journal sink sink'
+  shut : (why : OpenError) → status ≡ status_shut why → WasShut d source.bytes disk disk' files files' journal sink sink' why
+      → ComesTo d m status source source' disk disk' files files' journal sink sink'
   -- the input wasn't read: it failed, or one of its lines is refused, or memory was wanting
-  unread : status ≡ INPUT_FAULT → Rose source.faults source'.faults → IsUntouched disk disk' journal → Wrote sink sink' (codes "input fault\n")
-      → ComesTo d status source source' disk disk' journal sink sink'
-  refused : status ≡ REFUSED_LINE → IsUntouched disk disk' journal → IsRefusedReplay source.bytes sink sink'
-      → ComesTo d status source source' disk disk' journal sink sink'
-  unheld : status ≡ NO_MEMORY → IsUntouched disk disk' journal → Wrote sink sink' (codes "no memory\n")
-      → ComesTo d status source source' disk disk' journal sink sink'
+  unread : status ≡ INPUT_FAULT → Rose source.faults source'.faults → IsUntouched disk disk' files files' journal → Wrote sink sink' (codes "input fault\n")
+      → ComesTo d m status source source' disk disk' files files' journal sink sink'
+  refused : status ≡ REFUSED_LINE → IsUntouched disk disk' files files' journal → IsRefused source.bytes sink.bytes sink'.bytes sink.faults sink'.faults
+      → ComesTo d m status source source' disk disk' files files' journal sink sink'
+  unheld : status ≡ NO_MEMORY → IsUntouched disk disk' files files' journal → Wrote sink sink' (codes "no memory\n")
+      → ComesTo d m status source source' disk disk' files files' journal sink sink'
 
 -- What a replay answers. A script that is refused is not run. One that is accepted is run to its end on the heap of the disk, unless
 -- there is none or a fault or no memory.
-pub record AnswersReplay {D : Type 0} (d : DiskGhosts D) (status : ℕ) (source source' : Seen) (disk disk' : D) (journal : List Entry)
-    (sink sink' : Seen) : Type 0 where
-  pub comes : ComesTo d status source source' disk disk' journal sink sink'
+pub record AnswersReplay {D M : Type 0} (d : DiskGhosts D) (m : MediaGhosts M) (status : ℕ) (source source' : Seen) (disk disk' : D)
+    (files files' : M) (journal : List Entry) (sink sink' : Seen) : Type 0 where
+  pub comes : ComesTo d m status source source' disk disk' files files' journal sink sink'
   pub exact :
       (bytes : List ℕ) → source.bytes ≡ Some bytes → IsErr (input_script bytes)
-      → IsUntouched disk disk' journal × ((status ≡ INPUT_FAULT) ⊎ (status ≡ REFUSED_LINE) ⊎ (status ≡ NO_MEMORY))
+      → IsUntouched disk disk' files files' journal × ((status ≡ INPUT_FAULT) ⊎ (status ≡ REFUSED_LINE) ⊎ (status ≡ NO_MEMORY))
   pub complete :
-      (bytes : List ℕ) (script : List Step) → source.bytes ≡ Some bytes → input_script bytes ≡ Ok script → first_unserved script ≡ None
+      (bytes : List ℕ) → source.bytes ≡ Some bytes → IsOk (input_script bytes)
       → ¬ Rose source.faults source'.faults → ¬ Rose sink.faults sink'.faults → ¬ Rose (d.faults disk) (d.faults disk')
       → (status ≡ DONE) ⊎ (status ≡ NOT_FORMATTED) ⊎ (status ≡ DAMAGED) ⊎ (status ≡ NO_MEMORY)
   -- each heap is taken for which a world stands
   pub taken :
-      (bytes : List ℕ) (script : List Step) → source.bytes ≡ Some bytes → input_script bytes ≡ Ok script → first_unserved script ≡ None
+      (bytes : List ℕ) → source.bytes ≡ Some bytes → IsOk (input_script bytes)
       → (x heap : List ℕ) (w : World) (P : Pools) → d.bytes disk ≡ Some x → put_back_of x ≡ Some heap → StandsForWhole heap w P
       → ¬ Rose source.faults source'.faults → ¬ Rose sink.faults sink'.faults → ¬ Rose (d.faults disk) (d.faults disk')
       → (status ≡ DONE) ⊎ (status ≡ NO_MEMORY)

@@ -41,11 +41,11 @@ pub record AnswersWords {D M S K : Type 0} (d : DiskGhosts D) (m : MediaGhosts M
   pub counts :
       (s.faults input ≤ s.faults input') × (k.faults output ≤ k.faults output') × (d.faults disk ≤ d.faults result.disk)
       × (s.reads input' ≤ s.reads input + 1048577)
-  -- `replay` answers by what it made of the schedule, and what is left of the disk
+  -- `replay` answers by what it made of the schedule with these media, and what is left of the disk
   pub replay :
       form_of words ≡ Some forms.Replay
-      → AnswersReplay d result.status (seen s.left s.faults input) (seen s.left s.faults input') disk result.disk result.journal
-      (seen k.taken k.faults output) (seen k.taken k.faults output')
+      → AnswersReplay d m result.status (seen s.left s.faults input) (seen s.left s.faults input') disk result.disk files result.media
+      result.journal (seen k.taken k.faults output) (seen k.taken k.faults output')
   -- `recover` reads no input, and answers by what it puts back
   pub recover :
       form_of words ≡ Some forms.Recover → (input' ≡ input)
@@ -58,8 +58,8 @@ pub record AnswersWords {D M S K : Type 0} (d : DiskGhosts D) (m : MediaGhosts M
   pub given : (form_of words ≢ Some forms.Replay) → result.journal ≡ []
   -- media tell the same, and no count of theirs falls
   pub media : HaveFailed 0 0 (media_change m.told m.faults m.short files result.media)
-  -- only `dry` reads media
-  pub unread : (form_of words ≢ Some forms.Dry) → result.media ≡ files
+  -- only `dry` and `replay` read media
+  pub unread : (form_of words ≢ Some forms.Dry) → (form_of words ≢ Some forms.Replay) → result.media ≡ files
   -- by these statuses the disk is as it was, where the words ask for no heap to be opened
   pub same : opens_heap (form_of words) ≡ false → LeavesDisk result.status → result.disk ≡ disk
   -- the disk tells its bytes as before, and keeps its size

@@ -30,8 +30,8 @@ use sdr_words::{ScriptError, read_script};
 use std::alloc::Global;
 use std::rc::RcStr;
 
-/// Writes the number of a refused line.
-pub fn refuse_line<K: Sink>(output: &mut K, line: u64)
+// Writes the number of a refused line.
+fn refuse_line<K: Sink>(output: &mut K, line: u64)
     ensures written { WritesOut (K.taken output.old) (K.taken output.new)
         (K.faults output.old) (K.faults output.new)
         (line_refused line) }
@@ -175,7 +175,8 @@ pub fn still<D: Disk, M: Media, S: Source, K: Sink>(
                 status,
                 journal,
                 disk,
-            } = replay_input(alloc, disk, input, output);
+                media,
+            } = replay_input(alloc, disk, media, input, output);
             Outcome {
                 status,
                 journal,

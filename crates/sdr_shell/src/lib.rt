@@ -2,8 +2,9 @@
 //!
 //! 1. The words are a form, or the status is `USAGE`.
 //! 2. `format` makes an empty heap of the disk. It reads no input.
-//! 3. `dry` reads the input whole and parses it: a refused line is told before anything runs.
-//! 4. The script's lines run in order on a machine, and each answer is printed as it is made.
+//! 3. `dry` and `replay` read the input whole and parse it: a refused line is told before anything runs.
+//! 4. The script's lines run in order on a machine, or on the heap of the disk, and each answer is printed as it
+//!    is made. They alone read media, which tell the same behind them.
 //! 5. The status says what stopped this, if anything did; its last line says so too. A status that
 //!    stands survives a fault of the sink.
 #![tactic(auto)]

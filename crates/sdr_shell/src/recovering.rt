@@ -10,7 +10,7 @@ ghost use Rattle.sdr_shell.specs.declared.status.TheConstants.{DONE, OUTPUT_FAUL
 
 use crate::last_line::print_line;
 use crate::shutting::tell_shut;
-use sdr_base::Sink;
+use sdr_base::{NoMedia, Sink};
 use sdr_disk::Disk;
 use sdr_station::{HeapGround, Shut};
 use sdr_text::Line;
@@ -50,15 +50,13 @@ pub fn recover_disk<D: Disk, K: Sink>(alloc: Global, disk: D, output: &mut K) ->
         × (D.faults disk ≤ D.faults result.disk) }
     ensures keeps { KeepsDisk D.size D.bytes disk result.disk }
 {
-    match HeapGround::open(alloc, disk, Notice::new(Compares)) {
+    match HeapGround::open(alloc, disk, NoMedia::new(), Notice::new(Compares)) {
         Ok(ground) => {
             let status = tell_recovered(output, ground.restored());
-            Recovered {
-                status,
-                disk: ground.into_disk(),
-            }
+            let (disk, _) = ground.into_parts();
+            Recovered { status, disk }
         }
-        Err(Shut { why, disk }) => {
+        Err(Shut { why, disk, .. }) => {
             let status = tell_shut(why, output);
             Recovered { status, disk }
         }

@@ -6,6 +6,7 @@ use Rattle.sdr_base.specs.KeptHeap.{block_in}
 use Rattle.sdr_base.specs.Causes.{Rose}
 use Rattle.sdr_base.specs.Entries.{Few}
 use Rattle.sdr_base.specs.Transaction.{Explains, IfRefused, Transaction}
+use Rattle.sdr_base.specs.declared.media.Media.{Ghosts as MediaGhosts}
 use Rattle.sdr_base.specs.declared.stop.Stop.{Stop}
 use Rattle.sdr_base.specs.declared.stop.Stop.TheVariants as stops
 use Rattle.sdr_disk.specs.Moments.{AtEach}
@@ -21,7 +22,6 @@ use Rattle.sdr_lock.specs.Serving.{Brings, Keeps, KeepsGround, MeetsFault, PutsB
 use Rattle.sdr_lock.specs.Standing.{Standing}
 use Rattle.sdr_log.specs.Frame.{room_of}
 use Rattle.sdr_log.specs.Logged.{Gives}
-use Rattle.sdr_model.specs.World.{World}
 use Rattle.sdr_station.specs.Closing as closing
 use Rattle.sdr_station.specs.Grounded.{Grounded, IsGround, Opens, StandsAtRest, StandsForBoth, StandsInMemory, StandsWithin, heap_in}
 use Rattle.sdr_station.proofs.GroundLemmas.{ground_brought, heap_ground, keeps_later, unmarked}
@@ -64,9 +64,10 @@ within_of h n s none untouched size at = record {
 }
 
 -- the ground whose transaction was kept on a disk
-abbrev pub kept_ground : {D : Type 0} → Grounded D → D → ℕ → Grounded D
+abbrev pub kept_ground : {D M : Type 0} → Grounded D M → D → ℕ → Grounded D M
 kept_ground old disk now = record {
   heap = closing.committed old.heap disk;
+  media = old.media;
   shown = [];
   stopped = false;
   idle = true;
@@ -75,9 +76,10 @@ kept_ground old disk now = record {
 }
 
 -- and the one whose transaction was put back
-abbrev pub back_ground : {D : Type 0} → Grounded D → D → ℕ → Grounded D
+abbrev pub back_ground : {D M : Type 0} → Grounded D M → D → ℕ → Grounded D M
 back_ground old disk now = record {
   heap = closing.put_back old.heap disk;
+  media = old.media;
   shown = [];
   stopped = false;
   idle = true;
@@ -86,7 +88,7 @@ back_ground old disk now = record {
 }
 
 -- what is kept in memory
-pub memory_kept : {D : Type 0} (old : Grounded D) (disk : D) (now : ℕ) → old.stopped ≡ false → Brings StandsInMemory old (kept_ground old disk now) Keeps
+pub memory_kept : {D M : Type 0} (old : Grounded D M) (disk : D) (now : ℕ) → old.stopped ≡ false → Brings StandsInMemory old (kept_ground old disk now) Keeps
 memory_kept old disk now going = record {
   each = λ v at.
       let w = at.now going in
@@ -110,7 +112,7 @@ memory_kept old disk now going = record {
 }
 
 -- what is put back in memory
-pub memory_back : {D : Type 0} (old : Grounded D) (disk : D) (now : ℕ) → Brings StandsInMemory old (back_ground old disk now) PutsBack
+pub memory_back : {D M : Type 0} (old : Grounded D M) (disk : D) (now : ℕ) → Brings StandsInMemory old (back_ground old disk now) PutsBack
 memory_back old disk now = record {
   each = λ v at.
       let next = put_back v.before v.now in
@@ -136,9 +138,10 @@ memory_back old disk now = record {
 }
 
 -- the one whose transaction was dropped: its lines were put back, and it can only be put back
-abbrev pub dropped_ground : {D : Type 0} → Grounded D → D → ℕ → Grounded D
+abbrev pub dropped_ground : {D M : Type 0} → Grounded D M → D → ℕ → Grounded D M
 dropped_ground old disk now = record {
   heap = closing.put_back old.heap disk;
+  media = old.media;
   shown = old.shown;
   stopped = true;
   idle = false;
@@ -147,7 +150,7 @@ dropped_ground old disk now = record {
 }
 
 -- what is dropped in memory: the states stay
-pub memory_dropped : {D : Type 0} (old : Grounded D) (disk : D) (now : ℕ)
+pub memory_dropped : {D M : Type 0} (old : Grounded D M) (disk : D) (now : ℕ)
     → Brings StandsInMemory old (dropped_ground old disk now) StandsStill
 memory_dropped old disk now = record {
   each = λ v at. record {
@@ -168,13 +171,13 @@ memory_dropped old disk now = record {
 }
 
 -- what a close that was answered leaves of a ground
-pub record ClosesTo {D : Type 0} (told : D → Option (List ℕ)) (moment faults : D → ℕ) (may_leave : D → ℕ → List ℕ → Type 0) (may_keep : Bool)
-    (P : Standing → Standing → Type 0) (old new : Grounded D) : Type 0 where
+pub record ClosesTo {D M : Type 0} (told : D → Option (List ℕ)) (moment faults : D → ℕ) (may_leave : D → ℕ → List ℕ → Type 0)
+    (media : MediaGhosts M) (may_keep : Bool) (P : Standing → Standing → Type 0) (old new : Grounded D M) : Type 0 where
   pub memory : Brings StandsInMemory old new P
   pub brings : Brings (λ g v. StandsForBoth told moment may_leave g v) old new P
   pub sound : new.heap.cells.failed ≡ false
-  pub keeps : KeepsGround (heap_ground told moment faults may_leave) false old new
-  pub any_moment : LeavesOr may_keep (heap_ground told moment faults may_leave) old new
+  pub keeps : KeepsGround (heap_ground told moment faults may_leave media) false old new
+  pub any_moment : LeavesOr may_keep (heap_ground told moment faults may_leave media) old new
   pub is_ground : IsGround moment new
 
 some_of : (o : Option (List ℕ)) → is_some o ≡ true → (x : List ℕ) × (o ≡ Some x)
@@ -182,8 +185,8 @@ some_of None is = absurd (true≢false (sym is))
 some_of (Some x) is = (x, refl)
 
 -- A transaction closes on a disk, at each moment of which a crash leaves what P tells of.
-module _ {D : Type 0} (told : D → Option (List ℕ)) (moment : D → ℕ) (faults : D → ℕ) (may_leave : D → ℕ → List ℕ → Type 0)
-    (old : Grounded D) (disk : D) (now : ℕ) (is : now ≡ max old.moment (moment disk)) (sound : old.heap.cells.failed ≡ false)
+module _ {D M : Type 0} (told : D → Option (List ℕ)) (moment : D → ℕ) (faults : D → ℕ) (may_leave : D → ℕ → List ℕ → Type 0)
+    (media : MediaGhosts M) (old : Grounded D M) (disk : D) (now : ℕ) (is : now ≡ max old.moment (moment disk)) (sound : old.heap.cells.failed ≡ false)
     (tells : is_some (told disk) ≡ is_some (told old.heap.cells.disk)) (P : List ℕ → Type 0)
     (each : Rests told moment may_leave old.heap.cells
     → IfTold (told old.heap.cells.disk) (λ _. AtEach moment may_leave old.heap.cells.disk disk P)) where
@@ -199,7 +202,7 @@ module _ {D : Type 0} (told : D → Option (List ℕ)) (moment : D → ℕ) (fau
       omega (arith, is, was, e.later)
 
   -- what closes in memory closes on a disk that rests
-  pub brings_closed : {P : Standing → Standing → Type 0} (new : Grounded D) → new.heap.cells.disk ≡ disk → new.moment ≡ now
+  pub brings_closed : {P : Standing → Standing → Type 0} (new : Grounded D M) → new.heap.cells.disk ≡ disk → new.moment ≡ now
       → (Rests told moment may_leave old.heap.cells → Rests told moment may_leave new.heap.cells)
       → Brings StandsInMemory old new P → Brings (λ g v. StandsForBoth told moment may_leave g v) old new P
   brings_closed new on at_now rests brings = record {
@@ -217,9 +220,9 @@ module _ {D : Type 0} (told : D → Option (List ℕ)) (moment : D → ℕ) (fau
   }
 
   -- each image gives what Q tells of, on a ground with this disk and moment
-  at_each : (new : Grounded D) → new.heap.cells.disk ≡ disk → new.moment ≡ now → (v : Standing) → (Q : List ℕ → Type 0)
+  at_each : (new : Grounded D M) → new.heap.cells.disk ≡ disk → new.moment ≡ now → (v : Standing) → (Q : List ℕ → Type 0)
       → StandsForBoth told moment may_leave old v → ((image : List ℕ) → P image → Q image)
-      → AtEach (heap_ground told moment faults may_leave).moment (heap_ground told moment faults may_leave).left old new Q
+      → AtEach (heap_ground told moment faults may_leave media).moment (heap_ground told moment faults may_leave media).left old new Q
   at_each new on at_now v Q at also = record {
     later = omega (arith, is, at_now);
     each = λ m image ge le l.
@@ -239,9 +242,9 @@ module _ {D : Type 0} (told : D → Option (List ℕ)) (moment : D → ℕ) (fau
   }
 
   -- where each image gives the bytes at begin, a crash leaves the state before
-  pub leaves_back : (new : Grounded D) → new.heap.cells.disk ≡ disk → new.moment ≡ now
+  pub leaves_back : (new : Grounded D M) → new.heap.cells.disk ≡ disk → new.moment ≡ now
       → ((image : List ℕ) → P image → Gives old.heap.cells.begun image)
-      → LeavesBefore (heap_ground told moment faults may_leave) old new
+      → LeavesBefore (heap_ground told moment faults may_leave media) old new
   leaves_back new on at_now also = record {
     each = λ v at. at_each new on at_now v (λ image. Opens image v.before) at (λ image p. record {
       heap = old.heap.cells.begun;
@@ -252,9 +255,9 @@ module _ {D : Type 0} (told : D → Option (List ℕ)) (moment : D → ℕ) (fau
   }
 
   -- where each image gives those or the bytes now, it leaves the state before, or the one that is kept
-  pub leaves_either : (new : Grounded D) → new.heap.cells.disk ≡ disk → new.moment ≡ now → old.stopped ≡ false
+  pub leaves_either : (new : Grounded D M) → new.heap.cells.disk ≡ disk → new.moment ≡ now → old.stopped ≡ false
       → ((image : List ℕ) → P image → GivesEither old.heap.cells.begun old.heap.cells.bytes image)
-      → LeavesEither (heap_ground told moment faults may_leave) old new
+      → LeavesEither (heap_ground told moment faults may_leave media) old new
   leaves_either new on at_now going also = record {
     each = λ v at. at_each new on at_now v (λ image. Opens image v.before ⊎ Opens image (kept v.now)) at
         (λ image p. elim (also image p) [
@@ -269,49 +272,49 @@ module _ {D : Type 0} (told : D → Option (List ℕ)) (moment : D → ℕ) (fau
   }
 
   -- what a close leaves of a ground on which it was brought
-  closes_to : {keeps : Bool} {Q : Standing → Standing → Type 0} (new : Grounded D) → new.heap.cells.disk ≡ disk → new.moment ≡ now
+  closes_to : {keeps : Bool} {Q : Standing → Standing → Type 0} (new : Grounded D M) → new.heap.cells.disk ≡ disk → new.moment ≡ now → new.media ≡ old.media
       → new.heap.cells.failed ≡ false → (new.idle ≡ true → new.stopped ≡ false) → IsGround moment old
       → faults old.heap.cells.disk ≤ faults disk
       → (Rests told moment may_leave old.heap.cells → Rests told moment may_leave new.heap.cells) → Brings StandsInMemory old new Q
-      → LeavesOr keeps (heap_ground told moment faults may_leave) old new → ClosesTo told moment faults may_leave keeps Q old new
-  closes_to new on at_now still going ground later rests brings leaves = record {
+      → LeavesOr keeps (heap_ground told moment faults may_leave media) old new → ClosesTo told moment faults may_leave media keeps Q old new
+  closes_to new on at_now unread still going ground later rests brings leaves = record {
     memory = brings;
     brings = brings_closed new on at_now rests brings;
     sound = still;
-    keeps = keeps_later told moment faults may_leave old new (subst (λ (d : D). faults old.heap.cells.disk ≤ faults d) (sym on) later);
+    keeps = keeps_later told moment faults may_leave media old new unread (subst (λ (d : D). faults old.heap.cells.disk ≤ faults d) (sym on) later);
     any_moment = leaves;
     is_ground = ground_brought moment old new ground (omega (arith, ap moment on, at_now, is)) sound still going brings;
   }
 
   -- a transaction that is kept
-  pub closes_kept : (new : Grounded D) → new ≡ kept_ground old disk now → IsGround moment old → old.stopped ≡ false
+  pub closes_kept : (new : Grounded D M) → new ≡ kept_ground old disk now → IsGround moment old → old.stopped ≡ false
       → faults old.heap.cells.disk ≤ faults disk
       → (Rests told moment may_leave old.heap.cells → Rests told moment may_leave (kept_ground old disk now).heap.cells)
       → ((image : List ℕ) → P image → GivesEither old.heap.cells.begun old.heap.cells.bytes image)
-      → ClosesTo told moment faults may_leave true Keeps old new
+      → ClosesTo told moment faults may_leave media true Keeps old new
   closes_kept new same ground going later rests also =
-      subst (λ (n : Grounded D). ClosesTo told moment faults may_leave true Keeps old n) (sym same)
-      (closes_to (kept_ground old disk now) refl refl sound (λ _. refl) ground later rests (memory_kept old disk now going)
+      subst (λ (n : Grounded D M). ClosesTo told moment faults may_leave media true Keeps old n) (sym same)
+      (closes_to (kept_ground old disk now) refl refl refl sound (λ _. refl) ground later rests (memory_kept old disk now going)
       (leaves_either (kept_ground old disk now) refl refl going also))
 
   -- a transaction that is put back
-  pub closes_back : (new : Grounded D) → new ≡ back_ground old disk now → IsGround moment old → faults old.heap.cells.disk ≤ faults disk
+  pub closes_back : (new : Grounded D M) → new ≡ back_ground old disk now → IsGround moment old → faults old.heap.cells.disk ≤ faults disk
       → (Rests told moment may_leave old.heap.cells → Rests told moment may_leave (back_ground old disk now).heap.cells)
-      → ((image : List ℕ) → P image → Gives old.heap.cells.begun image) → ClosesTo told moment faults may_leave false PutsBack old new
+      → ((image : List ℕ) → P image → Gives old.heap.cells.begun image) → ClosesTo told moment faults may_leave media false PutsBack old new
   closes_back new same ground later rests also =
-      subst (λ (n : Grounded D). ClosesTo told moment faults may_leave false PutsBack old n) (sym same)
-      (closes_to (back_ground old disk now) refl refl sound (λ _. refl) ground later rests (memory_back old disk now)
+      subst (λ (n : Grounded D M). ClosesTo told moment faults may_leave media false PutsBack old n) (sym same)
+      (closes_to (back_ground old disk now) refl refl refl sound (λ _. refl) ground later rests (memory_back old disk now)
       (leaves_back (back_ground old disk now) refl refl also))
 
   -- a transaction that is dropped
-  pub closes_dropped : (new : Grounded D) → new ≡ dropped_ground old disk now → IsGround moment old
+  pub closes_dropped : (new : Grounded D M) → new ≡ dropped_ground old disk now → IsGround moment old
       → faults old.heap.cells.disk ≤ faults disk
       → (Rests told moment may_leave old.heap.cells → Rests told moment may_leave (dropped_ground old disk now).heap.cells)
       → ((image : List ℕ) → P image → Gives old.heap.cells.begun image)
-      → ClosesTo told moment faults may_leave false StandsStill old new
+      → ClosesTo told moment faults may_leave media false StandsStill old new
   closes_dropped new same ground later rests also =
-      subst (λ (n : Grounded D). ClosesTo told moment faults may_leave false StandsStill old n) (sym same)
-      (closes_to (dropped_ground old disk now) refl refl sound (λ idle. absurd (true≢false (sym idle))) ground later rests
+      subst (λ (n : Grounded D M). ClosesTo told moment faults may_leave media false StandsStill old n) (sym same)
+      (closes_to (dropped_ground old disk now) refl refl refl sound (λ idle. absurd (true≢false (sym idle))) ground later rests
       (memory_dropped old disk now)
       (leaves_back (dropped_ground old disk now) refl refl also))
 
@@ -324,11 +327,11 @@ stop_fails old new stops.MediaFault explained none = absurd explained
 stop_fails old new stops.Failed explained none = explained.1
 
 -- where a close is stopped on a disk that hasn't failed, the disk fails in it
-pub meets_fault : {D : Type 0} (told : D → Option (List ℕ)) (moment faults : D → ℕ) (may_leave : D → ℕ → List ℕ → Type 0) (old new : Grounded D)
-    (cells : Opened D) (s : Stop) → new.heap.cells.disk ≡ cells.disk → old.heap.cells.failed ≡ false
+pub meets_fault : {D M : Type 0} (told : D → Option (List ℕ)) (moment faults : D → ℕ) (may_leave : D → ℕ → List ℕ → Type 0)
+    (media : MediaGhosts M) (old new : Grounded D M) (cells : Opened D) (s : Stop) → new.heap.cells.disk ≡ cells.disk → old.heap.cells.failed ≡ false
     → Explains {T = Unit {0}} (transaction_of faults old.heap.cells) (transaction_of faults cells) (Err s)
-    → IfRefused {T = Unit {0}} (Err s) (λ _. ⊥) → MeetsFault (heap_ground told moment faults may_leave) old new
-meets_fault {D} told moment faults may_leave old new cells s same sound explained none = record {
+    → IfRefused {T = Unit {0}} (Err s) (λ _. ⊥) → MeetsFault (heap_ground told moment faults may_leave media) old new
+meets_fault {D} told moment faults may_leave media old new cells s same sound explained none = record {
   heap = λ v at. subst (λ (b : Ground). HasHeap b) (sym at.memory.before.base) tt;
   cause = subst (λ (d : D). Rose (faults old.heap.cells.disk) (faults d)) (sym same) (rose s explained none);
 }
@@ -341,10 +344,10 @@ meets_fault {D} told moment faults may_leave old new cells s same sound explaine
     rose stops.Failed explained none = absurd (true≢false (sym explained.0 ∙ sound))
 
 -- a ground whose disk has failed stands for nothing in memory, and so anything is brought and left
-pub brings_failed : {D : Type 0} {P : Standing → Standing → Type 0} (old new : Grounded D) → old.heap.cells.failed ≡ true
+pub brings_failed : {D M : Type 0} {P : Standing → Standing → Type 0} (old new : Grounded D M) → old.heap.cells.failed ≡ true
     → Brings StandsInMemory old new P
 brings_failed old new failed = record { each = λ v at. absurd (true≢false (sym failed ∙ at.sound)) }
 
-pub leaves_failed : {D : Type 0} (told : D → Option (List ℕ)) (moment faults : D → ℕ) (may_leave : D → ℕ → List ℕ → Type 0) (old new : Grounded D)
-    → old.heap.cells.failed ≡ true → LeavesBefore (heap_ground told moment faults may_leave) old new
-leaves_failed told moment faults may_leave old new failed = record { each = λ v at. absurd (true≢false (sym failed ∙ at.memory.sound)) }
+pub leaves_failed : {D M : Type 0} (told : D → Option (List ℕ)) (moment faults : D → ℕ) (may_leave : D → ℕ → List ℕ → Type 0)
+    (media : MediaGhosts M) (old new : Grounded D M) → old.heap.cells.failed ≡ true → LeavesBefore (heap_ground told moment faults may_leave media) old new
+leaves_failed told moment faults may_leave media old new failed = record { each = λ v at. absurd (true≢false (sym failed ∙ at.memory.sound)) }

@@ -1,12 +1,11 @@
--- The bytes that the row of a served call gives.
-use Rattle.std.proofs.Common.{◌≡◌, ◌∙◌, ◌≤◌, ◌+◌, ◌*◌, ◌==◌, ◌++◌, ◌∷◌, ℕ, List, [], Bool, true, false, true≢false, Option, None, Some, MatchBool, length, take, min, nat_lt, nat_le, position, refl, sym, ap, subst, arith}
+-- The bytes that the row of a call gives.
+use Rattle.std.proofs.Common.{◌≡◌, ◌∙◌, ◌≤◌, ◌+◌, ◌*◌, ◌==◌, ◌++◌, ◌∷◌, ℕ, List, [], Bool, false, Option, None, Some, MatchBool, length, take, drop, max, min, nat_lt, nat_le, position, refl, sym, ap, subst, arith}
 use Rattle.std.specs.Prelude.{◌||◌, IfSome, get_or, is_some, slice_get}
 use Rattle.std.proofs.lemmas.Bool.{ltb-false}
 use Rattle.std.proofs.lemmas.Bool.Decides.{nat_tests}
-use Rattle.std.proofs.lemmas.List.{length-take-le}
+use Rattle.std.proofs.lemmas.List.{length-take, length-take-le}
 use Rattle.std.proofs.lemmas.Option.{get_or_from_slice_get, slice_get-map, slice_get_within}
 use Rattle.std.specs.Option.{option_map}
-use Rattle.sdr_served.specs.Serving.{built}
 use Rattle.sdr_base.proofs.PartsLemmas.{length-part}
 use Rattle.sdr_base.specs.Parts.{part}
 use Rattle.sdr_base.specs.Kinds.{kind_number}
@@ -19,14 +18,17 @@ use Rattle.sdr_base.specs.declared.refusal.Refusal.TheVariants as refusals
 use Rattle.sdr_lock.proofs.StepLemmas.{from_option, from_test}
 use Rattle.sdr_lock.specs.Transaction.{bytes_given}
 use Rattle.sdr_model.proofs.FewLemmas.{in_takes_one}
+use Rattle.sdr_model.proofs.PiecesLemmas.{length-spelled}
 use Rattle.sdr_model.proofs.TableLemmas.{row-within}
 use Rattle.sdr_base.specs.declared.account.Acct.{Acct}
 use Rattle.sdr_base.specs.declared.account.Amounts.{Amounts}
 use Rattle.sdr_model.specs.AccountSteps.{pending_of}
 use Rattle.sdr_model.specs.Accounts.{account_of, most_amount, pending_in, tickets_of}
 use Rattle.sdr_model.specs.Amounts.{amount, amounts_by, first_above, in_space, minus}
-use Rattle.sdr_model.specs.Charges.{bytes_charge, capsule_bytes, object_bytes, rooms}
+use Rattle.sdr_model.specs.BondSteps.{bond_charge, bond_moves, bonded, capsules_of, with_bonded}
+use Rattle.sdr_model.specs.Charges.{bytes_charge, capsule_bytes, object_bytes, object_charge, rooms}
 use Rattle.sdr_model.specs.Charging.{Charges, grant_left, no_space, with_used}
+use Rattle.sdr_model.specs.Cuts.{placed}
 use Rattle.sdr_model.specs.HashSteps.{OnHash, OnKey, as_hash, has_key, is_no_count, is_no_key_length, value_at}
 use Rattle.sdr_model.specs.Hashes.{Hash}
 use Rattle.sdr_model.specs.Limits.{is_no_capsule, is_no_name, is_no_path, longest_capsule, longest_key, longest_name, longest_path, longest_raw, longest_read, longest_source, longest_string, most_buckets}
@@ -34,6 +36,7 @@ use Rattle.sdr_model.specs.ListSteps.{as_list}
 use Rattle.sdr_model.specs.NameSteps.{OnName}
 use Rattle.sdr_model.specs.Names.{name_of}
 use Rattle.sdr_model.specs.ObjectSteps.{AddsCapsule, last_capsule, raw_append_moves, with_extent, with_header, with_object, with_trailer}
+use Rattle.sdr_model.specs.PartSteps.{asked_extents, clone_moves, object_of, part_end}
 use Rattle.sdr_model.specs.Queue.{barrier}
 use Rattle.sdr_model.specs.RawSteps.{FreesThing}
 use Rattle.sdr_model.specs.Rows.{ByRow}
@@ -42,10 +45,11 @@ use Rattle.sdr_model.specs.TableSteps.{as_table}
 use Rattle.sdr_model.specs.Tables.{Table}
 use Rattle.sdr_model.specs.Valid.{IsBetween, IsValidTable, IsValidThing, names_of}
 use Rattle.sdr_model.specs.Whole.{IsWhole}
+use Rattle.sdr_model.specs.Wire.{GivesOf, ToldBytes, extents_told, headers_part, some_of, source_part, trailers_part, wire_part, wire_told}
 use Rattle.sdr_model.specs.World.{World, as_raw, as_text, block_at, is_marked, misnamed, spot_of, thing_at}
 use Rattle.sdr_model.specs.SourceSteps.{OnUnnamed, new_source}
 use Rattle.sdr_model.specs.Things.{capsule_need, extent_need, object_need}
-use Rattle.sdr_model.specs.Zco.{empty_object, object_at, owned_raw, source_at, source_on, space_of, uses_of}
+use Rattle.sdr_model.specs.Zco.{empty_object, extents_length, object_at, owned_raw, source_at, source_on, space_of, uses_of}
 use Rattle.sdr_model.specs.declared.accounts.Pending.{Pending}
 use Rattle.sdr_model.specs.declared.answer.Answer.TheVariants as answers
 use Rattle.sdr_model.specs.declared.answer.Reply.{Reply}
@@ -94,23 +98,22 @@ given_told o most count (Given.gives n is long few) told =
     let n_is : n ≡ count = cc in
     long ∙ n_is
 
--- so many bytes the row of a served call gives at most
+-- so many bytes the row of a call gives at most
 abbrev pub most_given : Call → ℕ
 most_given (calls.Read addr place count) = min count 4096
 most_given (calls.Stage addr count) = min count 4096
-most_given (calls.StringRead addr) = 4096
+most_given (calls.StringRead addr) = longest_string
 most_given (calls.Row table row) = 4096
-most_given (calls.Entry place) = 4096
+most_given (calls.Entry place) = longest_name
+most_given (calls.Transmit addr place count) = min count 4096
+most_given (calls.ReceiveHeaders addr place count) = min count 4096
+most_given (calls.ReceiveSource addr place count) = min count 4096
+most_given (calls.ReceiveTrailers addr place count) = min count 4096
 most_given call = 0
 
--- which is a page at most
-pub given_page : (call : Call) → most_given call ≤ 4096
-given_page (calls.Read addr place count) = omega arith
-given_page (calls.Stage addr count) = omega arith
-given_page (calls.StringRead addr) = omega arith
-given_page (calls.Row table row) = omega arith
-given_page (calls.Entry place) = omega arith
-given_page call = omega arith
+-- so many bytes are no more than are asked
+some_few : (place count : ℕ) (told : ToldBytes) → length (some_of place count told) ≤ count
+some_few place count told = let few = length-take count (drop place told) in omega (arith, few)
 
 -- the texts of a whole world are short
 text_short : (w : World) (addr : ℕ) (text : List ℕ) → IsWhole w → as_text (thing_at w addr) ≡ Some text
@@ -148,7 +151,7 @@ name_short w place name whole is =
     let same = get_or_from_slice_get names place name.name [] here in
     subst (λ (l : List ℕ). length l ≤ longest_name) same few.1
 
--- what the row of a served call gives
+-- what the row of a call gives
 module _ (w : World) (o : Outcome) where
   refused : {most : ℕ} (refusal : Refusal) → Refuses w o refusal → Given o most
   refused refusal h = Given.refuses refusal h.2
@@ -238,66 +241,73 @@ module _ (w : World) (o : Outcome) where
   few_read : (count : ℕ) → nat_lt longest_read count ≡ false → count ≤ min count 4096
   few_read count page = grind (arith, nat_tests)
 
-  pub given_row : (call : Call) → built call ≡ true → IsWhole w → ByRow w o call → Given o (most_given call)
-  given_row (calls.Malloc bytes) is whole h =
+  -- a read of an object gives what it asks, of at most a page
+  gives_part : (addr count : ℕ) (of : ZcoObject → ToldBytes) → ((z : ZcoObject) → length (of z) ≤ count) → GivesOf w o addr count of
+      → Given o (min count 4096)
+  gives_part addr count of few h = on addr (object_at w addr) h (λ z _ h.
+      unless (nat_lt longest_read count) (refusals.BadLength count longest_read) h (λ page h.
+      Given.gives (length (of z)) (ap bytes_told h.3) (length-spelled (of z) o.after.shown h.2)
+      (let most = few z in let here = few_read count page in omega (arith, most, here))))
+
+  pub given_row : (call : Call) → IsWhole w → ByRow w o call → Given o (most_given call)
+  given_row (calls.Malloc bytes) whole h =
       unless (nat_lt longest_raw bytes) (refusals.BadLength bytes longest_raw) h
       (λ _ h. in_takes_one o.moves _ _ h (λ addr p. shows_none p.0 p.1 refl refl))
-  given_row (calls.Free addr) is whole h = frees addr (as_raw (thing_at w addr)) (as_text (thing_at w addr)) h
-  given_row (calls.Length addr) is whole h = on addr (block_at w addr) h (λ b _ h. shows_none h.1 h.2 refl refl)
-  given_row (calls.Read addr place count) is whole h = on addr (as_raw (thing_at w addr)) h (λ bytes _ h.
+  given_row (calls.Free addr) whole h = frees addr (as_raw (thing_at w addr)) (as_text (thing_at w addr)) h
+  given_row (calls.Length addr) whole h = on addr (block_at w addr) h (λ b _ h. shows_none h.1 h.2 refl refl)
+  given_row (calls.Read addr place count) whole h = on addr (as_raw (thing_at w addr)) h (λ bytes _ h.
       unless (nat_lt longest_read count) (refusals.BadLength count longest_read) h (λ page h.
       unless (nat_lt (length bytes) (place + count)) (refusals.OutOfBounds addr place count) h (λ inside h.
       shows w (part place count bytes) count refl (length-part place count bytes (ltb-false _ _ inside))
       (few_read count page) h)))
-  given_row (calls.Write addr place from) is whole h = on addr (as_raw (thing_at w addr)) h (λ bytes _ h.
+  given_row (calls.Write addr place from) whole h = on addr (as_raw (thing_at w addr)) h (λ bytes _ h.
       unless (nat_lt (length bytes) (place + length from)) (refusals.OutOfBounds addr place (length from)) h (λ _ h.
       where_so (is_marked w addr) (refusals.NotStaged addr) h (λ h. shows_none h.1 h.2 refl refl)))
-  given_row (calls.Stage addr count) is whole h = on addr (as_raw (thing_at w addr)) h (λ bytes _ h.
+  given_row (calls.Stage addr count) whole h = on addr (as_raw (thing_at w addr)) h (λ bytes _ h.
       unless (nat_lt longest_read count) (refusals.BadLength count longest_read) h (λ page h.
       unless (nat_lt (length bytes) count) (refusals.OutOfBounds addr 0 count) h (λ inside h.
       shows (record w { marks = w.marks ++ addr ∷ [] }) (take count bytes) count refl
       (length-take-le count bytes (ltb-false _ _ inside)) (few_read count page) h)))
-  given_row (calls.String text) is whole h =
+  given_row (calls.String text) whole h =
       unless (nat_lt longest_string (length text)) (refusals.BadLength (length text) longest_string) h
       (λ _ h. in_takes_one o.moves _ _ h (λ addr p. shows_none p.0 p.1 refl refl))
-  given_row (calls.StringLength addr) is whole h =
+  given_row (calls.StringLength addr) whole h =
       on addr (as_text (thing_at w addr)) h (λ text _ h. shows_none h.1 h.2 refl refl)
-  given_row (calls.StringRead addr) is whole h = on addr (as_text (thing_at w addr)) h (λ text there h.
-      let short = text_short w addr text whole there in
-      shows w text (length text) refl refl (omega (arith, short)) h)
-  given_row (calls.StringDup addr) is whole h =
+  given_row (calls.StringRead addr) whole h = on addr (as_text (thing_at w addr)) h (λ text there h.
+      shows w text (length text) refl refl (text_short w addr text whole there) h)
+  given_row (calls.StringDup addr) whole h =
       on addr (as_text (thing_at w addr)) h (λ text _ h. in_takes_one o.moves _ _ h (λ addr p. shows_none p.0 p.1 refl refl))
-  given_row (calls.List user) is whole h = in_takes_one o.moves _ _ h (λ addr p. shows_none p.0 p.1 refl refl)
-  given_row (calls.ListDestroy addr) is whole h = on addr (as_list (thing_at w addr)) h (λ row _ h. shows_none h.1 h.2 refl refl)
-  given_row (calls.ListLength addr) is whole h = on addr (as_list (thing_at w addr)) h (λ row _ h. shows_none h.1 h.2 refl refl)
-  given_row (calls.ListUser addr) is whole h = on addr (as_list (thing_at w addr)) h (λ row _ h. shows_none h.1 h.2 refl refl)
-  given_row (calls.SetListUser addr user) is whole h =
+  given_row (calls.List user) whole h = in_takes_one o.moves _ _ h (λ addr p. shows_none p.0 p.1 refl refl)
+  given_row (calls.ListDestroy addr) whole h = on addr (as_list (thing_at w addr)) h (λ row _ h. shows_none h.1 h.2 refl refl)
+  given_row (calls.ListLength addr) whole h = on addr (as_list (thing_at w addr)) h (λ row _ h. shows_none h.1 h.2 refl refl)
+  given_row (calls.ListUser addr) whole h = on addr (as_list (thing_at w addr)) h (λ row _ h. shows_none h.1 h.2 refl refl)
+  given_row (calls.SetListUser addr user) whole h =
       on addr (as_list (thing_at w addr)) h (λ row _ h. shows_none h.1 h.2 refl refl)
-  given_row (calls.InsertFirst addr datum) is whole h =
+  given_row (calls.InsertFirst addr datum) whole h =
       on addr (as_list (thing_at w addr)) h (λ row _ h. in_takes_one o.moves _ _ h (λ addr p. shows_none p.0 p.1 refl refl))
-  given_row (calls.InsertLast addr datum) is whole h =
+  given_row (calls.InsertLast addr datum) whole h =
       on addr (as_list (thing_at w addr)) h (λ row _ h. in_takes_one o.moves _ _ h (λ addr p. shows_none p.0 p.1 refl refl))
-  given_row (calls.InsertBefore element datum) is whole h =
+  given_row (calls.InsertBefore element datum) whole h =
       on element (spot_of w element) h (λ s _ h. in_takes_one o.moves _ _ h (λ addr p. shows_none p.0 p.1 refl refl))
-  given_row (calls.InsertAfter element datum) is whole h =
+  given_row (calls.InsertAfter element datum) whole h =
       on element (spot_of w element) h (λ s _ h. in_takes_one o.moves _ _ h (λ addr p. shows_none p.0 p.1 refl refl))
-  given_row (calls.InsertOrdered addr datum by) is whole h =
+  given_row (calls.InsertOrdered addr datum by) whole h =
       on addr (as_list (thing_at w addr)) h (λ row _ h. in_takes_one o.moves _ _ h (λ addr p. shows_none p.0 p.1 refl refl))
-  given_row (calls.Search addr datum by) is whole h =
+  given_row (calls.Search addr datum by) whole h =
       on addr (as_list (thing_at w addr)) h (λ row _ h. shows_none h.1 h.2 refl refl)
-  given_row (calls.Delete element) is whole h = on element (spot_of w element) h (λ s _ h. shows_none h.1 h.2 refl refl)
-  given_row (calls.First addr) is whole h = on addr (as_list (thing_at w addr)) h (λ row _ h. shows_none h.1 h.2 refl refl)
-  given_row (calls.Last addr) is whole h = on addr (as_list (thing_at w addr)) h (λ row _ h. shows_none h.1 h.2 refl refl)
-  given_row (calls.Next element) is whole h = on element (spot_of w element) h (λ s _ h. shows_none h.1 h.2 refl refl)
-  given_row (calls.Prev element) is whole h = on element (spot_of w element) h (λ s _ h. shows_none h.1 h.2 refl refl)
-  given_row (calls.Datum element) is whole h = on element (spot_of w element) h (λ s _ h. shows_none h.1 h.2 refl refl)
-  given_row (calls.SetDatum element datum) is whole h = on element (spot_of w element) h (λ s _ h. shows_none h.1 h.2 refl refl)
-  given_row (calls.Table rows size user) is whole h =
+  given_row (calls.Delete element) whole h = on element (spot_of w element) h (λ s _ h. shows_none h.1 h.2 refl refl)
+  given_row (calls.First addr) whole h = on addr (as_list (thing_at w addr)) h (λ row _ h. shows_none h.1 h.2 refl refl)
+  given_row (calls.Last addr) whole h = on addr (as_list (thing_at w addr)) h (λ row _ h. shows_none h.1 h.2 refl refl)
+  given_row (calls.Next element) whole h = on element (spot_of w element) h (λ s _ h. shows_none h.1 h.2 refl refl)
+  given_row (calls.Prev element) whole h = on element (spot_of w element) h (λ s _ h. shows_none h.1 h.2 refl refl)
+  given_row (calls.Datum element) whole h = on element (spot_of w element) h (λ s _ h. shows_none h.1 h.2 refl refl)
+  given_row (calls.SetDatum element datum) whole h = on element (spot_of w element) h (λ s _ h. shows_none h.1 h.2 refl refl)
+  given_row (calls.Table rows size user) whole h =
       unless (nat_lt longest_raw rows) (refusals.BadLength rows longest_raw) h (λ _ h.
       unless (nat_lt longest_raw size) (refusals.BadLength size longest_raw) h (λ _ h.
       unless (nat_lt longest_raw (rows * size)) (refusals.BadLength (rows * size) longest_raw) h
       (λ _ h. in_takes_one o.moves _ _ h (λ addr p. shows_none p.0 p.1 refl refl))))
-  given_row (calls.Row addr row) is whole h = on addr (as_table (thing_at w addr)) h (λ table there h.
+  given_row (calls.Row addr row) whole h = on addr (as_table (thing_at w addr)) h (λ table there h.
       unless (nat_le table.rows row) (refusals.BadRow row table.rows) h (λ inside h.
       unless (nat_lt longest_read table.size) (refusals.BadLength table.size longest_read) h (λ page h.
       let valid = table_valid w addr table whole there in
@@ -306,73 +316,72 @@ module _ (w : World) (o : Outcome) where
       let few : table.size ≤ 4096 = grind (arith, nat_tests) in
       shows w (part (table.size * row) table.size table.bytes) table.size refl
       (length-part (table.size * row) table.size table.bytes within) few h)))
-  given_row (calls.SetRow addr row from) is whole h = on addr (as_table (thing_at w addr)) h (λ table _ h.
+  given_row (calls.SetRow addr row from) whole h = on addr (as_table (thing_at w addr)) h (λ table _ h.
       unless (nat_le table.rows row) (refusals.BadRow row table.rows) h (λ _ h.
       where_so (length from == table.size) (refusals.BadLength (length from) table.size) h (λ h. shows_none h.1 h.2 refl refl)))
-  given_row (calls.Dimensions addr) is whole h =
+  given_row (calls.Dimensions addr) whole h =
       on addr (as_table (thing_at w addr)) h (λ table _ h. shows_none h.1 h.2 refl refl)
-  given_row (calls.TableUser addr) is whole h = on addr (as_table (thing_at w addr)) h (λ table _ h. shows_none h.1 h.2 refl refl)
-  given_row (calls.TableDestroy addr) is whole h =
+  given_row (calls.TableUser addr) whole h = on addr (as_table (thing_at w addr)) h (λ table _ h. shows_none h.1 h.2 refl refl)
+  given_row (calls.TableDestroy addr) whole h =
       on addr (as_table (thing_at w addr)) h (λ table _ h. shows_none h.1 h.2 refl refl)
-  given_row (calls.Hash key_length buckets) is whole h =
+  given_row (calls.Hash key_length buckets) whole h =
       unless (is_no_key_length key_length) (refusals.BadKeyLength key_length longest_key) h (λ _ h.
       unless (is_no_count buckets) (refusals.BadRow buckets most_buckets) h
       (λ _ h. in_takes_one o.moves _ _ h (λ addr p. shows_none p.0 p.1 refl refl)))
-  given_row (calls.HashInsert addr key value) is whole h = on_hash addr key h (λ hash h.
+  given_row (calls.HashInsert addr key value) whole h = on_hash addr key h (λ hash h.
       from_option (position (has_key key) hash.entries) h
       (λ _ h. in_takes_one o.moves _ _ h (λ addr p. shows_none p.0 p.1 refl refl))
       (λ place _ h. refused (refusals.KeyTaken (value_at hash.entries place)) h))
-  given_row (calls.HashRetrieve addr key) is whole h = on_key addr key h (λ hash place h. shows_none h.1 h.2 refl refl)
-  given_row (calls.HashRevise addr key value) is whole h = on_key addr key h (λ hash place h. shows_none h.1 h.2 refl refl)
-  given_row (calls.HashRemove addr key) is whole h = on_key addr key h (λ hash place h. shows_none h.1 h.2 refl refl)
-  given_row (calls.HashCount addr) is whole h = on addr (as_hash (thing_at w addr)) h (λ hash _ h. shows_none h.1 h.2 refl refl)
-  given_row (calls.HashDestroy addr) is whole h =
+  given_row (calls.HashRetrieve addr key) whole h = on_key addr key h (λ hash place h. shows_none h.1 h.2 refl refl)
+  given_row (calls.HashRevise addr key value) whole h = on_key addr key h (λ hash place h. shows_none h.1 h.2 refl refl)
+  given_row (calls.HashRemove addr key) whole h = on_key addr key h (λ hash place h. shows_none h.1 h.2 refl refl)
+  given_row (calls.HashCount addr) whole h = on addr (as_hash (thing_at w addr)) h (λ hash _ h. shows_none h.1 h.2 refl refl)
+  given_row (calls.HashDestroy addr) whole h =
       on addr (as_hash (thing_at w addr)) h (λ hash _ h. shows_none h.1 h.2 refl refl)
-  given_row (calls.Catlg name kind object) is whole h =
+  given_row (calls.Catlg name kind object) whole h =
       on_name name h (λ h. in_takes_one o.moves _ _ h (λ addr p. shows_none p.0 p.1 refl refl))
       (λ n h. refused (refusals.NameTaken n.object) h)
-  given_row (calls.Find name) is whole h = on_name name h (λ h. refused refusals.NotFound h) (λ n h. shows_none h.1 h.2 refl refl)
-  given_row (calls.Uncatlg name) is whole h =
+  given_row (calls.Find name) whole h = on_name name h (λ h. refused refusals.NotFound h) (λ n h. shows_none h.1 h.2 refl refl)
+  given_row (calls.Uncatlg name) whole h =
       on_name name h (λ h. refused refusals.NotFound h) (λ n h. shows_none h.1 h.2 refl refl)
-  given_row (calls.Entry place) is whole h =
+  given_row (calls.Entry place) whole h =
       from_option (slice_get w.names place) h (λ _ h. refused refusals.NotFound h) (λ n there h.
-      let short = name_short w place n whole there in
-      shows w n.name (length n.name) refl refl (omega (arith, short)) h)
-  given_row (calls.FileRef path bytes) is whole h =
+      shows w n.name (length n.name) refl refl (name_short w place n whole there) h)
+  given_row (calls.FileRef path bytes) whole h =
       unless (is_no_path (length path)) (refusals.BadLength (length path) longest_path) h (λ _ h.
       unless (nat_lt longest_source bytes) (refusals.BadLength bytes longest_source) h
       (λ _ h. in_takes_one o.moves _ _ h (λ addr p. shows_none p.0 p.1 refl refl)))
-  given_row (calls.BulkRef item bytes) is whole h =
+  given_row (calls.BulkRef item bytes) whole h =
       unless (nat_lt longest_source bytes) (refusals.BadLength bytes longest_source) h
       (λ _ h. in_takes_one o.moves _ _ h (λ addr p. shows_none p.0 p.1 refl refl))
-  given_row (calls.ObjRef raw) is whole h = on raw (as_raw (thing_at w raw)) h (λ bytes _ h.
+  given_row (calls.ObjRef raw) whole h = on raw (as_raw (thing_at w raw)) h (λ bytes _ h.
       on_unnamed raw h (λ h. in_takes_one o.moves _ _ h (λ addr p. shows_none p.0 p.1 refl refl)))
-  given_row (calls.DestroyRef addr) is whole h = on addr (source_at w addr) h (λ source _ h.
+  given_row (calls.DestroyRef addr) whole h = on addr (source_at w addr) h (λ source _ h.
       unless (is_some (owned_raw source)) (refusals.WrongKind addr (kind_number kinds.Source)) h (λ _ h.
       unless source.flagged refusals.NotFound h (λ _ h.
       from_test (uses_of w addr == 0) h (λ _ h. shows_none h.1 h.2 refl refl) (λ _ h. shows_none h.1 h.2 refl refl))))
-  given_row (calls.Count addr) is whole h = on addr (source_at w addr) h (λ source _ h. shows_none h.1 h.2 refl refl)
-  given_row (calls.Occupancy acct space) is whole h = shows_none h.1 h.2 refl refl
-  given_row (calls.Maximum acct space) is whole h = shows_none h.1 h.2 refl refl
-  given_row (calls.SetMaximum acct space value) is whole h =
+  given_row (calls.Count addr) whole h = on addr (source_at w addr) h (λ source _ h. shows_none h.1 h.2 refl refl)
+  given_row (calls.Occupancy acct space) whole h = shows_none h.1 h.2 refl refl
+  given_row (calls.Maximum acct space) whole h = shows_none h.1 h.2 refl refl
+  given_row (calls.SetMaximum acct space value) whole h =
       unless (nat_lt most_amount value) (refusals.TooLarge space value most_amount) h (λ _ h. shows_none h.1 h.2 refl refl)
-  given_row (calls.Request acct file bulk heap coarse fine) is whole h =
+  given_row (calls.Request acct file bulk heap coarse fine) whole h =
       let asked : Amounts = record { file = file; bulk = bulk; heap = heap } in
       let maxima = (account_of w.accounts acct).maxima in
       from_option (first_above asked maxima) h (λ _ h.
       unless (w.accounts.next == most_amount) (refusals.BadTicket most_amount) h
       (λ _ h. in_takes_one o.moves _ _ h (λ addr p. shows_none p.0 p.1 refl refl)))
       (λ space _ h. refused (refusals.TooLarge space (amount asked space) (amount maxima space)) h)
-  given_row (calls.Awarded ticket) is whole h =
+  given_row (calls.Awarded ticket) whole h =
       from_option (pending_of w ticket) h (λ _ h. refused (refusals.BadTicket ticket) h) (λ p _ h.
       where_so p.ticket.granted (refusals.NotAwarded ticket) h (λ h. shows_none h.1 h.2 refl refl))
-  given_row (calls.Shred ticket) is whole h =
+  given_row (calls.Shred ticket) whole h =
       from_option (pending_of w ticket) h (λ _ h. refused (refusals.BadTicket ticket) h)
       (λ p _ h. shows_none h.1 h.2 refl refl)
-  given_row (calls.Create acct number) is whole h =
+  given_row (calls.Create acct number) whole h =
       charged acct number (in_space spaces.Heap object_bytes) _ h (λ used h.
       takes object_need (λ addr. with_object used addr (empty_object acct)) (λ addr. replies.At addr) h (λ addr. refl))
-  given_row (calls.AppendExtent addr number named offset bytes) is whole h = on addr (object_at w addr) h (λ z _ h.
+  given_row (calls.AppendExtent addr number named offset bytes) whole h = on addr (object_at w addr) h (λ z _ h.
       from_option (source_at w named) h (λ _ h. on named (as_raw (thing_at w named)) h (λ text _ h.
       on_unnamed named h (λ h.
       unless (bytes == 0 || nat_lt (length text) (offset + bytes)) (refusals.BadRange offset bytes (length text)) h (λ _ h.
@@ -388,13 +397,37 @@ module _ (w : World) (o : Outcome) where
       takes extent_need (λ block. with_object used addr
       (with_extent z (record { block = block; source = named; offset = offset; length = bytes })))
       (λ block. replies.Done) h (λ block. refl))))))
-  given_row (calls.PrependHeader addr number text) is whole h = capsule addr number text with_header h
-  given_row (calls.AppendTrailer addr number text) is whole h = capsule addr number text with_trailer h
-  given_row (calls.DiscardFirstHeader addr) is whole h = on addr (object_at w addr) h (λ z _ h.
+  given_row (calls.PrependHeader addr number text) whole h = capsule addr number text with_header h
+  given_row (calls.AppendTrailer addr number text) whole h = capsule addr number text with_trailer h
+  given_row (calls.DiscardFirstHeader addr) whole h = on addr (object_at w addr) h (λ z _ h.
       from_option (slice_get z.headers 0) h (λ _ h. refused refusals.NoCapsule h) (λ c _ h. shows_none h.1 h.2 refl refl))
-  given_row (calls.DiscardLastTrailer addr) is whole h = on addr (object_at w addr) h (λ z _ h.
+  given_row (calls.DiscardLastTrailer addr) whole h = on addr (object_at w addr) h (λ z _ h.
       from_option (last_capsule z.trailers) h (λ _ h. refused refusals.NoCapsule h) (λ c _ h. shows_none h.1 h.2 refl refl))
-  given_row (calls.ZcoLength addr) is whole h = on addr (object_at w addr) h (λ z _ h. shows_none h.1 h.2 refl refl)
-  given_row (calls.SourceLength addr) is whole h = on addr (object_at w addr) h (λ z _ h. shows_none h.1 h.2 refl refl)
-  given_row (calls.Destroy addr) is whole h = on addr (object_at w addr) h (λ z _ h. shows_none h.1 h.2 refl refl)
-  given_row call is whole h = absurd (true≢false (sym is))
+  given_row (calls.ZcoLength addr) whole h = on addr (object_at w addr) h (λ z _ h. shows_none h.1 h.2 refl refl)
+  given_row (calls.SourceLength addr) whole h = on addr (object_at w addr) h (λ z _ h. shows_none h.1 h.2 refl refl)
+  given_row (calls.Destroy addr) whole h = on addr (object_at w addr) h (λ z _ h. shows_none h.1 h.2 refl refl)
+  given_row (calls.ClonePart addr number offset bytes) whole h = on addr (object_at w addr) h (λ z _ h.
+      let extents = asked_extents z offset bytes in
+      unless (bytes == 0 || nat_lt z.part.length (offset + bytes)) (refusals.BadRange offset bytes z.part.length) h (λ _ h.
+      charged z.account number (λ (space : Space). object_charge w space (object_of z.account extents)) _ h (λ used h.
+      does (λ at. clone_moves at extents)
+      (λ at. with_object used (at 0) (object_of z.account (placed at 1 extents)))
+      (λ at. replies.At (at 0)) h refl)))
+  given_row (calls.Delimit addr offset bytes) whole h = on addr (object_at w addr) h (λ z _ h.
+      let all = extents_length z.extents in
+      unless (nat_lt all (offset + bytes)) (refusals.BadRange offset bytes all) h (λ _ h. shows_none h.1 h.2 refl refl))
+  given_row (calls.Strip addr) whole h = on addr (object_at w addr) h (λ z _ h. shows_none h.1 h.2 refl refl)
+  given_row (calls.Bond addr number) whole h = on addr (object_at w addr) h (λ z _ h.
+      charged z.account number (bond_charge (capsules_of z)) _ h (λ used h.
+      does (λ at. bond_moves at 0 (capsules_of z))
+      (λ at. with_object (with_bonded used at 0 (capsules_of z)) addr (bonded at z))
+      (λ at. replies.Done) h refl))
+  given_row (calls.Transmit addr place count) whole h =
+      gives_part addr count (wire_part w place count) (λ z. some_few place count (wire_told w z)) h
+  given_row (calls.ReceiveHeaders addr place count) whole h =
+      gives_part addr count (headers_part w place count) (λ z. some_few place count (take z.part.offset (extents_told w z.extents))) h
+  given_row (calls.ReceiveSource addr place count) whole h =
+      gives_part addr count (source_part w place count)
+      (λ z. some_few (max place z.part.offset) count (take (part_end z) (extents_told w z.extents))) h
+  given_row (calls.ReceiveTrailers addr place count) whole h =
+      gives_part addr count (trailers_part w place count) (λ z. some_few (max place (part_end z)) count (extents_told w z.extents)) h

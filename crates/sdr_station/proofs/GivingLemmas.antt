@@ -1,8 +1,7 @@
 -- The bytes that an answered call gives.
-use Rattle.std.proofs.Common.{◌≡◌, ◌∙◌, ℕ, List, Option, None, Some, true, false, refl, sym, ap, length}
+use Rattle.std.proofs.Common.{◌≡◌, ◌∙◌, ℕ, List, Option, None, Some, false, refl, sym, ap, length}
 use Rattle.std.specs.Prelude.{IfSome}
 use Rattle.sdr_answers.specs.Answering.{dooms}
-use Rattle.sdr_served.specs.Serving.{built}
 use Rattle.sdr_model.specs.Rows.{ByRow}
 use Rattle.sdr_model.specs.Steps.{Outcome}
 use Rattle.sdr_model.specs.Whole.{IsWhole}
@@ -20,16 +19,16 @@ undoomed call (replies.Refused refusal) count told = absurd (let no : None ≡ S
 undoomed call reply count told = refl
 
 -- where the reply tells of bytes, a ground that shows them gives them
-pub gives_shown : {D : Type 0} (g : Grounded D) (w : World) (call : Call) (o : Outcome) → built call ≡ true → IsWhole w
+pub gives_shown : {D M : Type 0} (g : Grounded D M) (w : World) (call : Call) (o : Outcome) → IsWhole w
     → ByRow w o call
     → o.after.shown ≡ g.shown → (dooms call o.reply ≡ false → g.stopped ≡ false) → (reply : Reply) → o.reply ≡ reply
     → Gives reply g
-gives_shown g w call o is whole row shown going reply told = by (bytes_told reply) refl
+gives_shown g w call o whole row shown going reply told = by (bytes_told reply) refl
   where
     by : (b : Option ℕ) → bytes_told reply ≡ b → IfSome b (λ count. (length g.shown ≡ count) × (g.stopped ≡ false))
     by None of_reply = tt
     by (Some count) of_reply = (
       ap (λ (bytes : List ℕ). length bytes) (sym shown)
-          ∙ given_told o (most_given call) count (given_row w o call is whole row) (ap bytes_told told ∙ of_reply),
+          ∙ given_told o (most_given call) count (given_row w o call whole row) (ap bytes_told told ∙ of_reply),
       going (ap (dooms call) told ∙ undoomed call reply count of_reply),
     )

@@ -1,20 +1,19 @@
 -- A look at a ticket on a ground.
-use Rattle.std.proofs.Common.{◌≡◌, ◌∙◌, ◌≤◌, ◌++◌, ◌⊎◌, ℕ, List, [], Bool, true, false, true≢false, Option, None, Result, Ok, Err, refl, sym, ap, subst, length, arith}
+use Rattle.std.proofs.Common.{◌≡◌, ◌∙◌, ◌≤◌, ℕ, List, [], Bool, true, false, true≢false, Option, None, Result, Err, refl, sym, ap, subst, length, arith}
 use Rattle.std.proofs.lemmas.List.{append-nil, append_cancel_left}
-use Rattle.sdr_answers.specs.Answering.{IsServed}
 use Rattle.sdr_audit.specs.Standing.{HeapStandsFor}
 use Rattle.sdr_base.proofs.MovesLemmas.{Moves-none}
 use Rattle.sdr_base.specs.KeptHeap.{KeepsRegion}
 use Rattle.sdr_base.specs.Moves.{KeepsSome, MovesPools}
 use Rattle.sdr_base.specs.Objects.{Heap, OnlyFault}
 use Rattle.sdr_base.specs.Pools.{Pools}
-use Rattle.sdr_base.specs.Transaction.{Explains}
 use Rattle.sdr_base.specs.Works.{Looks}
+use Rattle.sdr_base.specs.declared.media.Media.{Ghosts as MediaGhosts}
 use Rattle.sdr_base.specs.declared.moves.Move.{Move}
 use Rattle.sdr_base.specs.declared.stop.Stop.{Stop}
 use Rattle.sdr_base.specs.declared.stop.Stop.TheVariants as stops
 use Rattle.sdr_heap.specs.Noted.{Held}
-use Rattle.sdr_image.specs.Opened.{IsQuiet, Opened, transaction_of}
+use Rattle.sdr_image.specs.Opened.{IsQuiet, Opened}
 use Rattle.sdr_lock.specs.Crash.{LeavesBefore}
 use Rattle.sdr_lock.specs.Demand.{most_lines}
 use Rattle.sdr_lock.specs.Ground.{Ground, State}
@@ -22,11 +21,10 @@ use Rattle.sdr_lock.specs.Serving.{Brings, Shows, StandsStill, shown_in}
 use Rattle.sdr_lock.specs.Standing.{Standing}
 use Rattle.sdr_log.specs.Frame.{room_of}
 use Rattle.sdr_log.specs.declared.frame.Frame.{Frame}
-use Rattle.sdr_model.specs.World.{World}
 use Rattle.sdr_station.proofs.ClosingLemmas.{dropped_ground, within_of}
 use Rattle.sdr_station.proofs.GroundLemmas.{heap_ground}
 use Rattle.sdr_station.proofs.ServingLemmas.{image_heap}
-use Rattle.sdr_station.specs.Grounded.{Grounded, HasStood, HoldsWorld, IsBefore, IsGround, Leaves, StandsAtRest, StandsForBoth, StandsInMemory, StandsSome, StandsWithin, heap_in}
+use Rattle.sdr_station.specs.Grounded.{Grounded, HasStood, HoldsWorld, IsBefore, IsGround, Leaves, StandsAtRest, StandsForBoth, StandsInMemory, StandsWithin, heap_in}
 use Rattle.zco_granted.proofs.GoodLemmas.{good_of}
 use Rattle.zco_granted.specs.Answering.{IsGood, Sees}
 
@@ -35,7 +33,7 @@ within_holds : {D : Type 0} {h : Held (Opened D)} {shown : List ℕ} {s : State}
 within_holds w = record { pools = w.pools; keeps = w.keeps; heap = w.heap; whole = w.whole; fits = w.fits }
 
 -- so a ground in whose transaction no call was made holds the world before that
-pub before_idle : {D : Type 0} (moment : D → ℕ) (g : Grounded D) → IsGround moment g → g.idle ≡ true → IsBefore g
+pub before_idle : {D M : Type 0} (moment : D → ℕ) (g : Grounded D M) → IsGround moment g → g.idle ≡ true → IsBefore g
 before_idle moment g ground idle = record {
   some = ground.stands (ground.sound (ground.going idle));
   holds = λ v at.
@@ -43,7 +41,7 @@ before_idle moment g ground idle = record {
 }
 
 -- and so does one whose changes were dropped
-pub before_dropped : {D : Type 0} (moment : D → ℕ) (old : Grounded D) (disk : D) (now : ℕ)
+pub before_dropped : {D M : Type 0} (moment : D → ℕ) (old : Grounded D M) (disk : D) (now : ℕ)
     → IsGround moment (dropped_ground old disk now) → old.heap.cells.failed ≡ false → IsBefore (dropped_ground old disk now)
 before_dropped moment old disk now ground sound = record {
   some = ground.stands sound;
@@ -53,18 +51,18 @@ before_dropped moment old disk now ground sound = record {
 }
 
 -- there is a heap in it
-pub keeps_before_look : {D : Type 0} (g : Grounded D) → IsBefore g → KeepsSome (KeepsRegion g.heap.size g.heap.cells.bytes)
+pub keeps_before_look : {D M : Type 0} (g : Grounded D M) → IsBefore g → KeepsSome (KeepsRegion g.heap.size g.heap.cells.bytes)
 keeps_before_look g before =
     let h = before.holds before.some.for before.some.holds in record { pools = h.pools; keeps = h.keeps }
 
 -- and its queues are kept
-pub queues_before_look : {D : Type 0} (g : Grounded D) → IsBefore g → IsGood (heap_in g.heap)
+pub queues_before_look : {D M : Type 0} (g : Grounded D M) → IsBefore g → IsGood (heap_in g.heap)
 queues_before_look g before =
     let h = before.holds before.some.for before.some.holds in
     good_of (heap_in g.heap) before.some.for.before.world h.heap (record { whole = h.whole; fits = h.fits })
 
 -- A look that read the heap of a ground.
-module _ {D T : Type 0} (faults : D → ℕ) (old : Grounded D) (heap : Held (Opened D)) (result : Result T Stop)
+module _ {D M T : Type 0} (faults : D → ℕ) (old : Grounded D M) (heap : Held (Opened D)) (result : Result T Stop)
     (looks : Looks (image_heap faults) old.heap heap result) where
   -- the disk is quiet
   pub looked_quiet : IsQuiet old.heap.cells heap.cells × (heap.size ≡ old.heap.size)
@@ -140,7 +138,7 @@ module _ {D T : Type 0} (faults : D → ℕ) (old : Grounded D) (heap : Held (Op
   }
 
 -- no look meets a disk fault where the disk hadn't failed
-pub looks_never : {D T : Type 0} (faults : D → ℕ) (old : Grounded D) (heap : Held (Opened D)) (stop : Stop)
+pub looks_never : {D M T : Type 0} (faults : D → ℕ) (old : Grounded D M) (heap : Held (Opened D)) (stop : Stop)
     → Looks {T = T} (image_heap faults) old.heap heap (Err stop) → old.heap.cells.failed ≡ false → OnlyFault stop → ⊥
 looks_never faults old heap (stops.Refused refusal) looks sound fault = fault
 looks_never faults old heap stops.DiskFault looks sound fault =
@@ -149,7 +147,7 @@ looks_never faults old heap stops.MediaFault looks sound fault = fault
 looks_never faults old heap stops.Failed looks sound fault = true≢false (sym looks.cause.explained.0 ∙ sound)
 
 -- what stands still is shown as what follows is
-pub shows_later : {D : Type 0} {S : Grounded D → Standing → Type 0} (old mid new : Grounded D) (ticket : ℕ) (granted : Option Bool)
+pub shows_later : {D M : Type 0} {S : Grounded D M → Standing → Type 0} (old mid new : Grounded D M) (ticket : ℕ) (granted : Option Bool)
     → Brings S old mid StandsStill → Brings S mid new (Shows ticket granted) → Brings S old new (Shows ticket granted)
 shows_later old mid new ticket granted first second = record {
   each = λ v at.
@@ -169,19 +167,19 @@ shows_later old mid new ticket granted first second = record {
 }
 
 -- a ground whose disk has failed stands for nothing, and so anything is shown
-pub shows_failed : {D : Type 0} (told : D → Option (List ℕ)) (moment : D → ℕ) (may_leave : D → ℕ → List ℕ → Type 0)
-    (old new : Grounded D) (ticket : ℕ) → old.heap.cells.failed ≡ true
+pub shows_failed : {D M : Type 0} (told : D → Option (List ℕ)) (moment : D → ℕ) (may_leave : D → ℕ → List ℕ → Type 0)
+    (old new : Grounded D M) (ticket : ℕ) → old.heap.cells.failed ≡ true
     → Brings (λ g v. StandsForBoth told moment may_leave g v) old new (Shows ticket None)
 shows_failed told moment may_leave old new ticket failed = record {
   each = λ v at. absurd (true≢false (sym failed ∙ at.memory.sound));
 }
 
 -- a crash leaves what it did where the disk and the moment stay
-pub leaves_later : {D : Type 0} (told : D → Option (List ℕ)) (moment faults : D → ℕ) (may_leave : D → ℕ → List ℕ → Type 0)
-    (old mid new : Grounded D) → new.heap.cells.disk ≡ mid.heap.cells.disk → new.moment ≡ mid.moment
-    → LeavesBefore (heap_ground told moment faults may_leave) old mid
-    → LeavesBefore (heap_ground told moment faults may_leave) old new
-leaves_later {D} told moment faults may_leave old mid new disk same leaves = record {
+pub leaves_later : {D M : Type 0} (told : D → Option (List ℕ)) (moment faults : D → ℕ) (may_leave : D → ℕ → List ℕ → Type 0)
+    (media : MediaGhosts M) (old mid new : Grounded D M) → new.heap.cells.disk ≡ mid.heap.cells.disk → new.moment ≡ mid.moment
+    → LeavesBefore (heap_ground told moment faults may_leave media) old mid
+    → LeavesBefore (heap_ground told moment faults may_leave media) old new
+leaves_later {D} told moment faults may_leave media old mid new disk same leaves = record {
   each = λ v at.
       let e = leaves.each v at in
       record {

@@ -1,46 +1,52 @@
--- No call that is served asks bytes of media.
-use Rattle.std.proofs.Common.{◌≡◌, ◌∙◌, List, true, false, true≢false, inl, inr, refl, sym}
-use Rattle.sdr_base.specs.declared.moves.Move.{Move}
+-- What the answer to a call tells of media.
+use Rattle.std.proofs.Common.{◌≡◌, true, false, true≢false, Err, refl, sym}
+use Rattle.sdr_base.specs.declared.media.Media.{Ghosts as MediaGhosts}
+use Rattle.sdr_base.specs.declared.refusal.Refusal.{Refusal}
 use Rattle.sdr_base.specs.declared.refusal.Refusal.TheVariants as refusals
-use Rattle.sdr_laws.proofs.StepLemmas.{row_is_no_stop}
+use Rattle.sdr_base.specs.declared.stop.Stop.TheVariants as stops
 use Rattle.sdr_lock.specs.Gaps.{Gaps, HasGapCause}
 use Rattle.sdr_lock.specs.Ground.{MayMissMedia}
 use Rattle.sdr_model.specs.Reading.{reads_media}
-use Rattle.sdr_model.specs.Step.{StepTo}
+use Rattle.sdr_model.specs.Step.{is_answer}
 use Rattle.sdr_model.specs.World.{World}
 use Rattle.sdr_model.specs.declared.answer.Answer.TheVariants as answers
 use Rattle.sdr_model.specs.declared.answer.Reply.{Reply}
 use Rattle.sdr_model.specs.declared.answer.Reply.TheVariants as replies
 use Rattle.sdr_model.specs.declared.call.Call.{Call}
-use Rattle.sdr_model.specs.declared.call.Call.TheVariants as calls
-use Rattle.sdr_served.specs.Serving.{built}
+use Rattle.sdr_station.proofs.GroundLemmas.{gaps_of}
+use Rattle.sdr_station.specs.Giving.{reads_by}
+use Rattle.zco_given.specs.Giving.{MissesMedia, may_read}
 
--- it reads none
-reads_none : (call : Call) → built call ≡ true → reads_media call ≡ false
-reads_none (calls.Transmit addr place count) is = absurd (true≢false (sym is))
-reads_none (calls.ReceiveHeaders addr place count) is = absurd (true≢false (sym is))
-reads_none (calls.ReceiveSource addr place count) is = absurd (true≢false (sym is))
-reads_none (calls.ReceiveTrailers addr place count) is = absurd (true≢false (sym is))
-reads_none call is = refl
+-- a reply that answers tells of no gap
+pub answered_misses : (w : World) (call : Call) (reply : Reply) → is_answer reply ≡ true → MayMissMedia w call reply
+answered_misses w call replies.MediaFault is = absurd (true≢false (sym is))
+answered_misses w call (replies.Refused refusal) is = absurd (true≢false (sym is))
+answered_misses w call reply is = tt
 
--- so no step of it tells that media failed, or gave fewer bytes than were asked for
-pub misses_none : (w : World) (call : Call) (moves : List Move) (after : World) (reply : Reply) → built call ≡ true
-    → StepTo w (record { moves = moves; after = after; reply = reply }) call → MayMissMedia w call reply
-misses_none w call moves after replies.MediaFault is (inl row) = absurd (true≢false (row_is_no_stop w _ call row))
-misses_none w call moves after replies.MediaFault is (inr s) = absurd (true≢false (sym s.stopped.1 ∙ reads_none call is))
-misses_none w call moves after (replies.Refused (refusals.SourceShort have want)) is (inl row) =
-    absurd (true≢false (row_is_no_stop w _ call row))
-misses_none w call moves after (replies.Refused (refusals.SourceShort have want)) is (inr s) =
-    absurd (true≢false (sym s.stopped.1 ∙ reads_none call is))
-misses_none w call moves after reply is step = tt
+pub answered_gap : (before now : Gaps) (reply : Reply) → is_answer reply ≡ true → HasGapCause (answers.Reply reply) before now
+answered_gap before now replies.MediaFault is = absurd (true≢false (sym is))
+answered_gap before now (replies.Refused refusal) is = absurd (true≢false (sym is))
+answered_gap before now reply is = tt
 
--- and no count of theirs has to have risen
-pub gap_none : (w : World) (call : Call) (moves : List Move) (after : World) (reply : Reply) (gaps : Gaps) → built call ≡ true
-    → StepTo w (record { moves = moves; after = after; reply = reply }) call → HasGapCause (answers.Reply reply) gaps gaps
-gap_none w call moves after replies.MediaFault gaps is (inl row) = absurd (true≢false (row_is_no_stop w _ call row))
-gap_none w call moves after replies.MediaFault gaps is (inr s) = absurd (true≢false (sym s.stopped.1 ∙ reads_none call is))
-gap_none w call moves after (replies.Refused (refusals.SourceShort have want)) gaps is (inl row) =
-    absurd (true≢false (row_is_no_stop w _ call row))
-gap_none w call moves after (replies.Refused (refusals.SourceShort have want)) gaps is (inr s) =
-    absurd (true≢false (sym s.stopped.1 ∙ reads_none call is))
-gap_none w call moves after reply gaps is step = tt
+-- a call that may not have read media by its reply may not by what it came to
+pub answered_reads : (call : Call) (reply : Reply) → is_answer reply ≡ true → reads_by call reply ≡ false → reads_media call ≡ false
+answered_reads call (replies.Refused refusal) is none = absurd (true≢false (sym is))
+answered_reads call reply is none = none
+
+pub refused_reads : (call : Call) (refusal : Refusal) → reads_by call (replies.Refused refusal) ≡ false
+    → may_read call (Err (stops.Refused refusal)) ≡ false
+refused_reads call (refusals.SourceShort have want) none = none
+refused_reads call refusal none = refl
+
+module _ {M : Type 0} (m : MediaGhosts M) (w : World) (call : Call) (before now : M) where
+  -- a refusal that tells of one asks bytes of media
+  pub refused_misses : (refusal : Refusal) → MissesMedia m w call before now (Err (stops.Refused refusal))
+      → MayMissMedia w call (replies.Refused refusal)
+  refused_misses (refusals.SourceShort have want) is = is.0
+  refused_misses refusal is = tt
+
+  -- whose count rose
+  pub refused_gap : (refusal : Refusal) → MissesMedia m w call before now (Err (stops.Refused refusal))
+      → HasGapCause (answers.Reply (replies.Refused refusal)) (gaps_of m before) (gaps_of m now)
+  refused_gap (refusals.SourceShort have want) is = is.2
+  refused_gap refusal is = tt

@@ -1,8 +1,7 @@
 -- A heap that was opened.
-use Rattle.std.proofs.Common.{◌≡◌, ◌∙◌, ◌≤◌, ◌*◌, ℕ, List, [], false, true, Option, Some, refl, sym, ap, subst, length}
+use Rattle.std.proofs.Common.{◌≡◌, ◌∙◌, ◌≤◌, ℕ, List, [], false, true, Option, Some, refl, sym, ap, subst, length}
 use Rattle.std.specs.Prelude.{replicate}
 use Rattle.sdr_audit.specs.Standing.{StandsForWhole}
-use Rattle.sdr_check.specs.Checked.{IsNoWorld, OnlyReads, TellsFirst}
 use Rattle.sdr_check.specs.declared.error.AuditError.{AuditError}
 use Rattle.sdr_check.specs.declared.error.AuditError.TheVariants as audits
 use Rattle.sdr_disk.specs.Told.{Both}
@@ -25,18 +24,19 @@ use Rattle.sdr_station.specs.Opening.{ArePutBack, IsOfAudit, IsOfImage, IsOpen, 
 use Rattle.sdr_station.specs.declared.error.OpenError.{OpenError}
 
 -- an image that was opened, and for whose bytes a world was found to stand, stands for it
-pub open_stands : {D : Type 0} (told : D → Option (List ℕ)) (moment : D → ℕ) (may_leave : D → ℕ → List ℕ → Type 0) (disk : D) (i j : Opened D)
+pub open_stands : {D M : Type 0} (told : D → Option (List ℕ)) (moment : D → ℕ) (may_leave : D → ℕ → List ℕ → Type 0) (disk : D) (files : M) (i j : Opened D)
     (count spare : ℕ) → IsOpened told moment may_leave disk i → IsQuiet i j → j.bytes ≡ i.bytes → j.touched ≡ i.touched
     → StandsAsTold i.bytes
-    → IsOpen told moment may_leave disk (record {
+    → IsOpen {M = M} told moment may_leave disk (record {
       heap = record { cells = j; size = length j.bytes; marks = replicate count false; moves = []; spare = spare };
+      media = files;
       shown = [];
       stopped = false;
       idle = true;
       moment = moment j.disk;
       restored = i.restored;
     })
-open_stands {D} told moment may_leave disk i j count spare o q bytes touched told_stands =
+open_stands {D} {M} told moment may_leave disk files i j count spare o q bytes touched told_stands =
     let room = room_of j.frame in
     let s : State = resting (world_of j.begun) (Ground.OnHeap room (pools_of j.begun)) in
     let begun : j.begun ≡ j.bytes = q.begun ∙ o.begun ∙ sym bytes in
@@ -47,8 +47,9 @@ open_stands {D} told moment may_leave disk i j count spare o q bytes touched tol
       stands = subst (λ (b : List ℕ). StandsForWhole b (world_of j.begun) (pools_of j.begun)) begun stands;
       demand = refl;
     } in
-    let g : Grounded D = record {
+    let g : Grounded D M = record {
       heap = record { cells = j; size = length j.bytes; marks = replicate count false; moves = []; spare = spare };
+      media = files;
       shown = [];
       stopped = false;
       idle = true;
@@ -84,7 +85,7 @@ open_stands {D} told moment may_leave disk i j count spare o q bytes touched tol
     }
 
 -- what was opened is a ground
-pub open_ground : {D : Type 0} (told : D → Option (List ℕ)) (moment : D → ℕ) (may_leave : D → ℕ → List ℕ → Type 0) (disk : D) (g : Grounded D)
+pub open_ground : {D M : Type 0} (told : D → Option (List ℕ)) (moment : D → ℕ) (may_leave : D → ℕ → List ℕ → Type 0) (disk : D) (g : Grounded D M)
     → moment g.heap.cells.disk ≤ g.moment → IsOpen told moment may_leave disk g → IsGround moment g
 open_ground told moment may_leave disk g seen o = record { seen = seen; sound = λ _. o.sound; going = λ _. o.going; stands = λ _. record { for = _; holds = o.memory } }
 

@@ -1,4 +1,4 @@
--- How many moves a served call has.
+-- How many moves a call has.
 use Rattle.std.proofs.Common.{◌≡◌, ◌==◌, ◌≤◌, ◌+◌, ◌*◌, ◌/◌, ◌++◌, ◌∷◌, ◌⊎◌, ℕ, List, [], Bool, cond, Option, None, Some, false, true, true≢false, inl, inr, refl, sym, ap, ◌∙◌, length, length-append, position, subst, arith}
 use Rattle.std.proofs.lemmas.List.{length-map}
 use Rattle.std.specs.Prelude.{slice_get, slice_index, ⊤}
@@ -14,26 +14,28 @@ use Rattle.sdr_model.specs.HashSteps.{as_hash, has_key}
 use Rattle.sdr_model.specs.Hashes.{Hash}
 use Rattle.sdr_model.specs.AccountSteps.{pending_of}
 use Rattle.sdr_model.specs.ObjectSteps.{last_capsule}
-use Rattle.sdr_model.specs.RowMoves.{append_moves, block_of, block_of_capsule, block_of_ticket, destroyed_blocks, elements_in, entries_in, first_header, keyed_at, keyed_in, last_trailer, row_moves}
+use Rattle.sdr_model.specs.RowMoves.{append_moves, block_of, block_of_capsule, block_of_ticket, bond_moves_of, destroyed_blocks, elements_in, entries_in, first_header, keyed_at, keyed_in, last_trailer, row_moves, stripped_blocks}
 use Rattle.sdr_model.specs.Names.{name_of}
 use Rattle.sdr_model.specs.Rows.{ByRow}
 use Rattle.sdr_model.specs.Step.{StopsWith}
 use Rattle.sdr_model.specs.Steps.{Outcome, gave, taken_addresses}
 use Rattle.sdr_model.specs.World.{World, thing_at}
-use Rattle.sdr_model.specs.Zco.{object_at, source_at, uses_of}
+use Rattle.sdr_model.specs.Zco.{as_object, object_at, source_at, uses_of}
 use Rattle.sdr_model.specs.declared.accounts.Pending.{Pending}
 use Rattle.sdr_model.specs.declared.answer.Reply.{Reply}
 use Rattle.sdr_model.specs.declared.answer.Reply.TheVariants as replies
 use Rattle.sdr_model.specs.declared.call.Call.{Call}
 use Rattle.sdr_model.specs.declared.call.Call.TheVariants as calls
 use Rattle.sdr_model.specs.declared.name.Name.{Name}
+use Rattle.sdr_model.specs.declared.things.Thing.{Thing}
+use Rattle.sdr_model.specs.declared.things.Thing.TheVariants as things
 use Rattle.sdr_model.specs.declared.zco.Capsule.{Capsule}
 use Rattle.sdr_model.specs.declared.zco.ZcoObject.{ZcoObject}
 use Rattle.sdr_model.specs.declared.zco.ZcoSource.{ZcoSource}
-use Rattle.sdr_served.specs.Serving.{built}
-use Rattle.sdr_station.proofs.StoodLemmas.{elements_few, entries_few, gone_few}
+use Rattle.sdr_station.proofs.StoodLemmas.{clones_few, cut_few, elements_few, entries_few, gone_few}
 use Rattle.sdr_station.specs.Grounded.{HasStood}
 use Rattle.sdr_station.specs.Rooming.{MovesAtMost}
+use Rattle.zco_bond_answers.proofs.LinesLemmas.{bonded_few}
 
 -- a call that stops on its way has no more moves than it would have had
 stops_fewer : (reply : Reply) (call : Call) (all moves : List Move) → StopsWith reply call all moves → length moves ≤ length all
@@ -120,14 +122,40 @@ moves_object size object = moves_at_most size (calls.Destroy object) (size / 16 
     let all = length-map gone (λ (a : ℕ). Gave a) in
     omega (arith, few, all))
 
--- so whichever of them goes has so many at most
-pub moves_destroy : (size : ℕ) (call : Call)
+-- so has one that is cut for those that go, and one that is cloned for itself and its extents
+moves_strip : (size object : ℕ) → MovesAtMost size (calls.Strip object) (size / 16 + 1)
+moves_strip size object = moves_at_most size (calls.Strip object) (size / 16 + 1) (λ w stood changes at.
+    let gone = stripped_blocks w (object_at w object) in
+    let few = cut_few size w object stood in
+    let all = length-map gone (λ (a : ℕ). Gave a) in
+    omega (arith, few, all))
+
+moves_clone : (size object ticket offset bytes : ℕ) → MovesAtMost size (calls.ClonePart object ticket offset bytes) (size / 16 + 1)
+moves_clone size object ticket offset bytes =
+    moves_at_most size (calls.ClonePart object ticket offset bytes) (size / 16 + 1) (λ w stood changes at.
+    let few = clones_few size w object offset bytes stood at in
+    omega (arith, few))
+
+-- so whichever of these a call is has so many at most
+pub moves_long : (size : ℕ) (call : Call)
     → ((list : ℕ) × (call ≡ calls.ListDestroy list)) ⊎ (((hash : ℕ) × (call ≡ calls.HashDestroy hash))
-    ⊎ ((object : ℕ) × (call ≡ calls.Destroy object)))
+    ⊎ (((object : ℕ) × (call ≡ calls.Destroy object)) ⊎ (((object : ℕ) × (call ≡ calls.Strip object))
+    ⊎ ((object : ℕ) × (ticket : ℕ) × (offset : ℕ) × (bytes : ℕ) × (call ≡ calls.ClonePart object ticket offset bytes)))))
     → MovesAtMost size call (size / 16 + 1)
-moves_destroy size call (inl l) = subst (λ call. MovesAtMost size call (size / 16 + 1)) (sym l.1) (moves_list size l.0)
-moves_destroy size call (inr (inl h)) = subst (λ call. MovesAtMost size call (size / 16 + 1)) (sym h.1) (moves_hash size h.0)
-moves_destroy size call (inr (inr z)) = subst (λ call. MovesAtMost size call (size / 16 + 1)) (sym z.1) (moves_object size z.0)
+moves_long size call long = by long
+  where
+    as_one : (other : Call) → call ≡ other → MovesAtMost size other (size / 16 + 1) → MovesAtMost size call (size / 16 + 1)
+    as_one other is most = subst (λ (c : Call). MovesAtMost size c (size / 16 + 1)) (sym is) most
+
+    by : ((list : ℕ) × (call ≡ calls.ListDestroy list)) ⊎ (((hash : ℕ) × (call ≡ calls.HashDestroy hash))
+        ⊎ (((object : ℕ) × (call ≡ calls.Destroy object)) ⊎ (((object : ℕ) × (call ≡ calls.Strip object))
+        ⊎ ((object : ℕ) × (ticket : ℕ) × (offset : ℕ) × (bytes : ℕ) × (call ≡ calls.ClonePart object ticket offset bytes)))))
+        → MovesAtMost size call (size / 16 + 1)
+    by (inl l) = as_one (calls.ListDestroy l.0) l.1 (moves_list size l.0)
+    by (inr (inl h)) = as_one (calls.HashDestroy h.0) h.1 (moves_hash size h.0)
+    by (inr (inr (inl z))) = as_one (calls.Destroy z.0) z.1 (moves_object size z.0)
+    by (inr (inr (inr (inl z)))) = as_one (calls.Strip z.0) z.1 (moves_strip size z.0)
+    by (inr (inr (inr (inr z)))) = as_one (calls.ClonePart z.0 z.1 z.2 z.3) z.4 (moves_clone size z.0 z.1 z.2 z.3)
 
 -- a name that goes has one at most
 one_name : (found : Option Name) → length (gave (block_of found)) ≤ 1
@@ -175,92 +203,60 @@ moves_append size object ticket named offset bytes =
     by at None = omega arith
     by at (Some source) = omega arith
 
+-- and an object that is bonded has at most one for 4 bytes of the heap
+pub moves_bond : (size object ticket : ℕ) → MovesAtMost size (calls.Bond object ticket) (size / 4)
+moves_bond size object ticket =
+    moves_at_most size (calls.Bond object ticket) (size / 4) (λ w stood changes at. by w stood at (thing_at w object) refl)
+  where
+    by : (w : World) → HasStood size w → (at : ℕ → ℕ) (found : Option Thing) → thing_at w object ≡ found
+        → length (bond_moves_of (as_object found) at) ≤ size / 4
+    by w s at (Some (things.Object z)) is =
+        let few = bonded_few s.heap w object z s.stands s.few is at in omega (arith, few, s.same)
+    by w s at found is = omega arith
+
 -- whether it is none of those that may have more
 abbrev pub IsOther : Call → Type 0
 IsOther (calls.ListDestroy list) = ⊥
 IsOther (calls.HashDestroy hash) = ⊥
 IsOther (calls.Destroy object) = ⊥
+IsOther (calls.Strip object) = ⊥
+IsOther (calls.ClonePart object ticket offset bytes) = ⊥
+IsOther (calls.Bond object ticket) = ⊥
 IsOther (calls.AppendExtent object ticket named offset bytes) = ⊥
 IsOther call = ⊤
 
 pub is_other : (call : Call) → ((list : ℕ) → call ≡ calls.ListDestroy list → ⊥) → ((hash : ℕ) → call ≡ calls.HashDestroy hash → ⊥)
-    → ((object : ℕ) → call ≡ calls.Destroy object → ⊥)
+    → ((object : ℕ) → call ≡ calls.Destroy object → ⊥) → ((object : ℕ) → call ≡ calls.Strip object → ⊥)
+    → ((object ticket offset bytes : ℕ) → call ≡ calls.ClonePart object ticket offset bytes → ⊥)
+    → ((object ticket : ℕ) → call ≡ calls.Bond object ticket → ⊥)
     → ((object ticket named offset bytes : ℕ) → call ≡ calls.AppendExtent object ticket named offset bytes → ⊥) → IsOther call
-is_other (calls.ListDestroy list) no_list no_hash no_object no_extent = absurd (no_list list refl)
-is_other (calls.HashDestroy hash) no_list no_hash no_object no_extent = absurd (no_hash hash refl)
-is_other (calls.Destroy object) no_list no_hash no_object no_extent = absurd (no_object object refl)
-is_other (calls.AppendExtent object ticket named offset bytes) no_list no_hash no_object no_extent =
+is_other (calls.ListDestroy list) no_list no_hash no_object no_cut no_clone no_bond no_extent = absurd (no_list list refl)
+is_other (calls.HashDestroy hash) no_list no_hash no_object no_cut no_clone no_bond no_extent = absurd (no_hash hash refl)
+is_other (calls.Destroy object) no_list no_hash no_object no_cut no_clone no_bond no_extent = absurd (no_object object refl)
+is_other (calls.Strip object) no_list no_hash no_object no_cut no_clone no_bond no_extent = absurd (no_cut object refl)
+is_other (calls.ClonePart object ticket offset bytes) no_list no_hash no_object no_cut no_clone no_bond no_extent =
+    absurd (no_clone object ticket offset bytes refl)
+is_other (calls.Bond object ticket) no_list no_hash no_object no_cut no_clone no_bond no_extent = absurd (no_bond object ticket refl)
+is_other (calls.AppendExtent object ticket named offset bytes) no_list no_hash no_object no_cut no_clone no_bond no_extent =
     absurd (no_extent object ticket named offset bytes refl)
-is_other call no_list no_hash no_object no_extent = tt
+is_other call no_list no_hash no_object no_cut no_clone no_bond no_extent = tt
 
--- any other that is served has one at most
-pub moves_one : (size : ℕ) (call : Call) → built call ≡ true → IsOther call → MovesAtMost size call 1
-moves_one size call is other = moves_at_most size call 1 (λ w stood changes at. by w at call is other)
+-- any other has one at most
+pub moves_one : (size : ℕ) (call : Call) → IsOther call → MovesAtMost size call 1
+moves_one size call other = moves_at_most size call 1 (λ w stood changes at. by w at call other)
   where
-    by : (w : World) (at : ℕ → ℕ) (call : Call) → built call ≡ true → IsOther call → length (row_moves w call at) ≤ 1
-    by w at (calls.Malloc bytes) is other = omega arith
-    by w at (calls.Free addr) is other = omega arith
-    by w at (calls.Write addr place bytes) is other = omega arith
-    by w at (calls.String text) is other = omega arith
-    by w at (calls.StringDup addr) is other = omega arith
-    by w at (calls.List user) is other = omega arith
-    by w at (calls.ListDestroy list) is other = absurd other
-    by w at (calls.SetListUser list user) is other = omega arith
-    by w at (calls.InsertFirst list datum) is other = omega arith
-    by w at (calls.InsertLast list datum) is other = omega arith
-    by w at (calls.InsertBefore element datum) is other = omega arith
-    by w at (calls.InsertAfter element datum) is other = omega arith
-    by w at (calls.InsertOrdered list datum keys) is other = omega arith
-    by w at (calls.Delete element) is other = omega arith
-    by w at (calls.SetDatum element datum) is other = omega arith
-    by w at (calls.Table rows size user) is other = omega arith
-    by w at (calls.SetRow table row bytes) is other = omega arith
-    by w at (calls.TableDestroy table) is other = omega arith
-    by w at (calls.Length addr) is other = omega arith
-    by w at (calls.Read addr place count) is other = omega arith
-    by w at (calls.Stage addr count) is other = omega arith
-    by w at (calls.StringLength addr) is other = omega arith
-    by w at (calls.StringRead addr) is other = omega arith
-    by w at (calls.ListLength list) is other = omega arith
-    by w at (calls.ListUser list) is other = omega arith
-    by w at (calls.Search list datum keys) is other = omega arith
-    by w at (calls.First list) is other = omega arith
-    by w at (calls.Last list) is other = omega arith
-    by w at (calls.Next element) is other = omega arith
-    by w at (calls.Prev element) is other = omega arith
-    by w at (calls.Datum element) is other = omega arith
-    by w at (calls.Row table row) is other = omega arith
-    by w at (calls.Dimensions table) is other = omega arith
-    by w at (calls.TableUser table) is other = omega arith
-    by w at (calls.Hash key_length buckets) is other = omega arith
-    by w at (calls.HashInsert hash key value) is other = omega arith
-    by w at (calls.HashRetrieve hash key) is other = omega arith
-    by w at (calls.HashRevise hash key value) is other = omega arith
-    by w at (calls.HashRemove hash key) is other = one_keyed (as_hash (thing_at w hash)) key
-    by w at (calls.HashCount hash) is other = omega arith
-    by w at (calls.HashDestroy hash) is other = absurd other
-    by w at (calls.Catlg name kind object) is other = omega arith
-    by w at (calls.Uncatlg name) is other = one_name (name_of w.names name)
-    by w at (calls.Find name) is other = omega arith
-    by w at (calls.Entry place) is other = omega arith
-    by w at (calls.FileRef path bytes) is other = omega arith
-    by w at (calls.BulkRef item bytes) is other = omega arith
-    by w at (calls.ObjRef raw) is other = omega arith
-    by w at (calls.DestroyRef source) is other = one_source source (uses_of w source == 0)
-    by w at (calls.Count source) is other = omega arith
-    by w at (calls.Occupancy acct space) is other = omega arith
-    by w at (calls.Maximum acct space) is other = omega arith
-    by w at (calls.SetMaximum acct space value) is other = omega arith
-    by w at (calls.Request acct file bulk heap coarse fine) is other = omega arith
-    by w at (calls.Awarded ticket) is other = omega arith
-    by w at (calls.Shred ticket) is other = one_ticket (pending_of w ticket)
-    by w at (calls.Create acct ticket) is other = omega arith
-    by w at (calls.PrependHeader addr ticket text) is other = omega arith
-    by w at (calls.AppendTrailer addr ticket text) is other = omega arith
-    by w at (calls.DiscardFirstHeader addr) is other = one_header (object_at w addr)
-    by w at (calls.DiscardLastTrailer addr) is other = one_trailer (object_at w addr)
-    by w at (calls.ZcoLength addr) is other = omega arith
-    by w at (calls.SourceLength addr) is other = omega arith
-    by w at (calls.AppendExtent addr ticket named offset bytes) is other = absurd other
-    by w at (calls.Destroy addr) is other = absurd other
-    by w at call is other = absurd (true≢false (sym is))
+    by : (w : World) (at : ℕ → ℕ) (call : Call) → IsOther call → length (row_moves w call at) ≤ 1
+    by w at (calls.ListDestroy list) other = absurd other
+    by w at (calls.HashDestroy hash) other = absurd other
+    by w at (calls.Destroy addr) other = absurd other
+    by w at (calls.Strip addr) other = absurd other
+    by w at (calls.ClonePart addr ticket offset bytes) other = absurd other
+    by w at (calls.Bond addr ticket) other = absurd other
+    by w at (calls.AppendExtent addr ticket named offset bytes) other = absurd other
+    by w at (calls.HashRemove hash key) other = one_keyed (as_hash (thing_at w hash)) key
+    by w at (calls.Uncatlg name) other = one_name (name_of w.names name)
+    by w at (calls.DestroyRef source) other = one_source source (uses_of w source == 0)
+    by w at (calls.Shred ticket) other = one_ticket (pending_of w ticket)
+    by w at (calls.DiscardFirstHeader addr) other = one_header (object_at w addr)
+    by w at (calls.DiscardLastTrailer addr) other = one_trailer (object_at w addr)
+    by w at call other = omega arith

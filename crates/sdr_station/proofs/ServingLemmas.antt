@@ -1,5 +1,5 @@
 -- A call that a heap on an image has answered, as a step of the machine.
-use Rattle.std.proofs.Common.{◌≡◌, ◌∙◌, ◌≤◌, ◌+◌, ◌⊎◌, ℕ, List, [], Bool, true, false, true≢false, not, Option, None, Result, Ok, Err, inl, inr, refl, sym, ap, subst, length, arith}
+use Rattle.std.proofs.Common.{◌≡◌, ◌∙◌, ◌≤◌, ◌+◌, ◌⊎◌, ℕ, List, [], Bool, true, false, true≢false, not, Option, None, Some, Result, Ok, Err, inl, inr, refl, sym, ap, subst, length, arith}
 use Rattle.sdr_audit.specs.Standing.{HeapStandsFor}
 use Rattle.sdr_base.proofs.MovesLemmas.{Moves-none}
 use Rattle.sdr_base.specs.KeptHeap.{KeepsRegion}
@@ -8,6 +8,8 @@ use Rattle.sdr_base.specs.Moves.{Leads, Moves, MovesPools}
 use Rattle.sdr_base.specs.Objects.{Heap}
 use Rattle.sdr_base.specs.Works.{Works}
 use Rattle.sdr_base.specs.declared.has_heap.HasHeap.{Ghosts as HeapGhosts}
+use Rattle.sdr_base.specs.Media.{Told}
+use Rattle.sdr_base.specs.declared.media.Media.{Ghosts as MediaGhosts}
 use Rattle.sdr_base.specs.declared.moves.Move.{Move}
 use Rattle.sdr_base.specs.declared.stop.Stop.{Stop}
 use Rattle.sdr_heap.specs.Noted.{Held}
@@ -17,12 +19,13 @@ use Rattle.sdr_model.specs.declared.answer.Reply.{Reply}
 use Rattle.sdr_model.specs.declared.call.Call.{Call}
 use Rattle.sdr_laws.proofs.FieldLaws.{fields_fit}
 use Rattle.sdr_laws.proofs.WholeLaws.{whole_kept}
+use Rattle.sdr_lock.specs.Agreeing.{AgreesWith}
 use Rattle.sdr_lock.specs.Crash.{LeavesBefore}
 use Rattle.sdr_lock.specs.Demand.{Demand, MayFillLog, demand_after}
-use Rattle.sdr_lock.specs.Gaps.{HasGapCause, no_gaps}
-use Rattle.sdr_lock.specs.Ground.{Ground, State, Steps, StepsOn}
+use Rattle.sdr_lock.specs.Ground.{Ground, MayMissMedia, State, Steps, StepsOn}
 use Rattle.sdr_lock.specs.Serving.{Brings, Calls}
 use Rattle.sdr_lock.specs.Standing.{Standing}
+use Rattle.sdr_lock.specs.Transaction.{bytes_given}
 use Rattle.sdr_log.specs.Frame.{room_of}
 use Rattle.sdr_log.specs.declared.frame.Frame.{Frame}
 use Rattle.sdr_base.specs.declared.refusal.Refusal.{Refusal}
@@ -35,17 +38,21 @@ use Rattle.sdr_model.specs.Steps.{Outcome}
 use Rattle.sdr_model.specs.World.{World}
 use Rattle.sdr_model.specs.declared.answer.Answer.TheVariants as answers
 use Rattle.sdr_model.specs.declared.answer.Reply.TheVariants as replies
+use Rattle.sdr_model.specs.declared.event.Event.TheVariants as events
 use Rattle.sdr_served.proofs.DemandLemmas.{asks_more, enough, reading_lines}
+use Rattle.sdr_served.proofs.GivingLemmas.{media_lines}
 use Rattle.sdr_served.proofs.GoodLemmas.{good_of}
 use Rattle.sdr_served.proofs.NextLemmas.{next_kept}
 use Rattle.sdr_station.proofs.StoodLemmas.{small_in, stood_of}
 use Rattle.sdr_station.proofs.GroundLemmas.{heap_ground}
-use Rattle.sdr_station.proofs.MediaLemmas.{gap_none, misses_none}
+use Rattle.sdr_station.proofs.MediaLemmas.{answered_misses, refused_misses}
 use Rattle.sdr_station.specs.CrashNow.{crash_now}
 use Rattle.sdr_answers.specs.Answering.{Aim, Answered, Comes, IsServed, dooms}
-use Rattle.sdr_served.specs.Serving.{IsGood, built, call_lines}
+use Rattle.sdr_served.specs.Giving.{TellsInEach}
+use Rattle.sdr_served.specs.Serving.{IsGood, call_lines}
+use Rattle.zco_wire.specs.Stopping.{past_media, past_stop}
 use Rattle.sdr_station.specs.Closing.{moves_left}
-use Rattle.sdr_station.specs.Grounded.{Grounded, HasStood, Leaves, StandsAtRest, StandsForBoth, StandsInMemory, StandsSome, StandsWithin, heap_in}
+use Rattle.sdr_station.specs.Grounded.{Grounded, HasStood, Leaves, StandsAtRest, StandsForBoth, StandsInMemory, StandsWithin, heap_in}
 
 -- a heap on an image, as contracts of calls on blocks see it
 abbrev pub image_heap : {D : Type 0} → (D → ℕ) → HeapGhosts (Held (Opened D))
@@ -75,9 +82,14 @@ not_full : (room : ℕ) (d : Demand) (w : World) (call : Call) (reply : Reply) �
 not_full room d w call (replies.Refused refusal) is = absurd (true≢false (sym is))
 not_full room d w call reply is = tt
 
+-- that media failed agrees with whatever they tell
+tells_fault : (told : Option Told) (w : World) (call : Call) → AgreesWith told w (events.Say call) (answers.Reply replies.MediaFault) []
+tells_fault None w call = tt
+tells_fault (Some media) w call = λ reads. tt
+
 -- A call on a heap that stood for a standing, and has not stopped.
-module _ {D : Type 0} (faults : D → ℕ) (old : Grounded D) (going : old.stopped ≡ false) (call : Call) (is : built call ≡ true) (fit : FitsCall call) (spare : ℕ)
-    (heap : Held (Opened D)) (page : List ℕ) where
+module _ {D M : Type 0} (faults : D → ℕ) (m : MediaGhosts M) (old : Grounded D M) (going : old.stopped ≡ false) (call : Call) (fit : FitsCall call) (spare : ℕ)
+    (heap : Held (Opened D)) (files : M) (page : List ℕ) where
   -- the heap before the call, with no moves
   abbrev pub fresh_heap : Held (Opened D)
   fresh_heap = record old.heap { moves = []; spare = spare }
@@ -90,15 +102,31 @@ module _ {D : Type 0} (faults : D → ℕ) (old : Grounded D) (going : old.stopp
   abbrev pub WorksIn : Result Reply Stop → Type 0
   WorksIn result =
       (w : World) → HeapStandsFor (heap_in fresh_heap) w → IsServed w
-      → Works {T = Reply} (image_heap faults) (call_lines (heap_in fresh_heap) w call) fresh_heap heap result
+      → Works (image_heap faults) (call_lines (heap_in fresh_heap) w call) fresh_heap heap (past_media result)
+
+  -- what it tells of media
+  abbrev pub AsksIn : Result Reply Stop → Type 0
+  AsksIn result = TellsInEach m call (heap_in fresh_heap) (heap_in heap) old.shown page old.media files result
+
+  -- the ground after a call that stopped none
+  abbrev pub going_ground : Grounded D M
+  going_ground = record {
+    heap = heap;
+    media = files;
+    shown = page;
+    stopped = old.stopped;
+    idle = false;
+    moment = old.moment;
+    restored = old.restored;
+  }
 
   -- what was quiet since then was quiet
-  quiet_of : {T : Type 0} {lines : ℕ} {result : Result T Stop} → Works (image_heap faults) lines fresh_heap heap result
+  pub quiet_of : {T : Type 0} {lines : ℕ} {result : Result T Stop} → Works (image_heap faults) lines fresh_heap heap result
       → IsQuiet fresh_heap.cells heap.cells × (heap.size ≡ fresh_heap.size)
   quiet_of works = works.quiet fresh_heap (record { disk = refl; frame = refl; begun = refl; failed = refl }, refl)
 
   -- what stands still of a standing
-  stands_on : (new : Grounded D) (v : Standing) → StandsInMemory old v → IsQuiet old.heap.cells new.heap.cells → new.heap.size ≡ old.heap.size → (now : State) → now.world.taken ≡ 0
+  stands_on : (new : Grounded D M) (v : Standing) → StandsInMemory old v → IsQuiet old.heap.cells new.heap.cells → new.heap.size ≡ old.heap.size → (now : State) → now.world.taken ≡ 0
       → now.world.shown ≡ new.shown → HasStood old.heap.size now.world → (new.stopped ≡ false → StandsWithin new.heap new.shown now)
       → new.idle ≡ false
       → StandsInMemory new (record { before = v.before; now = now; moves = new.heap.moves })
@@ -135,9 +163,9 @@ module _ {D : Type 0} (faults : D → ℕ) (old : Grounded D) (going : old.stopp
     -- it is one of the machine's
     steps_to : (after : World) (reply : Reply) → heap.cells.frame ≡ old.heap.cells.frame
         → StepTo v.now.world (record { moves = heap.moves; after = after; reply = reply }) call
-        → MayFillLog (room_of old.heap.cells.frame) v.now.demand v.now.world call reply
+        → MayFillLog (room_of old.heap.cells.frame) v.now.demand v.now.world call reply → MayMissMedia v.now.world call reply
         → Steps v.now call (record { reply = reply; moves = heap.moves; after = next after reply })
-    steps_to after reply frame step full =
+    steps_to after reply frame step full misses =
         subst (λ (b : Ground). StepsOn b v.now call (record { reply = reply; moves = heap.moves; after = next after reply })) (sym (at.now going).base)
         (record {
           step = step;
@@ -145,7 +173,7 @@ module _ {D : Type 0} (faults : D → ℕ) (old : Grounded D) (going : old.stopp
           base = ap (λ (f : Frame). Ground.OnHeap (room_of f) lead.after) frame;
           fit = fits;
           full = full;
-          media = misses_none v.now.world call heap.moves after reply is step;
+          media = misses;
           demand = refl;
         })
 
@@ -157,9 +185,9 @@ module _ {D : Type 0} (faults : D → ℕ) (old : Grounded D) (going : old.stopp
         let o : Outcome = record { moves = heap.moves; after = ans.after; reply = reply } in
         let whole = whole_kept v.now.world ans.after call heap.moves reply w.whole ans.fresh (inl ans.row) in
         let more =
-        enough v.now.demand (heap_in fresh_heap) v.now.world call o is (fresh_stands v at) (served_in w)
+        enough v.now.demand (heap_in fresh_heap) v.now.world call o (fresh_stands v at) (served_in w)
         (small_in fresh_heap w.keeps) ans.row ans.answered in
-        let later = next_kept v.now.world o call is ans.row in
+        let later = next_kept v.now.world o call ans.row in
         record {
           pools = lead.after;
           base = refl;
@@ -172,15 +200,15 @@ module _ {D : Type 0} (faults : D → ℕ) (old : Grounded D) (going : old.stopp
           lines = omega (arith, lines, w.lines, more);
         }
 
-    -- the same world after a reading call that was refused
-    within_refused : (heap' : Held (Opened D)) (refusal : Refusal) → heap'.cells ≡ heap.cells → heap'.size ≡ heap.size → heap'.marks ≡ heap.marks
+    -- the same world after a call that was not answered and left the heap
+    within_same : (heap' : Held (Opened D)) (reply : Reply) → heap'.cells ≡ heap.cells → heap'.size ≡ heap.size → heap'.marks ≡ heap.marks
         → heap_in heap ≡ heap_in fresh_heap → page ≡ old.shown → length heap.cells.touched ≤ length old.heap.cells.touched
-        → StandsWithin heap' page (next v.now.world (replies.Refused refusal))
-    within_refused heap' refusal cells size marks left gave lines =
+        → StandsWithin heap' page (next v.now.world reply)
+    within_same heap' reply cells size marks left gave lines =
         let w = at.now going in
         let s = subst (λ (h : Heap). HeapStandsFor h v.now.world) (sym left) (fresh_stands v at) in
-        let more = asks_more v.now.demand v.now.world call (record { moves = heap.moves; after = v.now.world; reply = replies.Refused refusal }) in
-        let here : StandsWithin (record heap' { cells = heap.cells; size = heap.size; marks = heap.marks }) page (next v.now.world (replies.Refused refusal)) =
+        let more = asks_more v.now.demand v.now.world call (record { moves = heap.moves; after = v.now.world; reply = reply }) in
+        let here : StandsWithin (record heap' { cells = heap.cells; size = heap.size; marks = heap.marks }) page (next v.now.world reply) =
         record {
           pools = lead.after;
           base = refl;
@@ -192,39 +220,72 @@ module _ {D : Type 0} (faults : D → ℕ) (old : Grounded D) (going : old.stopp
           gave = w.gave ∙ sym gave;
           lines = omega (arith, lines, w.lines, more);
         } in
-        subst (λ (h : Held (Opened D)). StandsWithin h page (next v.now.world (replies.Refused refusal)))
+        subst (λ (h : Held (Opened D)). StandsWithin h page (next v.now.world reply))
         (λ i. record heap' { cells = sym cells i; size = sym size i; marks = sym marks i }) here
 
   -- an answered call brings what its row does
-  pub brings_answered : (reply : Reply) → Comes call (heap_in fresh_heap) (heap_in heap) old.shown page (Ok reply)
-      → WorksIn (Ok reply)
-      → Brings StandsInMemory old (record { heap = heap; shown = page; stopped = old.stopped; idle = false; moment = old.moment; restored = old.restored }) (Calls None call reply)
-  brings_answered reply comes each = record {
+  pub brings_answered : (reply : Reply) → Comes call (heap_in fresh_heap) (heap_in heap) old.shown page (Ok reply) → WorksIn (Ok reply)
+      → AsksIn (Ok reply) → Brings StandsInMemory old going_ground (Calls (m.told old.media) call reply)
+  brings_answered reply comes each asks = record {
     each = λ v at.
         let w = at.now going in
         let works = each v.now.world (fresh_stands v at) (served_in w) in
         let ans = comes.each v.now.world (fresh_stands v at) (served_in w) in
+        let media = asks.each v.now.world (fresh_stands v at) (served_in w) in
         let moves = works.moved fresh_heap (Moves-none (KeepsRegion fresh_heap.size fresh_heap.cells.bytes) (KeepsRegion fresh_heap.size fresh_heap.cells.bytes) [] (λ P k. k)) in
         let q = quiet_of works in
         let after = next v at moves ans.after reply in
+        let within = within_answered v at moves reply q.0.frame works.room.most ans in
         record {
           for = record { before = v.before; now = after; moves = heap.moves };
-          holds = stands_on (record { heap = heap; shown = page; stopped = old.stopped; idle = false; moment = old.moment; restored = old.restored }) v at q.0 q.1 after (ans.taken ∙ at.taken) ans.gave
-              (subst (λ (n : ℕ). HasStood n ans.after) q.1 (stood_of (within_answered v at moves reply q.0.frame works.room.most ans)))
-              (λ _. within_answered v at moves reply q.0.frame works.room.most ans) refl;
+          holds = stands_on going_ground v at q.0 q.1 after (ans.taken ∙ at.taken) ans.gave
+              (subst (λ (n : ℕ). HasStood n ans.after) q.1 (stood_of within)) (λ _. within) refl;
           tells = record {
             steps = steps_to v at moves ans.after reply q.0.frame (inl ans.row)
-                (not_full (room_of old.heap.cells.frame) v.now.demand v.now.world call reply ans.answered);
-            media = tt;
+                (not_full (room_of old.heap.cells.frame) v.now.demand v.now.world call reply ans.answered)
+                (answered_misses v.now.world call reply ans.answered);
+            media = subst (λ (bytes : List ℕ). AgreesWith (m.told old.media) v.now.world (events.Say call) (answers.Reply reply) (bytes_given (answers.Reply reply) bytes))
+                (sym ans.gave) media.agrees;
+            before = refl;
+          };
+        };
+  }
+
+  -- a call that media failed leaves the world
+  pub brings_missed : WorksIn (Err stops.MediaFault) → AsksIn (Err stops.MediaFault)
+      → Brings StandsInMemory old going_ground (Calls (m.told old.media) call replies.MediaFault)
+  brings_missed each asks = record {
+    each = λ v at.
+        let w = at.now going in
+        let works = each v.now.world (fresh_stands v at) (served_in w) in
+        let media = asks.each v.now.world (fresh_stands v at) (served_in w) in
+        let stays = media.stays refl in
+        let aim : Aim v.now.world call = media.misses.0 in
+        let moves = works.moved fresh_heap (Moves-none (KeepsRegion fresh_heap.size fresh_heap.cells.bytes) (KeepsRegion fresh_heap.size fresh_heap.cells.bytes) [] (λ P k. k)) in
+        let q = quiet_of works in
+        let after = next v at moves v.now.world replies.MediaFault in
+        let none : heap.moves ≡ [] = ap (λ (h : Heap). h.moves) stays.1 in
+        let lines = media_lines (heap_in fresh_heap) v.now.world call stays.0 in
+        let few = works.room.most in
+        record {
+          for = record { before = v.before; now = after; moves = heap.moves };
+          holds = stands_on going_ground v at q.0 q.1 after at.taken (at.gave ∙ sym stays.2) at.stood
+              (λ _. within_same v at moves heap replies.MediaFault refl refl refl stays.1 stays.2 (omega (arith, few, lines))) refl;
+          tells = record {
+            steps = steps_to v at moves v.now.world replies.MediaFault q.0.frame
+                (inr (record { aim = aim.to; row = aim.row; answered = aim.answered; stopped = (none, stays.0); same = refl })) tt
+                media.misses.1;
+            media = tells_fault (m.told old.media) v.now.world call;
             before = refl;
           };
         };
   }
 
   -- the ground after a call that was refused, with room for so many moves
-  abbrev pub refused_ground : Refusal → ℕ → Grounded D
+  abbrev pub refused_ground : Refusal → ℕ → Grounded D M
   refused_ground refusal n = record {
     heap = record heap { moves = moves_left refusal heap.moves; spare = n };
+    media = files;
     shown = page;
     stopped = not (is_reading call);
     idle = false;
@@ -243,14 +304,15 @@ module _ {D : Type 0} (faults : D → ℕ) (old : Grounded D) (going : old.stopp
       → ((room : ℕ) (d : Demand) (w : World) → MayFillLog room d w call (replies.Refused refusal))
       → ((w : World) → HeapStandsFor (heap_in fresh_heap) w → IsServed w
       → StepTo w (record { moves = heap.moves; after = w; reply = replies.Refused refusal }) call × (is_reading call ≡ true → heap_in heap ≡ heap_in fresh_heap) × (page ≡ old.shown))
-      → WorksIn (Err (stops.Refused refusal))
-      → Brings StandsInMemory old (refused_ground refusal n) (Calls None call (replies.Refused refusal))
-  brings_stopped refusal n same moved full steps each = record {
+      → WorksIn (Err (stops.Refused refusal)) → AsksIn (Err (stops.Refused refusal))
+      → Brings StandsInMemory old (refused_ground refusal n) (Calls (m.told old.media) call (replies.Refused refusal))
+  brings_stopped refusal n same moved full steps each asks = record {
     each = λ v at.
         let w = at.now going in
         let works = each v.now.world (fresh_stands v at) (served_in w) in
         let moves = moved v.now.world each (fresh_stands v at) (served_in w) in
         let s = steps v.now.world (fresh_stands v at) (served_in w) in
+        let media = asks.each v.now.world (fresh_stands v at) (served_in w) in
         let q = quiet_of works in
         let after = next v at moves v.now.world (replies.Refused refusal) in
         record {
@@ -258,13 +320,14 @@ module _ {D : Type 0} (faults : D → ℕ) (old : Grounded D) (going : old.stopp
           holds = stands_on (refused_ground refusal n) v at q.0 q.1 after at.taken (at.gave ∙ sym s.2) at.stood
               (λ going_on.
               let reads = reads_only (is_reading call) going_on in
-              let none = reading_lines (heap_in fresh_heap) v.now.world call is reads in
-              within_refused v at moves (refused_ground refusal n).heap refusal refl refl refl (s.1 reads) s.2 (omega (arith, works.room.most, none)))
+              let none = reading_lines (heap_in fresh_heap) v.now.world call reads in
+              within_same v at moves (refused_ground refusal n).heap (replies.Refused refusal) refl refl refl (s.1 reads) s.2 (omega (arith, works.room.most, none)))
               refl;
           tells = record {
             steps = subst (λ (ms : List Move). Steps v.now call (record { reply = replies.Refused refusal; moves = ms; after = after })) (sym same)
-                (steps_to v at moves v.now.world (replies.Refused refusal) q.0.frame s.0 (full (room_of old.heap.cells.frame) v.now.demand v.now.world));
-            media = tt;
+                (steps_to v at moves v.now.world (replies.Refused refusal) q.0.frame s.0 (full (room_of old.heap.cells.frame) v.now.demand v.now.world)
+                (refused_misses m v.now.world call old.media files refusal media.misses));
+            media = media.agrees;
             before = refl;
           };
         };
@@ -281,10 +344,10 @@ module _ {D : Type 0} (faults : D → ℕ) (old : Grounded D) (going : old.stopp
   -- a refused call for which there was none
   brings_full : (lines room n : ℕ)
       → ((w : World) → HeapStandsFor (heap_in fresh_heap) w → IsServed w → Aim w call × (is_reading call ≡ false) × (page ≡ old.shown))
-      → WorksIn (Err (stops.Refused (refusals.LogFull lines room)))
+      → WorksIn (Err (stops.Refused (refusals.LogFull lines room))) → AsksIn (Err (stops.Refused (refusals.LogFull lines room)))
       → Brings StandsInMemory old (refused_ground (refusals.LogFull lines room) n)
-      (Calls None call (replies.Refused (refusals.LogFull lines room)))
-  brings_full lines room n aims each = record {
+      (Calls (m.told old.media) call (replies.Refused (refusals.LogFull lines room)))
+  brings_full lines room n aims each asks = record {
     each = λ v at.
         let w = at.now going in
         let works = each v.now.world (fresh_stands v at) (served_in w) in
@@ -294,7 +357,7 @@ module _ {D : Type 0} (faults : D → ℕ) (old : Grounded D) (going : old.stopp
         let after = full_state v at reply in
         let f = works.room.full in
         let more =
-        enough v.now.demand (heap_in fresh_heap) v.now.world call aim.0.to is (fresh_stands v at) (served_in w)
+        enough v.now.demand (heap_in fresh_heap) v.now.world call aim.0.to (fresh_stands v at) (served_in w)
         (small_in fresh_heap w.keeps) aim.0.row aim.0.answered in
         record {
           for = record { before = v.before; now = after; moves = [] };
@@ -323,7 +386,7 @@ module _ {D : Type 0} (faults : D → ℕ) (old : Grounded D) (going : old.stopp
               media = tt;
               demand = refl;
             });
-            media = tt;
+            media = (asks.each v.now.world (fresh_stands v at) (served_in w)).agrees;
             before = refl;
           };
         };
@@ -331,21 +394,21 @@ module _ {D : Type 0} (faults : D → ℕ) (old : Grounded D) (going : old.stopp
 
   -- a refused call brings what its step does
   pub brings_refused : (refusal : Refusal) (n : ℕ) → Comes call (heap_in fresh_heap) (heap_in heap) old.shown page (Err (stops.Refused refusal))
-      → WorksIn (Err (stops.Refused refusal))
-      → Brings StandsInMemory old (refused_ground refusal n) (Calls None call (replies.Refused refusal))
-  brings_refused (refusals.LogFull lines room) n comes works =
-      brings_full lines room n (λ w stands served. let r = comes.each w stands served in (r.step.0, r.step.1, r.gave)) works
-  brings_refused refusal n comes works =
+      → WorksIn (Err (stops.Refused refusal)) → AsksIn (Err (stops.Refused refusal))
+      → Brings StandsInMemory old (refused_ground refusal n) (Calls (m.told old.media) call (replies.Refused refusal))
+  brings_refused (refusals.LogFull lines room) n comes works asks =
+      brings_full lines room n (λ w stands served. let r = comes.each w stands served in (r.step.0, r.step.1, r.gave)) works asks
+  brings_refused refusal n comes works asks =
       brings_stopped refusal n refl
       (λ w each stands served.
       (each w stands served).moved fresh_heap
       (Moves-none (KeepsRegion fresh_heap.size fresh_heap.cells.bytes) (KeepsRegion fresh_heap.size fresh_heap.cells.bytes) [] (λ P k. k)))
       (λ room d w. tt)
-      (λ w stands served. let r = comes.each w stands served in (r.step, r.left, r.gave)) works
+      (λ w stands served. let r = comes.each w stands served in (r.step, r.left, r.gave)) works asks
 
 -- what a call brings in memory it brings on its disk, where the disk is quiet and the moment the same
-pub brings_quiet : {D : Type 0} (told : D → Option (List ℕ)) (moment : D → ℕ) (may_leave : D → ℕ → List ℕ → Type 0)
-    {P : Standing → Standing → Type 0} (old new : Grounded D) → IsQuiet old.heap.cells new.heap.cells → new.moment ≡ old.moment
+pub brings_quiet : {D M : Type 0} (told : D → Option (List ℕ)) (moment : D → ℕ) (may_leave : D → ℕ → List ℕ → Type 0)
+    {P : Standing → Standing → Type 0} (old new : Grounded D M) → IsQuiet old.heap.cells new.heap.cells → new.moment ≡ old.moment
     → Brings StandsInMemory old new P → Brings (λ g v. StandsForBoth told moment may_leave g v) old new P
 brings_quiet told moment may_leave old new q same brings = record {
   each = λ v at.
@@ -362,9 +425,9 @@ brings_quiet told moment may_leave old new q same brings = record {
 }
 
 -- where the disk is the same and its moment too, a crash leaves the state before
-pub leaves_quiet : {D : Type 0} (told : D → Option (List ℕ)) (moment faults : D → ℕ) (may_leave : D → ℕ → List ℕ → Type 0) (old new : Grounded D)
-    → new.heap.cells.disk ≡ old.heap.cells.disk → new.moment ≡ old.moment → LeavesBefore (heap_ground told moment faults may_leave) old new
-leaves_quiet {D} told moment faults may_leave old new disk same = record {
+pub leaves_quiet : {D M : Type 0} (told : D → Option (List ℕ)) (moment faults : D → ℕ) (may_leave : D → ℕ → List ℕ → Type 0)
+    (media : MediaGhosts M) (old new : Grounded D M) → new.heap.cells.disk ≡ old.heap.cells.disk → new.moment ≡ old.moment → LeavesBefore (heap_ground told moment faults may_leave media) old new
+leaves_quiet {D} told moment faults may_leave media old new disk same = record {
   each = λ v at. record {
     later = omega (arith, same);
     each = λ m image ge le l.
@@ -378,29 +441,16 @@ leaves_quiet {D} told moment faults may_leave old new disk same = record {
 
 -- no call on blocks meets a disk fault
 pub no_fault : {D : Type 0} (faults : D → ℕ) (old new : Held (Opened D)) (lines : ℕ) → old.cells.failed ≡ false
-    → (stop : Stop) → Works {T = Reply} (image_heap faults) lines old new (Err stop) → (stop ≡ stops.DiskFault) ⊎ (stop ≡ stops.MediaFault) ⊎ (stop ≡ stops.Failed) → ⊥
+    → (stop : Stop) → Works (image_heap faults) lines old new (past_stop stop) → (stop ≡ stops.DiskFault) ⊎ (stop ≡ stops.Failed) → ⊥
 no_fault faults old new lines sound stop works (inl is) =
-    let e = subst (λ (s : Stop). Explains {T = Reply} (transaction_of faults old.cells) (transaction_of faults new.cells) (Err s)) is works.cause.explained in
+    let e = subst (λ (s : Stop). Explains (transaction_of faults old.cells) (transaction_of faults new.cells) (past_stop s)) is works.cause.explained in
     let q = works.quiet old (record { disk = refl; frame = refl; begun = refl; failed = refl }, refl) in
     true≢false (sym e.1 ∙ q.0.failed ∙ sound)
-no_fault faults old new lines sound stop works (inr (inl is)) =
-    subst (λ (s : Stop). Explains {T = Reply} (transaction_of faults old.cells) (transaction_of faults new.cells) (Err s)) is works.cause.explained
-no_fault faults old new lines sound stop works (inr (inr is)) =
-    let e = subst (λ (s : Stop). Explains {T = Reply} (transaction_of faults old.cells) (transaction_of faults new.cells) (Err s)) is works.cause.explained in
+no_fault faults old new lines sound stop works (inr is) =
+    let e = subst (λ (s : Stop). Explains (transaction_of faults old.cells) (transaction_of faults new.cells) (past_stop s)) is works.cause.explained in
     true≢false (sym e.0 ∙ sound)
 
 -- a reply that answers dooms nothing
 pub answers_no_doom : (call : Call) (reply : Reply) → is_answer reply ≡ true → dooms call reply ≡ false
 answers_no_doom call (replies.Refused refusal) is = absurd (true≢false (sym is))
 answers_no_doom call reply is = refl
-
--- a call that is served tells of no media
-pub gap_brought : {D : Type 0} (old new : Grounded D) (call : Call) (reply : Reply) → built call ≡ true → old.stopped ≡ false → StandsSome old
-    → Brings StandsInMemory old new (Calls None call reply) → HasGapCause (answers.Reply reply) no_gaps no_gaps
-gap_brought old new call reply is going some brings =
-    let v = some.for in
-    let s = brings.each v some.holds in
-    let steps =
-    subst (λ (b : Ground). StepsOn b v.now call (record { reply = reply; moves = s.for.moves; after = s.for.now }))
-    (some.holds.now going).base s.tells.steps in
-    gap_none v.now.world call s.for.moves s.for.now.world reply no_gaps is steps.step

@@ -12,7 +12,7 @@ use Rattle.sdr_image.specs.Opened.{Opened}
 use Rattle.sdr_lock.specs.Ground.{State}
 use Rattle.sdr_model.specs.ListSteps.{as_list}
 use Rattle.sdr_model.specs.HashSteps.{as_hash}
-use Rattle.sdr_model.specs.RowMoves.{destroyed_blocks, elements_in, entries_in}
+use Rattle.sdr_model.specs.RowMoves.{clone_moves_of, destroyed_blocks, elements_in, entries_in, stripped_blocks}
 use Rattle.sdr_model.specs.Valid.{IsValidThing}
 use Rattle.sdr_model.specs.World.{World, thing_at}
 use Rattle.sdr_model.specs.Zco.{as_object, object_at}
@@ -23,6 +23,8 @@ use Rattle.sdr_model.specs.declared.things.Thing.TheVariants as things
 use Rattle.sdr_served.proofs.HashLemmas.{few_entries}
 use Rattle.sdr_station.specs.Grounded.{HasStood, StandsWithin, heap_in}
 use Rattle.zco_answers.proofs.DestroyedFew.{destroyed_few}
+use Rattle.zco_cut_answers.proofs.StrippedFew.{stripped_few}
+use Rattle.zco_part_answers.proofs.ClonedFew.{cloned_few}
 
 -- a heap region that keeps a heap is of no more bytes than are allowed, with few blocks in use
 pub small_in : {D : Type 0} (h : Held (Opened D)) {pools : Pools} → KeepsRegion h.size h.cells.bytes pools → IsSmall (heap_in h)
@@ -66,4 +68,21 @@ gone_few size w addr s = by (thing_at w addr) refl
   where
     by : (found : Option Thing) → thing_at w addr ≡ found → 16 * length (destroyed_blocks w addr (as_object found)) ≤ size
     by (Some (things.Object z)) is = let few = destroyed_few s.heap w addr z s.stands s.whole.fits s.few is in omega (arith, few, s.same)
+    by found is = omega arith
+
+-- so does one that is cut to its part
+pub cut_few : (size : ℕ) (w : World) (addr : ℕ) → HasStood size w → 16 * length (stripped_blocks w (object_at w addr)) ≤ size
+cut_few size w addr s = by (thing_at w addr) refl
+  where
+    by : (found : Option Thing) → thing_at w addr ≡ found → 16 * length (stripped_blocks w (as_object found)) ≤ size
+    by (Some (things.Object z)) is = let few = stripped_few s.heap w addr z s.stands s.whole.fits s.few is in omega (arith, few, s.same)
+    by found is = omega arith
+
+-- and one that is cloned has at most one move for 16 bytes
+pub clones_few : (size : ℕ) (w : World) (addr offset bytes : ℕ) → HasStood size w → (at : ℕ → ℕ)
+    → 16 * length (clone_moves_of (object_at w addr) offset bytes at) ≤ size
+clones_few size w addr offset bytes s at = by (thing_at w addr) refl
+  where
+    by : (found : Option Thing) → thing_at w addr ≡ found → 16 * length (clone_moves_of (as_object found) offset bytes at) ≤ size
+    by (Some (things.Object z)) is = let few = cloned_few s.heap w addr z offset bytes s.stands s.few is at in omega (arith, few, s.same)
     by found is = omega arith

@@ -1,6 +1,5 @@
--- Room for whatever a served call may come to.
-use Rattle.std.proofs.Common.{◌≡◌, ◌≤◌, ◌⊎◌, ℕ, List, true, ap, inl, inr, length, min, refl, subst, arith}
-use Rattle.sdr_served.specs.Serving.{built}
+-- Room for whatever a call may come to.
+use Rattle.std.proofs.Common.{◌≡◌, ◌≤◌, ◌⊎◌, ℕ, List, ap, inl, inr, length, min, refl, subst, arith}
 use Rattle.sdr_base.specs.declared.moves.Move.{Move}
 use Rattle.sdr_lock.specs.Ground.{Ground, State, StepsOn}
 use Rattle.sdr_lock.specs.Room.{HoldsAny}
@@ -14,7 +13,7 @@ use Rattle.sdr_model.specs.declared.answer.Reply.{Reply}
 use Rattle.sdr_model.specs.declared.answer.Reply.TheVariants as replies
 use Rattle.sdr_model.specs.declared.call.Call.{Call}
 use Rattle.sdr_model.specs.declared.call.Call.TheVariants as calls
-use Rattle.sdr_station.proofs.GivenLemmas.{given_few, given_page, given_row, most_given}
+use Rattle.sdr_station.proofs.GivenLemmas.{given_few, given_row, most_given}
 use Rattle.sdr_station.proofs.RoomLemmas.{steps_at_most}
 use Rattle.sdr_station.specs.Grounded.{HasStood}
 use Rattle.sdr_station.specs.Rooming.{MovesAtMost}
@@ -30,45 +29,69 @@ few_stopped o call all most s = by o.reply s
     by replies.MediaFault s = omega arith
     by reply s = absurd s
 
--- a served call gives no more than its row does
-pub bytes_at_most : (call : Call) → built call ≡ true → BytesAtMost call (most_given call)
-bytes_at_most call is w o whole (inl row) = given_few o (most_given call) (given_row w o call is whole row)
-bytes_at_most call is w o whole (inr s) = few_stopped o call s.aim.moves (most_given call) s.stopped
+-- a call gives no more than its row does
+pub bytes_at_most : (call : Call) → BytesAtMost call (most_given call)
+bytes_at_most call w o whole (inl row) = given_few o (most_given call) (given_row w o call whole row)
+bytes_at_most call w o whole (inr s) = few_stopped o call s.aim.moves (most_given call) s.stopped
 
--- which is a page at most
-pub bytes_page : (call : Call) → built call ≡ true → BytesAtMost call 4096
-bytes_page call is w o whole step =
-    let few = bytes_at_most call is w o whole step in
-    let page = given_page call in
-    omega (arith, few, page)
+-- so many, where its row does
+pub bytes_so_many : (call : Call) (most : ℕ) → most_given call ≡ most → BytesAtMost call most
+bytes_so_many call most is = subst (λ (n : ℕ). BytesAtMost call n) is (bytes_at_most call)
 
--- a read gives no more than it asks for, nor than a page
-pub bytes_read : (call : Call) (count : ℕ) → built call ≡ true
-    → ((addr : ℕ) × (place : ℕ) × (call ≡ calls.Read addr place count)) ⊎ ((addr : ℕ) × (call ≡ calls.Stage addr count))
-    → BytesAtMost call (min count 4096)
-bytes_read call count is reads = subst (λ (n : ℕ). BytesAtMost call n) (asked reads) (bytes_at_most call is)
+-- the call asks to read so many bytes
+abbrev pub AsksToRead : Call → ℕ → Type 0
+AsksToRead call count =
+    ((addr : ℕ) × (place : ℕ) × (call ≡ calls.Read addr place count)) ⊎ ((addr : ℕ) × (call ≡ calls.Stage addr count))
+    ⊎ ((addr : ℕ) × (place : ℕ) × (call ≡ calls.Transmit addr place count))
+    ⊎ ((addr : ℕ) × (place : ℕ) × (call ≡ calls.ReceiveHeaders addr place count))
+    ⊎ ((addr : ℕ) × (place : ℕ) × (call ≡ calls.ReceiveSource addr place count))
+    ⊎ ((addr : ℕ) × (place : ℕ) × (call ≡ calls.ReceiveTrailers addr place count))
+
+-- it gives no more than that, nor than a page
+pub bytes_read : (call : Call) (count : ℕ) → AsksToRead call count → BytesAtMost call (min count 4096)
+bytes_read call count reads = bytes_so_many call (min count 4096) (asked reads)
   where
-    asked : ((addr : ℕ) × (place : ℕ) × (call ≡ calls.Read addr place count)) ⊎ ((addr : ℕ) × (call ≡ calls.Stage addr count))
-        → most_given call ≡ min count 4096
+    asked : AsksToRead call count → most_given call ≡ min count 4096
     asked (inl r) = ap most_given r.2
-    asked (inr s) = ap most_given s.1
+    asked (inr (inl r)) = ap most_given r.1
+    asked (inr (inr (inl r))) = ap most_given r.2
+    asked (inr (inr (inr (inl r)))) = ap most_given r.2
+    asked (inr (inr (inr (inr (inl r))))) = ap most_given r.2
+    asked (inr (inr (inr (inr (inr r))))) = ap most_given r.2
 
 -- and a call that reads none gives none
-pub bytes_none : (call : Call) → built call ≡ true → ((addr place count : ℕ) → call ≡ calls.Read addr place count → ⊥)
-    → ((addr count : ℕ) → call ≡ calls.Stage addr count → ⊥) → ((addr : ℕ) → call ≡ calls.StringRead addr → ⊥)
-    → ((addr row : ℕ) → call ≡ calls.Row addr row → ⊥) → ((place : ℕ) → call ≡ calls.Entry place → ⊥) → BytesAtMost call 0
-bytes_none call is read stage text row entry =
-    subst (λ (n : ℕ). BytesAtMost call n) (none call read stage text row entry) (bytes_at_most call is)
+pub bytes_none : (call : Call) → ((addr place count : ℕ) → call ≡ calls.Read addr place count → ⊥)
+    → ((addr count : ℕ) → call ≡ calls.Stage addr count → ⊥)
+    → ((addr place count : ℕ) → call ≡ calls.Transmit addr place count → ⊥)
+    → ((addr place count : ℕ) → call ≡ calls.ReceiveHeaders addr place count → ⊥)
+    → ((addr place count : ℕ) → call ≡ calls.ReceiveSource addr place count → ⊥)
+    → ((addr place count : ℕ) → call ≡ calls.ReceiveTrailers addr place count → ⊥)
+    → ((addr : ℕ) → call ≡ calls.StringRead addr → ⊥) → ((addr row : ℕ) → call ≡ calls.Row addr row → ⊥)
+    → ((place : ℕ) → call ≡ calls.Entry place → ⊥) → BytesAtMost call 0
+bytes_none call read stage wire headers source trailers text row entry =
+    bytes_so_many call 0 (none call read stage wire headers source trailers text row entry)
   where
     none : (call : Call) → ((addr place count : ℕ) → call ≡ calls.Read addr place count → ⊥)
-        → ((addr count : ℕ) → call ≡ calls.Stage addr count → ⊥) → ((addr : ℕ) → call ≡ calls.StringRead addr → ⊥)
-        → ((addr row : ℕ) → call ≡ calls.Row addr row → ⊥) → ((place : ℕ) → call ≡ calls.Entry place → ⊥) → most_given call ≡ 0
-    none (calls.Read addr place count) read stage text row entry = absurd (read addr place count refl)
-    none (calls.Stage addr count) read stage text row entry = absurd (stage addr count refl)
-    none (calls.StringRead addr) read stage text row entry = absurd (text addr refl)
-    none (calls.Row addr place) read stage text row entry = absurd (row addr place refl)
-    none (calls.Entry place) read stage text row entry = absurd (entry place refl)
-    none call read stage text row entry = refl
+        → ((addr count : ℕ) → call ≡ calls.Stage addr count → ⊥)
+        → ((addr place count : ℕ) → call ≡ calls.Transmit addr place count → ⊥)
+        → ((addr place count : ℕ) → call ≡ calls.ReceiveHeaders addr place count → ⊥)
+        → ((addr place count : ℕ) → call ≡ calls.ReceiveSource addr place count → ⊥)
+        → ((addr place count : ℕ) → call ≡ calls.ReceiveTrailers addr place count → ⊥)
+        → ((addr : ℕ) → call ≡ calls.StringRead addr → ⊥) → ((addr row : ℕ) → call ≡ calls.Row addr row → ⊥)
+        → ((place : ℕ) → call ≡ calls.Entry place → ⊥) → most_given call ≡ 0
+    none (calls.Read addr place count) read stage wire headers source trailers text row entry = absurd (read addr place count refl)
+    none (calls.Stage addr count) read stage wire headers source trailers text row entry = absurd (stage addr count refl)
+    none (calls.Transmit addr place count) read stage wire headers source trailers text row entry = absurd (wire addr place count refl)
+    none (calls.ReceiveHeaders addr place count) read stage wire headers source trailers text row entry =
+        absurd (headers addr place count refl)
+    none (calls.ReceiveSource addr place count) read stage wire headers source trailers text row entry =
+        absurd (source addr place count refl)
+    none (calls.ReceiveTrailers addr place count) read stage wire headers source trailers text row entry =
+        absurd (trailers addr place count refl)
+    none (calls.StringRead addr) read stage wire headers source trailers text row entry = absurd (text addr refl)
+    none (calls.Row addr place) read stage wire headers source trailers text row entry = absurd (row addr place refl)
+    none (calls.Entry place) read stage wire headers source trailers text row entry = absurd (entry place refl)
+    none call read stage wire headers source trailers text row entry = refl
 
 -- there is room for whatever the call may come to
 pub holds_any : (size : ℕ) (call : Call) (room : Room) → MovesAtMost size call room.moves → BytesAtMost call room.bytes

@@ -5,9 +5,9 @@ use Rattle.sdr_lock.specs.Standing.{Standing}
 use Rattle.sdr_log.specs.Frame.{room_of}
 use Rattle.sdr_station.specs.Grounded.{Grounded, Leaves, Opens, StandsForBoth}
 
-module _ {D : Type 0} (told : D → Option (List ℕ)) (moment : D → ℕ) (may_leave : D → ℕ → List ℕ → Type 0) where
+module _ {D M : Type 0} (told : D → Option (List ℕ)) (moment : D → ℕ) (may_leave : D → ℕ → List ℕ → Type 0) where
   -- a crash now leaves what opens to the state before the transaction
-  pub crash_now : (g : Grounded D) (v : Standing) (image : List ℕ) → StandsForBoth told moment may_leave g v
+  pub crash_now : (g : Grounded D M) (v : Standing) (image : List ℕ) → StandsForBoth told moment may_leave g v
       → Leaves told may_leave g.heap.cells.disk g.moment image → Opens image v.before
   crash_now g v image at l = record {
     heap = g.heap.cells.begun;

@@ -1,8 +1,11 @@
 -- What a call gives of bytes.
-use Rattle.std.specs.Prelude.{◌≡◌, ℕ, false, List, length, take, drop, Option, None, Some, IfSome, MatchOption}
+use Rattle.std.specs.Prelude.{◌≡◌, ℕ, Bool, false, List, length, take, drop, Option, None, Some, IfSome, MatchOption}
 use Rattle.sdr_lock.specs.Standing.{Standing}
+use Rattle.sdr_base.specs.declared.refusal.Refusal.TheVariants as refusals
+use Rattle.sdr_model.specs.Reading.{reads_media}
 use Rattle.sdr_model.specs.declared.answer.Reply.{Reply}
 use Rattle.sdr_model.specs.declared.answer.Reply.TheVariants as replies
+use Rattle.sdr_model.specs.declared.call.Call.{Call}
 use Rattle.sdr_station.specs.Grounded.{Grounded, StandsInMemory}
 
 -- how many bytes a reply tells of, if it does: bytes that were read, or a name of the catalogue
@@ -11,15 +14,21 @@ bytes_told (replies.Bytes count) = Some count
 bytes_told (replies.Named count kind addr) = Some count
 bytes_told reply = None
 
+-- whether media may have been read in a call that was answered so: it asks for their bytes, and wasn't refused but for too few of them
+abbrev pub reads_by : Call → Reply → Bool
+reads_by call (replies.Refused (refusals.SourceShort have want)) = reads_media call
+reads_by call (replies.Refused refusal) = false
+reads_by call reply = reads_media call
+
 -- where the reply tells of bytes, they are as many as are shown, and no call was stopped
-abbrev pub Gives : {D : Type 0} → Reply → Grounded D → Type 0
+abbrev pub Gives : {D M : Type 0} → Reply → Grounded D M → Type 0
 Gives reply g = IfSome (bytes_told reply) (λ count. (length g.shown ≡ count) × (g.stopped ≡ false))
 
 -- The first so many bytes of a buffer are what the current world shows, and the others stay.
-pub record HasShown {D : Type 0} (g : Grounded D) (count : ℕ) (old new : List ℕ) : Type 0 where
+pub record HasShown {D M : Type 0} (g : Grounded D M) (count : ℕ) (old new : List ℕ) : Type 0 where
   pub shown : (v : Standing) → StandsInMemory g v → take count new ≡ v.now.world.shown
   pub others : drop count new ≡ drop count old
 
 -- where the reply tells of bytes, they are in the buffer; else it stays
-abbrev pub Fills : {D : Type 0} → Grounded D → Reply → List ℕ → List ℕ → Type 0
+abbrev pub Fills : {D M : Type 0} → Grounded D M → Reply → List ℕ → List ℕ → Type 0
 Fills g reply old new = MatchOption (bytes_told reply) (new ≡ old) (λ count. HasShown g count old new)

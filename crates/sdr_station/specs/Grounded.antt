@@ -18,10 +18,11 @@ use Rattle.sdr_model.specs.Fields.{FitsFields}
 use Rattle.sdr_model.specs.Whole.{IsWhole}
 use Rattle.sdr_model.specs.World.{World}
 
--- the heap; the bytes that the last answered call gave; whether the transaction can only be put back, and whether no call was
--- made in it; the disk's moment; and how many lines opening has put back
-pub record Grounded (D : Type 0) : Type 0 where
+-- the heap; the media that it names; the bytes that the last answered call gave; whether the transaction can only be put back,
+-- and whether no call was made in it; the disk's moment; and how many lines opening has put back
+pub record Grounded (D M : Type 0) : Type 0 where
   pub heap : Held (Opened D)
+  pub media : M
   pub shown : List ℕ
   pub stopped : Bool
   pub idle : Bool
@@ -72,7 +73,7 @@ pub record HasStood (size : ℕ) (w : World) : Type 0 where
 -- for the one, and for the other the heap does, unless a call was stopped on its way. The moves are the heap's, and the bytes
 -- that are shown are those that stand here. A heap of this size has stood for the world now. Where no call was made in the
 -- transaction, both states are the same.
-pub record StandsInMemory {D : Type 0} (g : Grounded D) (v : Standing) : Type 0 where
+pub record StandsInMemory {D M : Type 0} (g : Grounded D M) (v : Standing) : Type 0 where
   pub sound : g.heap.cells.failed ≡ false
   pub size : length g.heap.cells.begun ≡ g.heap.size
   pub before : StandsAtRest (room_of g.heap.cells.frame) g.heap.cells.begun v.before
@@ -84,14 +85,14 @@ pub record StandsInMemory {D : Type 0} (g : Grounded D) (v : Standing) : Type 0 
   pub moves : v.moves ≡ g.heap.moves
 
 -- A heap on an image stands for the states before the transaction and now: it does so in memory, and the disk rests.
-pub record StandsForBoth {D : Type 0} (told : D → Option (List ℕ)) (moment : D → ℕ) (may_leave : D → ℕ → List ℕ → Type 0)
-    (g : Grounded D) (v : Standing) : Type 0 where
+pub record StandsForBoth {D M : Type 0} (told : D → Option (List ℕ)) (moment : D → ℕ) (may_leave : D → ℕ → List ℕ → Type 0)
+    (g : Grounded D M) (v : Standing) : Type 0 where
   pub rests : Rests told moment may_leave g.heap.cells
   pub moment_is : IfTold (told g.heap.cells.disk) (λ _. g.moment ≡ moment g.heap.cells.disk)
   pub memory : StandsInMemory g v
 
 -- the heap in memory stands for something
-pub record StandsSome {D : Type 0} (g : Grounded D) : Type 0 where
+pub record StandsSome {D M : Type 0} (g : Grounded D M) : Type 0 where
   pub for : Standing
   pub holds : StandsInMemory g for
 
@@ -104,13 +105,13 @@ pub record HoldsWorld {D : Type 0} (h : Held (Opened D)) (w : World) : Type 0 wh
   pub fits : FitsFields w
 
 -- the heap in memory stands for something, and holds the world before the transaction of whatever it stands for
-pub record IsBefore {D : Type 0} (g : Grounded D) : Type 0 where
+pub record IsBefore {D M : Type 0} (g : Grounded D M) : Type 0 where
   pub some : StandsSome g
   pub holds : (v : Standing) → StandsInMemory g v → HoldsWorld g.heap v.before.world
 
 -- What a ground keeps: its moment is no earlier than its disk's; unless the disk has failed, the heap in memory stands for
 -- something; where the disk has failed, the transaction can only be put back; and one in which no call was made goes on.
-pub record IsGround {D : Type 0} (moment : D → ℕ) (g : Grounded D) : Type 0 where
+pub record IsGround {D M : Type 0} (moment : D → ℕ) (g : Grounded D M) : Type 0 where
   pub seen : moment g.heap.cells.disk ≤ g.moment
   pub sound : g.stopped ≡ false → g.heap.cells.failed ≡ false
   pub going : g.idle ≡ true → g.stopped ≡ false

@@ -1,5 +1,5 @@
 -- When a heap is opened.
-use Rattle.std.specs.Prelude.{◌≡◌, ◌≤◌, ℕ, List, [], false, true, ⊤, Option, None, Some, Result, Ok, Err}
+use Rattle.std.specs.Prelude.{◌≡◌, ℕ, List, [], false, true, ⊤, Option, None, Some, Result, Ok, Err}
 use Rattle.sdr_audit.specs.Standing.{StandsForWhole}
 use Rattle.sdr_base.specs.Causes.{Rose}
 use Rattle.sdr_base.specs.Parts.{part}
@@ -28,15 +28,15 @@ use Rattle.sdr_station.specs.declared.error.OpenError.TheVariants as errors
 use Rattle.sdr_station.specs.declared.error.Shut.{Shut}
 
 -- the world and the pools that a heap's bytes tell, which a run on it begins with: no transaction is open
-abbrev pub first_on : {D : Type 0} → Grounded D → State
+abbrev pub first_on : {D M : Type 0} → Grounded D M → State
 first_on g =
     let bytes = g.heap.cells.begun in
     resting (world_of bytes) (Ground.OnHeap (room_of g.heap.cells.frame) (pools_of bytes))
 
 -- A heap was opened: the disk gives its bytes, and so many lines of its open batches were put back. The heap in memory stands for the
 -- world that they tell; so does the heap on its disk, where nothing was pending on the disk, or a recovery was stopped.
-pub record IsOpen {D : Type 0} (told : D → Option (List ℕ)) (moment : D → ℕ) (may_leave : D → ℕ → List ℕ → Type 0)
-    (disk : D) (g : Grounded D) : Type 0 where
+pub record IsOpen {D M : Type 0} (told : D → Option (List ℕ)) (moment : D → ℕ) (may_leave : D → ℕ → List ℕ → Type 0)
+    (disk : D) (g : Grounded D M) : Type 0 where
   pub going : g.stopped ≡ false
   pub idle : g.idle ≡ true
   pub sound : g.heap.cells.failed ≡ false
@@ -48,9 +48,14 @@ pub record IsOpen {D : Type 0} (told : D → Option (List ℕ)) (moment : D → 
       → StandsForBoth told moment may_leave g (standing_at (first_on g) [])
 
 -- the disk of a heap that was opened, or of what is left where none was
-abbrev pub disk_of : {D : Type 0} → Result (Grounded D) (Shut D) → D
+abbrev pub disk_of : {D M : Type 0} → Result (Grounded D M) (Shut D M) → D
 disk_of (Ok g) = g.heap.cells.disk
 disk_of (Err shut) = shut.disk
+
+-- and its media
+abbrev pub media_of : {D M : Type 0} → Result (Grounded D M) (Shut D M) → M
+media_of (Ok g) = g.media
+media_of (Err shut) = shut.media
 
 -- the heap that the disk gives is wrong first at a place, by this check, and no world stands for it
 pub record GivesDamaged (place : ℕ) (why : Why) (x : List ℕ) : Type 0 where

@@ -4,12 +4,11 @@ use Rattle.sdr_base.specs.declared.stop.Stop.{Stop}
 use Rattle.sdr_base.specs.declared.stop.Stop.TheVariants as stops
 use Rattle.sdr_lock.specs.Ground.{Replied, Steps}
 use Rattle.sdr_lock.specs.Standing.{Standing}
-use Rattle.sdr_lock.specs.declared.has_ground.HasGround.{Ghosts}
 use Rattle.sdr_model.specs.Step.{StepTo}
 use Rattle.sdr_model.specs.Steps.{Outcome}
 use Rattle.sdr_model.specs.World.{World}
 use Rattle.sdr_model.specs.declared.call.Call.{Call}
-use Rattle.sdr_station.specs.Grounded.{Grounded, HasStood}
+use Rattle.sdr_station.specs.Grounded.{HasStood, StandsInMemory}
 use Rattle.sdr_station.specs.Stationed.{Stationed}
 
 -- no outcome to which the call may come, in a world that a heap of so many bytes has stood for, has more moves
@@ -17,12 +16,12 @@ abbrev pub MovesAtMost : ℕ → Call → ℕ → Type 0
 MovesAtMost size call most = (w : World) (o : Outcome) → HasStood size w → StepTo w o call → length o.moves ≤ most
 
 -- A room for moves is told: whatever the call that follows comes to, it has no more, and the heap has room for them.
-pub record IsRoom {D : Type 0} (g : Ghosts (Grounded D)) (call : Call) (s : Stationed D) (result : Result ℕ Stop) : Type 0 where
+pub record IsRoom {D M : Type 0} (call : Call) (s : Stationed D M) (result : Result ℕ Stop) : Type 0 where
   pub room : ℕ
   pub told : result ≡ Ok room
   pub most : room ≤ s.ground.heap.size / 4 + 4
-  pub enough : (v : Standing) → g.stands s.ground v → (o : Replied) → Steps v.now call o → length o.moves ≤ room
+  pub enough : (v : Standing) → StandsInMemory s.ground v → (o : Replied) → Steps v.now call o → length o.moves ≤ room
 
 -- such a room is told, or after a disk fault it fails
-abbrev pub TellsRoom : {D : Type 0} → Ghosts (Grounded D) → Call → Stationed D → Result ℕ Stop → Type 0
-TellsRoom g call s result = MatchOption s.failed (IsRoom g call s result) (λ moment. result ≡ Err stops.Failed)
+abbrev pub TellsRoom : {D M : Type 0} → Call → Stationed D M → Result ℕ Stop → Type 0
+TellsRoom call s result = MatchOption s.failed (IsRoom call s result) (λ moment. result ≡ Err stops.Failed)

@@ -4,6 +4,7 @@ use Rattle.sdr_base.specs.declared.refusal.Refusal.TheVariants as refusals
 use Rattle.sdr_base.specs.declared.stop.Stop.{Stop}
 use Rattle.sdr_base.specs.declared.stop.Stop.TheVariants as stops
 use Rattle.sdr_lock.specs.Crash.{LeavesOr, is_kept}
+use Rattle.sdr_lock.specs.Gaps.{HasGapCause}
 use Rattle.sdr_lock.specs.Nesting.{Inner, closing, deepened, nested, noted, unbegun}
 use Rattle.sdr_image.specs.Opened.{IsQuiet}
 use Rattle.sdr_lock.specs.Serving.{Brings, Calls, KeepsGround, MeetsFault, Settles, StandsStill, shown_in}
@@ -18,29 +19,35 @@ use Rattle.sdr_model.specs.declared.answer.Reply.{Reply}
 use Rattle.sdr_model.specs.declared.answer.Reply.TheVariants as replies
 use Rattle.sdr_model.specs.declared.call.Call.{Call}
 use Rattle.sdr_model.specs.declared.event.Event.{Event}
+use Rattle.sdr_station.specs.Giving.{reads_by}
 use Rattle.sdr_station.specs.Grounded.{Grounded, StandsInMemory}
 use Rattle.sdr_station.specs.declared.error.Shut.{Shut}
 use Rattle.sdr_station.specs.declared.station.Closed.{Closed}
 use Rattle.sdr_station.specs.declared.station.Closed.TheVariants as closed
 
 -- the ground, the nesting of the open transaction, and the disk's moment as it failed
-pub record Stationed (D : Type 0) : Type 0 where
-  pub ground : Grounded D
+pub record Stationed (D M : Type 0) : Type 0 where
+  pub ground : Grounded D M
   pub nesting : Nesting
   pub failed : Option ℕ
 
 -- Unless the disk has failed: where the transaction isn't doomed, no call was stopped in it; and where none has begun, none is
 -- doomed, and no call was made.
-pub record IsStation {D : Type 0} (ground : Grounded D) (nesting : Nesting) (failed : Option ℕ) : Type 0 where
+pub record IsStation {D M : Type 0} (ground : Grounded D M) (nesting : Nesting) (failed : Option ℕ) : Type 0 where
   pub going : failed ≡ None → nesting.doom ≡ None → ground.stopped ≡ false
   pub idle : failed ≡ None → nesting.depth ≡ 0 → nesting.doom ≡ None
   pub outside : failed ≡ None → nesting.depth ≡ 0 → ground.idle ≡ true
   pub sound : failed ≡ None → ground.heap.cells.failed ≡ false
 
 -- the disk of a station that was opened, or of what is left where none was
-abbrev pub disk_under : {D : Type 0} → Result (Stationed D) (Shut D) → D
+abbrev pub disk_under : {D M : Type 0} → Result (Stationed D M) (Shut D M) → D
 disk_under (Ok s) = s.ground.heap.cells.disk
 disk_under (Err shut) = shut.disk
+
+-- and its media
+abbrev pub media_under : {D M : Type 0} → Result (Stationed D M) (Shut D M) → M
+media_under (Ok s) = s.ground.media
+media_under (Err shut) = shut.media
 
 -- the answer to an inner close, as a depth
 abbrev pub HasRisen : Answer → Result Closed Stop → Type 0
@@ -54,12 +61,12 @@ IsToldAs (answers.Reply (replies.Refused refusal)) (Err (stops.Refused told)) = 
 IsToldAs answer result = ⊥
 
 -- an inner begin, or the first one
-pub record Deepens {D : Type 0} (inner : Inner) (old new : Stationed D) (result : Result ℕ Stop) : Type 0 where
+pub record Deepens {D M : Type 0} (inner : Inner) (old new : Stationed D M) (result : Result ℕ Stop) : Type 0 where
   pub told : IsToldAs inner.answer result
   pub after : new ≡ record old { nesting = inner.after }
 
 -- what a begin does: the first one opens, another one is one deeper or refused, and after a disk fault it fails
-abbrev pub Begins : {D : Type 0} → Stationed D → Stationed D → Result ℕ Stop → Type 0
+abbrev pub Begins : {D M : Type 0} → Stationed D M → Stationed D M → Result ℕ Stop → Type 0
 Begins old new result =
     MatchOption old.failed
     (MatchBool (old.nesting.depth == 0)
@@ -67,17 +74,20 @@ Begins old new result =
     (Deepens (deepened old.nesting) old new result))
     (λ moment. (result ≡ Err stops.Failed) × (new ≡ old))
 
--- A call in a transaction that isn't doomed is a step, and is noted.
-pub record Says {D : Type 0} (g : Ghosts (Grounded D)) (call : Call) (reply : Reply) (old new : Stationed D) : Type 0 where
-  pub memory : Brings StandsInMemory old.ground new.ground (Calls None call reply)
-  pub steps : Brings g.stands old.ground new.ground (Calls None call reply)
+-- A call in a transaction that isn't doomed is a step, and is noted. That media failed, or had too few bytes, has its cause, and
+-- media are as they were where the call may not have read them.
+pub record Says {D M : Type 0} (g : Ghosts (Grounded D M)) (call : Call) (reply : Reply) (old new : Stationed D M) : Type 0 where
+  pub memory : Brings StandsInMemory old.ground new.ground (Calls (g.told old.ground) call reply)
+  pub steps : Brings g.stands old.ground new.ground (Calls (g.told old.ground) call reply)
   pub nesting : new.nesting ≡ noted call reply old.nesting
   pub failed : new.failed ≡ None
   pub restored : new.ground.restored ≡ old.ground.restored
+  pub gap : HasGapCause (answers.Reply reply) (g.gaps old.ground) (g.gaps new.ground)
+  pub unread : reads_by call reply ≡ false → new.ground.media ≡ old.ground.media
   pub keeps : KeepsGround g true old.ground new.ground
 
 -- what a call does: it is a step, or is refused where the transaction is doomed, or fails after a disk fault
-abbrev pub SaysOr : {D : Type 0} → Ghosts (Grounded D) → Call → Reply → Stationed D → Stationed D → Type 0
+abbrev pub SaysOr : {D M : Type 0} → Ghosts (Grounded D M) → Call → Reply → Stationed D M → Stationed D M → Type 0
 SaysOr g call reply old new =
     MatchOption old.failed
     (MatchOption old.nesting.doom
@@ -93,7 +103,7 @@ closed_as (closes.Cancelled reason) = closed.Cancelled reason
 closed_as closes.Faulted = closed.Exited
 
 -- a transaction that closed so was kept or put back, and is told so
-pub record ClosesWell {D : Type 0} (g : Ghosts (Grounded D)) (close : Close) (old new : Stationed D) (told : Closed)
+pub record ClosesWell {D M : Type 0} (g : Ghosts (Grounded D M)) (close : Close) (old new : Stationed D M) (told : Closed)
     : Type 0 where
   pub is_told : told ≡ closed_as close
   pub memory : Brings StandsInMemory old.ground new.ground (Settles close)
@@ -101,34 +111,35 @@ pub record ClosesWell {D : Type 0} (g : Ghosts (Grounded D)) (close : Close) (ol
   pub failed : new.failed ≡ None
 
 -- the disk failed as a transaction closed, whose moment is kept
-pub record ClosesFailing {D : Type 0} (g : Ghosts (Grounded D)) (old new : Stationed D) (stop : Stop) : Type 0 where
+pub record ClosesFailing {D M : Type 0} (g : Ghosts (Grounded D M)) (old new : Stationed D M) (stop : Stop) : Type 0 where
   pub is_fault : stop ≡ stops.DiskFault
   pub fault : MeetsFault g old.ground new.ground
   pub failed : new.failed ≡ Some (g.moment new.ground)
 
 -- an outermost close: the transaction is kept or put back, and told so, or the disk failed
-abbrev pub ClosesWith : {D : Type 0} → Ghosts (Grounded D) → Close → Stationed D → Stationed D → Result Closed Stop → Type 0
+abbrev pub ClosesWith : {D M : Type 0} → Ghosts (Grounded D M) → Close → Stationed D M → Stationed D M → Result Closed Stop → Type 0
 ClosesWith g close old new (Ok told) = ClosesWell g close old new told
 ClosesWith g close old new (Err stop) = ClosesFailing g old new stop
 
 -- an outermost close, after which no transaction has begun
-pub record Closes {D : Type 0} (g : Ghosts (Grounded D)) (close : Close) (old new : Stationed D)
+pub record Closes {D M : Type 0} (g : Ghosts (Grounded D M)) (close : Close) (old new : Stationed D M)
     (result : Result Closed Stop) : Type 0 where
   pub closes : ClosesWith g close old new result
   pub nesting : new.nesting ≡ unbegun
   pub restored : new.ground.restored ≡ old.ground.restored
+  pub media : new.ground.media ≡ old.ground.media
   pub keeps : KeepsGround g false old.ground new.ground
   pub any_moment : LeavesOr (is_kept close) g old.ground new.ground
 
 -- an inner close: one less deep
-pub record Rises {D : Type 0} (inner : Inner) (old new : Stationed D) (result : Result Closed Stop) : Type 0 where
+pub record Rises {D M : Type 0} (inner : Inner) (old new : Stationed D M) (result : Result Closed Stop) : Type 0 where
   pub depth : ℕ
   pub told : result ≡ Ok (closed.Depth depth)
   pub is : inner.answer ≡ answers.Depth depth
   pub after : new ≡ record old { nesting = inner.after }
 
 -- what an end, a cancel or an exit does
-abbrev pub ClosesBy : {D : Type 0} → Ghosts (Grounded D) → Event → (Nesting → Inner) → Stationed D → Stationed D
+abbrev pub ClosesBy : {D M : Type 0} → Ghosts (Grounded D M) → Event → (Nesting → Inner) → Stationed D M → Stationed D M
     → Result Closed Stop → Type 0
 ClosesBy g event inner old new result =
     MatchOption old.failed
@@ -143,14 +154,14 @@ IsTicketTold ticket None result = result ≡ Err (stops.Refused (refusals.BadTic
 IsTicketTold ticket (Some granted) result = result ≡ Ok granted
 
 -- what a look tells: what the world before the transaction shows of the ticket, or it fails after a disk fault
-abbrev pub LooksAt : {D : Type 0} → ℕ → Stationed D → Result Bool Stop → Type 0
+abbrev pub LooksAt : {D M : Type 0} → ℕ → Stationed D M → Result Bool Stop → Type 0
 LooksAt ticket s result =
     MatchOption s.failed
     ((v : Standing) → StandsInMemory s.ground v → IsTicketTold ticket (shown_in v.before.world ticket) result)
     (λ moment. result ≡ Err stops.Failed)
 
 -- all stays in a look but for the heap in memory, which stands for what it did, and whose disk is quiet
-pub record StaysLooked {D : Type 0} (old new : Stationed D) : Type 0 where
+pub record StaysLooked {D M : Type 0} (old new : Stationed D M) : Type 0 where
   pub after : new ≡ record old { ground = record old.ground { heap = new.ground.heap } }
   pub quiet : IsQuiet old.ground.heap.cells new.ground.heap.cells
   pub still : Brings StandsInMemory old.ground new.ground StandsStill

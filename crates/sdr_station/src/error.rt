@@ -15,9 +15,10 @@ pub enum OpenError {
 }
 
 /// A disk whose heap isn't opened, and why. Its bytes are as before where it didn't fail, but for open batches
-/// that were put back.
+/// that were put back. The media are those that were handed in with it.
 #[derive(Drop)]
-pub struct Shut<D> {
+pub struct Shut<D, M> {
     pub why: OpenError,
     pub disk: D,
+    pub media: M,
 }

@@ -1,33 +1,33 @@
 // A heap on an image as the ground of a lock.
-ghost use Rattle.std.specs.Prelude.{◌≡◌, ◌≤◌, ◌⊎◌, ◌↔◌, None, false, true, length};
+ghost use Rattle.std.specs.Prelude.{◌≡◌, ◌≤◌, ◌↔◌, false, true, length};
 ghost use Rattle.std.specs.Prelude.{IfErr, IfOk, IsErrOf, IsOk, OnErr, OnOk};
 ghost use Rattle.sdr_disk.specs.Moments.{AtEach};
 ghost use Rattle.sdr_disk.specs.Told.{IfTold};
 ghost use Rattle.sdr_image.specs.Opening.{MayBeOpened};
 ghost use Rattle.sdr_lock.specs.Crash.{LeavesBefore, LeavesEither};
-ghost use Rattle.sdr_lock.specs.Gaps.{HasGapCause, no_gaps};
+ghost use Rattle.sdr_lock.specs.Gaps.{HasGapCause};
 ghost use Rattle.sdr_lock.specs.Serving.{Brings, Calls, Keeps, KeepsGround, MeetsFault, PutsBack, Shows, StandsStill};
 ghost use Rattle.sdr_image.specs.Opened.{IsQuiet};
 ghost use Rattle.sdr_lock.specs.Standing.{Standing};
 ghost use Rattle.sdr_log.specs.Calls.{KeepsDisk};
 ghost use Rattle.sdr_log.specs.Logged.{GivesSame};
 ghost use Rattle.sdr_answers.specs.Answering.{dooms};
-ghost use Rattle.sdr_served.specs.Serving.{built};
 ghost use Rattle.sdr_station.specs.Grounded.{IsBefore, StandsForBoth, StandsInMemory};
-ghost use Rattle.sdr_station.specs.Giving.{Gives};
+ghost use Rattle.sdr_station.specs.Giving.{Gives, reads_by};
 ghost use Rattle.sdr_station.specs.Opening.{ExplainsOpen, IsOfAudit, IsOfImage, IsOpen, LeavesBytes, disk_of};
+ghost use Rattle.sdr_station.specs.Opening.{media_of};
 
 use crate::closing::{cancel, commit, forget_moves, moment_since};
 use crate::error::{OpenError, Shut};
 use sdr_answers::Page;
-use sdr_base::{Move, Stop};
+use sdr_base::{Media, Move, Stop};
 use sdr_check::{AuditError, check};
 use sdr_disk::Disk;
 use sdr_heap::Heap;
 use sdr_image::{Image, ImageError};
 use sdr_lock::{Fault, Halt, HasGround, Serves};
 use sdr_model::{Answer, Call, Reply};
-use sdr_served::{answer, built};
+use sdr_served::answer;
 use std::alloc::Global;
 use std::marker::Model;
 use zco_acct::{Notice, Notify};
@@ -35,8 +35,10 @@ use zco_granted::look;
 
 /// A heap on an image as the ground of a lock.
 #[derive(Drop)]
-pub struct HeapGround<D: Disk, F: Notify + Drop> {
+pub struct HeapGround<D: Disk, M: Media, F: Notify + Drop> {
     heap: Heap<Image<D>>,
+    /// The files and items that sources of the heap name.
+    media: M,
     /// The bytes that the last answered call gave.
     shown: Page,
     /// Whether a call was stopped on its way, so that the transaction can only be put back, or the disk has
@@ -52,13 +54,14 @@ pub struct HeapGround<D: Disk, F: Notify + Drop> {
     notice: Notice<F>,
 }
 
-impl<D: Disk, F: Notify + Drop> Model for HeapGround<D, F> {
+impl<D: Disk, M: Media, F: Notify + Drop> Model for HeapGround<D, M, F> {
     ghost use Rattle.sdr_station.specs.Grounded.{Grounded, IsGround};
 
-    ghost Value = { Grounded D };
+    ghost Value = { Grounded D M };
 
     ghost view = { λ s. record {
       heap = s.heap;
+      media = s.media;
       shown = s.shown;
       stopped = s.stopped;
       idle = s.idle;
@@ -68,6 +71,7 @@ impl<D: Disk, F: Notify + Drop> Model for HeapGround<D, F> {
 
     ghost invariant = { λ s. IsGround {D = D} D.moment (record {
       heap = s.heap;
+      media = s.media;
       shown = s.shown;
       stopped = s.stopped;
       idle = s.idle;
@@ -76,9 +80,8 @@ impl<D: Disk, F: Notify + Drop> Model for HeapGround<D, F> {
     }) };
 }
 
-impl<D: Disk, F: Notify + Drop> HasGround for HeapGround<D, F> {
-    ghost use Rattle.std.specs.Prelude.{None, ⊤};
-    ghost use Rattle.sdr_lock.specs.Gaps.{no_gaps};
+impl<D: Disk, M: Media, F: Notify + Drop> HasGround for HeapGround<D, M, F> {
+    ghost use Rattle.std.specs.Prelude.{⊤};
     ghost use Rattle.sdr_station.specs.Grounded as grounded;
     ghost use Rattle.sdr_station.specs.CrashNow as laws;
 
@@ -88,9 +91,9 @@ impl<D: Disk, F: Notify + Drop> HasGround for HeapGround<D, F> {
 
     ghost faults = { λ g. D.faults g.heap.cells.disk };
 
-    ghost gaps = { λ _. no_gaps };
+    ghost gaps = { λ g. record { faults = M.faults g.media; short = M.short g.media } };
 
-    ghost told = { λ _. None };
+    ghost told = { λ g. M.told g.media };
 
     ghost lasts = { λ _ _. ⊤ };
 
@@ -127,16 +130,22 @@ fn of_audit(why: AuditError) -> OpenError
     }
 }
 
-impl<D: Disk, F: Notify + Drop> HeapGround<D, F> {
+impl<D: Disk, M: Media, F: Notify + Drop> HeapGround<D, M, F> {
     /// Opens the heap on a disk. Where batches are open, their lines are put back. All memory is taken
     /// here. A crash on the way leaves the same heap as one before, where nothing is pending on the disk
     /// that is handed in, or a recovery of it was stopped. Each heap is opened for which a world stands, but for a
-    /// fault or want of memory.
-    pub fn open(alloc: Global, disk: D, notice: Notice<F>) -> Result<HeapGround<D, F>, Shut<D>>
+    /// fault or want of memory. The media are kept, and not read here.
+    pub fn open(
+        alloc: Global,
+        disk: D,
+        media: M,
+        notice: Notice<F>,
+    ) -> Result<HeapGround<D, M, F>, Shut<D, M>>
         ensures opened { IfOk result (IsOpen D.bytes D.moment D.may_leave disk) }
         ensures why { IfErr result (λ shut.
             ExplainsOpen (D.bytes disk) (D.faults disk) (D.faults shut.disk) shut.why) }
         ensures disk { KeepsDisk D.size D.bytes disk (disk_of result) }
+        ensures media { media_of result ≡ media }
         ensures bytes { IfErr result (λ shut. LeavesBytes (D.bytes disk) (D.bytes shut.disk)
             shut.why) }
         ensures later { D.faults disk ≤ D.faults (disk_of result) }
@@ -150,6 +159,7 @@ impl<D: Disk, F: Notify + Drop> HeapGround<D, F> {
                 return Err(Shut {
                     why: of_image(shut.why),
                     disk: shut.disk,
+                    media,
                 });
             }
         };
@@ -158,12 +168,14 @@ impl<D: Disk, F: Notify + Drop> HeapGround<D, F> {
             return Err(Shut {
                 why: of_audit(why),
                 disk: image.into_disk(),
+                media,
             });
         }
         let moment = image.now();
         match Heap::new(alloc, image) {
             Ok(heap) => Ok(HeapGround {
                 heap,
+                media,
                 shown: Page::new(),
                 stopped: false,
                 idle: true,
@@ -174,36 +186,47 @@ impl<D: Disk, F: Notify + Drop> HeapGround<D, F> {
             Err(shut) => Err(Shut {
                 why: OpenError::NoMemory,
                 disk: shut.cells.into_disk(),
+                media,
             }),
         }
     }
 
-    /// Makes a call that is served, in a transaction in which none was stopped. Where a changing call is refused, the
-    /// transaction can only be put back.
+    /// Makes a call, in a transaction in which none was stopped. Where a changing call is refused, the
+    /// transaction can only be put back; one that media fail, or that gets too few bytes of them, changes nothing.
     pub fn serve(&mut self, call: &Call) -> Reply
         requires going { self.old.stopped ≡ false }
-        requires built { built call.now ≡ true }
-        ensures memory { Brings StandsInMemory self.old self.new (Calls None call.now result) }
-        ensures answered { Brings ⟦<HeapGround<D, F> as HasGround>⟧.stands self.old self.new
-            (Calls None call.now result) }
+        ensures memory { Brings StandsInMemory self.old self.new
+            (Calls (M.told self.old.media) call.now result) }
+        ensures answered { Brings ⟦<HeapGround<D, M, F> as HasGround>⟧.stands self.old self.new
+            (Calls (M.told self.old.media) call.now result) }
         ensures stopped { self.new.stopped ≡ dooms call.now result }
         ensures gives { Gives result self.new }
         ensures sound { self.new.heap.cells.failed ≡ false }
         ensures restored { self.new.restored ≡ self.old.restored }
-        ensures keeps { KeepsGround ⟦<HeapGround<D, F> as HasGround>⟧ true self.old self.new }
-        ensures any_moment { LeavesBefore ⟦<HeapGround<D, F> as HasGround>⟧ self.old self.new }
+        ensures gap { HasGapCause (Answer.Reply result)
+            (⟦<HeapGround<D, M, F> as HasGround>⟧.gaps self.old)
+            (⟦<HeapGround<D, M, F> as HasGround>⟧.gaps self.new) }
+        ensures unread { reads_by call.now result ≡ false → self.new.media ≡ self.old.media }
+        ensures keeps { KeepsGround ⟦<HeapGround<D, M, F> as HasGround>⟧ true self.old self.new }
+        ensures any_moment { LeavesBefore ⟦<HeapGround<D, M, F> as HasGround>⟧ self.old self.new }
     {
         self.heap.fresh();
         self.idle = false;
-        match answer(&mut self.heap, call, &self.notice, &mut self.shown) {
+        match answer(
+            &mut self.heap,
+            &mut self.media,
+            call,
+            &self.notice,
+            &mut self.shown,
+        ) {
             Ok(reply) => reply,
             Err(Stop::Refused(refusal)) => {
                 forget_moves(&mut self.heap, &refusal);
                 self.stopped = !call.is_reading();
                 Reply::Refused(refusal)
             }
+            Err(Stop::MediaFault) => Reply::MediaFault,
             Err(Stop::DiskFault) => unreachable!(),
-            Err(Stop::MediaFault) => unreachable!(),
             Err(Stop::Failed) => unreachable!(),
         }
     }
@@ -213,14 +236,16 @@ impl<D: Disk, F: Notify + Drop> HeapGround<D, F> {
         requires going { self.old.stopped ≡ false }
         ensures memory { OnOk result (Brings StandsInMemory self.old self.new Keeps) }
         ensures kept { OnOk result
-            (Brings ⟦<HeapGround<D, F> as HasGround>⟧.stands self.old self.new Keeps) }
+            (Brings ⟦<HeapGround<D, M, F> as HasGround>⟧.stands self.old self.new Keeps) }
         ensures going { OnOk result (self.new.stopped ≡ false) }
         ensures idle { OnOk result (self.new.idle ≡ true) }
         ensures sound { OnOk result (self.new.heap.cells.failed ≡ false) }
         ensures restored { self.new.restored ≡ self.old.restored }
-        ensures fault { OnErr result (MeetsFault ⟦<HeapGround<D, F> as HasGround>⟧ self.old self.new) }
-        ensures keeps { KeepsGround ⟦<HeapGround<D, F> as HasGround>⟧ false self.old self.new }
-        ensures any_moment { LeavesEither ⟦<HeapGround<D, F> as HasGround>⟧ self.old self.new }
+        ensures media { self.new.media ≡ self.old.media }
+        ensures fault { OnErr result
+            (MeetsFault ⟦<HeapGround<D, M, F> as HasGround>⟧ self.old self.new) }
+        ensures keeps { KeepsGround ⟦<HeapGround<D, M, F> as HasGround>⟧ false self.old self.new }
+        ensures any_moment { LeavesEither ⟦<HeapGround<D, M, F> as HasGround>⟧ self.old self.new }
     {
         match commit(&mut self.heap) {
             Ok(()) => {
@@ -243,16 +268,18 @@ impl<D: Disk, F: Notify + Drop> HeapGround<D, F> {
     pub fn restore(&mut self) -> Result<(), Fault>
         ensures memory { OnOk result (Brings StandsInMemory self.old self.new PutsBack) }
         ensures put_back { OnOk result
-            (Brings ⟦<HeapGround<D, F> as HasGround>⟧.stands self.old self.new PutsBack) }
+            (Brings ⟦<HeapGround<D, M, F> as HasGround>⟧.stands self.old self.new PutsBack) }
         ensures going { OnOk result
             (self.old.heap.cells.failed ≡ false → self.new.stopped ≡ false) }
         ensures idle { OnOk result
             (self.old.heap.cells.failed ≡ false → self.new.idle ≡ true) }
         ensures sound { OnOk result (self.new.heap.cells.failed ≡ self.old.heap.cells.failed) }
         ensures restored { self.new.restored ≡ self.old.restored }
-        ensures fault { OnErr result (MeetsFault ⟦<HeapGround<D, F> as HasGround>⟧ self.old self.new) }
-        ensures keeps { KeepsGround ⟦<HeapGround<D, F> as HasGround>⟧ false self.old self.new }
-        ensures any_moment { LeavesBefore ⟦<HeapGround<D, F> as HasGround>⟧ self.old self.new }
+        ensures media { self.new.media ≡ self.old.media }
+        ensures fault { OnErr result
+            (MeetsFault ⟦<HeapGround<D, M, F> as HasGround>⟧ self.old self.new) }
+        ensures keeps { KeepsGround ⟦<HeapGround<D, M, F> as HasGround>⟧ false self.old self.new }
+        ensures any_moment { LeavesBefore ⟦<HeapGround<D, M, F> as HasGround>⟧ self.old self.new }
     {
         match cancel(&mut self.heap) {
             Ok(()) => {
@@ -279,15 +306,16 @@ impl<D: Disk, F: Notify + Drop> HeapGround<D, F> {
     fn drop_changes(&mut self) -> Result<bool, Fault>
         ensures memory { OnOk result (Brings StandsInMemory self.old self.new StandsStill) }
         ensures dropped { OnOk result
-            (Brings ⟦<HeapGround<D, F> as HasGround>⟧.stands self.old self.new StandsStill) }
+            (Brings ⟦<HeapGround<D, M, F> as HasGround>⟧.stands self.old self.new StandsStill) }
         ensures back { IfOk result (λ sound. sound ≡ true
             → (self.new.heap.cells.failed ≡ false) × IsBefore self.new) }
         ensures failed { IfOk result (λ sound. sound ≡ false → self.old.heap.cells.failed ≡ true) }
         ensures fault { OnErr result
-            (MeetsFault ⟦<HeapGround<D, F> as HasGround>⟧ self.old self.new) }
+            (MeetsFault ⟦<HeapGround<D, M, F> as HasGround>⟧ self.old self.new) }
         ensures restored { self.new.restored ≡ self.old.restored }
-        ensures keeps { KeepsGround ⟦<HeapGround<D, F> as HasGround>⟧ false self.old self.new }
-        ensures any_moment { LeavesBefore ⟦<HeapGround<D, F> as HasGround>⟧ self.old self.new }
+        ensures media { self.new.media ≡ self.old.media }
+        ensures keeps { KeepsGround ⟦<HeapGround<D, M, F> as HasGround>⟧ false self.old self.new }
+        ensures any_moment { LeavesBefore ⟦<HeapGround<D, M, F> as HasGround>⟧ self.old self.new }
     {
         match cancel(&mut self.heap) {
             Ok(()) => {
@@ -313,7 +341,7 @@ impl<D: Disk, F: Notify + Drop> HeapGround<D, F> {
         requires sound { self.old.heap.cells.failed ≡ false }
         requires before { IsBefore self.old }
         ensures shown { Brings StandsInMemory self.old self.new (Shows ticket result) }
-        ensures stands { Brings ⟦<HeapGround<D, F> as HasGround>⟧.stands self.old self.new
+        ensures stands { Brings ⟦<HeapGround<D, M, F> as HasGround>⟧.stands self.old self.new
             (Shows ticket result) }
         ensures same { self.new ≡ record self.old { heap = self.new.heap } }
         ensures quiet { IsQuiet self.old.heap.cells self.new.heap.cells }
@@ -330,14 +358,14 @@ impl<D: Disk, F: Notify + Drop> HeapGround<D, F> {
         ensures memory { IfOk result (λ granted.
             Brings StandsInMemory self.old self.new (Shows ticket granted)) }
         ensures shown { IfOk result (λ granted.
-            Brings ⟦<HeapGround<D, F> as HasGround>⟧.stands self.old self.new
+            Brings ⟦<HeapGround<D, M, F> as HasGround>⟧.stands self.old self.new
             (Shows ticket granted)) }
         ensures idle { self.old.idle ≡ true → (self.new ≡ record self.old { heap = self.new.heap })
             × IsQuiet self.old.heap.cells self.new.heap.cells × IsOk result }
         ensures fault { OnErr result
-            (MeetsFault ⟦<HeapGround<D, F> as HasGround>⟧ self.old self.new) }
-        ensures keeps { KeepsGround ⟦<HeapGround<D, F> as HasGround>⟧ false self.old self.new }
-        ensures any_moment { LeavesBefore ⟦<HeapGround<D, F> as HasGround>⟧ self.old self.new }
+            (MeetsFault ⟦<HeapGround<D, M, F> as HasGround>⟧ self.old self.new) }
+        ensures keeps { KeepsGround ⟦<HeapGround<D, M, F> as HasGround>⟧ false self.old self.new }
+        ensures any_moment { LeavesBefore ⟦<HeapGround<D, M, F> as HasGround>⟧ self.old self.new }
     {
         if self.idle {
             return Ok(self.see(ticket));
@@ -348,13 +376,15 @@ impl<D: Disk, F: Notify + Drop> HeapGround<D, F> {
         Ok(None)
     }
 
-    /// The disk. What the open transaction has done is lost.
-    pub fn into_disk(self) -> D
-        ensures disk { result ≡ self.heap.cells.disk }
-        ensures seen { D.moment result ≤ self.moment }
+    /// The disk and the media. What the open transaction has done is lost.
+    pub fn into_parts(self) -> (D, M)
+        ensures disk { result.0 ≡ self.heap.cells.disk }
+        ensures media { result.1 ≡ self.media }
+        ensures seen { D.moment result.0 ≤ self.moment }
     {
         let HeapGround {
             heap,
+            media,
             shown: _,
             stopped: _,
             idle: _,
@@ -362,7 +392,7 @@ impl<D: Disk, F: Notify + Drop> HeapGround<D, F> {
             restored: _,
             notice: _,
         } = self;
-        heap.into_cells().into_disk()
+        (heap.into_cells().into_disk(), media)
     }
 
     /// The moves of the last call.
@@ -397,26 +427,30 @@ impl<D: Disk, F: Notify + Drop> HeapGround<D, F> {
     }
 }
 
-impl<D: Disk, F: Notify + Drop> Serves for HeapGround<D, F> {
+impl<D: Disk, M: Media, F: Notify + Drop> Serves for HeapGround<D, M, F> {
     fn moment(&self) -> u64 {
         self.moment
     }
 
-    // Want of memory comes just where a call was stopped, or where it isn't served yet.
+    // Want of memory comes just where a call was stopped.
     fn call(&mut self, call: &Call) -> Result<Reply, Halt>
         ensures answered { IfOk result (λ reply.
-            Brings ⟦<HeapGround<D, F> as HasGround>⟧.stands self.old self.new
-            (Calls None call.now reply)) }
-        ensures gap { IfOk result (λ reply. HasGapCause (Answer.Reply reply) no_gaps no_gaps) }
+            Brings ⟦<HeapGround<D, M, F> as HasGround>⟧.stands self.old self.new
+            (Calls (M.told self.old.media) call.now reply)) }
+        ensures gap { IfOk result (λ reply. HasGapCause (Answer.Reply reply)
+            (⟦<HeapGround<D, M, F> as HasGround>⟧.gaps self.old)
+            (⟦<HeapGround<D, M, F> as HasGround>⟧.gaps self.new)) }
+        ensures dooms { IfOk result (λ reply. self.new.stopped ≡ dooms call.now reply) }
+        ensures unread { IfOk result (λ reply.
+            reads_by call.now reply ≡ false → self.new.media ≡ self.old.media) }
         ensures memory { IsErrOf result Halt.Memory → self.new ≡ self.old }
-        ensures stopped { IsErrOf result Halt.Memory
-            ↔ ((self.old.stopped ≡ true) ⊎ (built call.now ≡ false)) }
+        ensures stopped { IsErrOf result Halt.Memory ↔ (self.old.stopped ≡ true) }
         ensures fault { IsErrOf result Halt.Fault
-            → MeetsFault ⟦<HeapGround<D, F> as HasGround>⟧ self.old self.new }
-        ensures keeps { KeepsGround ⟦<HeapGround<D, F> as HasGround>⟧ true self.old self.new }
-        ensures any_moment { LeavesBefore ⟦<HeapGround<D, F> as HasGround>⟧ self.old self.new }
+            → MeetsFault ⟦<HeapGround<D, M, F> as HasGround>⟧ self.old self.new }
+        ensures keeps { KeepsGround ⟦<HeapGround<D, M, F> as HasGround>⟧ true self.old self.new }
+        ensures any_moment { LeavesBefore ⟦<HeapGround<D, M, F> as HasGround>⟧ self.old self.new }
     {
-        if self.stopped || !built(call) {
+        if self.stopped {
             return Err(Halt::Memory);
         }
         Ok(self.serve(call))
@@ -425,13 +459,13 @@ impl<D: Disk, F: Notify + Drop> Serves for HeapGround<D, F> {
     // Want of memory comes just where a call was stopped.
     fn keep(&mut self) -> Result<(), Halt>
         ensures kept { OnOk result
-            (Brings ⟦<HeapGround<D, F> as HasGround>⟧.stands self.old self.new Keeps) }
+            (Brings ⟦<HeapGround<D, M, F> as HasGround>⟧.stands self.old self.new Keeps) }
         ensures memory { IsErrOf result Halt.Memory → self.new ≡ self.old }
         ensures stopped { IsErrOf result Halt.Memory ↔ (self.old.stopped ≡ true) }
         ensures fault { IsErrOf result Halt.Fault
-            → MeetsFault ⟦<HeapGround<D, F> as HasGround>⟧ self.old self.new }
-        ensures keeps { KeepsGround ⟦<HeapGround<D, F> as HasGround>⟧ false self.old self.new }
-        ensures any_moment { LeavesEither ⟦<HeapGround<D, F> as HasGround>⟧ self.old self.new }
+            → MeetsFault ⟦<HeapGround<D, M, F> as HasGround>⟧ self.old self.new }
+        ensures keeps { KeepsGround ⟦<HeapGround<D, M, F> as HasGround>⟧ false self.old self.new }
+        ensures any_moment { LeavesEither ⟦<HeapGround<D, M, F> as HasGround>⟧ self.old self.new }
     {
         if self.stopped {
             return Err(Halt::Memory);

@@ -1,8 +1,8 @@
 //! Transactions on the disk.
 //!
 //! 1. `HeapGround` is a heap on an image as the ground of a lock. What it stands for is a relation: the bytes at begin stand
-//!    for the world before the transaction, and the heap now for the one that it has made. The calls that `sdr_served` answers
-//!    are steps of the machine; no other is served yet.
+//!    for the world before the transaction, and the heap now for the one that it has made. Each call is a step of the machine.
+//!    Those that ask an object's bytes read the media that its sources name, and no other does.
 //! 2. Where a changing call is refused, the transaction can only be put back: `HeapGround` keeps nothing of it, and answers
 //!    want of memory where it is asked to.
 //!    It tells the moves of its last call and the bytes that it shows, and how many there may be (`Tells`).

@@ -1,5 +1,5 @@
 // A transaction on the world that a disk keeps.
-ghost use Rattle.std.specs.Prelude.{◌≡◌, ◌≤◌, ◌<◌, ◌+◌, ◌/◌, None, true, false, IfErr, IfOk};
+ghost use Rattle.std.specs.Prelude.{◌≡◌, ◌≤◌, ◌<◌, ◌+◌, ◌/◌, None, false, IfErr, IfOk};
 ghost use Rattle.sdr_disk.specs.Moments.{AtEach};
 ghost use Rattle.sdr_disk.specs.Told.{IfTold};
 ghost use Rattle.sdr_image.specs.Opening.{MayBeOpened};
@@ -7,17 +7,16 @@ ghost use Rattle.sdr_lock.specs.Crash.{LeavesBefore, LeavesOr, is_kept, keeps_in
 ghost use Rattle.sdr_lock.specs.Nesting.{cancelled, closing, ended, unbegun};
 ghost use Rattle.sdr_log.specs.Calls.{KeepsDisk};
 ghost use Rattle.sdr_log.specs.Logged.{GivesSame};
-ghost use Rattle.sdr_served.specs.Serving.{built};
 ghost use Rattle.sdr_station.specs.Giving.{Fills, Gives};
 ghost use Rattle.sdr_station.specs.Opening.{ExplainsOpen, IsOpen, LeavesBytes};
 ghost use Rattle.sdr_station.specs.Rooming.{MovesAtMost, TellsRoom};
 ghost use Rattle.sdr_station.specs.Stationed.{Begins, Closes, ClosesBy, HasRisen, IsTicketTold, LooksAt, SaysOr, StaysLooked};
-ghost use Rattle.sdr_station.specs.Stationed.{closed_as, disk_under};
+ghost use Rattle.sdr_station.specs.Stationed.{closed_as, disk_under, media_under};
 
 use crate::HeapGround;
 use crate::error::Shut;
 use sdr_answers::PAGE;
-use sdr_base::{Move, Reason, Refusal, Stop};
+use sdr_base::{Media, Move, Reason, Refusal, Stop};
 use sdr_disk::Disk;
 use sdr_lock::{Fault, HasGround, Nesting, Serves};
 use sdr_model::{Answer, Call, Close, Event, Reply};
@@ -40,16 +39,15 @@ pub enum Closed {
 /// each line that it changed and each block that it took or staged, and neither a copy of the heap nor a
 /// pass over it.
 #[derive(Drop)]
-pub struct Station<D: Disk, F: Notify + Drop> {
-    ground: HeapGround<D, F>,
+pub struct Station<D: Disk, M: Media, F: Notify + Drop> {
+    ground: HeapGround<D, M, F>,
     nesting: Nesting,
     /// The disk's moment as it failed.
     failed: Option<u64>,
 }
 
-/// How many moves a call that is served has at most, on a heap of so many bytes.
+/// How many moves a call has at most, on a heap of so many bytes.
 pub fn most_moves(call: &Call, size: u64) -> u64
-    requires { built call.now ≡ true }
     ensures most { MovesAtMost size call.now result }
     ensures few { result ≤ size / 4 + 4 }
 {
@@ -57,30 +55,41 @@ pub fn most_moves(call: &Call, size: u64) -> u64
         return 0;
     }
     match call {
-        Call::ListDestroy(_) | Call::HashDestroy(_) | Call::Destroy(_) => size / 16 + 1,
+        Call::ListDestroy(_)
+        | Call::HashDestroy(_)
+        | Call::Destroy(_)
+        | Call::Strip(_)
+        | Call::ClonePart(_, _, _, _) => size / 16 + 1,
+        Call::Bond(_, _) => size / 4,
         Call::AppendExtent(_, _, _, _, _) => 2,
         _ => 1,
     }
 }
 
-impl<D: Disk, F: Notify + Drop> Model for Station<D, F> {
+impl<D: Disk, M: Media, F: Notify + Drop> Model for Station<D, M, F> {
     ghost use Rattle.sdr_station.specs.Stationed.{IsStation, Stationed};
 
-    ghost Value = { Stationed D };
+    ghost Value = { Stationed D M };
 
     ghost view = { λ s. record { ground = s.ground; nesting = s.nesting; failed = s.failed } };
 
     ghost invariant = { λ s. IsStation s.ground s.nesting s.failed };
 }
 
-impl<D: Disk, F: Notify + Drop> Station<D, F> {
+impl<D: Disk, M: Media, F: Notify + Drop> Station<D, M, F> {
     /// Opens the heap on a disk, as `HeapGround::open` does. No transaction is open, and all memory is taken here.
-    pub fn open(alloc: Global, disk: D, notice: Notice<F>) -> Result<Station<D, F>, Shut<D>>
+    pub fn open(
+        alloc: Global,
+        disk: D,
+        media: M,
+        notice: Notice<F>,
+    ) -> Result<Station<D, M, F>, Shut<D, M>>
         ensures opened { IfOk result (λ s. IsOpen D.bytes D.moment D.may_leave disk s.ground) }
         ensures idle { IfOk result (λ s. (s.nesting ≡ unbegun) × (s.failed ≡ None)) }
         ensures why { IfErr result (λ shut.
             ExplainsOpen (D.bytes disk) (D.faults disk) (D.faults shut.disk) shut.why) }
         ensures disk { KeepsDisk D.size D.bytes disk (disk_under result) }
+        ensures media { media_under result ≡ media }
         ensures bytes { IfErr result (λ shut.
             LeavesBytes (D.bytes disk) (D.bytes shut.disk) shut.why) }
         ensures later { D.faults disk ≤ D.faults (disk_under result) }
@@ -88,7 +97,7 @@ impl<D: Disk, F: Notify + Drop> Station<D, F> {
             MayBeOpened x (D.may_leave disk (D.moment disk))
             → AtEach D.moment D.may_leave disk (disk_under result) (GivesSame x)) }
     {
-        match HeapGround::open(alloc, disk, notice) {
+        match HeapGround::open(alloc, disk, media, notice) {
             Ok(ground) => Ok(Station {
                 ground,
                 nesting: Nesting::none(),
@@ -123,16 +132,17 @@ impl<D: Disk, F: Notify + Drop> Station<D, F> {
         }
     }
 
-    /// The disk. What the open transaction has done is lost.
-    pub fn into_disk(self) -> D
-        ensures { result ≡ self.ground.heap.cells.disk }
+    /// The disk and the media. What the open transaction has done is lost.
+    pub fn into_parts(self) -> (D, M)
+        ensures disk { result.0 ≡ self.ground.heap.cells.disk }
+        ensures media { result.1 ≡ self.ground.media }
     {
         let Station {
             ground,
             nesting: _,
             failed: _,
         } = self;
-        ground.into_disk()
+        ground.into_parts()
     }
 
     /// How deep the transaction is nested: 0 where none has begun.
@@ -159,10 +169,10 @@ impl<D: Disk, F: Notify + Drop> Station<D, F> {
         }
     }
 
-    /// How many moves the call that follows can have at most, which are no more than the heap has room for.
+    /// How many moves the call that follows can have at most, which are no more than the heap has room for. After a
+    /// disk fault it answers `Failed`.
     pub fn room_for(&mut self, call: &Call) -> Result<u64, Stop>
-        requires { built call.now ≡ true }
-        ensures room { TellsRoom ⟦<HeapGround<D, F> as HasGround>⟧ call.now self.old result }
+        ensures room { TellsRoom call.now self.old result }
         ensures same { self.new ≡ self.old }
     {
         if let Some(_) = self.failed {
@@ -172,13 +182,17 @@ impl<D: Disk, F: Notify + Drop> Station<D, F> {
     }
 
     /// Makes a call. Where it gives bytes, they are put at the front of the buffer, and the reply tells how many.
+    ///
+    /// In a doomed transaction it is refused `Doomed`, and after a disk fault it answers `Failed`. Else it is refused as its
+    /// row has it, or for want of a block (`NoBlock`) or of log room (`LogFull`), which dooms where it is a change. A fault of
+    /// media, or too few bytes of them (`SourceShort`), dooms nothing.
     pub fn call(&mut self, call: &Call, into: &mut [u8; PAGE]) -> Reply
         requires begun { 0 < self.old.nesting.depth }
-        requires built { built call.now ≡ true }
-        ensures says { SaysOr ⟦<HeapGround<D, F> as HasGround>⟧ call.now result self.old self.new }
+        ensures says { SaysOr ⟦<HeapGround<D, M, F> as HasGround>⟧ call.now result
+            self.old self.new }
         ensures depth { self.new.nesting.depth ≡ self.old.nesting.depth }
         ensures fills { Fills self.new.ground result into.old into.new }
-        ensures any_moment { LeavesBefore ⟦<HeapGround<D, F> as HasGround>⟧
+        ensures any_moment { LeavesBefore ⟦<HeapGround<D, M, F> as HasGround>⟧
             self.old.ground self.new.ground }
     {
         let reply = self.reply(call);
@@ -200,11 +214,11 @@ impl<D: Disk, F: Notify + Drop> Station<D, F> {
     // Makes a call.
     fn reply(&mut self, call: &Call) -> Reply
         requires begun { 0 < self.old.nesting.depth }
-        requires built { built call.now ≡ true }
-        ensures says { SaysOr ⟦<HeapGround<D, F> as HasGround>⟧ call.now result self.old self.new }
+        ensures says { SaysOr ⟦<HeapGround<D, M, F> as HasGround>⟧ call.now result
+            self.old self.new }
         ensures depth { self.new.nesting.depth ≡ self.old.nesting.depth }
         ensures gives { Gives result self.new.ground }
-        ensures any_moment { LeavesBefore ⟦<HeapGround<D, F> as HasGround>⟧
+        ensures any_moment { LeavesBefore ⟦<HeapGround<D, M, F> as HasGround>⟧
             self.old.ground self.new.ground }
     {
         if let Some(moment) = self.failed {
@@ -243,7 +257,7 @@ impl<D: Disk, F: Notify + Drop> Station<D, F> {
     fn keep(&mut self) -> Result<Closed, Stop>
         requires sound { self.old.failed ≡ None }
         requires undoomed { self.old.nesting.doom ≡ None }
-        ensures { Closes ⟦<HeapGround<D, F> as HasGround>⟧ Close.Ended self.old self.new result }
+        ensures { Closes ⟦<HeapGround<D, M, F> as HasGround>⟧ Close.Ended self.old self.new result }
     {
         match self.ground.save() {
             Ok(()) => {
@@ -263,7 +277,7 @@ impl<D: Disk, F: Notify + Drop> Station<D, F> {
         requires sound { self.old.failed ≡ None }
         requires told { told ≡ closed_as close }
         requires unkept { is_kept close ≡ false }
-        ensures { Closes ⟦<HeapGround<D, F> as HasGround>⟧ close self.old self.new result }
+        ensures { Closes ⟦<HeapGround<D, M, F> as HasGround>⟧ close self.old self.new result }
     {
         match self.ground.restore() {
             Ok(()) => {
@@ -281,7 +295,7 @@ impl<D: Disk, F: Notify + Drop> Station<D, F> {
     // Closes the transaction.
     fn close(&mut self, event: &Event) -> Result<Closed, Stop>
         requires sound { self.old.failed ≡ None }
-        ensures { Closes ⟦<HeapGround<D, F> as HasGround>⟧ (closing self.old.nesting event.now)
+        ensures { Closes ⟦<HeapGround<D, M, F> as HasGround>⟧ (closing self.old.nesting event.now)
             self.old self.new result }
     {
         match self.nesting.closing(event) {
@@ -308,10 +322,10 @@ impl<D: Disk, F: Notify + Drop> Station<D, F> {
     /// doomed.
     pub fn end(&mut self) -> Result<Closed, Stop>
         requires begun { 0 < self.old.nesting.depth }
-        ensures closes { ClosesBy ⟦<HeapGround<D, F> as HasGround>⟧ Event.End ended
+        ensures closes { ClosesBy ⟦<HeapGround<D, M, F> as HasGround>⟧ Event.End ended
             self.old self.new result }
         ensures any_moment { LeavesOr (keeps_in self.old.nesting Event.End)
-            ⟦<HeapGround<D, F> as HasGround>⟧ self.old.ground self.new.ground }
+            ⟦<HeapGround<D, M, F> as HasGround>⟧ self.old.ground self.new.ground }
     {
         if self.failed.is_some() {
             return Err(Stop::Failed);
@@ -325,9 +339,9 @@ impl<D: Disk, F: Notify + Drop> Station<D, F> {
     /// Cancels the transaction. An inner cancel dooms it.
     pub fn cancel(&mut self) -> Result<Closed, Stop>
         requires begun { 0 < self.old.nesting.depth }
-        ensures closes { ClosesBy ⟦<HeapGround<D, F> as HasGround>⟧ Event.Cancel cancelled
+        ensures closes { ClosesBy ⟦<HeapGround<D, M, F> as HasGround>⟧ Event.Cancel cancelled
             self.old self.new result }
-        ensures any_moment { LeavesBefore ⟦<HeapGround<D, F> as HasGround>⟧
+        ensures any_moment { LeavesBefore ⟦<HeapGround<D, M, F> as HasGround>⟧
             self.old.ground self.new.ground }
     {
         if self.failed.is_some() {
@@ -342,9 +356,9 @@ impl<D: Disk, F: Notify + Drop> Station<D, F> {
     /// Ends the transaction, which was to change nothing.
     pub fn exit(&mut self) -> Result<Closed, Stop>
         requires begun { 0 < self.old.nesting.depth }
-        ensures closes { ClosesBy ⟦<HeapGround<D, F> as HasGround>⟧ Event.Exit ended
+        ensures closes { ClosesBy ⟦<HeapGround<D, M, F> as HasGround>⟧ Event.Exit ended
             self.old self.new result }
-        ensures any_moment { LeavesBefore ⟦<HeapGround<D, F> as HasGround>⟧
+        ensures any_moment { LeavesBefore ⟦<HeapGround<D, M, F> as HasGround>⟧
             self.old.ground self.new.ground }
     {
         if self.failed.is_some() {

@@ -1,32 +1,39 @@
 // What a heap on an image tells of its calls.
-ghost use Rattle.std.specs.Prelude.{◌≡◌, true};
-ghost use Rattle.sdr_served.specs.Serving.{built};
+ghost use Rattle.std.specs.Prelude.{◌≤◌, ◌+◌, ◌/◌, IfOk, IsOk};
+ghost use Rattle.sdr_lock.specs.Room.{HoldsAny};
+ghost use Rattle.sdr_lock.specs.Standing.{Standing};
 ghost use Rattle.sdr_station.specs.Telling.{BytesAtMost};
 
 use crate::HeapGround;
 use crate::station::most_moves;
 use sdr_answers::PAGE;
-use sdr_base::{Move, NoMemory};
+use sdr_base::{Media, Move, NoMemory};
 use sdr_disk::Disk;
-use sdr_lock::{Room, Tells};
+use sdr_lock::{HasGround, Room, Tells};
 use sdr_model::Call;
-use sdr_served::built;
-use std::alloc::AllocError;
+use sdr_model::limits::{LONGEST_NAME, LONGEST_STRING};
 use zco_acct::Notify;
 
-// How many bytes a call that is served gives at most.
+// How many bytes a call gives at most.
 fn most_bytes(call: &Call) -> usize
-    requires { built call.now ≡ true }
-    ensures { BytesAtMost call.now result }
+    ensures most { BytesAtMost call.now result }
+    ensures few { result ≤ 4096 }
 {
     match call {
-        Call::Read(_, _, count) | Call::Stage(_, count) => (*count).min(PAGE as u64) as usize,
-        Call::StringRead(_) | Call::Row(_, _) | Call::Entry(_) => PAGE,
+        Call::Read(_, _, count)
+        | Call::Stage(_, count)
+        | Call::Transmit(_, _, count)
+        | Call::ReceiveHeaders(_, _, count)
+        | Call::ReceiveSource(_, _, count)
+        | Call::ReceiveTrailers(_, _, count) => (*count).min(PAGE as u64) as usize,
+        Call::StringRead(_) => LONGEST_STRING as usize,
+        Call::Entry(_) => LONGEST_NAME as usize,
+        Call::Row(_, _) => PAGE,
         _ => 0,
     }
 }
 
-impl<D: Disk, F: Notify + Drop> Tells for HeapGround<D, F> {
+impl<D: Disk, M: Media, F: Notify + Drop> Tells for HeapGround<D, M, F> {
     fn moves(&self) -> &[Move] {
         HeapGround::moves(self)
     }
@@ -35,10 +42,14 @@ impl<D: Disk, F: Notify + Drop> Tells for HeapGround<D, F> {
         HeapGround::shown(self)
     }
 
-    fn room_for(&self, call: &Call) -> Result<Room, NoMemory> {
-        if !built(call) {
-            return Err(AllocError);
-        }
+    // A room is told for each call, and it is no more than a heap of this size and a page need.
+    fn room_for(&self, call: &Call) -> Result<Room, NoMemory>
+        ensures holds { IfOk result (λ room. (v : Standing) →
+            ⟦<HeapGround<D, M, F> as HasGround>⟧.stands self.now v → HoldsAny room v.now call.now) }
+        ensures served { IsOk result }
+        ensures few { IfOk result (λ room.
+            (room.moves ≤ self.now.heap.size / 4 + 4) × (room.bytes ≤ 4096)) }
+    {
         Ok(Room {
             moves: most_moves(call, self.size()) as usize,
             bytes: most_bytes(call),

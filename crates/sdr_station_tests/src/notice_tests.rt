@@ -1,9 +1,6 @@
 // How often the callback of a station is called.
-ghost use Rattle.std.specs.Prelude.{◌≡◌, true};
-ghost use Rattle.sdr_served.specs.Serving.{built};
-
 use crate::disks::formatted;
-use sdr_base::{Acct, Amounts, Space};
+use sdr_base::{Acct, Amounts, NoMedia, Space};
 use sdr_disk::MemoryDisk;
 use sdr_model::amounts::are_within;
 use sdr_model::{Call, Reply};
@@ -46,9 +43,7 @@ const ROWS: [(Step, u64); 5] = [
     (Step::Maximum(6), 1),
 ];
 
-fn call_of(step: Step) -> Call
-    ensures { built result ≡ true }
-{
+fn call_of(step: Step) -> Call {
     match step {
         Step::Maximum(most) => Call::SetMaximum(Acct::Outbound, Space::File, most),
         Step::Request(asked) => Call::Request(Acct::Outbound, asked, 0, 0, 0, 0),
@@ -56,7 +51,7 @@ fn call_of(step: Step) -> Call
 }
 
 // Whether a station answers a step. It doesn't outside a transaction.
-fn answers(station: &mut Station<MemoryDisk, Counting<'_>>, step: Step) -> bool {
+fn answers(station: &mut Station<MemoryDisk, NoMedia, Counting<'_>>, step: Step) -> bool {
     if station.depth() == 0 {
         return false;
     }
@@ -67,7 +62,10 @@ fn answers(station: &mut Station<MemoryDisk, Counting<'_>>, step: Step) -> bool 
 }
 
 // The first row at which a step isn't answered, or the callback isn't called so often.
-fn wrong_row(station: &mut Station<MemoryDisk, Counting<'_>>, times: &Cell<u64>) -> Option<usize> {
+fn wrong_row(
+    station: &mut Station<MemoryDisk, NoMedia, Counting<'_>>,
+    times: &Cell<u64>,
+) -> Option<usize> {
     for (row, (step, want)) in ROWS.iter().enumerate() {
         let before = times.get();
         if !answers(station, *step) || times.get().checked_sub(before) != Some(*want) {
@@ -82,7 +80,7 @@ fn played(alloc: Global) -> Option<Option<usize>> {
     let disk = formatted(alloc)?;
     let times = Cell::new(0);
     let notice = Notice::new(Counting { times: &times });
-    let mut station = Station::open(alloc, disk, notice).ok()?;
+    let mut station = Station::open(alloc, disk, NoMedia::new(), notice).ok()?;
     station.begin().ok()?;
     Some(wrong_row(&mut station, &times))
 }

@@ -1,6 +1,6 @@
 // What a station tells beside its answers.
 use crate::disks::formatted;
-use sdr_base::{Move, Refusal, Stop};
+use sdr_base::{Move, NoMedia, Refusal, Stop};
 use sdr_disk::MemoryDisk;
 use sdr_model::{Call, Reply};
 use sdr_station::{Closed, Station};
@@ -18,7 +18,7 @@ type Seen = (
 );
 
 // What a station answers to a transaction that makes a raw object of five bytes. `None`: it is stopped.
-fn made(station: &mut Station<MemoryDisk, Compares>) -> Option<(Reply, Closed)> {
+fn made(station: &mut Station<MemoryDisk, NoMedia, Compares>) -> Option<(Reply, Closed)> {
     station.begin().ok()?;
     if station.depth() == 0 {
         return None;
@@ -31,7 +31,8 @@ fn made(station: &mut Station<MemoryDisk, Compares>) -> Option<(Reply, Closed)> 
 }
 
 fn seen(alloc: Global) -> Option<Seen> {
-    let mut station = match Station::open(alloc, formatted(alloc)?, Notice::new(Compares)) {
+    let disk = formatted(alloc)?;
+    let mut station = match Station::open(alloc, disk, NoMedia::new(), Notice::new(Compares)) {
         Ok(station) => station,
         Err(_) => return None,
     };

@@ -57,9 +57,6 @@ An example: a disk of 81984 bytes has 256 lines of log and 1024 of heap.
     blocks 0 small 0 large 0
     $ sdrtool heap.disk recover
     recovered 0 lines
-
-So far replay serves no bond, clone_part, delimit, strip, transmit or receive:
-it refuses the first such line.
 ";
 
 /// Prints a text, and gives the status.

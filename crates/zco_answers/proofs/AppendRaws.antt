@@ -69,7 +69,7 @@ module _ (w : World) (raw addr : ℕ) (source : ZcoSource) (none : source_on w r
   abbrev with_source : World
   with_source = with_thing w addr (things.Source source)
 
-  named_first : source_on with_source raw ≡ Some addr
+  pub named_first : source_on with_source raw ≡ Some addr
   named_first = by (source_on with_source raw) refl
     where
       by : (o : Option ℕ) → source_on with_source raw ≡ o → source_on with_source raw ≡ Some addr

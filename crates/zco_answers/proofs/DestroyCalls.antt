@@ -1,5 +1,5 @@
 -- An object that is destroyed, as a step.
-use Rattle.std.proofs.Common.{◌≡◌, ◌∙◌, ◌+◌, ◌*◌, ◌≤◌, ℕ, List, [], ◌∷◌, ◌++◌, map, Option, true≢false, length, refl, sym, ap, subst, arith, length-append}
+use Rattle.std.proofs.Common.{◌≡◌, ◌∙◌, ◌+◌, ◌*◌, ◌≤◌, ℕ, List, [], ◌∷◌, ◌++◌, map, Option, true≢false, length, refl, sym, ap, subst, arith, length-append, None}
 use Rattle.std.proofs.lemmas.List.{length-map}
 use Rattle.std.specs.Option.{option_map_or}
 use Rattle.std.specs.Prelude.{All}
@@ -10,7 +10,7 @@ use Rattle.sdr_audit.specs.Rows.{extent_row, object_row}
 use Rattle.sdr_audit.specs.Standing.{HeapStandsFor, entries_of, with_taken_marked}
 use Rattle.sdr_base.specs.Entries.{Changes}
 use Rattle.sdr_base.specs.Objects.{Heap, Misses, OnlyUnmoved}
-use Rattle.sdr_base.specs.ZcoObjects.{ExtentRow, capsule_addr}
+use Rattle.sdr_base.specs.ZcoObjects.{capsule_addr}
 use Rattle.sdr_base.specs.declared.account.Acct.{Acct}
 use Rattle.sdr_base.specs.declared.kind.Kind.TheVariants as kinds
 use Rattle.sdr_base.specs.declared.kind.Space.{Space}
@@ -45,10 +45,11 @@ use Rattle.zco_acct.specs.Kept.{queue_entries}
 use Rattle.zco_acct.specs.Words.{occupied_in}
 use Rattle.zco_answers.proofs.ChargeLemmas.{stays}
 use Rattle.zco_answers.proofs.DropLemmas.{framed}
+use Rattle.zco_answers.proofs.DestroyLeft.{extents_few}
 use Rattle.zco_answers.proofs.DestroyKept.{keeps_sources, sources, used}
 use Rattle.zco_answers.proofs.GoneLosses.{lost_charge, lost_fields, lost_fits}
 use Rattle.zco_answers.proofs.GoneMoves.{charge_same, destroyed_same}
-use Rattle.zco_answers.proofs.GoneTies.{left_things, lost_is, lost_world}
+use Rattle.zco_answers.proofs.GoneTies.{leaves_none, left_things, lost_is, lost_world}
 use Rattle.zco_answers.proofs.GoneWorlds.{beside, left_first, own_blocks, own_first}
 use Rattle.zco_answers.proofs.MovedLemmas.{moved_stands}
 use Rattle.zco_answers.proofs.MovingLemmas.{both_alike, moved}
@@ -59,16 +60,8 @@ use Rattle.zco_granted.proofs.AccountLemmas.{unmarked}
 use Rattle.zco_granted.proofs.ComingLemmas.{log_full}
 use Rattle.zco_granted.specs.Answering.{KeepsTickets, Serves}
 use Rattle.zco_obj.specs.Destroying.{DestroysObject, DestroyStops, KeepsSources, ObjectGone, charges_of, gone_object, gone_parts, parts_lines}
-use Rattle.zco_obj.specs.Gone.{NamedSource, going_before, gone_blocks, source_at, sources_left}
+use Rattle.zco_obj.specs.Gone.{NamedSource, gone_blocks, sources_left}
 use Rattle.zco_obj.specs.Reading.{Tells}
-
--- each extent goes itself
-extents_few : (sources : List NamedSource) (all es : List ExtentRow) → length es ≤ length (gone_blocks sources all es)
-extents_few sources all [] = omega arith
-extents_few sources all (e ∷ es) =
-    let before = going_before all es (source_at e.source sources) in
-    let rest = gone_blocks sources all es in
-    omega (arith, extents_few sources all es, length-append before (e.addr ∷ rest))
 
 -- a call on a heap that stands for a world in which it is served
 module _ (old : Heap) (w : World) (unmoved : old.moves ≡ []) (s : HeapStandsFor old w) (served : IsServed w) (small : IsSmall old)
@@ -83,7 +76,7 @@ module _ (old : Heap) (w : World) (unmoved : old.moves ≡ []) (s : HeapStandsFo
 
     -- the world without it, before the queue is served, and after
     abbrev pub lost : World
-    lost = lost_world w addr z
+    lost = lost_world w addr z.extents None
 
     abbrev after : World
     after = record (with_served lost z.account) { shown = [] }
@@ -94,7 +87,7 @@ module _ (old : Heap) (w : World) (unmoved : old.moves ≡ []) (s : HeapStandsFo
     destroy_row : ByRow w (record { moves = gave (destroy_blocks w addr z); after = after; reply = replies.Done }) (calls.Destroy addr)
     destroy_row =
         on_some _ _ (object_at w addr) z (ap as_object at.there)
-        (refl, ap (λ (v : World). record (with_served v z.account) { shown = [] }) (sym (lost_is w addr z)), refl)
+        (refl, ap (λ (v : World). record (with_served v z.account) { shown = [] }) (sym (lost_is w addr z.extents)), refl)
 
     pub aim : Aim w (calls.Destroy addr)
     aim = record { to = _; row = destroy_row; answered = refl }
@@ -126,15 +119,15 @@ module _ (old : Heap) (w : World) (unmoved : old.moves ≡ []) (s : HeapStandsFo
         let u = used w addr z served.whole.fits at.there in
         let acct = z.account in
         let ts = tickets_of w.accounts acct in
-        let m = left_things w addr z in
+        let m = left_things w addr z.extents None in
         let charges : MovesCharge w.things m acct nothing frees = lost_charge w addr z at.there served.whole.fits in
         let moves = gave (gone_object addr (object_row z) rows) in
-        let own = own_blocks w addr z at.there served.whole.fits u.sources u.are in
+        let own = own_blocks w addr z at.there served.whole.fits z.extents None (leaves_none z) u.sources u.are in
         let left = sources_left z.account (map extent_row z.extents) rows in
         let changes : Changes old.blocks mid.blocks (entries_of w) (entries_of (moved w m acct ts)) =
-        both_alike w m acct ts own left (beside w addr z at.there served.whole.fits u.sources u.are)
-        (own_first w addr z at.there served.whole.fits u.sources u.are)
-        (left_first w addr z at.there served.whole.fits u.sources u.are fits)
+        both_alike w m acct ts own left (beside w addr z at.there served.whole.fits z.extents None (leaves_none z) u.sources u.are)
+        (own_first w addr z at.there served.whole.fits z.extents None (leaves_none z) u.sources u.are)
+        (left_first w addr z at.there served.whole.fits z.extents None (leaves_none z) u.sources u.are fits)
         (framed own left (queue_entries acct ts) g.changes) in
         let stood : HeapStandsFor mid (with_taken_marked (moved w m acct ts) moves) =
         moved_stands w m acct ts (minus (occupied_in old acct) (charges_of (object_row z) rows)) charges.other
@@ -179,7 +172,7 @@ module _ (old : Heap) (w : World) (unmoved : old.moves ≡ []) (s : HeapStandsFo
         grants_between lost (with_served lost acct) ≡ grants_of w (calls.Destroy addr)
     grants_same {acct} told =
         ap (λ (a : Acct). grants_between lost (with_served lost a)) (own_account told)
-        ∙ ap (λ (v : World). grants_between w (with_served v z.account)) (sym (lost_is w addr z))
+        ∙ ap (λ (v : World). grants_between w (with_served v z.account)) (sym (lost_is w addr z.extents))
         ∙ ap (λ (o : Option ZcoObject). grants_between w
         (option_map_or
         (λ z. with_served (without_thing (without_things w (gone_things w z.extents z.extents)) addr) z.account) o w))

@@ -1,5 +1,5 @@
 -- An object of a world, kept in its blocks with the sources that its extents name and with the queue of its account.
-use Rattle.std.proofs.Common.{◌≡◌, ◌∙◌, ◌+◌, ◌≤◌, ℕ, List, [], ◌∷◌, ◌++◌, map, true, sym, ap, subst, arith, append_assoc}
+use Rattle.std.proofs.Common.{◌≡◌, ◌∙◌, ◌+◌, ◌≤◌, ℕ, List, [], ◌∷◌, ◌++◌, map, true, sym, ap, subst, arith, append_assoc, None}
 use Rattle.std.proofs.lemmas.List.Elements.{All-cons, All-nil}
 use Rattle.std.specs.Prelude.{All, Some, if◌then◌else◌}
 use Rattle.sdr_answers.proofs.ListLemmas.{IsSmall}
@@ -24,7 +24,7 @@ use Rattle.sdr_model.specs.declared.zco.Extent.{Extent}
 use Rattle.sdr_model.specs.declared.zco.ZcoObject.{ZcoObject}
 use Rattle.zco_answers.proofs.AlikeLemmas.{StandAlike}
 use Rattle.zco_answers.proofs.GoneMoves.{naming_rows}
-use Rattle.zco_answers.proofs.GoneTies.{counts_less, lost_world}
+use Rattle.zco_answers.proofs.GoneTies.{counts_less, leaves_none, lost_world}
 use Rattle.zco_answers.proofs.GoneUses.{IsFound, UsedBy, UsedSource, itself, named_later, named_of, used_by}
 use Rattle.zco_answers.proofs.GoneWorlds.{beside, own_first}
 use Rattle.zco_answers.proofs.ObjectLemmas.{object_beside, object_fits}
@@ -47,13 +47,13 @@ used w addr z fits there = used_by w z.extents fits z.extents (lie w addr z fits
 -- in a heap that stands for a world in which calls are served
 module _ (heap : Heap) (w : World) (s : HeapStandsFor heap w) (served : IsServed w) (small : IsSmall heap) (addr : ℕ) (z : ZcoObject)
     (there : thing_at w addr ≡ Some (things.Object z)) where
-  abbrev mine : UsedBy w z.extents z.extents
+  abbrev pub mine : UsedBy w z.extents z.extents
   mine = used w addr z served.whole.fits there
 
   abbrev pub sources : List NamedSource
   sources = map (named_of w z.extents) mine.sources
 
-  abbrev extents : List ExtentRow
+  abbrev pub extents : List ExtentRow
   extents = map extent_row z.extents
 
   -- are found, and count its extents
@@ -68,10 +68,10 @@ module _ (heap : Heap) (w : World) (s : HeapStandsFor heap w) (served : IsServed
   enough : (u : UsedSource w z.extents) → rows.naming u.addr extents ≤ count_in z.account (counted_in w u.addr u.source)
   enough u =
       by z.account
-      (λ acct. counts_less w addr z there served.whole.fits mine.sources mine.are u.addr acct)
+      (λ acct. counts_less w addr z there served.whole.fits z.extents None (leaves_none z) mine.sources mine.are u.addr acct)
     where
       by : (acct : Acct) →
-          ((b : Acct) → count_of (lost_world w addr z) u.addr b
+          ((b : Acct) → count_of (lost_world w addr z.extents None) u.addr b
           + (if is_same_account b acct then naming u.addr z.extents else 0) ≡ count_of w u.addr b) →
           rows.naming u.addr extents ≤ count_in acct (counted_in w u.addr u.source)
       by accts.Inbound less =
@@ -89,19 +89,19 @@ module _ (heap : Heap) (w : World) (s : HeapStandsFor heap w) (served : IsServed
       })
       (all_counted us)
 
-  named : AreNamed z.account extents sources
+  pub named : AreNamed z.account extents sources
   named = record { there = all_there z.extents mine.are.found; counted = all_counted mine.sources }
 
   -- their blocks may stand behind the object's, before all others
-  abbrev rest : Entries
-  rest = beside w addr z there served.whole.fits mine.sources mine.are
+  abbrev pub rest : Entries
+  rest = beside w addr z there served.whole.fits z.extents None (leaves_none z) mine.sources mine.are
 
-  sources_behind : StandAlike (section (thing_entries (ties_of w)) w.things)
+  pub sources_behind : StandAlike (section (thing_entries (ties_of w)) w.things)
       (object_entries addr (object_row z) ++ (sources_entries sources ++ rest))
   sources_behind =
       subst (λ (es : Entries). StandAlike (section (thing_entries (ties_of w)) w.things) es)
       (append_assoc (object_entries addr (object_row z)) (sources_entries sources) rest)
-      (own_first w addr z there served.whole.fits mine.sources mine.are)
+      (own_first w addr z there served.whole.fits z.extents None (leaves_none z) mine.sources mine.are)
 
   -- so the object is kept with them
   pub keeps_sources : KeepsSources heap.blocks addr (object_row z) sources
@@ -118,7 +118,7 @@ module _ (heap : Heap) (w : World) (s : HeapStandsFor heap w) (served : IsServed
       }
 
   -- and with the queue of its account
-  pub with_all : SomeWithAll heap addr
+  unfoldable pub with_all : SomeWithAll heap addr
   with_all = record {
     row = object_row z;
     tickets = tickets_of w.accounts z.account;

@@ -38,7 +38,7 @@ two_before all later (Some s) = by (goes_with all s && (naming s.addr later == 0
     by false = omega arith
 
 -- so no more than three go with an extent
-three_blocks : (sources : List NamedSource) (all es : List ExtentRow) → length (gone_blocks sources all es) ≤ 3 * length es
+pub three_blocks : (sources : List NamedSource) (all es : List ExtentRow) → length (gone_blocks sources all es) ≤ 3 * length es
 three_blocks sources all [] = omega arith
 three_blocks sources all (e ∷ es) =
     let before = going_before all es (source_at e.source sources) in
@@ -49,6 +49,14 @@ three_blocks sources all (e ∷ es) =
       two_before all es (source_at e.source sources),
       length-append before (e.addr ∷ rest),
     )
+
+-- each extent goes itself
+pub extents_few : (sources : List NamedSource) (all es : List ExtentRow) → length es ≤ length (gone_blocks sources all es)
+extents_few sources all [] = omega arith
+extents_few sources all (e ∷ es) =
+    let before = going_before all es (source_at e.source sources) in
+    let rest = gone_blocks sources all es in
+    omega (arith, extents_few sources all es, length-append before (e.addr ∷ rest))
 
 -- an object that is kept with its sources and with the queue of its account
 module _ {heap : Heap} {object : ℕ} (k : SomeWithAll heap object) where
@@ -62,14 +70,14 @@ module _ {heap : Heap} {object : ℕ} (k : SomeWithAll heap object) where
   named = sources_entries k.sources
 
   -- is kept alone
-  kept_alone : KeepsObject heap.blocks object row
+  pub kept_alone : KeepsObject heap.blocks object row
   kept_alone = record { rest = _; stands = k.beside.keeps.stands; fits = k.beside.keeps.fits }
 
   pub alone : SomeObject heap.blocks object
   alone = record { row = row; keeps = kept_alone }
 
   -- and with its sources alone
-  pub sources_kept : KeepsSources heap.blocks object row k.sources
+  unfoldable pub sources_kept : KeepsSources heap.blocks object row k.sources
   sources_kept =
       let own = object_entries object row in
       let behind = k.beside.behind in

@@ -1,5 +1,5 @@
 -- The blocks that go where an object is destroyed are no more than a heap has room for.
-use Rattle.std.proofs.Common.{◌≡◌, ◌≤◌, ◌+◌, ◌*◌, ℕ, List, [], ◌∷◌, ◌++◌, map, Bool, true, false, Some, length, ap, arith}
+use Rattle.std.proofs.Common.{◌≡◌, ◌≤◌, ◌+◌, ◌*◌, ℕ, List, [], ◌∷◌, ◌++◌, map, Bool, true, false, Some, length, ap, arith, None}
 use Rattle.std.proofs.lemmas.List.{length-append, length-map}
 use Rattle.std.specs.Option.{option_to_list}
 use Rattle.std.specs.Prelude.{if◌then◌else◌}
@@ -21,6 +21,7 @@ use Rattle.sdr_model.specs.declared.zco.Subject.{Subject}
 use Rattle.sdr_model.specs.declared.zco.Subject.TheVariants as subjects
 use Rattle.sdr_model.specs.declared.zco.ZcoObject.{ZcoObject}
 use Rattle.zco_answers.proofs.DestroyKept.{used}
+use Rattle.zco_answers.proofs.GoneTies.{leaves_none}
 use Rattle.zco_answers.proofs.GoneUses.{UsedSource, all_gone, gone_at, goes, named_of}
 use Rattle.zco_answers.proofs.GoneWorlds.{beside, own_blocks, own_first}
 use Rattle.zco_obj.specs.Gone.{sources_entries}
@@ -28,7 +29,7 @@ use Rattle.zco_ref.specs.Kept.{raw_part, tied_entries}
 use Rattle.zco_served.proofs.SourceLemmas.{counted_in}
 
 -- extents go with the things that go with them
-both_go : (w : World) (all es : List Extent) → length (gone_blocks w all es) ≡ length (gone_things w all es) + length es
+pub both_go : (w : World) (all es : List Extent) → length (gone_blocks w all es) ≡ length (gone_things w all es) + length es
 both_go w all [] = omega arith
 both_go w all (e ∷ es) =
     omega (
@@ -53,7 +54,7 @@ module _ (w : World) (all : List Extent) where
       by true (subjects.Heap raw) = omega arith
       by true (subjects.Obj raw) = omega arith
 
-  all_few : (us : List (UsedSource w all)) → length (all_gone w all us) ≤ length (sources_entries (map (named_of w all) us))
+  pub all_few : (us : List (UsedSource w all)) → length (all_gone w all us) ≤ length (sources_entries (map (named_of w all) us))
   all_few [] = omega arith
   all_few (u ∷ us) =
       omega (
@@ -71,8 +72,9 @@ pub destroyed_few : (heap : Heap) (w : World) (addr : ℕ) (z : ZcoObject) → H
 destroyed_few heap w addr z s fits few there =
     let u = used w addr z fits there in
     let row = object_row z in
-    let own = own_blocks w addr z there fits u.sources u.are in
-    let rest = beside w addr z there fits u.sources u.are in
+    let own = own_blocks w addr z there fits z.extents None (leaves_none z) u.sources u.are in
+    let rest = beside w addr z there fits z.extents None (leaves_none z) u.sources u.are in
+    let first = own_first w addr z there fits z.extents None (leaves_none z) u.sources u.are in
     let headers = capsule_entries row.headers in
     let extents = extent_entries row.extents in
     let trailers = capsule_entries row.trailers in
@@ -82,7 +84,7 @@ destroyed_few heap w addr z s fits few there =
     let same = ap (λ (ks : List ℕ). length ks) u.are.gone in
     omega (
       arith,
-      few.few ((own ++ rest) ++ other_entries w) ((own_first w addr z there fits u.sources u.are).forth heap.blocks (other_entries w) s.blocks),
+      few.few ((own ++ rest) ++ other_entries w) (first.forth heap.blocks (other_entries w) s.blocks),
       both_go w z.extents z.extents,
       same,
       all_few w z.extents u.sources,

@@ -131,7 +131,7 @@ module _ (w : World) (all : List Extent) where
         (other_owner w k a v.addr (keys_at w all v.addr v.source) its (key_owner v) apart.0)
         (keys_apart k a us its apart.1)
 
-    each_apart : (a : ℕ) (us : List (UsedSource w all)) (ks : List ℕ) → AllByRecursion (λ k. owner_of w k ≡ Some a) ks →
+    pub each_apart : (a : ℕ) (us : List (UsedSource w all)) (ks : List ℕ) → AllByRecursion (λ k. owner_of w k ≡ Some a) ks →
         AreApart a (addresses w all us) → AllByRecursion (λ k. AreApart k (all_keys w all us)) ks
     each_apart a us [] own apart = tt
     each_apart a us (k ∷ ks) own apart = (keys_apart k a us own.0 apart, each_apart a us ks own.1 apart)

@@ -60,13 +60,13 @@ module _ (w : World) (addr : ℕ) (z : ZcoObject) (there : thing_at w addr ≡ S
         (Queued.same refl (gone_accounts w gone)) refl refl;
   }
 
-  things_are : outcome.after.things ≡ left_things w addr z
-  things_are = ap (λ (v : World). v.things) (lost_is w addr z)
+  things_are : outcome.after.things ≡ left_things w addr z.extents None
+  things_are = ap (λ (v : World). v.things) (lost_is w addr z.extents)
 
   -- numbers fit their fields still
-  pub lost_fields : FitsFields w → FitsFields (lost_world w addr z)
+  pub lost_fields : FitsFields w → FitsFields (lost_world w addr z.extents None)
   lost_fields fit =
-      subst FitsFields (lost_is w addr z) (fields.lost_fits (without_things w gone) addr (fields.gone_fits w gone fit))
+      subst FitsFields (lost_is w addr z.extents) (fields.lost_fits (without_things w gone) addr (fields.gone_fits w gone fit))
 
   module _ (fits : FitTogether w) where
     fresh : AreFresh (addresses_of (blocks_of w)) outcome.moves
@@ -77,16 +77,16 @@ module _ (w : World) (addr : ℕ) (z : ZcoObject) (there : thing_at w addr ≡ S
     all_went = drops_gone (fits_from w fits) fresh drops
 
     -- sources and extents fit each other still
-    pub lost_fits : FitTogether (lost_world w addr z)
-    lost_fits = fits_to (lost_world w addr z) (subst (λ (m : Things). Fits m NoSpare) things_are all_went.fits)
+    pub lost_fits : FitTogether (lost_world w addr z.extents None)
+    lost_fits = fits_to (lost_world w addr z.extents None) (subst (λ (m : Things). Fits m NoSpare) things_are all_went.fits)
 
     -- and its account is charged less by what it charged
-    pub lost_charge : MovesCharge w.things (left_things w addr z) z.account nothing (λ space. object_charge (of w.things) space z)
+    pub lost_charge : MovesCharge w.things (left_things w addr z.extents None) z.account nothing (λ space. object_charge (of w.things) space z)
     unfolding drops
     lost_charge =
         let one : MovesCharge w.things (lose w.things addr) z.account nothing (λ space. object_charge (of w.things) space z) =
         object_moves w.things addr z.account (Some z) None nothing (λ space. object_charge (of w.things) space z) there refl tt
         (λ space. omega arith) in
-        let same : SameCharge (lose w.things addr) (left_things w addr z) =
+        let same : SameCharge (lose w.things addr) (left_things w addr z.extents None) =
         λ acct space. ap (λ (m : Things). things_charge m acct space) (sym things_are) ∙ all_went.charges acct space in
         before_same one same

@@ -9,7 +9,7 @@ mod ChainLemmas
 mod PlaceLemmas
 mod PartingLemmas
 mod PartedLemmas
-mod OutsideLaws
+pub mod OutsideLaws
 mod SpanLemmas
 mod StripLemmas
 mod RowsOfParts

@@ -1,5 +1,5 @@
-use Rattle.std.proofs.Common.{[], ◌≡◌, ◌∙◌, ◌&&◌, not, false, ap, refl, sym}
-use Rattle.sdr_lock.specs.Core.{Under, has_left, log_after, under}
+use Rattle.std.proofs.Common.{[], ◌≡◌, ◌∙◌, ◌&&◌, not, false, ap, refl}
+use Rattle.sdr_lock.specs.Core.{has_left, log_after, under}
 use Rattle.sdr_lock.specs.Roll.{number_of}
 use Rattle.sdr_lock.specs.Serving.{made_with}
 use Rattle.sdr_core.proofs.LeaveNotes.{leave_after, leave_kept, leave_outside, leave_room, leave_waits}

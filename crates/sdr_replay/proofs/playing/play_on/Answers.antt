@@ -8,7 +8,7 @@ use Rattle.sdr_replay.proofs.playing.play_on.Goals as goal
 
 pub loop-step-init : goal.loop-step-init
 loop-step-init g c = record {
-  running = subst (λ names. Running g.T.HasGround g.J.Origin.begins c.args.script.now c.args.script.now names c.args.core.now
+  running = subst (λ names. Running g.T.HasGround g.J.Origin.begins c.args.core.now.lock.base c.args.script.now c.args.script.now names c.args.core.now
       (IsPrinted c.args.printing.now (output g.K.Sink.taken g.K.Sink.faults c.args.out.now) (output g.K.Sink.taken g.K.Sink.faults c.args.out.now)))
       (sym c.new-bindings.ensures) c.requires.running;
   lasts = c.requires.lasts;
@@ -22,19 +22,20 @@ returns-in_default-make-clause-ran g c =
     let seen : g.row.K.Denot → Output = output g.K.Sink.taken g.K.Sink.faults in
     let first : Output = seen c.args.out.now in
     let b = g.J.Origin.begins in
+    let before = c.args.core.now.lock.base in
     let old = c.loop-step in
     let new = c.make.new in
-    let r : Running g.T.HasGround b c.args.script.now (c.in-Some.step.now ∷ c.in-Some.after.now) old.bindings old.core (IsPrinted old.printing first (seen old.out)) =
-    subst (λ (rest : List Step). Running g.T.HasGround b c.args.script.now rest old.bindings old.core (IsPrinted old.printing first (seen old.out))) e
+    let r : Running g.T.HasGround b before c.args.script.now (c.in-Some.step.now ∷ c.in-Some.after.now) old.bindings old.core (IsPrinted old.printing first (seen old.out)) =
+    subst (λ (rest : List Step). Running g.T.HasGround b before c.args.script.now rest old.bindings old.core (IsPrinted old.printing first (seen old.out))) e
     old.invariant.running in
     elim c.in_default-make.ensures.err [
-      | inl same ↦ has_run g.T.HasGround b c.args.script.now (c.in-Some.step.now ∷ c.in-Some.after.now) new.core true (IsPrinted new.printing first (seen new.out))
+      | inl same ↦ has_run g.T.HasGround b before c.args.script.now (c.in-Some.step.now ∷ c.in-Some.after.now) new.core true (IsPrinted new.printing first (seen new.out))
           (λ no. absurd (true≢false no))
-          (made_still g.T.HasGround b c.args.script.now (c.in-Some.step.now ∷ c.in-Some.after.now) old.core new.core old.printing new.printing first (seen old.out)
+          (made_still g.T.HasGround b before c.args.script.now (c.in-Some.step.now ∷ c.in-Some.after.now) old.core new.core old.printing new.printing first (seen old.out)
           (seen new.out) r.at same.0 (ap seen same.1) same.2)
-      | inr a ↦ has_run g.T.HasGround b c.args.script.now c.in-Some.after.now new.core true (IsPrinted new.printing first (seen new.out))
+      | inr a ↦ has_run g.T.HasGround b before c.args.script.now c.in-Some.after.now new.core true (IsPrinted new.printing first (seen new.out))
           (λ no. absurd (true≢false no))
-          (made_next g.T.HasGround b c.args.script.now c.in-Some.step.now c.in-Some.after.now old.bindings old.core new.core old.printing new.printing first
+          (made_next g.T.HasGround b before c.args.script.now c.in-Some.step.now c.in-Some.after.now old.bindings old.core new.core old.printing new.printing first
           (seen old.out) (seen new.out) r old.invariant.later a)
     ]
 
@@ -44,14 +45,15 @@ loop-step-preserved g c =
     let seen : g.row.K.Denot → Output = output g.K.Sink.taken g.K.Sink.faults in
     let first : Output = seen c.args.out.now in
     let b = g.J.Origin.begins in
+    let before = c.args.core.now.lock.base in
     let old = c.loop-step in
     let new = c.make.new in
     let made = c.in-Ok.ensures.makes in
     record {
       running =
-          running_next g.T.HasGround b c.args.script.now c.in-Some.step.now c.in-Some.after.now old.bindings old.core new.core old.printing new.printing first
+          running_next g.T.HasGround b before c.args.script.now c.in-Some.step.now c.in-Some.after.now old.bindings old.core new.core old.printing new.printing first
           (seen old.out) (seen new.out)
-          (subst (λ (rest : List Step). Running g.T.HasGround b c.args.script.now rest old.bindings old.core (IsPrinted old.printing first (seen old.out))) e
+          (subst (λ (rest : List Step). Running g.T.HasGround b before c.args.script.now rest old.bindings old.core (IsPrinted old.printing first (seen old.out))) e
           old.invariant.running) old.invariant.later made.answers new.bindings made.names;
       lasts = λ n. made.answers.makes.asks.kept.lasts n (old.invariant.lasts (suc n));
       drawn = omega (arith, old.invariant.drawn, made.answers.makes.drawn, ap length e);
@@ -60,6 +62,6 @@ loop-step-preserved g c =
 
 pub returns-clause-ran : goal.returns-clause-ran
 returns-clause-ran g c =
-    has_run g.T.HasGround g.J.Origin.begins c.args.script.now c.loop-step.rest.now c.loop-step.core false
+    has_run g.T.HasGround g.J.Origin.begins c.args.core.now.lock.base c.args.script.now c.loop-step.rest.now c.loop-step.core false
     (IsPrinted c.loop-step.printing (output g.K.Sink.taken g.K.Sink.faults c.args.out.now) (output g.K.Sink.taken g.K.Sink.faults c.loop-step.out))
     (λ done. nil_from_length c.loop-step.rest.now (search c.in_default.ensures)) c.loop-step.invariant.running.at

@@ -6,7 +6,7 @@ use Rattle.sdr_replay.proofs.playing.play_on.Given as goal
 
 abbrev pub invariant-loop-step : goal.invariant-loop-step
 invariant-loop-step g l = record {
-  running : Running g.T.HasGround g.J.Origin.begins l.fn.script l.rest l.bindings l.core
+  running : Running g.T.HasGround g.J.Origin.begins l.fn.core.lock.base l.fn.script l.rest l.bindings l.core
       (IsPrinted l.printing (output g.K.Sink.taken g.K.Sink.faults l.fn.out) (output g.K.Sink.taken g.K.Sink.faults l.out));
   lasts : LastsOn g.T.HasGround l.core.lock.base;
   drawn : l.core.lock.roll.drawn + length l.rest ≤ 1_048_577;

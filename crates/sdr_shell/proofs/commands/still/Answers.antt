@@ -109,8 +109,8 @@ returns-in-Some-Replay g c =
     let e = c.replay_input-status.ensures in
     let form : form_of c.args.words.now ≡ Some Replay = search rules in
     record {
-      usage = (λ is. absurd (never_usage _ _ _ _ _ _ _ _ _ e.answers.comes is), λ none. absurd (search rules));
-      usage_text = λ is. absurd (never_usage _ _ _ _ _ _ _ _ _ e.answers.comes is);
+      usage = (λ is. absurd (never_usage _ _ _ _ _ _ _ _ _ _ _ _ e.answers.comes is), λ none. absurd (search rules));
+      usage_text = λ is. absurd (never_usage _ _ _ _ _ _ _ _ _ _ _ _ e.answers.comes is);
       dry = search rules;
       replay = λ _. e.answers;
       recover = search rules;
@@ -119,8 +119,8 @@ returns-in-Some-Replay g c =
       synced = on_form _ Replay _ form tt;
       counts = search rules;
       given = λ other. absurd (other form);
-      media = search rules;
-      unread = search rules;
+      media = e.media;
+      unread = λ dry other. absurd (other form);
       same = search rules;
       told = (e.keeps.tells, e.keeps.size);
     }

@@ -1,6 +1,7 @@
-use Rattle.std.proofs.Common.{◌∙◌, arith, subst, sym}
+-- No call has more moves than are told.
+use Rattle.std.proofs.Common.{◌/◌, ◌∙◌, arith, subst, sym}
 use Rattle.sdr_model.specs.declared.call.Call.{Call}
-use Rattle.sdr_station.proofs.RoomLemmas.{is_other, moves_append, moves_destroy, moves_none, moves_one}
+use Rattle.sdr_station.proofs.RoomLemmas.{is_other, moves_append, moves_bond, moves_long, moves_none, moves_one}
 use Rattle.sdr_station.specs.Rooming.{MovesAtMost}
 use Rattle.sdr_station.proofs.station.most_moves.Goals as goal
 
@@ -11,7 +12,13 @@ returns-then-is_reading c = record {
 }
 
 pub returns-in-ListDestroy-clause-most : goal.returns-in-ListDestroy-clause-most
-returns-in-ListDestroy-clause-most c = moves_destroy c.args.size c.args.call.now c.in-ListDestroy.is
+returns-in-ListDestroy-clause-most c = moves_long c.args.size c.args.call.now c.in-ListDestroy.is
+
+pub returns-in-Bond-clause-most : goal.returns-in-Bond-clause-most
+returns-in-Bond-clause-most c =
+    let b = c.in-Bond in
+    subst (λ (call : Call). MovesAtMost c.args.size call (c.args.size / 4)) (sym b.is)
+    (moves_bond c.args.size b.field-0 b.field-1)
 
 pub returns-in-AppendExtent-clause-most : goal.returns-in-AppendExtent-clause-most
 returns-in-AppendExtent-clause-most c =
@@ -24,7 +31,8 @@ returns-in_default c =
     let d = c.in_default in
     record {
       most =
-          moves_one c.args.size c.args.call.now c.requires
-          (is_other c.args.call.now d.not-ListDestroy d.not-HashDestroy d.not-Destroy d.not-AppendExtent);
+          moves_one c.args.size c.args.call.now
+          (is_other c.args.call.now d.not-ListDestroy d.not-HashDestroy d.not-Destroy d.not-Strip d.not-ClonePart
+          d.not-Bond d.not-AppendExtent);
       few = omega arith;
     }

@@ -1,4 +1,4 @@
-use Rattle.std.proofs.Common.{◌≡◌, ◌∙◌, ◌≤◌, ◌+◌, None, Some, arith, subst, sym}
+use Rattle.std.proofs.Common.{◌≡◌, ◌∙◌, None, Some, arith, subst, sym}
 use Rattle.sdr_lock.specs.Leaving.{served_daemon}
 use Rattle.sdr_core.proofs.LeavingLemmas.{holders_more, holders_none, lasts_on, leave_fewer, leave_many, served_may}
 use Rattle.sdr_core.proofs.core_run.Core.+holders_leave.Goals as goal
@@ -35,9 +35,6 @@ returns-in-Some-clause-daemons g t c =
     let served : served_daemon self.lock.roll ≡ Some d = subst (λ r. served_daemon r ≡ Some d) c.roll.ensures.roll (sym c.in-Some.ensures) in
     c.holders_leave.ensures.daemons
     ∙ leave_many g.T.HasGround 0 c.args.leave c.make_leave.result self.lock next.lock self.log next.log d c.make_leave.ensures c.roll.ensures.stands c.roll.ensures.first served
-
-pub returns-in-Some-clause-told : goal.returns-in-Some-clause-told
-returns-in-Some-clause-told g t c = c.holders_leave.ensures.told ∙ c.make_leave.ensures.asks.kept.media
 
 pub returns-in-Some-clause-drawn : goal.returns-in-Some-clause-drawn
 returns-in-Some-clause-drawn g t c =

@@ -1,4 +1,4 @@
-use Rattle.std.proofs.Common.{◌≡◌, ◌∙◌, ◌++◌, ℕ, List, ap, arith, filter, length, map, not, subst, sym}
+use Rattle.std.proofs.Common.{◌≡◌, ◌∙◌, ◌++◌, ℕ, List, ap, arith, filter, length, map, not, subst}
 use Rattle.sdr_lock.proofs.HolderLemmas.{holders_few}
 use Rattle.sdr_lock.specs.Leaving.{LeaveInTurn, staying}
 use Rattle.sdr_lock.specs.Roll.{Roll}
@@ -38,6 +38,6 @@ returns g c =
     (c.daemons.ensures ∙ ap (λ (r : Roll). r.daemons) c.roll.ensures.roll) in
     record {
       left = all_leave g.T.HasGround told c.args.leave self mid next c.holders_leave.ensures.left
-          (subst (λ t. RunLeads g.T.HasGround (LeaveInTurn t c.args.leave (staying mid.lock.roll)) mid next) c.holders_leave.ensures.told
+          (subst (λ t. RunLeads g.T.HasGround (LeaveInTurn t c.args.leave (staying mid.lock.roll)) mid next) c.holders_leave.ensures.left.media
           (subst (λ (ds : List ℕ). RunLeads g.T.HasGround (LeaveInTurn (g.T.HasGround.told mid.lock.base) c.args.leave ds) mid next) items c.leave_in_turn.ensures.left));
     }

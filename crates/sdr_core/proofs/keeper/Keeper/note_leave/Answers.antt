@@ -1,7 +1,5 @@
-use Rattle.std.proofs.Common.{◌∙◌, ◌≡◌, ◌++◌, ◌∷◌, [], MatchOption, ap, refl, subst, sym}
-use Rattle.std.specs.Prelude.{⊤}
-use Rattle.sdr_lock.specs.Core.{said_by, was_outside, with_said, without_work}
-use Rattle.sdr_model.specs.declared.answer.Close.{Close}
+use Rattle.std.proofs.Common.{◌∙◌, ◌≡◌, ◌++◌, ◌∷◌, [], ap, refl, subst, sym}
+use Rattle.sdr_lock.specs.Core.{said_by, with_said}
 use Rattle.sdr_model.specs.declared.event.Event.TheVariants as events
 use Rattle.sdr_model.specs.declared.journal.What.TheVariants as whats
 use Rattle.sdr_runs.proofs.WorkLemmas.{said_more}

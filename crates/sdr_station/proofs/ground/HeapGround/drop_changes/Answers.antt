@@ -15,14 +15,17 @@ use Rattle.sdr_station.proofs.ground.HeapGround.drop_changes.Goals as goal
 pub returns-in-Ok : goal.returns-in-Ok
 returns-in-Ok g c =
     let D = g.row.D.Denot in
+    let M = g.row.M.Denot in
     let b = g.D.Disk.bytes in
     let m = g.D.Disk.moment in
     let l = g.D.Disk.may_leave in
     let f = g.D.Disk.faults in
+    let n = g.M.Media in
     let at = c.moment_since-self-inside in
     let e = c.in-Ok.ensures in
-    let old : Grounded D = record {
+    let old : Grounded D M = record {
       heap = c.self.inside.heap;
+      media = c.self.inside.media;
       shown = c.self.inside.shown;
       stopped = c.self.inside.stopped;
       idle = c.self.inside.idle;
@@ -30,8 +33,9 @@ returns-in-Ok g c =
       restored = c.self.inside.restored;
     } in
     let disk = c.cancel.new.heap.cells.disk in
-    let new : Grounded D = record {
+    let new : Grounded D M = record {
       heap = at.new.heap;
+      media = c.self.inside.media;
       shown = c.self.inside.shown;
       stopped = true;
       idle = false;
@@ -40,23 +44,24 @@ returns-in-Ok g c =
     } in
     let heap : at.new.heap ≡ (dropped_ground old disk at.result).heap = at.ensures.same ∙ e.ended in
     let is : new ≡ dropped_ground old disk at.result =
-    λ i. record { heap = heap i; shown = old.shown; stopped = true; idle = false; moment = at.result; restored = old.restored } in
+    λ i. record { heap = heap i; media = old.media; shown = old.shown; stopped = true; idle = false; moment = at.result; restored = old.restored } in
     let at_now = at.ensures.moment ∙ ap (λ (h : Held (Opened D)). max old.moment (m h.cells.disk)) at.ensures.same in
     let sound : old.heap.cells.failed ≡ false = e.cause.explained.0 in
-    let closed = closes_dropped b m f l old disk at.result at_now sound e.disk.tells _ (e.any_moment sound) new is c.self.invariant
+    let closed = closes_dropped b m f l n old disk at.result at_now sound e.disk.tells _ (e.any_moment sound) new is c.self.invariant
     e.cause.later (λ rests. subst (λ (h : Held (Opened D)). Rests b m l h.cells) e.ended (e.rests rests)) (λ image p. p) in
-    let all : ClosesTo b m f l false StandsStill c.args.self.now new = subst (λ (o : Grounded D). ClosesTo b m f l false StandsStill o new) c.self.view_is closed in
+    let all : ClosesTo b m f l n false StandsStill c.args.self.now new = subst (λ (o : Grounded D M). ClosesTo b m f l n false StandsStill o new) c.self.view_is closed in
     record {
       memory = all.memory;
       dropped = all.brings;
       back = λ was. (
         all.sound,
-        subst (λ (n : Grounded D). IsBefore n) (sym is)
-            (before_dropped m old disk at.result (subst (λ (n : Grounded D). IsGround m n) is closed.is_ground) sound),
+        subst (λ (n : Grounded D M). IsBefore n) (sym is)
+            (before_dropped m old disk at.result (subst (λ (n : Grounded D M). IsGround m n) is closed.is_ground) sound),
       );
       failed = λ was. absurd (true≢false was);
       fault = tt;
-      restored = ap (λ (o : Grounded D). o.restored) c.self.view_is;
+      restored = ap (λ (o : Grounded D M). o.restored) c.self.view_is;
+      media = ap (λ (o : Grounded D M). o.media) c.self.view_is;
       keeps = all.keeps;
       any_moment = all.any_moment;
     }
@@ -64,22 +69,26 @@ returns-in-Ok g c =
 pub returns-in-Err-DiskFault-clause-any_moment : goal.returns-in-Err-DiskFault-clause-any_moment
 returns-in-Err-DiskFault-clause-any_moment g c =
     let D = g.row.D.Denot in
+    let M = g.row.M.Denot in
     let b = g.D.Disk.bytes in
     let m = g.D.Disk.moment in
     let l = g.D.Disk.may_leave in
     let f = g.D.Disk.faults in
+    let n = g.M.Media in
     let at = c.moment_since-self-inside-in-Err-DiskFault in
     let e = c.in-Err-DiskFault.ensures in
-    let old : Grounded D = record {
+    let old : Grounded D M = record {
       heap = c.self.inside.heap;
+      media = c.self.inside.media;
       shown = c.self.inside.shown;
       stopped = c.self.inside.stopped;
       idle = c.self.inside.idle;
       moment = c.self.inside.moment;
       restored = c.self.inside.restored;
     } in
-    let new : Grounded D = record {
+    let new : Grounded D M = record {
       heap = at.new.heap;
+      media = c.self.inside.media;
       shown = c.self.inside.shown;
       stopped = true;
       idle = false;
@@ -89,21 +98,24 @@ returns-in-Err-DiskFault-clause-any_moment g c =
     let disk = c.cancel.new.heap.cells.disk in
     let at_now = at.ensures.moment ∙ ap (λ (h : Held (Opened D)). max old.moment (m h.cells.disk)) at.ensures.same in
     let sound : old.heap.cells.failed ≡ false = (subst (λ (s : Stop). Explains {T = Unit {0}} (transaction_of f old.heap.cells) (transaction_of f c.cancel.new.heap.cells) (Err s)) c.in-Err-DiskFault.field-0-is e.cause.explained).0 in
-    subst (λ (o : Grounded D). LeavesBefore (heap_ground b m f l) o new) c.self.view_is
-    (leaves_back b m f l old disk at.result at_now sound e.disk.tells _ (e.any_moment sound) new
+    subst (λ (o : Grounded D M). LeavesBefore (heap_ground b m f l n) o new) c.self.view_is
+    (leaves_back b m f l n old disk at.result at_now sound e.disk.tells _ (e.any_moment sound) new
     (ap (λ (h : Held (Opened D)). h.cells.disk) at.ensures.same) refl (λ image p. p))
 
 pub invariant_of-self : goal.invariant_of-self
 invariant_of-self g c =
     let D = g.row.D.Denot in
+    let M = g.row.M.Denot in
     let b = g.D.Disk.bytes in
     let m = g.D.Disk.moment in
     let l = g.D.Disk.may_leave in
     let f = g.D.Disk.faults in
+    let n = g.M.Media in
     let at = c.moment_since-self-inside in
     let e = c.in-Ok.ensures in
-    let old : Grounded D = record {
+    let old : Grounded D M = record {
       heap = c.self.inside.heap;
+      media = c.self.inside.media;
       shown = c.self.inside.shown;
       stopped = c.self.inside.stopped;
       idle = c.self.inside.idle;
@@ -111,8 +123,9 @@ invariant_of-self g c =
       restored = c.self.inside.restored;
     } in
     let disk = c.cancel.new.heap.cells.disk in
-    let new : Grounded D = record {
+    let new : Grounded D M = record {
       heap = at.new.heap;
+      media = c.self.inside.media;
       shown = c.self.inside.shown;
       stopped = true;
       idle = false;
@@ -121,9 +134,9 @@ invariant_of-self g c =
     } in
     let heap : at.new.heap ≡ (dropped_ground old disk at.result).heap = at.ensures.same ∙ e.ended in
     let is : new ≡ dropped_ground old disk at.result =
-    λ i. record { heap = heap i; shown = old.shown; stopped = true; idle = false; moment = at.result; restored = old.restored } in
+    λ i. record { heap = heap i; media = old.media; shown = old.shown; stopped = true; idle = false; moment = at.result; restored = old.restored } in
     let at_now = at.ensures.moment ∙ ap (λ (h : Held (Opened D)). max old.moment (m h.cells.disk)) at.ensures.same in
     let sound : old.heap.cells.failed ≡ false = e.cause.explained.0 in
-    let closed = closes_dropped b m f l old disk at.result at_now sound e.disk.tells _ (e.any_moment sound) new is c.self.invariant
+    let closed = closes_dropped b m f l n old disk at.result at_now sound e.disk.tells _ (e.any_moment sound) new is c.self.invariant
     e.cause.later (λ rests. subst (λ (h : Held (Opened D)). Rests b m l h.cells) e.ended (e.rests rests)) (λ image p. p) in
     closed.is_ground

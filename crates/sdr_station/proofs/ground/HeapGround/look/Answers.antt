@@ -1,8 +1,7 @@
 -- A ticket is seen in the world before the transaction, once changes that were made in it are dropped.
-use Rattle.std.proofs.Common.{◌≡◌, ◌∙◌, None, refl, sym, ap, subst}
-use Rattle.sdr_lock.specs.Serving.{Brings, Shows}
+use Rattle.std.proofs.Common.{None, ap, subst}
+use Rattle.sdr_lock.specs.Serving.{Shows}
 use Rattle.sdr_station.proofs.ClosingLemmas.{brings_failed}
-use Rattle.sdr_station.proofs.GroundLemmas.{heap_ground}
 use Rattle.sdr_station.proofs.LookLemmas.{before_idle, leaves_later, shows_failed, shows_later}
 use Rattle.sdr_station.proofs.ServingLemmas.{leaves_quiet}
 use Rattle.sdr_station.specs.Grounded.{Grounded, IsBefore, StandsForBoth, StandsInMemory}
@@ -10,13 +9,13 @@ use Rattle.sdr_station.proofs.ground.HeapGround.look.Goals as goal
 
 pub see-requires-clause-before : goal.see-requires-clause-before
 see-requires-clause-before g c =
-    subst (λ (o : Grounded g.row.D.Denot). IsBefore o) c.self.view_is
+    subst (λ (o : Grounded g.row.D.Denot g.row.M.Denot). IsBefore o) c.self.view_is
     (before_idle g.D.Disk.moment _ c.self.invariant c.if-self.true)
 
 pub returns-then-self-clause-any_moment : goal.returns-then-self-clause-any_moment
 returns-then-self-clause-any_moment g c =
-    leaves_quiet g.D.Disk.bytes g.D.Disk.moment g.D.Disk.faults g.D.Disk.may_leave c.args.self.now c.see.new.self
-    c.see.ensures.quiet.disk (ap (λ (o : Grounded g.row.D.Denot). o.moment) c.see.ensures.same)
+    leaves_quiet g.D.Disk.bytes g.D.Disk.moment g.D.Disk.faults g.D.Disk.may_leave g.M.Media c.args.self.now c.see.new.self
+    c.see.ensures.quiet.disk (ap (λ (o : Grounded g.row.D.Denot g.row.M.Denot). o.moment) c.see.ensures.same)
 
 pub returns-then-branch-clause-memory : goal.returns-then-branch-clause-memory
 returns-then-branch-clause-memory g c =
@@ -31,9 +30,9 @@ returns-then-branch-clause-shown g c =
 
 pub returns-then-branch-clause-any_moment : goal.returns-then-branch-clause-any_moment
 returns-then-branch-clause-any_moment g c =
-    leaves_later g.D.Disk.bytes g.D.Disk.moment g.D.Disk.faults g.D.Disk.may_leave c.args.self.now c.drop_changes.new.self
+    leaves_later g.D.Disk.bytes g.D.Disk.moment g.D.Disk.faults g.D.Disk.may_leave g.M.Media c.args.self.now c.drop_changes.new.self
     c.see-then-branch.new.self c.see-then-branch.ensures.quiet.disk
-    (ap (λ (o : Grounded g.row.D.Denot). o.moment) c.see-then-branch.ensures.same) c.drop_changes.ensures.any_moment
+    (ap (λ (o : Grounded g.row.D.Denot g.row.M.Denot). o.moment) c.see-then-branch.ensures.same) c.drop_changes.ensures.any_moment
 
 pub returns-clause-memory : goal.returns-clause-memory
 returns-clause-memory g c =

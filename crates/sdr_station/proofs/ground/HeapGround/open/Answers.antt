@@ -31,20 +31,22 @@ returns-in-Err-check-clause-any_moment g c x is may =
 pub returns-in-Ok-new-clause-opened : goal.returns-in-Ok-new-clause-opened
 returns-in-Ok-new-clause-opened g c =
     let D = g.row.D.Denot in
+    let M = g.row.M.Denot in
     let b = g.D.Disk.bytes in
     let m = g.D.Disk.moment in
     let l = g.D.Disk.may_leave in
     let made = c.in-Ok-new.ensures.made in
-    subst (λ (n : Grounded D). IsOpen b m l c.args.disk n)
+    subst (λ (n : Grounded D M). IsOpen b m l c.args.disk n)
     (λ i. record {
       heap = sym made i;
+      media = c.args.media;
       shown = sym c.new-in-Ok-new.ensures i;
       stopped = false;
       idle = true;
       moment = sym c.now-moment.ensures.moment i;
       restored = sym c.restored-restored.ensures i;
     })
-    (open_stands b m l c.args.disk c.in-Ok.image c.check.new.c _ _ c.in-Ok.ensures.opened c.check.ensures.reads.quiet c.check.ensures.reads.bytes c.check.ensures.reads.touched c.in_default.ensures.stands)
+    (open_stands b m l c.args.disk c.args.media c.in-Ok.image c.check.new.c _ _ c.in-Ok.ensures.opened c.check.ensures.reads.quiet c.check.ensures.reads.bytes c.check.ensures.reads.touched c.in_default.ensures.stands)
 
 pub returns-in-Ok-new-clause-any_moment : goal.returns-in-Ok-new-clause-any_moment
 returns-in-Ok-new-clause-any_moment g c x is may =
@@ -61,17 +63,19 @@ returns-in-Err-new-clause-any_moment g c x is may =
 pub invariant_of-result : goal.invariant_of-result
 invariant_of-result g c =
     let D = g.row.D.Denot in
+    let M = g.row.M.Denot in
     let b = g.D.Disk.bytes in
     let m = g.D.Disk.moment in
     let l = g.D.Disk.may_leave in
     let made = c.in-Ok-new.ensures.made in
-    open_ground b m l c.args.disk _ (omega (arith, ap (λ (h : Held (Opened D)). m h.cells.disk) made, c.now-moment.ensures.moment)) (subst (λ (n : Grounded D). IsOpen b m l c.args.disk n)
+    open_ground b m l c.args.disk _ (omega (arith, ap (λ (h : Held (Opened D)). m h.cells.disk) made, c.now-moment.ensures.moment)) (subst (λ (n : Grounded D M). IsOpen b m l c.args.disk n)
     (λ i. record {
       heap = sym made i;
+      media = c.args.media;
       shown = sym c.new-in-Ok-new.ensures i;
       stopped = false;
       idle = true;
       moment = sym c.now-moment.ensures.moment i;
       restored = sym c.restored-restored.ensures i;
     })
-    (open_stands b m l c.args.disk c.in-Ok.image c.check.new.c _ _ c.in-Ok.ensures.opened c.check.ensures.reads.quiet c.check.ensures.reads.bytes c.check.ensures.reads.touched c.in_default.ensures.stands))
+    (open_stands b m l c.args.disk c.args.media c.in-Ok.image c.check.new.c _ _ c.in-Ok.ensures.opened c.check.ensures.reads.quiet c.check.ensures.reads.bytes c.check.ensures.reads.touched c.in_default.ensures.stands))

@@ -14,14 +14,17 @@ use Rattle.sdr_station.proofs.ground.HeapGround.restore.Goals as goal
 pub returns-in-Ok : goal.returns-in-Ok
 returns-in-Ok g c =
     let D = g.row.D.Denot in
+    let M = g.row.M.Denot in
     let b = g.D.Disk.bytes in
     let m = g.D.Disk.moment in
     let l = g.D.Disk.may_leave in
     let f = g.D.Disk.faults in
+    let n = g.M.Media in
     let at = c.moment_since-self-inside in
     let e = c.in-Ok.ensures in
-    let old : Grounded D = record {
+    let old : Grounded D M = record {
       heap = c.self.inside.heap;
+      media = c.self.inside.media;
       shown = c.self.inside.shown;
       stopped = c.self.inside.stopped;
       idle = c.self.inside.idle;
@@ -29,8 +32,9 @@ returns-in-Ok g c =
       restored = c.self.inside.restored;
     } in
     let disk = c.cancel.new.heap.cells.disk in
-    let new : Grounded D = record {
+    let new : Grounded D M = record {
       heap = at.new.heap;
+      media = c.self.inside.media;
       shown = c.clear.new.self;
       stopped = false;
       idle = true;
@@ -39,19 +43,20 @@ returns-in-Ok g c =
     } in
     let heap : at.new.heap ≡ (back_ground old disk at.result).heap = at.ensures.same ∙ e.ended in
     let is : new ≡ back_ground old disk at.result =
-    λ i. record { heap = heap i; shown = c.clear.ensures i; stopped = false; idle = true; moment = at.result; restored = old.restored } in
+    λ i. record { heap = heap i; media = old.media; shown = c.clear.ensures i; stopped = false; idle = true; moment = at.result; restored = old.restored } in
     let at_now = at.ensures.moment ∙ ap (λ (h : Held (Opened D)). max old.moment (m h.cells.disk)) at.ensures.same in
     let sound : old.heap.cells.failed ≡ false = e.cause.explained.0 in
-    let closed = closes_back b m f l old disk at.result at_now sound e.disk.tells _ (e.any_moment sound) new is c.self.invariant
+    let closed = closes_back b m f l n old disk at.result at_now sound e.disk.tells _ (e.any_moment sound) new is c.self.invariant
     e.cause.later (λ rests. subst (λ (h : Held (Opened D)). Rests b m l h.cells) e.ended (e.rests rests)) (λ image p. p) in
-    let all : ClosesTo b m f l false PutsBack c.args.self.now new = subst (λ (o : Grounded D). ClosesTo b m f l false PutsBack o new) c.self.view_is closed in
+    let all : ClosesTo b m f l n false PutsBack c.args.self.now new = subst (λ (o : Grounded D M). ClosesTo b m f l n false PutsBack o new) c.self.view_is closed in
     record {
       memory = all.memory;
       put_back = all.brings;
       going = λ _. refl;
       idle = λ _. refl;
-      sound = all.sound ∙ sym (ap (λ (o : Grounded D). o.heap.cells.failed) (sym c.self.view_is) ∙ sound);
-      restored = ap (λ (o : Grounded D). o.restored) c.self.view_is;
+      sound = all.sound ∙ sym (ap (λ (o : Grounded D M). o.heap.cells.failed) (sym c.self.view_is) ∙ sound);
+      restored = ap (λ (o : Grounded D M). o.restored) c.self.view_is;
+      media = ap (λ (o : Grounded D M). o.media) c.self.view_is;
       fault = tt;
       keeps = all.keeps;
       any_moment = all.any_moment;
@@ -60,22 +65,26 @@ returns-in-Ok g c =
 pub returns-in-Err-DiskFault-clause-any_moment : goal.returns-in-Err-DiskFault-clause-any_moment
 returns-in-Err-DiskFault-clause-any_moment g c =
     let D = g.row.D.Denot in
+    let M = g.row.M.Denot in
     let b = g.D.Disk.bytes in
     let m = g.D.Disk.moment in
     let l = g.D.Disk.may_leave in
     let f = g.D.Disk.faults in
+    let n = g.M.Media in
     let at = c.moment_since-self-inside-in-Err-DiskFault in
     let e = c.in-Err-DiskFault.ensures in
-    let old : Grounded D = record {
+    let old : Grounded D M = record {
       heap = c.self.inside.heap;
+      media = c.self.inside.media;
       shown = c.self.inside.shown;
       stopped = c.self.inside.stopped;
       idle = c.self.inside.idle;
       moment = c.self.inside.moment;
       restored = c.self.inside.restored;
     } in
-    let new : Grounded D = record {
+    let new : Grounded D M = record {
       heap = at.new.heap;
+      media = c.self.inside.media;
       shown = c.self.inside.shown;
       stopped = true;
       idle = false;
@@ -85,21 +94,24 @@ returns-in-Err-DiskFault-clause-any_moment g c =
     let disk = c.cancel.new.heap.cells.disk in
     let at_now = at.ensures.moment ∙ ap (λ (h : Held (Opened D)). max old.moment (m h.cells.disk)) at.ensures.same in
     let sound : old.heap.cells.failed ≡ false = (subst (λ (s : Stop). Explains {T = Unit {0}} (transaction_of f old.heap.cells) (transaction_of f c.cancel.new.heap.cells) (Err s)) c.in-Err-DiskFault.field-0-is e.cause.explained).0 in
-    subst (λ (o : Grounded D). LeavesBefore (heap_ground b m f l) o new) c.self.view_is
-    (leaves_back b m f l old disk at.result at_now sound e.disk.tells _ (e.any_moment sound) new
+    subst (λ (o : Grounded D M). LeavesBefore (heap_ground b m f l n) o new) c.self.view_is
+    (leaves_back b m f l n old disk at.result at_now sound e.disk.tells _ (e.any_moment sound) new
     (ap (λ (h : Held (Opened D)). h.cells.disk) at.ensures.same) refl (λ image p. p))
 
 pub invariant_of-self : goal.invariant_of-self
 invariant_of-self g c =
     let D = g.row.D.Denot in
+    let M = g.row.M.Denot in
     let b = g.D.Disk.bytes in
     let m = g.D.Disk.moment in
     let l = g.D.Disk.may_leave in
     let f = g.D.Disk.faults in
+    let n = g.M.Media in
     let at = c.moment_since-self-inside in
     let e = c.in-Ok.ensures in
-    let old : Grounded D = record {
+    let old : Grounded D M = record {
       heap = c.self.inside.heap;
+      media = c.self.inside.media;
       shown = c.self.inside.shown;
       stopped = c.self.inside.stopped;
       idle = c.self.inside.idle;
@@ -107,8 +119,9 @@ invariant_of-self g c =
       restored = c.self.inside.restored;
     } in
     let disk = c.cancel.new.heap.cells.disk in
-    let new : Grounded D = record {
+    let new : Grounded D M = record {
       heap = at.new.heap;
+      media = c.self.inside.media;
       shown = c.clear.new.self;
       stopped = false;
       idle = true;
@@ -117,9 +130,9 @@ invariant_of-self g c =
     } in
     let heap : at.new.heap ≡ (back_ground old disk at.result).heap = at.ensures.same ∙ e.ended in
     let is : new ≡ back_ground old disk at.result =
-    λ i. record { heap = heap i; shown = c.clear.ensures i; stopped = false; idle = true; moment = at.result; restored = old.restored } in
+    λ i. record { heap = heap i; media = old.media; shown = c.clear.ensures i; stopped = false; idle = true; moment = at.result; restored = old.restored } in
     let at_now = at.ensures.moment ∙ ap (λ (h : Held (Opened D)). max old.moment (m h.cells.disk)) at.ensures.same in
     let sound : old.heap.cells.failed ≡ false = e.cause.explained.0 in
-    let closed = closes_back b m f l old disk at.result at_now sound e.disk.tells _ (e.any_moment sound) new is c.self.invariant
+    let closed = closes_back b m f l n old disk at.result at_now sound e.disk.tells _ (e.any_moment sound) new is c.self.invariant
     e.cause.later (λ rests. subst (λ (h : Held (Opened D)). Rests b m l h.cells) e.ended (e.rests rests)) (λ image p. p) in
     closed.is_ground

@@ -12,24 +12,28 @@ use Rattle.sdr_station.proofs.ground.HeapGround.save.Goals as goal
 pub returns-in-Ok : goal.returns-in-Ok
 returns-in-Ok g c =
     let D = g.row.D.Denot in
+    let M = g.row.M.Denot in
     let b = g.D.Disk.bytes in
     let m = g.D.Disk.moment in
     let l = g.D.Disk.may_leave in
     let f = g.D.Disk.faults in
+    let n = g.M.Media in
     let at = c.moment_since-self-inside in
     let e = c.in-Ok.ensures in
-    let old : Grounded D = record {
+    let old : Grounded D M = record {
       heap = c.self.inside.heap;
+      media = c.self.inside.media;
       shown = c.self.inside.shown;
       stopped = c.self.inside.stopped;
       idle = c.self.inside.idle;
       moment = c.self.inside.moment;
       restored = c.self.inside.restored;
     } in
-    let going : old.stopped ≡ false = ap (λ (o : Grounded D). o.stopped) c.self.view_is ∙ c.requires.going in
+    let going : old.stopped ≡ false = ap (λ (o : Grounded D M). o.stopped) c.self.view_is ∙ c.requires.going in
     let disk = c.commit.new.heap.cells.disk in
-    let new : Grounded D = record {
+    let new : Grounded D M = record {
       heap = at.new.heap;
+      media = c.self.inside.media;
       shown = c.clear.new.self;
       stopped = false;
       idle = true;
@@ -38,19 +42,20 @@ returns-in-Ok g c =
     } in
     let heap : at.new.heap ≡ (kept_ground old disk at.result).heap = at.ensures.same ∙ e.ended in
     let is : new ≡ kept_ground old disk at.result =
-    λ i. record { heap = heap i; shown = c.clear.ensures i; stopped = false; idle = true; moment = at.result; restored = old.restored } in
+    λ i. record { heap = heap i; media = old.media; shown = c.clear.ensures i; stopped = false; idle = true; moment = at.result; restored = old.restored } in
     let at_now = at.ensures.moment ∙ ap (λ (h : Held (Opened D)). max old.moment (m h.cells.disk)) at.ensures.same in
     let sound : old.heap.cells.failed ≡ false = e.cause.explained.0 in
-    let closed = closes_kept b m f l old disk at.result at_now sound e.disk.tells _ (e.any_moment sound) new is c.self.invariant going
+    let closed = closes_kept b m f l n old disk at.result at_now sound e.disk.tells _ (e.any_moment sound) new is c.self.invariant going
     e.cause.later (λ rests. subst (λ (h : Held (Opened D)). Rests b m l h.cells) e.ended (e.rests rests)) (λ image p. p) in
-    let all : ClosesTo b m f l true Keeps c.args.self.now new = subst (λ (o : Grounded D). ClosesTo b m f l true Keeps o new) c.self.view_is closed in
+    let all : ClosesTo b m f l n true Keeps c.args.self.now new = subst (λ (o : Grounded D M). ClosesTo b m f l n true Keeps o new) c.self.view_is closed in
     record {
       memory = all.memory;
       kept = all.brings;
       going = refl;
       idle = refl;
       sound = all.sound;
-      restored = ap (λ (o : Grounded D). o.restored) c.self.view_is;
+      restored = ap (λ (o : Grounded D M). o.restored) c.self.view_is;
+      media = ap (λ (o : Grounded D M). o.media) c.self.view_is;
       fault = tt;
       keeps = all.keeps;
       any_moment = all.any_moment;
@@ -59,23 +64,27 @@ returns-in-Ok g c =
 pub returns-in-Err-clause-any_moment : goal.returns-in-Err-clause-any_moment
 returns-in-Err-clause-any_moment g c =
     let D = g.row.D.Denot in
+    let M = g.row.M.Denot in
     let b = g.D.Disk.bytes in
     let m = g.D.Disk.moment in
     let l = g.D.Disk.may_leave in
     let f = g.D.Disk.faults in
+    let n = g.M.Media in
     let at = c.moment_since-self-inside-in-Err in
     let e = c.in-Err.ensures in
-    let old : Grounded D = record {
+    let old : Grounded D M = record {
       heap = c.self.inside.heap;
+      media = c.self.inside.media;
       shown = c.self.inside.shown;
       stopped = c.self.inside.stopped;
       idle = c.self.inside.idle;
       moment = c.self.inside.moment;
       restored = c.self.inside.restored;
     } in
-    let going : old.stopped ≡ false = ap (λ (o : Grounded D). o.stopped) c.self.view_is ∙ c.requires.going in
-    let new : Grounded D = record {
+    let going : old.stopped ≡ false = ap (λ (o : Grounded D M). o.stopped) c.self.view_is ∙ c.requires.going in
+    let new : Grounded D M = record {
       heap = at.new.heap;
+      media = c.self.inside.media;
       shown = c.self.inside.shown;
       stopped = true;
       idle = false;
@@ -85,31 +94,35 @@ returns-in-Err-clause-any_moment g c =
     let disk = c.commit.new.heap.cells.disk in
     let at_now = at.ensures.moment ∙ ap (λ (h : Held (Opened D)). max old.moment (m h.cells.disk)) at.ensures.same in
     let sound : old.heap.cells.failed ≡ false = c.self.invariant.sound going in
-    subst (λ (o : Grounded D). LeavesEither (heap_ground b m f l) o new) c.self.view_is
-    (leaves_either b m f l old disk at.result at_now sound e.disk.tells _ (e.any_moment sound) new
+    subst (λ (o : Grounded D M). LeavesEither (heap_ground b m f l n) o new) c.self.view_is
+    (leaves_either b m f l n old disk at.result at_now sound e.disk.tells _ (e.any_moment sound) new
     (ap (λ (h : Held (Opened D)). h.cells.disk) at.ensures.same) refl going (λ image p. p))
 
 pub invariant_of-self : goal.invariant_of-self
 invariant_of-self g c =
     let D = g.row.D.Denot in
+    let M = g.row.M.Denot in
     let b = g.D.Disk.bytes in
     let m = g.D.Disk.moment in
     let l = g.D.Disk.may_leave in
     let f = g.D.Disk.faults in
+    let n = g.M.Media in
     let at = c.moment_since-self-inside in
     let e = c.in-Ok.ensures in
-    let old : Grounded D = record {
+    let old : Grounded D M = record {
       heap = c.self.inside.heap;
+      media = c.self.inside.media;
       shown = c.self.inside.shown;
       stopped = c.self.inside.stopped;
       idle = c.self.inside.idle;
       moment = c.self.inside.moment;
       restored = c.self.inside.restored;
     } in
-    let going : old.stopped ≡ false = ap (λ (o : Grounded D). o.stopped) c.self.view_is ∙ c.requires.going in
+    let going : old.stopped ≡ false = ap (λ (o : Grounded D M). o.stopped) c.self.view_is ∙ c.requires.going in
     let disk = c.commit.new.heap.cells.disk in
-    let new : Grounded D = record {
+    let new : Grounded D M = record {
       heap = at.new.heap;
+      media = c.self.inside.media;
       shown = c.clear.new.self;
       stopped = false;
       idle = true;
@@ -118,31 +131,34 @@ invariant_of-self g c =
     } in
     let heap : at.new.heap ≡ (kept_ground old disk at.result).heap = at.ensures.same ∙ e.ended in
     let is : new ≡ kept_ground old disk at.result =
-    λ i. record { heap = heap i; shown = c.clear.ensures i; stopped = false; idle = true; moment = at.result; restored = old.restored } in
+    λ i. record { heap = heap i; media = old.media; shown = c.clear.ensures i; stopped = false; idle = true; moment = at.result; restored = old.restored } in
     let at_now = at.ensures.moment ∙ ap (λ (h : Held (Opened D)). max old.moment (m h.cells.disk)) at.ensures.same in
     let sound : old.heap.cells.failed ≡ false = e.cause.explained.0 in
-    let closed = closes_kept b m f l old disk at.result at_now sound e.disk.tells _ (e.any_moment sound) new is c.self.invariant going
+    let closed = closes_kept b m f l n old disk at.result at_now sound e.disk.tells _ (e.any_moment sound) new is c.self.invariant going
     e.cause.later (λ rests. subst (λ (h : Held (Opened D)). Rests b m l h.cells) e.ended (e.rests rests)) (λ image p. p) in
     closed.is_ground
 
 pub returns-in-Err-clause-fault : goal.returns-in-Err-clause-fault
 returns-in-Err-clause-fault g c =
     let D = g.row.D.Denot in
+    let M = g.row.M.Denot in
     let b = g.D.Disk.bytes in
     let m = g.D.Disk.moment in
     let l = g.D.Disk.may_leave in
     let f = g.D.Disk.faults in
+    let n = g.M.Media in
     let e = c.in-Err.ensures in
     let at = c.moment_since-self-inside-in-Err in
-    let new : Grounded D = record {
+    let new : Grounded D M = record {
       heap = at.new.heap;
+      media = c.self.inside.media;
       shown = c.self.inside.shown;
       stopped = true;
       idle = false;
       moment = at.result;
       restored = c.self.inside.restored;
     } in
-    let going = ap (λ (o : Grounded D). o.stopped) c.self.view_is ∙ c.requires.going in
-    subst (λ (o : Grounded D). MeetsFault (heap_ground b m f l) o new) c.self.view_is
-    (meets_fault b m f l _ new c.commit.new.heap.cells _ (ap (λ (h : Held (Opened D)). h.cells.disk) at.ensures.same)
+    let going = ap (λ (o : Grounded D M). o.stopped) c.self.view_is ∙ c.requires.going in
+    subst (λ (o : Grounded D M). MeetsFault (heap_ground b m f l n) o new) c.self.view_is
+    (meets_fault b m f l n _ new c.commit.new.heap.cells _ (ap (λ (h : Held (Opened D)). h.cells.disk) at.ensures.same)
     (c.self.invariant.sound going) e.cause.explained e.answered)

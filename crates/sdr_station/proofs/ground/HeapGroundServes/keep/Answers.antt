@@ -4,5 +4,5 @@ use Rattle.sdr_station.proofs.ground.HeapGroundServes.keep.Goals as goal
 
 pub returns-then-self-clause-any_moment : goal.returns-then-self-clause-any_moment
 returns-then-self-clause-any_moment g c =
-    let h = heap_ground g.D.Disk.bytes g.D.Disk.moment g.D.Disk.faults g.D.Disk.may_leave in
+    let h = heap_ground g.D.Disk.bytes g.D.Disk.moment g.D.Disk.faults g.D.Disk.may_leave g.M.Media in
     ground.leaves_either h (ground.leaves_same h c.args.self.now)

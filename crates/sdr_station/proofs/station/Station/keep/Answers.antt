@@ -9,18 +9,20 @@ use Rattle.sdr_station.proofs.station.Station.keep.Goals as goal
 pub returns-in-Ok : goal.returns-in-Ok
 returns-in-Ok g c =
     let D = g.row.D.Denot in
-    let h = heap_ground g.D.Disk.bytes g.D.Disk.moment g.D.Disk.faults g.D.Disk.may_leave in
-    let old : Stationed D = record { ground = c.self.inside.ground; nesting = c.self.inside.nesting; failed = c.self.inside.failed } in
-    let new : Stationed D = record { ground = c.save.new.self; nesting = c.none-self-inside.result; failed = c.self.inside.failed } in
-    subst (λ (o : Stationed D). Closes h closes.Ended o new (Ok closed.Ended)) c.self.view_is (record {
+    let M = g.row.M.Denot in
+    let h = heap_ground g.D.Disk.bytes g.D.Disk.moment g.D.Disk.faults g.D.Disk.may_leave g.M.Media in
+    let old : Stationed D M = record { ground = c.self.inside.ground; nesting = c.self.inside.nesting; failed = c.self.inside.failed } in
+    let new : Stationed D M = record { ground = c.save.new.self; nesting = c.none-self-inside.result; failed = c.self.inside.failed } in
+    subst (λ (o : Stationed D M). Closes h closes.Ended o new (Ok closed.Ended)) c.self.view_is (record {
       closes = record {
         is_told = refl;
         memory = c.in-Ok.ensures.memory;
         settles = c.in-Ok.ensures.kept;
-        failed = ap (λ (s : Stationed D). s.failed) c.self.view_is ∙ c.requires.sound;
+        failed = ap (λ (s : Stationed D M). s.failed) c.self.view_is ∙ c.requires.sound;
       };
       nesting = c.none-self-inside.ensures;
       restored = c.in-Ok.ensures.restored;
+      media = c.in-Ok.ensures.media;
       keeps = c.in-Ok.ensures.keeps;
       any_moment = c.in-Ok.ensures.any_moment;
     })
@@ -28,13 +30,15 @@ returns-in-Ok g c =
 pub returns-in-Err : goal.returns-in-Err
 returns-in-Err g c =
     let D = g.row.D.Denot in
-    let h = heap_ground g.D.Disk.bytes g.D.Disk.moment g.D.Disk.faults g.D.Disk.may_leave in
-    let old : Stationed D = record { ground = c.self.inside.ground; nesting = c.self.inside.nesting; failed = c.self.inside.failed } in
-    let new : Stationed D = record { ground = c.save.new.self; nesting = c.none-self-inside-in-Err.result; failed = Some c.moment.result } in
-    subst (λ (o : Stationed D). Closes h closes.Ended o new (Err stops.DiskFault)) c.self.view_is (record {
+    let M = g.row.M.Denot in
+    let h = heap_ground g.D.Disk.bytes g.D.Disk.moment g.D.Disk.faults g.D.Disk.may_leave g.M.Media in
+    let old : Stationed D M = record { ground = c.self.inside.ground; nesting = c.self.inside.nesting; failed = c.self.inside.failed } in
+    let new : Stationed D M = record { ground = c.save.new.self; nesting = c.none-self-inside-in-Err.result; failed = Some c.moment.result } in
+    subst (λ (o : Stationed D M). Closes h closes.Ended o new (Err stops.DiskFault)) c.self.view_is (record {
       closes = record { is_fault = refl; fault = c.in-Err.ensures.fault; failed = ap (λ (m : ℕ). Some m) c.moment.ensures };
       nesting = c.none-self-inside-in-Err.ensures;
       restored = c.in-Err.ensures.restored;
+      media = c.in-Err.ensures.media;
       keeps = c.in-Err.ensures.keeps;
       any_moment = c.in-Err.ensures.any_moment;
     })

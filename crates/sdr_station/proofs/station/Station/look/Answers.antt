@@ -1,8 +1,7 @@
 -- What a ground shows of a ticket is told.
-use Rattle.std.proofs.Common.{◌≡◌, ◌∙◌, ℕ, Bool, true, false, true≢false, Option, None, Some, refl, sym, ap, subst}
+use Rattle.std.proofs.Common.{◌≡◌, ◌∙◌, ℕ, Bool, false, true≢false, Option, None, Some, refl, sym, ap, subst}
 use Rattle.std.specs.Prelude.{is_some}
 use Rattle.sdr_lock.proofs.WorkLemmas.{on_none}
-use Rattle.sdr_lock.specs.Serving.{shown_in}
 use Rattle.sdr_station.specs.Grounded.{Grounded}
 use Rattle.sdr_station.specs.Stationed.{IsTicketTold, LooksAt, StaysLooked, Stationed}
 use Rattle.sdr_station.proofs.station.Station.look.Goals as goal
@@ -14,7 +13,7 @@ none_of (Some x) is = absurd (true≢false is)
 pub returns-clause-looks : goal.returns-clause-looks
 returns-clause-looks g c =
     let none = none_of c.self.inside.failed (sym c.is_some.ensures ∙ c.if-is_some.false) in
-    subst (λ (o : Stationed g.row.D.Denot). LooksAt c.args.ticket o c.ticket_told.result) c.self.view_is
+    subst (λ (o : Stationed g.row.D.Denot g.row.M.Denot). LooksAt c.args.ticket o c.ticket_told.result) c.self.view_is
     (on_none _ _ c.self.inside.failed none
     (λ v at.
     subst (λ (o : Option Bool). IsTicketTold c.args.ticket o c.ticket_told.result)
@@ -23,13 +22,14 @@ returns-clause-looks g c =
 pub returns-clause-still : goal.returns-clause-still
 returns-clause-still g c =
     let D = g.row.D.Denot in
+    let M = g.row.M.Denot in
     let none = none_of c.self.inside.failed (sym c.is_some.ensures ∙ c.if-is_some.false) in
-    let outside = ap (λ (s : Stationed D). s.nesting.depth) c.self.view_is ∙ c.requires.outside in
+    let outside = ap (λ (s : Stationed D M). s.nesting.depth) c.self.view_is ∙ c.requires.outside in
     let looked = c.look.ensures.idle (c.self.invariant.outside none outside) in
     subst
-    (λ (o : Stationed D). StaysLooked o (record { ground = c.look.new.self; nesting = c.self.inside.nesting; failed = c.self.inside.failed }))
+    (λ (o : Stationed D M). StaysLooked o (record { ground = c.look.new.self; nesting = c.self.inside.nesting; failed = c.self.inside.failed }))
     c.self.view_is (record {
-      after = ap (λ (ground : Grounded D). record { ground = ground; nesting = c.self.inside.nesting; failed = c.self.inside.failed }) looked.0;
+      after = ap (λ (ground : Grounded D M). record { ground = ground; nesting = c.self.inside.nesting; failed = c.self.inside.failed }) looked.0;
       quiet = looked.1;
       still = record {
         each = λ v at.

@@ -8,19 +8,21 @@ use Rattle.sdr_station.proofs.station.Station.put_back.Goals as goal
 pub returns-in-Ok : goal.returns-in-Ok
 returns-in-Ok g c =
     let D = g.row.D.Denot in
-    let h = heap_ground g.D.Disk.bytes g.D.Disk.moment g.D.Disk.faults g.D.Disk.may_leave in
+    let M = g.row.M.Denot in
+    let h = heap_ground g.D.Disk.bytes g.D.Disk.moment g.D.Disk.faults g.D.Disk.may_leave g.M.Media in
     let close = c.args.close in
-    let old : Stationed D = record { ground = c.self.inside.ground; nesting = c.self.inside.nesting; failed = c.self.inside.failed } in
-    let new : Stationed D = record { ground = c.restore.new.self; nesting = c.none-self-inside.result; failed = c.self.inside.failed } in
-    subst (λ (o : Stationed D). Closes h close o new (Ok c.args.told)) c.self.view_is (record {
+    let old : Stationed D M = record { ground = c.self.inside.ground; nesting = c.self.inside.nesting; failed = c.self.inside.failed } in
+    let new : Stationed D M = record { ground = c.restore.new.self; nesting = c.none-self-inside.result; failed = c.self.inside.failed } in
+    subst (λ (o : Stationed D M). Closes h close o new (Ok c.args.told)) c.self.view_is (record {
       closes = record {
         is_told = c.requires.told;
         memory = settles_back close c.requires.unkept c.in-Ok.ensures.memory;
         settles = settles_back close c.requires.unkept c.in-Ok.ensures.put_back;
-        failed = ap (λ (s : Stationed D). s.failed) c.self.view_is ∙ c.requires.sound;
+        failed = ap (λ (s : Stationed D M). s.failed) c.self.view_is ∙ c.requires.sound;
       };
       nesting = c.none-self-inside.ensures;
       restored = c.in-Ok.ensures.restored;
+      media = c.in-Ok.ensures.media;
       keeps = c.in-Ok.ensures.keeps;
       any_moment = leaves_unkept h close old.ground new.ground c.requires.unkept c.in-Ok.ensures.any_moment;
     })
@@ -28,14 +30,16 @@ returns-in-Ok g c =
 pub returns-in-Err : goal.returns-in-Err
 returns-in-Err g c =
     let D = g.row.D.Denot in
-    let h = heap_ground g.D.Disk.bytes g.D.Disk.moment g.D.Disk.faults g.D.Disk.may_leave in
+    let M = g.row.M.Denot in
+    let h = heap_ground g.D.Disk.bytes g.D.Disk.moment g.D.Disk.faults g.D.Disk.may_leave g.M.Media in
     let close = c.args.close in
-    let old : Stationed D = record { ground = c.self.inside.ground; nesting = c.self.inside.nesting; failed = c.self.inside.failed } in
-    let new : Stationed D = record { ground = c.restore.new.self; nesting = c.none-self-inside-in-Err.result; failed = Some c.moment.result } in
-    subst (λ (o : Stationed D). Closes h close o new (Err stops.DiskFault)) c.self.view_is (record {
+    let old : Stationed D M = record { ground = c.self.inside.ground; nesting = c.self.inside.nesting; failed = c.self.inside.failed } in
+    let new : Stationed D M = record { ground = c.restore.new.self; nesting = c.none-self-inside-in-Err.result; failed = Some c.moment.result } in
+    subst (λ (o : Stationed D M). Closes h close o new (Err stops.DiskFault)) c.self.view_is (record {
       closes = record { is_fault = refl; fault = c.in-Err.ensures.fault; failed = ap (λ (m : ℕ). Some m) c.moment.ensures };
       nesting = c.none-self-inside-in-Err.ensures;
       restored = c.in-Err.ensures.restored;
+      media = c.in-Err.ensures.media;
       keeps = c.in-Err.ensures.keeps;
       any_moment = leaves_unkept h close old.ground new.ground c.requires.unkept c.in-Err.ensures.any_moment;
     })

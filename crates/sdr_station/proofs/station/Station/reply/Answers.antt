@@ -11,10 +11,11 @@ use Rattle.sdr_station.proofs.station.Station.reply.Goals as goal
 pub returns-clause-says : goal.returns-clause-says
 returns-clause-says g c =
     let D = g.row.D.Denot in
-    let h = heap_ground g.D.Disk.bytes g.D.Disk.moment g.D.Disk.faults g.D.Disk.may_leave in
-    let old : Stationed D = record { ground = c.self.inside.ground; nesting = c.self.inside.nesting; failed = c.self.inside.failed } in
-    let new : Stationed D = record { ground = c.serve-reply.new.self; nesting = c.note.new.self; failed = c.self.inside.failed } in
-    subst (λ (s : Stationed D). SaysOr h c.args.call.now c.serve-reply.result s new) c.self.view_is
+    let M = g.row.M.Denot in
+    let h = heap_ground g.D.Disk.bytes g.D.Disk.moment g.D.Disk.faults g.D.Disk.may_leave g.M.Media in
+    let old : Stationed D M = record { ground = c.self.inside.ground; nesting = c.self.inside.nesting; failed = c.self.inside.failed } in
+    let new : Stationed D M = record { ground = c.serve-reply.new.self; nesting = c.note.new.self; failed = c.self.inside.failed } in
+    subst (λ (s : Stationed D M). SaysOr h c.args.call.now c.serve-reply.result s new) c.self.view_is
     (on_none _ _ c.self.inside.failed c.in_default.is (on_none _ _ c.self.inside.nesting.doom c.in_default-doom.is
     (record {
       memory = c.serve-reply.ensures.memory;
@@ -22,6 +23,8 @@ returns-clause-says g c =
       nesting = c.note.ensures;
       failed = c.in_default.is;
       restored = c.serve-reply.ensures.restored;
+      gap = c.serve-reply.ensures.gap;
+      unread = c.serve-reply.ensures.unread;
       keeps = c.serve-reply.ensures.keeps;
     })))
 
@@ -34,26 +37,26 @@ invariant_of-self g c =
       going = λ sound none. c.serve-reply.ensures.stopped ∙ undoomed_noted call reply n (ap (λ (m : Nesting). m.doom) (sym c.note.ensures) ∙ none);
       idle = λ sound zero.
           let same : c.note.new.self.depth ≡ n.depth = ap (λ (m : Nesting). m.depth) c.note.ensures ∙ noted_depth call reply n in
-          let here : n.depth ≡ c.args.self.now.nesting.depth = ap (λ (s : Stationed g.row.D.Denot). s.nesting.depth) c.self.view_is in
+          let here : n.depth ≡ c.args.self.now.nesting.depth = ap (λ (s : Stationed g.row.D.Denot g.row.M.Denot). s.nesting.depth) c.self.view_is in
           absurd (omega (arith, same, here, zero, c.requires.begun));
       outside = λ sound zero.
           let same : c.note.new.self.depth ≡ n.depth = ap (λ (m : Nesting). m.depth) c.note.ensures ∙ noted_depth call reply n in
-          let here : n.depth ≡ c.args.self.now.nesting.depth = ap (λ (s : Stationed g.row.D.Denot). s.nesting.depth) c.self.view_is in
+          let here : n.depth ≡ c.args.self.now.nesting.depth = ap (λ (s : Stationed g.row.D.Denot g.row.M.Denot). s.nesting.depth) c.self.view_is in
           absurd (omega (arith, same, here, zero, c.requires.begun));
       sound = λ sound. c.serve-reply.ensures.sound;
     }
 
 pub returns-in-Some-clause-any_moment : goal.returns-in-Some-clause-any_moment
 returns-in-Some-clause-any_moment g c =
-    let h = heap_ground g.D.Disk.bytes g.D.Disk.moment g.D.Disk.faults g.D.Disk.may_leave in
+    let h = heap_ground g.D.Disk.bytes g.D.Disk.moment g.D.Disk.faults g.D.Disk.may_leave g.M.Media in
     leaves_same h c.args.self.now.ground
 
 pub returns-in-Some-doom-clause-any_moment : goal.returns-in-Some-doom-clause-any_moment
 returns-in-Some-doom-clause-any_moment g c =
-    let h = heap_ground g.D.Disk.bytes g.D.Disk.moment g.D.Disk.faults g.D.Disk.may_leave in
+    let h = heap_ground g.D.Disk.bytes g.D.Disk.moment g.D.Disk.faults g.D.Disk.may_leave g.M.Media in
     leaves_same h c.args.self.now.ground
 
 pub returns-clause-any_moment : goal.returns-clause-any_moment
 returns-clause-any_moment g c =
-    let h = heap_ground g.D.Disk.bytes g.D.Disk.moment g.D.Disk.faults g.D.Disk.may_leave in
-    subst (λ (s : Stationed g.row.D.Denot). LeavesBefore h s.ground c.serve-reply.new.self) c.self.view_is c.serve-reply.ensures.any_moment
+    let h = heap_ground g.D.Disk.bytes g.D.Disk.moment g.D.Disk.faults g.D.Disk.may_leave g.M.Media in
+    subst (λ (s : Stationed g.row.D.Denot g.row.M.Denot). LeavesBefore h s.ground c.serve-reply.new.self) c.self.view_is c.serve-reply.ensures.any_moment

@@ -1,0 +1,38 @@
+// Bonding an object, as a step of the machine.
+ghost use Rattle.std.specs.Prelude.{[], true, ◌+◌, ◌/◌, ◌≡◌, ◌≤◌};
+ghost use Rattle.sdr_answers.specs.Answering.{Comes, IsServed};
+ghost use Rattle.sdr_audit.specs.Standing.{HeapStandsFor};
+ghost use Rattle.sdr_base.specs.Moves.{KeepsSome};
+ghost use Rattle.sdr_base.specs.Works.{Works};
+ghost use Rattle.sdr_model.specs.Fields.{FitsCall};
+ghost use Rattle.sdr_model.specs.World.{World};
+ghost use Rattle.sdr_served.specs.Serving.{IsGood, bonding_lines, is_bond_call};
+
+use sdr_answers::Page;
+use sdr_base::{Objects, Stop};
+use sdr_model::{Call, Reply};
+
+// Whether the call bonds an object.
+pub fn is_bond_call(call: &Call) -> bool
+    ensures { result ≡ is_bond_call call.now }
+{
+    matches!(call, Call::Bond(_, _))
+}
+
+// Answers a call that bonds an object.
+pub fn answer<O: Objects>(o: &mut O, call: &Call, page: &mut Page) -> Result<Reply, Stop>
+    requires kept { KeepsSome (O.keeps o.old) }
+    requires room { (O.heap o.old).size / 4 + 4 ≤ (O.heap o.old).spare }
+    requires good { IsGood (O.heap o.old) }
+    requires unmoved { (O.heap o.old).moves ≡ [] }
+    requires one { is_bond_call call.now ≡ true }
+    ensures comes { Comes call.now (O.heap o.old) (O.heap o.new) page.old page.new result }
+    ensures works { (w : World) → HeapStandsFor (O.heap o.old) w → IsServed w →
+        Works O.HasHeap (bonding_lines w call.now) o.old o.new result }
+    ensures fits { FitsCall call.now }
+{
+    match call {
+        Call::Bond(object, ticket) => zco_bond_answers::bond(o, *object, *ticket, page),
+        _ => unreachable!(),
+    }
+}

@@ -1,0 +1,44 @@
+// Cutting an object to its part, as a step of the machine.
+ghost use Rattle.std.specs.Prelude.{[], true, ◌+◌, ◌/◌, ◌≡◌, ◌≤◌};
+ghost use Rattle.sdr_answers.specs.Answering.{Comes, IsServed};
+ghost use Rattle.sdr_audit.specs.Standing.{HeapStandsFor};
+ghost use Rattle.sdr_base.specs.Moves.{KeepsSome};
+ghost use Rattle.sdr_base.specs.Works.{Works};
+ghost use Rattle.sdr_model.specs.Fields.{FitsCall};
+ghost use Rattle.sdr_model.specs.World.{World};
+ghost use Rattle.sdr_served.specs.Serving.{IsGood, cut_lines, is_cut_call};
+
+use sdr_answers::Page;
+use sdr_base::{Objects, Stop};
+use sdr_model::{Call, Reply};
+use zco_acct::{Notice, Notify};
+
+// Whether the call cuts an object to its part.
+pub fn is_cut_call(call: &Call) -> bool
+    ensures { result ≡ is_cut_call call.now }
+{
+    matches!(call, Call::Strip(_))
+}
+
+// Answers a call that cuts an object to its part.
+pub fn answer<O: Objects, F: Notify>(
+    o: &mut O,
+    call: &Call,
+    notice: &Notice<F>,
+    page: &mut Page,
+) -> Result<Reply, Stop>
+    requires kept { KeepsSome (O.keeps o.old) }
+    requires room { (O.heap o.old).size / 4 + 4 ≤ (O.heap o.old).spare }
+    requires good { IsGood (O.heap o.old) }
+    requires unmoved { (O.heap o.old).moves ≡ [] }
+    requires one { is_cut_call call.now ≡ true }
+    ensures comes { Comes call.now (O.heap o.old) (O.heap o.new) page.old page.new result }
+    ensures works { (w : World) → HeapStandsFor (O.heap o.old) w → IsServed w →
+        Works O.HasHeap (cut_lines w call.now) o.old o.new result }
+    ensures fits { FitsCall call.now }
+{
+    match call {
+        Call::Strip(object) => zco_cut_answers::strip(o, *object, notice, page),
+        _ => unreachable!(),
+    }
+}

@@ -1,0 +1,10 @@
+pub mod ThingsLemmas
+pub mod TiesLemmas
+pub mod RowLemmas
+pub mod FreshLemmas
+pub mod ChargeLemmas
+pub mod WorldLemmas
+pub mod BondRows
+pub mod BondCalls
+pub mod LinesLemmas
+pub mod DemandLemmas

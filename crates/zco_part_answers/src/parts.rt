@@ -1,0 +1,31 @@
+// The call that sets the part of an object, as a step of the machine.
+ghost use Rattle.std.specs.Prelude.{[], ◌≡◌};
+ghost use Rattle.sdr_answers.specs.Answering.{Comes};
+ghost use Rattle.sdr_base.specs.Moves.{KeepsSome};
+ghost use Rattle.sdr_base.specs.Works.{Works};
+ghost use Rattle.sdr_model.specs.declared.call.Call.TheVariants as calls;
+ghost use Rattle.zco_obj.specs.Kept.{IsObject};
+
+use sdr_answers::Page;
+use sdr_base::{Addr, Objects, Stop};
+use sdr_model::Reply;
+
+// Sets the part of an object to so many bytes of its extents, from a place on.
+pub fn delimit<O: Objects>(
+    o: &mut O,
+    object: Addr,
+    offset: u64,
+    bytes: u64,
+    page: &mut Page,
+) -> Result<Reply, Stop>
+    requires kept { KeepsSome (O.keeps o.old) }
+    requires object { IsObject (O.heap o.old).blocks object }
+    requires unmoved { (O.heap o.old).moves ≡ [] }
+    ensures comes { Comes (calls.Delimit object offset bytes)
+        (O.heap o.old) (O.heap o.new) page.old page.new result }
+    ensures works { Works O.HasHeap 4 o.old o.new result }
+{
+    zco_part::delimit(o, object, offset, bytes)?;
+    page.clear();
+    Ok(Reply::Done)
+}
