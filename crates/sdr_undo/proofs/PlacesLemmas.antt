@@ -1,5 +1,5 @@
 -- The things at the places, one after another.
-use Rattle.std.proofs.Common.{◌≡◌, ℕ, Bool, true, false, List, [], ◌∷◌, ◌++◌, ◌&&◌, T, cond, Option, Some, None, Ordering, Less, Equal, Greater, is_lt, ap, sym, ◌∙◌, refl, subst}
+use Rattle.std.proofs.Common.{◌≡◌, ℕ, Bool, true, false, List, [], ◌∷◌, ◌&&◌, T, cond, Option, Some, None, Ordering, Less, Equal, Greater, is_lt, ap, sym, ◌∙◌, refl}
 use Rattle.std.specs.BTreeMap.{is_at}
 use Rattle.std.specs.Cmp.{nat_cmp_total}
 use Rattle.std.specs.FinMap.{empty, entries, entries-from_sorted, entries-insert, entries_sorted, find, from_sorted, get-empty, get-from_sorted, is_sorted, put}

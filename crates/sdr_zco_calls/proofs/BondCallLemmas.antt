@@ -1,5 +1,5 @@
 -- The call that bonds an object.
-use Rattle.std.proofs.Common.{◌≡◌, ◌≤◌, ◌<◌, ◌+◌, ◌*◌, ◌^◌, ◌==◌, ◌++◌, ◌∷◌, [], ℕ, List, Option, None, Some, ap, cond, sym, ◌∙◌, refl, subst, arith, length, length-append, map}
+use Rattle.std.proofs.Common.{◌≡◌, ◌≤◌, ◌<◌, ◌+◌, ◌*◌, ◌^◌, ◌++◌, ◌∷◌, [], ℕ, List, Option, None, Some, ap, sym, ◌∙◌, refl, subst, arith, length, length-append, map}
 use Rattle.std.proofs.lemmas.List.{map-append}
 use Rattle.std.proofs.lemmas.List.Elements.{All-append, All-cons, All-head, All-nil, All-tail}
 use Rattle.std.proofs.lemmas.List.Sums.{sum_by-append, sum_by-cons}
@@ -12,7 +12,7 @@ use Rattle.sdr_base.specs.declared.kind.Space.TheVariants as spaces
 use Rattle.sdr_model.specs.Accounts.{most_amount}
 use Rattle.sdr_model.specs.declared.accounts.Pending.{Pending}
 use Rattle.sdr_draft.specs.Allowed.{HasRoomFor}
-use Rattle.sdr_model.specs.Amounts.{amount, amounts_by, in_space, no_amounts}
+use Rattle.sdr_model.specs.Amounts.{amounts_by, in_space}
 use Rattle.sdr_model.specs.BondSteps.{bond_charge, bond_extents, bond_rise, bonded, bonded_extents, capsules_of}
 use Rattle.sdr_model.specs.Charges.{bytes_charge, capsule_charge, extent_charge, object_charge, occupancy, space_in}
 use Rattle.sdr_model.specs.Charging.{with_used}
@@ -22,13 +22,11 @@ use Rattle.sdr_undo.specs.Owners.{IsOwned, Owns, OwnsInside}
 use Rattle.sdr_parts.specs.Bounds.{EndsInTime, IsModest, IsShort}
 use Rattle.sdr_model.specs.Things.{Owners, capsule_block, extent_block}
 use Rattle.sdr_model.specs.World.{World, thing_at}
-use Rattle.sdr_model.specs.Zco.{as_object, as_source, naming, object_at, source_at}
+use Rattle.sdr_model.specs.Zco.{as_object, as_source, object_at, source_at}
 use Rattle.sdr_model.specs.declared.things.Thing.TheVariants as things
 use Rattle.sdr_model.specs.declared.zco.Capsule.{Capsule}
 use Rattle.sdr_model.specs.declared.zco.Extent.{Extent}
 use Rattle.sdr_model.specs.declared.zco.ZcoObject.{ZcoObject}
-use Rattle.sdr_model.proofs.AmountLemmas.{nothing_in}
-use Rattle.sdr_draft.proofs.BondLemmas.{extents-shift}
 use Rattle.sdr_parts.proofs.BoundsLemmas.{amounts_of, capsules_length-charged, extents_length-charged}
 use Rattle.sdr_draft.proofs.CapsuleLemmas.{owned-kept}
 use Rattle.sdr_draft.proofs.ExtentLemmas.{All-back, All-front, amount_of}

@@ -4,7 +4,6 @@ use Rattle.sdr_model.specs.Amounts.{amounts_by}
 use Rattle.sdr_model.specs.Charges.{bytes_charge, space_in}
 use Rattle.sdr_parts.specs.Components.{component_charges}
 use Rattle.sdr_model.specs.Dry.{next_addr}
-use Rattle.sdr_model.specs.World.{World}
 use Rattle.sdr_model.specs.Zco.{object_at, space_of}
 use Rattle.sdr_parts.specs.declared.component.Component.{Component}
 use Rattle.sdr_parts.specs.declared.component.Component.TheVariants as components

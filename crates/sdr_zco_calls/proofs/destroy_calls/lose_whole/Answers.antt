@@ -1,7 +1,6 @@
 use Rattle.std.proofs.Common.{◌≡◌, Some, ap, ap₂, sym, subst, ◌∙◌, get_or}
-use Rattle.std.proofs.lemmas.List.Elements.{All-weaker}
 use Rattle.std.specs.List.{All}
-use Rattle.std.specs.Prelude.{Contains, IfSome, []}
+use Rattle.std.specs.Prelude.{Contains, []}
 use Rattle.sdr_undo.specs.Draft.{Draft}
 use Rattle.sdr_draft.specs.Drops.{GoesWith, MayGo}
 use Rattle.sdr_model.specs.Gone.{gone_things, without_things}

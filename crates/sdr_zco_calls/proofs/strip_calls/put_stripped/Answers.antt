@@ -1,5 +1,4 @@
 use Rattle.std.proofs.Common.{◌≡◌, ◌≤◌, ℕ, Some, ap, ap₂, sym, subst, ◌∙◌, get_or, arith, refl}
-use Rattle.std.proofs.lemmas.List.Elements.{All-weaker}
 use Rattle.std.specs.List.{All}
 use Rattle.std.specs.Prelude.{Contains, IfSome, []}
 use Rattle.sdr_undo.specs.Draft.{Draft}
