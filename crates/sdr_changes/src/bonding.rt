@@ -10,7 +10,7 @@ ghost use Rattle.sdr_model.specs.Charging.{with_used};
 ghost use Rattle.sdr_model.specs.Dry.{addr_after, next_addr, next_addrs};
 ghost use Rattle.sdr_model.specs.Zco.{object_at, source_at};
 ghost use Rattle.sdr_parts.specs.Bounds.{IsShort};
-ghost use Rattle.sdr_tally.specs.Allowed.{HasRoomFor, MayCharge, RefusesCharge};
+ghost use Rattle.sdr_draft.specs.Allowed.{HasRoomFor, MayCharge, RefusesCharge};
 
 use crate::charging::charge_account;
 use sdr_base::{Acct, Addr, Amounts, NoMemory, Refusal};
@@ -41,7 +41,6 @@ pub fn charge_marks(
         → map.get world.old.owners other ≡ Some of → map.get world.new.owners other ≡ Some of }
     ensures begun { world.new.begun ≡ world.old.begun }
     ensures touched { world.new.touched ≡ world.old.touched }
-    ensures noted { world.new.noted ≡ world.old.noted }
     ensures refused { IfOk result (λ r. IfErr r (RefusesCharge world.old.now acct number
         amounts.now)) }
     ensures same { IfOk result (λ r. OnErr r (world.new.now ≡ world.old.now)) }
@@ -69,7 +68,6 @@ fn put_text(world: &mut Undoable, capsule: Capsule)
     requires taken { world.old.now.taken + 3 < 2 ^ 60 + 2 ^ 30 }
     requires touched_raw { Contains world.old.touched (next_addr world.old.now.taken) }
     requires touched_source { Contains world.old.touched (next_addr (world.old.now.taken + 1)) }
-    requires noted { Contains world.old.noted (next_addr world.old.now.taken) }
     requires short { IsShort capsule }
     ensures put { world.new.now ≡ record (with_bonded world.old.now (addr_after world.old.now.taken) 0 (capsule ∷ [])) {
       shown = [];
@@ -84,7 +82,6 @@ fn put_text(world: &mut Undoable, capsule: Capsule)
     ensures begun { world.new.begun ≡ world.old.begun }
     ensures owners { world.new.owners ≡ world.old.owners }
     ensures touched { world.new.touched ≡ world.old.touched }
-    ensures noted_stay { world.new.noted ≡ world.old.noted }
     ensures saved { world.new.saved ≡ world.old.saved }
 {
     let raw = world.next();
@@ -105,8 +102,6 @@ pub fn put_texts(world: &mut Undoable, capsules: Vec<Capsule>)
     requires taken { world.old.now.taken + 3 * length capsules.items < 2 ^ 60 + 2 ^ 30 }
     requires touched { (k : ℕ) → k < 3 * length capsules.items →
         Contains world.old.touched (addr_after world.old.now.taken k) }
-    requires noted { (k : ℕ) → k < 3 * length capsules.items →
-        Contains world.old.noted (addr_after world.old.now.taken k) }
     requires short { All IsShort capsules.items }
     requires hidden { world.old.now.shown ≡ [] }
     ensures put { world.new.now ≡ record (with_bonded world.old.now (addr_after world.old.now.taken) 0 capsules.items) {
@@ -122,7 +117,6 @@ pub fn put_texts(world: &mut Undoable, capsules: Vec<Capsule>)
     ensures begun { world.new.begun ≡ world.old.begun }
     ensures owners { world.new.owners ≡ world.old.owners }
     ensures touched_stay { world.new.touched ≡ world.old.touched }
-    ensures noted_stay { world.new.noted ≡ world.old.noted }
     ensures saved { world.new.saved ≡ world.old.saved }
 {
     for capsule in capsules {

@@ -8,7 +8,7 @@ ghost use Rattle.sdr_model.specs.Charges.{occupancy};
 ghost use Rattle.sdr_model.specs.Charging.{grant_left, with_used};
 ghost use Rattle.sdr_model.specs.Dry.{with_taken, next_addr};
 ghost use Rattle.sdr_model.specs.Queue.{with_served};
-ghost use Rattle.sdr_tally.specs.Allowed.{HasRoomFor, MayCharge, MayTakeBack, RefusesCharge, with_back};
+ghost use Rattle.sdr_draft.specs.Allowed.{HasRoomFor, MayCharge, MayTakeBack, RefusesCharge, with_back};
 
 use sdr_base::{Acct, Amounts, NoMemory, Refusal, Space};
 use sdr_draft::Undoable;

@@ -1,32 +1,12 @@
 // What goes from a world in the making, without memory.
 ghost use Rattle.std.specs.List.{All};
-ghost use Rattle.std.specs.Prelude.{◌≡◌, ℕ, Contains, IfSome, OnOk};
+ghost use Rattle.std.specs.Prelude.{◌≡◌, ℕ, Contains, OnOk};
 ghost use Rattle.sdr_model.specs.Gone.{without_things};
 ghost use Rattle.sdr_model.specs.Steps.{without_thing};
-ghost use Rattle.sdr_tally.specs.Drops.{IsNoted, MayGo};
-ghost use Rattle.sdr_tally.specs.Tallies.{raw_at};
+ghost use Rattle.sdr_draft.specs.Drops.{MayGo};
 
 use sdr_base::{Addr, NoMemory};
 use sdr_draft::Undoable;
-
-// Takes note that what is at an address may go.
-fn touch_going(world: &mut Undoable, addr: Addr) -> Result<(), NoMemory>
-    ensures now { world.new.now ≡ world.old.now }
-    ensures begun { world.new.begun ≡ world.old.begun }
-    ensures owners { world.new.owners ≡ world.old.owners }
-    ensures touched { OnOk result (Contains world.new.touched addr) }
-    ensures noted { OnOk result (IfSome (raw_at world.old.now addr) (Contains world.new.noted)) }
-    ensures others { OnOk result ((other : ℕ) →
-        Contains world.old.touched other → Contains world.new.touched other) }
-    ensures others_noted { OnOk result ((other : ℕ) →
-        Contains world.old.noted other → Contains world.new.noted other) }
-{
-    world.touch(addr)?;
-    match world.raw_at(addr) {
-        Some(raw) => world.touch(raw),
-        None => Ok(()),
-    }
-}
 
 /// Takes note that what is at these addresses may go. After it that needs no memory. Want of memory
 /// leaves the world as before.
@@ -34,14 +14,12 @@ pub fn touch_all(world: &mut Undoable, addrs: &[Addr]) -> Result<(), NoMemory>
     ensures now { world.new.now ≡ world.old.now }
     ensures begun { world.new.begun ≡ world.old.begun }
     ensures owners { world.new.owners ≡ world.old.owners }
-    ensures going { OnOk result (All (IsNoted world.new) addrs.now) }
+    ensures touched { OnOk result (All (Contains world.new.touched) addrs.now) }
     ensures others { OnOk result ((other : ℕ) →
         Contains world.old.touched other → Contains world.new.touched other) }
-    ensures others_noted { OnOk result ((other : ℕ) →
-        Contains world.old.noted other → Contains world.new.noted other) }
 {
     for addr in addrs {
-        touch_going(world, *addr)?;
+        world.touch(*addr)?;
     }
     Ok(())
 }
@@ -52,7 +30,6 @@ fn drop_one(world: &mut Undoable, addr: Addr)
     ensures dropped { world.new.now ≡ without_thing world.old.now addr }
     ensures begun { world.new.begun ≡ world.old.begun }
     ensures touched { world.new.touched ≡ world.old.touched }
-    ensures noted_stay { world.new.noted ≡ world.old.noted }
     ensures saved { world.new.saved ≡ world.old.saved }
 {
     match world.source(addr) {

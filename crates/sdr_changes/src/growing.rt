@@ -1,10 +1,10 @@
 // Components that are added to objects, charged and with their blocks.
-ghost use Rattle.std.specs.Prelude.{◌≡◌, ◌<◌, ◌+◌, ◌^◌, ℕ, Contains, IfErr, IfOk, IfSome, IsSome, OnErr, OnOk};
+ghost use Rattle.std.specs.Prelude.{◌≡◌, ◌<◌, ◌+◌, ◌^◌, ℕ, None, Contains, IfErr, IfOk, IfSome, IsSome, OnErr, OnOk};
 ghost use Rattle.sdr_model.specs.Charging.{with_used};
 ghost use Rattle.sdr_model.specs.Dry.{addr_after, next_addr, with_blocks};
 ghost use Rattle.sdr_model.specs.Zco.{object_at, source_on};
 ghost use Rattle.sdr_parts.specs.Components.{Grows, KeepsLimits, block_of, component_charges, source_of};
-ghost use Rattle.sdr_tally.specs.Allowed.{HasRoomFor, MayCharge, RefusesCharge};
+ghost use Rattle.sdr_draft.specs.Allowed.{HasRoomFor, MayCharge, RefusesCharge};
 
 use crate::charging::charge_account;
 use sdr_base::{Addr, NoMemory, Refusal};
@@ -22,7 +22,6 @@ fn take_component(
 ) -> Result<(), NoMemory>
     requires taken { world.old.now.taken + before + 1 < 2 ^ 60 + 2 ^ 30 }
     requires there { IsSome (object_at world.old.now addr) }
-    requires noted { IfSome (source_of component) (Contains world.old.noted) }
     requires limits { KeepsLimits component }
     requires below { IfSome (source_of component) (λ s.
         s < next_addr (world.old.now.taken + (before + 1))) }
@@ -31,12 +30,11 @@ fn take_component(
         HasRoomFor world.old.now z.account (component_charges world.old.now component)) }
     ensures added { OnOk result (Grows (object_at world.old.now addr) addr component
         (with_blocks world.old.now (before + 1)) world.new.now) }
-    ensures named { OnOk result ((raw : ℕ) →
-        source_on world.new.now raw ≡ source_on world.old.now raw) }
+    ensures unnamed { OnOk result ((raw : ℕ) →
+        source_on world.old.now raw ≡ None → source_on world.new.now raw ≡ None) }
     ensures begun { world.new.begun ≡ world.old.begun }
     ensures touched { OnOk result ((other : ℕ) →
         Contains world.old.touched other → Contains world.new.touched other) }
-    ensures noted { world.new.noted ≡ world.old.noted }
     ensures saved { world.new.saved ≡ world.old.saved }
     ensures same { OnErr result (world.new.now ≡ world.old.now) }
 {
@@ -63,7 +61,6 @@ pub fn add_component(
 ) -> Result<Result<Option<Pending>, Refusal>, NoMemory>
     requires taken { world.old.now.taken + before + 1 < 2 ^ 60 + 2 ^ 30 }
     requires there { IsSome (object_at world.old.now addr) }
-    requires noted { IfSome (source_of component) (Contains world.old.noted) }
     requires limits { KeepsLimits component }
     requires below { IfSome (source_of component) (λ s.
         s < next_addr (world.old.now.taken + (before + 1))) }
@@ -75,12 +72,11 @@ pub fn add_component(
         Grows (object_at world.old.now addr) addr component
         (with_blocks (with_used world.old.now p (component_charges world.old.now component))
         (before + 1)) world.new.now)) }
-    ensures named { IfOk result (λ r. OnOk r ((raw : ℕ) →
-        source_on world.new.now raw ≡ source_on world.old.now raw)) }
+    ensures unnamed { IfOk result (λ r. OnOk r ((raw : ℕ) →
+        source_on world.old.now raw ≡ None → source_on world.new.now raw ≡ None)) }
     ensures begun { world.new.begun ≡ world.old.begun }
     ensures touched { IfOk result (λ r. OnOk r ((other : ℕ) →
         Contains world.old.touched other → Contains world.new.touched other)) }
-    ensures noted { world.new.noted ≡ world.old.noted }
     ensures refused { IfOk result (λ r. IfErr r (λ refusal.
         IfSome (object_at world.old.now addr) (λ z. RefusesCharge world.old.now z.account number
         (component_charges world.old.now component) refusal))) }

@@ -7,8 +7,6 @@
 
 pub mod bonding;
 pub mod charging;
-pub mod cutting;
 pub mod dropping;
 pub mod growing;
 pub mod taking;
-pub mod touching;

@@ -3,7 +3,7 @@ ghost use Rattle.std.specs.FinMap as map;
 ghost use Rattle.std.specs.Prelude.{◌≡◌, ◌<◌, ◌+◌, ◌^◌, ℕ, true, Some, IfOk, IfErr, OnErr, OnOk};
 ghost use Rattle.sdr_model.specs.Charging.{with_used};
 ghost use Rattle.sdr_model.specs.Dry.{addr_after, next_addr, with_blocks};
-ghost use Rattle.sdr_tally.specs.Allowed.{HasRoomFor, MayCharge, RefusesCharge};
+ghost use Rattle.sdr_draft.specs.Allowed.{HasRoomFor, MayCharge, RefusesCharge};
 
 use crate::charging::charge_account;
 use sdr_base::{Acct, Addr, Amounts, NoMemory, Refusal};
@@ -32,7 +32,6 @@ pub fn charge_blocks(
     ensures saved { IfOk result (λ r. OnOk r (world.new.saved ≡ true)) }
     ensures begun { world.new.begun ≡ world.old.begun }
     ensures touched { world.new.touched ≡ world.old.touched }
-    ensures noted { world.new.noted ≡ world.old.noted }
     ensures refused { IfOk result (λ r. IfErr r (RefusesCharge world.old.now acct number
         amounts.now)) }
     ensures same { IfOk result (λ r. OnErr r (world.new.now ≡ world.old.now)) }

@@ -2,7 +2,7 @@
 //!
 //! 1. Contracts see the world at the begin and the world now, and which addresses were touched since.
 //! 2. Want of memory leaves the world now as before.
-//! 3. What a call costs is told by what it changes: nothing is summed over all things.
+//! 3. Sums over all things and what names a source or a raw object are found where they are asked for, in one pass.
 #![tactic(auto)]
 
 mod undoable;

@@ -9,7 +9,7 @@ ghost use Rattle.sdr_model.specs.Steps.{with_thing, without_thing};
 ghost use Rattle.sdr_model.specs.Things.{IsWithin, SpotIs, inner_among, inner_blocks};
 ghost use Rattle.sdr_model.specs.World.{at_rest, block_at, empty_world, is_marked, spot_of, thing_at};
 ghost use Rattle.sdr_model.specs.declared.things.Thing.{Thing};
-ghost use Rattle.sdr_tally.specs.Tallies.{IsSound, is_plain};
+ghost use Rattle.sdr_draft.specs.Sound.{IsSound, is_plain};
 ghost use Rattle.sdr_undo.specs.Owners.{MayHave, MayPut};
 
 mod blocks;
@@ -22,10 +22,10 @@ mod objects;
 mod sources;
 mod touching;
 mod trimming;
+mod uses;
 
 use sdr_base::{Addr, Bytes, Items, NoMemory};
 use sdr_model::{Accounts, Block, Spot, Thing};
-use sdr_tally::Tally;
 use sdr_undo::{Catalogue, Ledger, Named, Names, Owners, Store};
 use std::alloc::Global;
 use std::marker::Model;
@@ -41,8 +41,6 @@ pub struct Undoable {
     owners: Owners,
     catalogue: Catalogue,
     accounts: Ledger,
-    /// The sums over the things.
-    tally: Tally,
     /// The addresses marked in the open transaction.
     marks: Items<Addr>,
     /// The bytes that the last answered call gave.
@@ -57,7 +55,7 @@ impl Model for Undoable {
     ghost use Rattle.std.specs.Prelude.{[]};
     ghost use Rattle.sdr_undo.specs.Draft as draft;
     ghost use Rattle.sdr_model.specs.Dry.{next_addr};
-    ghost use Rattle.sdr_tally.specs.Tallies.{IsKept};
+    ghost use Rattle.sdr_draft.specs.Sound.{IsKept};
 
     ghost Value = { draft.Draft };
 
@@ -69,16 +67,15 @@ impl Model for Undoable {
       touched = s.things.touched;
       owners = s.owners;
       saved = s.accounts.saved;
-      noted = s.tally.notes.touched;
     } };
 
-    ghost invariant = { λ s. IsKept s.owners s.tally (next_addr s.taken) s.things s.accounts };
+    ghost invariant = { λ s. IsKept s.owners (next_addr s.taken) s.things s.accounts };
 }
 
 impl Undoable {
     /// A world without things, where no transaction is open. It takes no memory.
     pub fn new(alloc: Global) -> Undoable
-        ensures { result ≡ record { begun = empty_world; now = empty_world; touched = []; owners = map.empty; noted = []; saved = false } }
+        ensures { result ≡ record { begun = empty_world; now = empty_world; touched = []; owners = map.empty; saved = false } }
     {
         Undoable {
             alloc,
@@ -86,7 +83,6 @@ impl Undoable {
             owners: Owners::new(alloc),
             catalogue: Catalogue::new(alloc),
             accounts: Ledger::new(alloc, 32_768),
-            tally: Tally::new(alloc),
             marks: Items::new(alloc),
             shown: Bytes::new(alloc),
             taken: 0,
@@ -180,7 +176,6 @@ impl Undoable {
         ensures begun { self.new.begun ≡ self.old.begun }
         ensures saved { self.new.saved ≡ self.old.saved }
         ensures touched { self.new.touched ≡ self.old.touched }
-        ensures noted { self.new.noted ≡ self.old.noted }
     {
         self.marks.truncate(marks);
     }
@@ -192,7 +187,6 @@ impl Undoable {
         ensures begun { self.new.begun ≡ self.old.begun }
         ensures saved { self.new.saved ≡ self.old.saved }
         ensures touched { self.new.touched ≡ self.old.touched }
-        ensures noted { self.new.noted ≡ self.old.noted }
         ensures owners { self.new.owners ≡ self.old.owners }
     {
         self.shown = Bytes::new(self.alloc);
@@ -208,7 +202,6 @@ impl Undoable {
         ensures begun { self.new.begun ≡ self.old.begun }
         ensures saved { self.new.saved ≡ self.old.saved }
         ensures touched { self.new.touched ≡ self.old.touched }
-        ensures noted { self.new.noted ≡ self.old.noted }
         ensures owners { self.new.owners ≡ self.old.owners }
         ensures same { OnErr result (self.new.now ≡ self.old.now) }
     {
@@ -309,7 +302,6 @@ impl Undoable {
         ensures saved { self.new.saved ≡ self.old.saved }
         ensures owners { self.new.owners ≡ self.old.owners }
         ensures touched { self.new.touched ≡ self.old.touched }
-        ensures noted { self.new.noted ≡ self.old.noted }
     {
         self.things.put(addr, Some(thing));
     }
@@ -321,7 +313,6 @@ impl Undoable {
         ensures begun { self.new.begun ≡ self.old.begun }
         ensures saved { self.new.saved ≡ self.old.saved }
         ensures touched { self.new.touched ≡ self.old.touched }
-        ensures noted { self.new.noted ≡ self.old.noted }
     {
         self.shown = Bytes::new(self.alloc);
     }
@@ -394,12 +385,11 @@ impl Undoable {
 
     /// Takes the world now as the one to begin from.
     pub fn keep(&mut self)
-        ensures { let kept = at_rest self.old.now in self.new ≡ record self.old { begun = kept; now = kept; touched = []; noted = []; saved = false } }
+        ensures { let kept = at_rest self.old.now in self.new ≡ record self.old { begun = kept; now = kept; touched = []; saved = false } }
     {
         self.things.keep();
         self.catalogue.keep();
         self.accounts.keep();
-        self.tally.keep();
         self.marks = Items::new(self.alloc);
         self.shown = Bytes::new(self.alloc);
         self.taken_before = self.taken;
@@ -408,12 +398,11 @@ impl Undoable {
     /// Puts the world back to the begin. Blocks once taken stay counted.
     pub fn put_back(&mut self)
         ensures { let left = record self.old.begun { taken = self.old.now.taken } in
-            self.new ≡ record self.old { begun = left; now = left; touched = []; noted = []; saved = false } }
+            self.new ≡ record self.old { begun = left; now = left; touched = []; saved = false } }
     {
         self.things.put_back();
         self.catalogue.put_back();
         self.accounts.put_back();
-        self.tally.put_back();
         self.marks = Items::new(self.alloc);
         self.shown = Bytes::new(self.alloc);
         self.taken_before = self.taken;

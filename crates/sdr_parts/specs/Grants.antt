@@ -2,7 +2,6 @@
 use Rattle.sdr_base.specs.declared.kind.Space.{Space}
 use Rattle.sdr_model.specs.Accounts.{most_amount}
 use Rattle.sdr_model.specs.Amounts.{amount, no_amounts}
-use Rattle.sdr_model.specs.contracts.accounts.Accounts as accounts
 use Rattle.sdr_model.specs.declared.accounts.Account.{Account}
 use Rattle.sdr_model.specs.declared.accounts.Accounts.{Accounts}
 use Rattle.sdr_model.specs.declared.accounts.Ticket.{Ticket}

@@ -1,31 +1,18 @@
 -- Objects that lose headers or trailers, or get another part.
-use Rattle.sdr_model.specs.Charges.{capsule_bytes}
-use Rattle.sdr_model.specs.ObjectSteps.{last_capsule, without_header, without_trailer}
+use Rattle.sdr_model.specs.ObjectSteps.{without_header, without_trailer}
 use Rattle.sdr_model.specs.Zco.{extents_length}
 use Rattle.sdr_parts.specs.declared.edits.Edit.TheVariants as edits
 use Rattle.sdr_parts.specs.declared.edits.Edit.{Edit}
 use Rattle.sdr_parts.specs.declared.edits.Trim.TheVariants as trims
 use Rattle.sdr_parts.specs.declared.edits.Trim.{Trim}
-use Rattle.sdr_model.specs.declared.zco.Capsule.{Capsule}
 use Rattle.sdr_model.specs.declared.zco.ZcoObject.{ZcoObject}
-use Rattle.std.specs.Prelude.{◌≤◌, ◌+◌, ℕ, length, slice_get, Option, None, Some}
+use Rattle.std.specs.Prelude.{◌≤◌, ◌+◌, Option, None, Some}
 
 -- an object, trimmed
 abbrev pub trimmed : Trim → ZcoObject → ZcoObject
 trimmed (trims.Part part) z = record z { part = part }
 trimmed trims.FirstHeader z = without_header z
 trimmed trims.LastTrailer z = without_trailer z
-
--- the heap space that a header or trailer charges, 0 where there is none
-abbrev pub capsule_bytes_of : Option Capsule → ℕ
-capsule_bytes_of None = 0
-capsule_bytes_of (Some c) = capsule_bytes (length c.text)
-
--- the heap space that an object charges less once it is trimmed
-abbrev pub trim_charge : Trim → ZcoObject → ℕ
-trim_charge (trims.Part part) z = 0
-trim_charge trims.FirstHeader z = capsule_bytes_of (slice_get z.headers 0)
-trim_charge trims.LastTrailer z = capsule_bytes_of (last_capsule z.trailers)
 
 -- the part that an object gets lies inside its extents
 abbrev pub KeepsInside : Trim → ZcoObject → Type 0

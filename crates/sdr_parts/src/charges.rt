@@ -20,23 +20,6 @@ pub fn heap_charge(bytes: u64) -> Amounts
     }
 }
 
-/// So many bytes of a space.
-pub fn space_charge(of: Space, bytes: u64) -> Amounts
-    ensures { result ≡ amounts_by (in_space of bytes) }
-{
-    match of {
-        Space::File => Amounts {
-            file: bytes,
-            ..NOTHING
-        },
-        Space::Bulk => Amounts {
-            bulk: bytes,
-            ..NOTHING
-        },
-        Space::Heap => heap_charge(bytes),
-    }
-}
-
 /// What an extent of so many bytes charges, where they are in this space.
 pub fn bytes_charge(of: Space, bytes: u64) -> Amounts
     requires small { bytes ≤ 2 ^ 62 }

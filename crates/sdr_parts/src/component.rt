@@ -1,11 +1,11 @@
 // What is added to an object.
 ghost use Rattle.std.specs.Prelude.{◌≡◌, OnErr, OnOk};
 ghost use Rattle.sdr_parts.specs.Bounds.{IsBounded};
-ghost use Rattle.sdr_parts.specs.Components.{KeepsLimits, source_of, with_component};
+ghost use Rattle.sdr_parts.specs.Components.{KeepsLimits, with_component};
 ghost use Rattle.sdr_parts.specs.Sides.{component_on};
 
 use crate::object::push_extent;
-use sdr_base::{Addr, NoMemory};
+use sdr_base::NoMemory;
 use sdr_model::{Capsule, Extent, ZcoObject};
 
 /// What is added to an object.
@@ -17,18 +17,6 @@ pub enum Component {
     Header(Capsule),
     /// Behind the trailers.
     Trailer(Capsule),
-}
-
-impl Component {
-    /// The source of an extent, none for a header or trailer.
-    pub fn source(&self) -> Option<Addr>
-        ensures { result ≡ source_of self.now }
-    {
-        match self {
-            Component::Extent(extent) => Some(extent.source),
-            _ => None,
-        }
-    }
 }
 
 /// Where an object gets a header or trailer.

@@ -2,8 +2,7 @@
 //! Nothing here keeps a world.
 //!
 //! 1. What is in an object is bounded, so that each sum over it fits a word.
-//! 2. An edit, a trim and a component say how an object is changed, and a change says by what its uses of sources and
-//!    its charges then differ.
+//! 2. An edit, a trim and a component say how an object is changed.
 #![tactic(auto)]
 
 pub mod capsules;
@@ -15,4 +14,4 @@ pub mod object;
 pub mod queue;
 
 pub use component::{Component, Side};
-pub use edits::{Change, Edit, Stripping, Trim};
+pub use edits::{Edit, Stripping, Trim};

@@ -18,7 +18,7 @@ picked : (of : Place → Option Thing) (b : Bool) (place : Place) (rest : Option
 picked of true place rest = refl
 picked of false place rest = refl
 
-get-things_among : (of : Place → Option Thing) (q : ℕ) (es : List (ℕ × Place))
+pub get-things_among : (of : Place → Option Thing) (q : ℕ) (es : List (ℕ × Place))
     → get (things_among of es) q ≡ option_and_then of (find nat_cmp q es)
 get-things_among of q [] = get-empty nat_cmp q
 get-things_among of q ((addr, place) ∷ es) =

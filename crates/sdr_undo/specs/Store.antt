@@ -5,6 +5,8 @@ use Rattle.sdr_undo.specs.declared.place.Place.{Place}
 use Rattle.sdr_model.specs.declared.things.Thing.{Thing}
 use Rattle.std.specs.Coded.{Coded, code_by, coded×, coded_ℕ, coded_list}
 use Rattle.std.specs.FinMap as finite
+use Rattle.std.specs.Option.{option_map, option_to_list}
+use Rattle.std.specs.List.{flat_map}
 use Rattle.std.specs.Ordering.{nat_cmp}
 use Rattle.std.specs.Prelude.{◌≡◌, ◌||◌, ℕ, Bool, true, false, cond, List, [], ◌∷◌, Option, None, Some, Contains, is_some, if◌then◌else◌, refl}
 
@@ -42,6 +44,14 @@ things_among of ((addr, place) ∷ places) = with_at (things_among of places) ad
 -- the things that are at all places
 unfoldable pub things_at : (Place → Option Thing) → Places → Things
 things_at of places = things_among of (finite.entries places)
+
+-- the thing at a place, with its address, where there is one
+abbrev pub thing_in : ℕ × Place → List (ℕ × Thing)
+thing_in e = option_to_list (option_map (λ thing. (e.0, thing)) e.1.thing)
+
+-- the things at these places, with their addresses
+abbrev pub things_in : List (ℕ × Place) → List (ℕ × Thing)
+things_in = flat_map thing_in
 
 -- a place where nothing is
 abbrev pub empty_place : Place

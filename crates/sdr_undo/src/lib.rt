@@ -17,4 +17,5 @@ pub use catalogue::Catalogue;
 pub use ledger::Ledger;
 pub use names::{Named, Names};
 pub use owners::Owners;
+pub use place::Place;
 pub use store::Store;

@@ -7,6 +7,7 @@ use crate::place::Place;
 use sdr_base::{Addr, NoMemory};
 use std::alloc::Global;
 use std::collections::BTreeMap;
+use std::collections::btree_map::Iter;
 use std::marker::Model;
 use std::mem;
 
@@ -45,6 +46,13 @@ impl Places {
         ensures { option_copied result ≡ map.get self.now addr }
     {
         self.inner.get(&addr)
+    }
+
+    /// The places with their addresses, by rising address.
+    pub fn iter(&self) -> Iter<'_, u64, Place>
+        ensures { result ≡ map.entries self.now }
+    {
+        self.inner.iter()
     }
 
     /// Puts a place at an address. Want of memory leaves all as before.

@@ -3,13 +3,14 @@ ghost use Rattle.std.specs.Prelude.{◌≡◌, ℕ, IfOk, OnOk, OnErr, IsSome, S
 ghost use Rattle.std.specs.FinMap as map;
 ghost use Rattle.std.specs.Option.{option_copied};
 ghost use Rattle.sdr_model.specs.Things.{with_at};
-ghost use Rattle.sdr_undo.specs.Store.{with_place};
+ghost use Rattle.sdr_undo.specs.Store.{things_in, with_place};
 
 use crate::place::Place;
 use crate::places::Places;
 use sdr_base::{Addr, NoMemory};
 use sdr_model::Thing;
 use std::alloc::Global;
+use std::collections::btree_map::Iter;
 use std::marker::Model;
 
 /// The things of a world by their addresses, now and at the begin of the open transaction. A thing is
@@ -69,6 +70,13 @@ impl Store {
             Some(place) => place.current(),
             None => None,
         }
+    }
+
+    /// The places of the things, by rising address.
+    pub fn places(&self) -> Iter<'_, u64, Place>
+        ensures { things_in result ≡ map.entries self.now.now }
+    {
+        self.places.iter()
     }
 
     // Whether an address was touched.

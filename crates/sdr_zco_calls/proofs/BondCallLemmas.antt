@@ -1,5 +1,5 @@
 -- The call that bonds an object.
-use Rattle.std.proofs.Common.{◌≡◌, ◌≤◌, ◌<◌, ◌+◌, ◌*◌, ◌^◌, ◌==◌, ◌++◌, ◌∷◌, [], ℕ, List, Option, None, Some, ap, cond, sym, ◌∙◌, refl, subst, arith, length, length-append, map}
+use Rattle.std.proofs.Common.{◌≡◌, ◌≤◌, ◌<◌, ◌+◌, ◌*◌, ◌^◌, ◌++◌, ◌∷◌, [], ℕ, List, Option, None, Some, ap, sym, ◌∙◌, refl, subst, arith, length, length-append, map}
 use Rattle.std.proofs.lemmas.List.{map-append}
 use Rattle.std.proofs.lemmas.List.Elements.{All-append, All-cons, All-head, All-nil, All-tail}
 use Rattle.std.proofs.lemmas.List.Sums.{sum_by-append, sum_by-cons}
@@ -11,31 +11,27 @@ use Rattle.sdr_base.specs.declared.kind.Space.{Space}
 use Rattle.sdr_base.specs.declared.kind.Space.TheVariants as spaces
 use Rattle.sdr_model.specs.Accounts.{most_amount}
 use Rattle.sdr_model.specs.declared.accounts.Pending.{Pending}
-use Rattle.sdr_tally.specs.Allowed.{HasRoomFor}
-use Rattle.sdr_model.specs.Amounts.{amount, amounts_by, in_space, no_amounts}
+use Rattle.sdr_draft.specs.Allowed.{HasRoomFor}
+use Rattle.sdr_model.specs.Amounts.{amounts_by, in_space}
 use Rattle.sdr_model.specs.BondSteps.{bond_charge, bond_extents, bond_rise, bonded, bonded_extents, capsules_of}
 use Rattle.sdr_model.specs.Charges.{bytes_charge, capsule_charge, extent_charge, object_charge, occupancy, space_in}
 use Rattle.sdr_model.specs.Charging.{with_used}
 use Rattle.sdr_model.specs.Dry.{addr_after, next_addr, next_addrs}
-use Rattle.sdr_tally.specs.Edits.{Differ}
 use Rattle.sdr_model.specs.ObjectSteps.{wire_length}
 use Rattle.sdr_undo.specs.Owners.{IsOwned, Owns, OwnsInside}
 use Rattle.sdr_parts.specs.Bounds.{EndsInTime, IsModest, IsShort}
 use Rattle.sdr_model.specs.Things.{Owners, capsule_block, extent_block}
 use Rattle.sdr_model.specs.World.{World, thing_at}
-use Rattle.sdr_model.specs.Zco.{as_object, as_source, naming, object_at, source_at}
-use Rattle.sdr_parts.specs.declared.edits.Change.{Change}
+use Rattle.sdr_model.specs.Zco.{as_object, as_source, object_at, source_at}
 use Rattle.sdr_model.specs.declared.things.Thing.TheVariants as things
 use Rattle.sdr_model.specs.declared.zco.Capsule.{Capsule}
 use Rattle.sdr_model.specs.declared.zco.Extent.{Extent}
 use Rattle.sdr_model.specs.declared.zco.ZcoObject.{ZcoObject}
-use Rattle.sdr_model.proofs.AmountLemmas.{nothing_in}
-use Rattle.sdr_tally.proofs.BondLemmas.{extents-shift}
 use Rattle.sdr_parts.proofs.BoundsLemmas.{amounts_of, capsules_length-charged, extents_length-charged}
-use Rattle.sdr_tally.proofs.CapsuleLemmas.{owned-kept}
-use Rattle.sdr_tally.proofs.ExtentLemmas.{All-back, All-front, amount_of}
+use Rattle.sdr_draft.proofs.CapsuleLemmas.{owned-kept}
+use Rattle.sdr_draft.proofs.ExtentLemmas.{All-back, All-front, amount_of}
 use Rattle.sdr_undo.proofs.TakenLemmas.{addr_after-next}
-use Rattle.sdr_tally.proofs.TallyLemmas.{IsSound-raised}
+use Rattle.sdr_draft.proofs.SoundLemmas.{IsSound-raised}
 
 -- the world after a charge for the next so many blocks, which are marked, with no bytes shown
 abbrev pub with_marks : World → Option Pending → Amounts → ℕ → World
@@ -68,10 +64,10 @@ heap-texts w wm wp p amounts n next marked stays is fresh i =
     ∙ ap (λ all. space_in (as_source (get all q))) (things-marks w p amounts n)
     ∙ ap (λ t. space_in (as_source t)) (fresh q (omega (arith, is, addr_after-next w.taken i)))
 
--- addresses that were noted still are where as many blocks were taken
-pub noted-marks : (old now : List ℕ) (taken after count n : ℕ) → now ≡ old → after ≡ taken → n ≡ count
+-- addresses that were touched still are where as many blocks were taken
+pub touched-marks : (old now : List ℕ) (taken after count n : ℕ) → now ≡ old → after ≡ taken → n ≡ count
     → ((k : ℕ) → k < count → Contains old (addr_after taken k)) → (k : ℕ) → k < n → Contains now (addr_after after k)
-noted-marks old now taken after count n same here size all k inside =
+touched-marks old now taken after count n same here size all k inside =
     subst (λ l. Contains l (addr_after after k)) (sym same)
     (subst (λ t. Contains old (addr_after t k)) (sym here) (all k (omega (arith, inside, size))))
 
@@ -135,56 +131,22 @@ bonded_extents-append at k (c ∷ cs) ys =
     ∙ ap (λ i. bonded_extents at (k + 3) cs ++ bonded_extents at i ys)
     (let same : k + 3 + 3 * length cs ≡ k + 3 * length (c ∷ cs) = omega arith in same))
 
--- a bonded object names sources in its own extents and in those that came
-naming-bonded : (q : ℕ) (at : ℕ → ℕ) (z : ZcoObject)
-    → naming q (bond_extents at z) ≡ naming q z.extents + naming q (bonded_extents at 0 (capsules_of z))
-naming-bonded q at z =
-    let one : Extent → ℕ = λ e. cond (e.source == q) 1 0 in
-    let front = bonded_extents at 0 z.headers in
-    let back = bonded_extents at (3 * length z.headers) z.trailers in
-    omega (
-      arith,
-      sum_by-append one (front ++ z.extents) back,
-      sum_by-append one front z.extents,
-      sum_by-append one front back,
-      ap (naming q) (bonded_extents-append at 0 z.headers z.trailers
-          ∙ ap (λ i. front ++ bonded_extents at i z.trailers) (let same : 0 + 3 * length z.headers ≡ 3 * length z.headers = omega arith in same)),
-    )
-
--- what an object and itself bonded differ by
-pub Differ-bonded : (w wc : World) (at : ℕ → ℕ) (z object : ZcoObject) (by : Change) → object ≡ bonded at z → by.lost ≡ []
-    → by.gained ≡ bonded_extents at 0 (capsules_of z) → by.released ≡ no_amounts
-    → by.charged ≡ amounts_by (bond_charge (capsules_of z))
+-- there is room for an object bonded in its place, where there is for what it charges more
+pub room-bonded : (w wc : World) (at : ℕ → ℕ) (z object : ZcoObject) (amounts : Amounts) → object ≡ bonded at z
+    → amounts ≡ amounts_by (bond_charge (capsules_of z))
     → ((i : ℕ) → space_in (source_at w (at i)) ≡ spaces.Heap)
     → ((space : Space) → occupancy w z.account space ≡ occupancy wc z.account space)
-    → HasRoomFor wc z.account by.charged → Differ w by z object
-Differ-bonded w wc at z object by is lost gained released charged heap occupied room =
-    subst (Differ w by z) (sym is) (record {
-      account = refl;
-      uses = λ q. omega (arith, naming-bonded q at z, ap (naming q) lost, ap (naming q) gained);
-      gained = λ q. omega (arith, naming-bonded q at z, ap (naming q) gained);
-      charges = λ space.
-          omega (
-            arith,
-            charge-bonded w space at z heap,
-            amount_of by.charged (bond_charge (capsules_of z)) space charged,
-            none space,
-          );
-      small = λ space. omega (arith, room space);
-      room = λ space. omega (arith, room space, occupied space, none space);
-    })
-  where
-    none : (space : Space) → amount by.released space ≡ 0
-    none space = ap (λ a. amount a space) released ∙ nothing_in space
-
--- the extents lie at the next addresses
-pub gained-next : (taken next : ℕ) (es : List Extent) (cs of : List Capsule) → next ≡ next_addr taken → cs ≡ of
-    → es ≡ bonded_extents (λ k. next + 8 * k) 0 cs → es ≡ bonded_extents (addr_after taken) 0 of
-gained-next taken next es cs of is same made =
-    made ∙ ap (bonded_extents (λ k. next + 8 * k) 0) same
-    ∙ extents-shift (λ k. next + 8 * k) (addr_after taken) of 0 0
-    (λ n. (let here : next + 8 * (0 + n) ≡ next_addr (taken + (0 + n)) = omega (arith, is) in here)
-    ∙ sym (addr_after-next taken (0 + n)))
+    → HasRoomFor wc z.account amounts
+    → (space : Space) → occupancy w z.account space + object_charge w space object ≤ most_amount + object_charge w space z
+room-bonded w wc at z object amounts is charged heap occupied room space =
+    omega (
+      arith,
+      ap (object_charge w space) is,
+      charge-bonded w space at z heap,
+      amount_of amounts (bond_charge (capsules_of z)) space charged,
+      room space,
+      occupied space,
+    )
 
 -- more is charged of heap space alone
 no_file : (cs : List Capsule) → bond_charge cs spaces.File ≡ 0

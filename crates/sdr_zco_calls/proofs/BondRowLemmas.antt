@@ -3,7 +3,7 @@ use Rattle.std.proofs.Common.{◌≡◌, ◌≤◌, ◌+◌, ◌*◌, ◌++◌, 
 use Rattle.sdr_base.specs.declared.account.Amounts.{Amounts}
 use Rattle.sdr_base.specs.declared.refusal.Refusal.{Refusal}
 use Rattle.sdr_model.specs.declared.accounts.Pending.{Pending}
-use Rattle.sdr_tally.specs.Allowed.{MayCharge, RefusesCharge}
+use Rattle.sdr_draft.specs.Allowed.{MayCharge, RefusesCharge}
 use Rattle.sdr_model.specs.Amounts.{amounts_by}
 use Rattle.sdr_model.specs.BondSteps.{bond_charge, bond_moves, bonded, capsules_of, with_bonded}
 use Rattle.sdr_model.specs.Charging.{Charges, with_used}
@@ -23,9 +23,9 @@ use Rattle.sdr_model.specs.declared.zco.Capsule.{Capsule}
 use Rattle.sdr_model.specs.declared.zco.Extent.{Extent}
 use Rattle.sdr_model.specs.declared.zco.Subject.TheVariants as subjects
 use Rattle.sdr_model.specs.declared.zco.ZcoObject.{ZcoObject}
-use Rattle.sdr_tally.proofs.BondLemmas.{bonded-fields, texts_put, with_first}
+use Rattle.sdr_draft.proofs.BondLemmas.{bonded-fields, texts_put, with_first}
 use Rattle.sdr_zco_calls.proofs.BondCallLemmas.{with_marks}
-use Rattle.sdr_tally.proofs.ChargeLemmas.{charge_allowed, charge_refused}
+use Rattle.sdr_draft.proofs.ChargeLemmas.{charge_allowed, charge_refused}
 use Rattle.sdr_undo.proofs.TakenLemmas.{Agree, addr_after-next, bond-agree, bond-blocks, bond-in_order, bond-taken, bonded-agree, does-with, run, run-next}
 
 -- what bonding an object that is there comes to

@@ -11,7 +11,7 @@ use Rattle.sdr_base.specs.declared.kind.Space.TheVariants as spaces
 use Rattle.sdr_base.specs.declared.refusal.Refusal.{Refusal}
 use Rattle.sdr_model.specs.Accounts.{most_amount}
 use Rattle.sdr_model.specs.declared.accounts.Pending.{Pending}
-use Rattle.sdr_tally.specs.Allowed.{HasRoomFor, MayCharge, RefusesCharge}
+use Rattle.sdr_draft.specs.Allowed.{HasRoomFor, MayCharge, RefusesCharge}
 use Rattle.sdr_model.specs.Amounts.{amounts_by}
 use Rattle.sdr_model.specs.Charges.{object_charge, occupancy}
 use Rattle.sdr_model.specs.Charging.{Charges, with_used}
@@ -34,9 +34,9 @@ use Rattle.sdr_model.specs.declared.things.Thing.TheVariants as things
 use Rattle.sdr_model.specs.declared.zco.Extent.{Extent}
 use Rattle.sdr_model.specs.declared.zco.ZcoObject.{ZcoObject}
 use Rattle.sdr_parts.proofs.BoundsLemmas.{amounts_of}
-use Rattle.sdr_tally.proofs.ChargeLemmas.{charge_allowed, charge_refused}
+use Rattle.sdr_draft.proofs.ChargeLemmas.{charge_allowed, charge_refused}
 use Rattle.sdr_zco_calls.proofs.CloneLemmas.{All-cut_all, All-placed, cut-ends, cut_all-charge, placed-charge}
-use Rattle.sdr_tally.proofs.ExtentLemmas.{amount_of}
+use Rattle.sdr_draft.proofs.ExtentLemmas.{amount_of}
 use Rattle.sdr_model.proofs.Cases.{on_false}
 use Rattle.sdr_undo.proofs.TakenLemmas.{Agree, addr_after-next, clone-agree, clone-blocks, clone-in_order, clone-taken, does-with, placed-agree, run, run-next}
 

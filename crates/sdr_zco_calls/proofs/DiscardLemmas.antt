@@ -7,7 +7,7 @@ use Rattle.sdr_model.specs.PartSteps.{outside_part, stripped}
 use Rattle.sdr_model.specs.Queue.{with_served}
 use Rattle.sdr_model.specs.RowMoves.{destroyed_blocks, stripped_blocks}
 use Rattle.sdr_model.specs.Steps.{Does, On, Outcome, gave, without_thing}
-use Rattle.sdr_tally.specs.Strips.{IsStripped}
+use Rattle.sdr_draft.specs.Strips.{IsStripped}
 use Rattle.sdr_model.specs.World.{World}
 use Rattle.sdr_model.specs.Zco.{object_at}
 use Rattle.sdr_model.specs.declared.answer.Reply.TheVariants as replies

@@ -3,7 +3,7 @@ use Rattle.sdr_zco_calls.specs.Gathers.{Gathers}
 use Rattle.sdr_model.specs.Pieces.{cut_pieces}
 use Rattle.sdr_zco_calls.specs.declared.wire.Gathering.{Gathering}
 use Rattle.sdr_model.specs.declared.piece.Piece.{Piece}
-use Rattle.std.proofs.Common.{◌≡◌, ◌-◌, ℕ, List, [], ◌++◌, ap, sym, ◌∙◌, ap₂, append_assoc}
+use Rattle.std.proofs.Common.{◌≡◌, ℕ, List, [], ◌++◌, ap, sym, ◌∙◌, ap₂, append_assoc}
 use Rattle.std.proofs.lemmas.List.{append-nil}
 
 -- pieces gathered one after another

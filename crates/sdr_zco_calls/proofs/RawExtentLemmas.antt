@@ -10,7 +10,7 @@ use Rattle.sdr_base.specs.declared.moves.Move.TheVariants.{Took}
 use Rattle.sdr_base.specs.declared.refusal.Refusal.{Refusal}
 use Rattle.sdr_base.specs.declared.refusal.Refusal.TheVariants as refusals
 use Rattle.sdr_model.specs.declared.accounts.Pending.{Pending}
-use Rattle.sdr_tally.specs.Allowed.{MayCharge, RefusesCharge}
+use Rattle.sdr_draft.specs.Allowed.{MayCharge, RefusesCharge}
 use Rattle.sdr_model.specs.Amounts.{amounts_by}
 use Rattle.sdr_model.specs.Charges.{bytes_charge}
 use Rattle.sdr_model.specs.Charging.{Charges, with_used}
@@ -21,7 +21,7 @@ use Rattle.sdr_model.specs.Rows.{ByRow}
 use Rattle.sdr_model.specs.SourceSteps.{new_source}
 use Rattle.sdr_model.specs.Things.{with_at, extent_need, source_need}
 use Rattle.sdr_model.specs.Steps.{DoesWith, On, Outcome, Refuses, with_thing}
-use Rattle.sdr_tally.specs.Tallies.{is_plain}
+use Rattle.sdr_draft.specs.Sound.{is_plain}
 use Rattle.sdr_model.specs.World.{World, as_raw, thing_at}
 use Rattle.sdr_model.specs.Zco.{as_object, object_at, source_at, source_on, uses_of}
 use Rattle.sdr_model.specs.declared.answer.Reply.TheVariants as replies
@@ -31,8 +31,8 @@ use Rattle.sdr_model.specs.declared.things.Thing.{Thing}
 use Rattle.sdr_model.specs.declared.things.Thing.TheVariants as things
 use Rattle.sdr_model.specs.declared.zco.Subject.TheVariants as subjects
 use Rattle.sdr_model.specs.declared.zco.ZcoObject.{ZcoObject}
-use Rattle.sdr_tally.proofs.ChargeLemmas.{charge_allowed, charge_refused}
-use Rattle.sdr_tally.proofs.ObjectCallLemmas.{thing_at-blocks}
+use Rattle.sdr_draft.proofs.ChargeLemmas.{charge_allowed, charge_refused}
+use Rattle.sdr_draft.proofs.ObjectCallLemmas.{thing_at-blocks}
 use Rattle.sdr_model.proofs.ThingsLemmas.{get-with_at, same_address, same_things}
 use Rattle.sdr_undo.proofs.TakenLemmas.{does-with, run}
 

@@ -86,7 +86,6 @@ fn append_source(world: &mut Undoable, asked: &Append) -> Result<Reply, NoMemory
     if is_outside(asked.offset, asked.bytes, source.length) {
         return Ok(bad_range(asked, source.length));
     }
-    world.touch(asked.named)?;
     let extent = asked.extent(world.next(), asked.named);
     let _granted = match add_component(world, asked.object, asked.ticket, extent, 0)? {
         Ok(granted) => granted,
@@ -116,7 +115,6 @@ fn append_raw(world: &mut Undoable, asked: &Append) -> Result<Reply, NoMemory>
     }
     let source = world.next();
     world.touch(source)?;
-    world.touch(asked.named)?;
     let extent = asked.extent(source + 8, source);
     let _granted = match add_component(world, asked.object, asked.ticket, extent, 1)? {
         Ok(granted) => granted,

@@ -1,20 +1,18 @@
 // Objects whose headers and trailers become extents.
 ghost use Rattle.std.specs.Prelude.{◌≡◌, ◌≤◌, ◌<◌, ◌+◌, ◌*◌, ◌^◌, ◌++◌, [], ℕ, IfOk, OnOk, length, sum_by};
 ghost use Rattle.sdr_calls.specs.Answers.{Answers};
-ghost use Rattle.sdr_model.specs.Amounts.{amounts_by, no_amounts};
+ghost use Rattle.sdr_model.specs.Amounts.{amounts_by};
 ghost use Rattle.sdr_model.specs.BondSteps.{bond_charge, bonded, bonded_extents, capsules_of};
 ghost use Rattle.sdr_model.specs.Charges.{capsule_charge};
 ghost use Rattle.sdr_model.specs.Few.{HasFewPieces, most_pieces, pieces};
 ghost use Rattle.sdr_model.specs.ObjectSteps.{wire_length};
 
 use crate::object_calls::object;
-use sdr_base::{Addr, Items, NoMemory, Space};
+use sdr_base::{Addr, Amounts, Items, NoMemory, Space};
 use sdr_calls::raw_calls::misnamed;
 use sdr_changes::bonding::{charge_marks, put_texts};
 use sdr_draft::Undoable;
-use sdr_model::amounts::NOTHING;
 use sdr_model::{Call, Capsule, Extent, Reply, ZcoObject};
-use sdr_parts::Change;
 use sdr_parts::charges::{heap_charge, rise};
 use sdr_parts::object::object_of;
 use std::alloc::Global;
@@ -90,25 +88,12 @@ fn bonded(alloc: Global, object: &ZcoObject, first: Addr) -> Result<ZcoObject, N
     Ok(object_of(alloc, object.account, extents))
 }
 
-// What an object and itself with these headers and trailers as extents differ by, where the first of their
-// blocks is at an address.
-fn bond_change(alloc: Global, first: Addr, capsules: &[Capsule]) -> Result<Change, NoMemory>
-    requires first { first + 24 * length capsules.now < 2 ^ 63 + 2 ^ 62 }
+// What these headers and trailers charge more as extents.
+fn bond_charge(capsules: &[Capsule]) -> Amounts
     requires small { sum_by (capsule_charge Space.Heap) capsules.now ≤ 2 ^ 41 }
-    ensures lost { IfOk result (λ by. by.lost ≡ []) }
-    ensures gained { IfOk result (λ by. by.gained ≡ bonded_extents (λ k.
-        first + 8 * k) 0 capsules.now) }
-    ensures released { IfOk result (λ by. by.released ≡ no_amounts) }
-    ensures charged { IfOk result (λ by. by.charged ≡ amounts_by (bond_charge capsules.now)) }
+    ensures { result ≡ amounts_by (bond_charge capsules.now) }
 {
-    let mut gained = Items::new(alloc);
-    add_bonded(&mut gained, first, capsules)?;
-    Ok(Change {
-        lost: Items::new(alloc),
-        gained,
-        released: NOTHING,
-        charged: heap_charge(rise(capsules)),
-    })
+    heap_charge(rise(capsules))
 }
 
 /// Makes an extent of each header and trailer of an object: its text becomes a raw object with a source of
@@ -127,14 +112,14 @@ pub fn bond(alloc: Global, world: &mut Undoable, addr: Addr, number: u64) -> Res
     let capsules = capsules_of(alloc, object)?;
     let blocks = 3 * capsules.len() as u64;
     let changed = bonded(alloc, object, first)?;
-    let by = bond_change(alloc, first, capsules.as_slice())?;
+    let charge = bond_charge(capsules.as_slice());
     world.touch(addr)?;
     world.touch_next(blocks)?;
-    let _granted = match charge_marks(world, acct, number, &by.charged, addr, blocks)? {
+    let _granted = match charge_marks(world, acct, number, &charge, addr, blocks)? {
         Ok(granted) => granted,
         Err(refusal) => return Ok(Reply::Refused(refusal)),
     };
     put_texts(world, capsules);
-    world.change_object(addr, changed, &by);
+    world.change_object(addr, changed);
     Ok(Reply::Done)
 }

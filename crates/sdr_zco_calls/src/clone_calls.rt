@@ -11,7 +11,6 @@ use crate::object_calls::object;
 use sdr_base::{Addr, Items, NoMemory, Refusal};
 use sdr_calls::raw_calls::misnamed;
 use sdr_changes::taking::charge_blocks;
-use sdr_changes::touching::touch_object;
 use sdr_draft::Undoable;
 use sdr_model::{Call, Extent, Reply, ZcoObject};
 use sdr_parts::object::{asked_extents, object_of};
@@ -88,7 +87,7 @@ pub fn clone_part(
     let clone = cloned(alloc, object, made, offset, bytes)?;
     let charge = world.object_charge(&clone);
     let blocks = 1 + clone.extents.len() as u64;
-    touch_object(world, made, &clone)?;
+    world.touch(made)?;
     let _granted = match charge_blocks(world, acct, number, &charge, made, blocks)? {
         Ok(granted) => granted,
         Err(refusal) => return Ok(Reply::Refused(refusal)),

@@ -11,7 +11,6 @@ use crate::object_calls::object;
 use sdr_base::{Addr, NoMemory};
 use sdr_calls::raw_calls::misnamed;
 use sdr_changes::dropping::{drop_all, touch_all};
-use sdr_changes::touching::touch_object;
 use sdr_draft::Undoable;
 use sdr_model::{Call, Reply, ZcoObject};
 use std::alloc::Global;
@@ -34,7 +33,7 @@ fn lose_whole(
 {
     world.known_object(addr);
     let gone = gone_things(alloc, world, object.extents.as_slice())?;
-    touch_object(world, addr, object)?;
+    world.touch(addr)?;
     touch_all(world, gone.as_slice())?;
     world.save_accounts()?;
     world.lose_object(addr);
@@ -44,8 +43,8 @@ fn lose_whole(
     Ok(Reply::Done)
 }
 
-/// Destroys an object, with each source that goes with its last extent. It is linear in the object, times the
-/// logarithm of the world.
+/// Destroys an object, with each source that goes with its last extent. It goes over all things and extents, times the
+/// logarithm of the object's sources.
 pub fn destroy(alloc: Global, world: &mut Undoable, addr: Addr) -> Result<Reply, NoMemory>
     ensures { Answers (Call.Destroy addr) world.old world.new result }
 {

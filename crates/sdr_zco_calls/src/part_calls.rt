@@ -5,7 +5,7 @@ ghost use Rattle.sdr_model.specs.ObjectSteps.{with_object};
 ghost use Rattle.sdr_model.specs.Queue.{with_served};
 ghost use Rattle.sdr_model.specs.Zco.{object_at};
 ghost use Rattle.sdr_parts.specs.Trims.{MayTrim, trimmed};
-ghost use Rattle.sdr_tally.specs.Tallies.{IsAccountOf};
+ghost use Rattle.sdr_draft.specs.Sound.{IsAccountOf};
 
 use crate::object_calls::object;
 use sdr_base::{Acct, Addr, NoMemory, Refusal};

@@ -8,7 +8,7 @@ ghost use Rattle.sdr_model.specs.Steps.{with_thing, without_thing};
 ghost use Rattle.sdr_model.specs.World.{thing_at};
 ghost use Rattle.sdr_model.specs.Zco.{raw_of, source_at, source_on, uses_of};
 ghost use Rattle.sdr_model.specs.declared.things.Thing.TheVariants as things;
-ghost use Rattle.sdr_tally.specs.Tallies.{is_plain};
+ghost use Rattle.sdr_draft.specs.Sound.{is_plain};
 
 use sdr_base::{Addr, Bytes, Kind, NoMemory, Refusal};
 use sdr_calls::raw_calls::{bad_length, in_use, misnamed, raw};
@@ -17,25 +17,10 @@ use sdr_model::limits::{LONGEST_PATH, LONGEST_SOURCE};
 use sdr_model::{Call, Reply, Subject, ZcoSource};
 use std::alloc::Global;
 
-// Takes note that what names a raw object, if there is one, may be changed.
-fn touch_raw(world: &mut Undoable, raw: Option<Addr>) -> Result<(), NoMemory>
-    ensures now { world.new.now ≡ world.old.now }
-    ensures begun { world.new.begun ≡ world.old.begun }
-    ensures noted { OnOk result (IfSome raw (Contains world.new.noted)) }
-    ensures others { OnOk result ((other : ℕ) →
-        Contains world.old.touched other → Contains world.new.touched other) }
-{
-    match raw {
-        Some(raw) => world.touch(raw),
-        None => Ok(()),
-    }
-}
-
-// Makes a source that isn't flagged of a subject that none names, at the next address.
+// Makes a source that isn't flagged, at the next address.
 fn make_source(world: &mut Undoable, subject: Subject, length: u64) -> Result<Addr, NoMemory>
     requires taken { world.old.now.taken < 2 ^ 60 }
     requires length { length ≤ longest_source }
-    requires unnamed { IfSome (raw_of subject) (λ raw. source_on world.old.now raw ≡ None) }
     requires there { IfSome (raw_of subject) (λ raw.
         (raw < next_addr world.old.now.taken) × (is_plain (thing_at world.old.now raw) ≡ true)) }
     ensures addr { IfOk result (λ addr. addr ≡ next_addr world.old.now.taken) }
@@ -46,7 +31,6 @@ fn make_source(world: &mut Undoable, subject: Subject, length: u64) -> Result<Ad
 {
     let addr = world.next();
     world.touch(addr)?;
-    touch_raw(world, subject.raw())?;
     world.mark_next()?;
     world.count();
     world.put_source(
@@ -64,7 +48,6 @@ fn make_source(world: &mut Undoable, subject: Subject, length: u64) -> Result<Ad
 fn made(world: &mut Undoable, subject: Subject, length: u64) -> Result<Reply, NoMemory>
     requires taken { world.old.now.taken < 2 ^ 60 }
     requires length { length ≤ longest_source }
-    requires unnamed { IfSome (raw_of subject) (λ raw. source_on world.old.now raw ≡ None) }
     requires there { IfSome (raw_of subject) (λ raw.
         (raw < next_addr world.old.now.taken) × (is_plain (thing_at world.old.now raw) ≡ true)) }
     ensures reply { IfOk result (λ reply. reply ≡ Reply.At (next_addr world.old.now.taken)) }
@@ -130,9 +113,7 @@ fn lose_source(world: &mut Undoable, addr: Addr) -> Result<Reply, NoMemory>
     ensures begun { world.new.begun ≡ world.old.begun }
     ensures same { OnErr result (world.new.now ≡ world.old.now) }
 {
-    let raw = world.raw_at(addr);
     world.touch(addr)?;
-    touch_raw(world, raw)?;
     world.drop_source(addr);
     world.hide();
     Ok(Reply::Done)

@@ -17,7 +17,6 @@ impl Undoable {
             → map.get self.new.owners other ≡ Some of }
         ensures begun { self.new.begun ≡ self.old.begun }
         ensures touched { self.new.touched ≡ self.old.touched }
-        ensures noted { self.new.noted ≡ self.old.noted }
         ensures saved { self.new.saved ≡ self.old.saved }
         ensures same { OnErr result (self.new.now ≡ self.old.now) }
     {
@@ -39,7 +38,6 @@ impl Undoable {
             → map.get self.old.owners other ≡ Some of → map.get self.new.owners other ≡ Some of }
         ensures begun { self.new.begun ≡ self.old.begun }
         ensures touched { self.new.touched ≡ self.old.touched }
-        ensures noted { self.new.noted ≡ self.old.noted }
         ensures saved { self.new.saved ≡ self.old.saved }
         ensures some { OnErr result (self.new.now ≡ record self.old.now { marks = self.new.now.marks }) }
         ensures front { take (length self.old.now.marks) self.new.now.marks ≡ self.old.now.marks }
@@ -64,7 +62,6 @@ impl Undoable {
             → map.get self.old.owners other ≡ Some of → map.get self.new.owners other ≡ Some of }
         ensures begun { self.new.begun ≡ self.old.begun }
         ensures touched { self.new.touched ≡ self.old.touched }
-        ensures noted { self.new.noted ≡ self.old.noted }
         ensures saved { self.new.saved ≡ self.old.saved }
         ensures same { OnErr result (self.new.now ≡ self.old.now) }
     {
@@ -85,7 +82,6 @@ impl Undoable {
             ≡ record self.old.now { shown = []; taken = self.old.now.taken + count } }
         ensures begun { self.new.begun ≡ self.old.begun }
         ensures touched { self.new.touched ≡ self.old.touched }
-        ensures noted { self.new.noted ≡ self.old.noted }
         ensures saved { self.new.saved ≡ self.old.saved }
         ensures owners { self.new.owners ≡ self.old.owners }
     {

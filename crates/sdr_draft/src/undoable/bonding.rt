@@ -15,12 +15,8 @@ impl Undoable {
         ensures owners { self.new.owners ≡ self.old.owners }
         ensures touched { OnOk result ((k : ℕ) → k < count →
             Contains self.new.touched (addr_after self.old.now.taken k)) }
-        ensures noted { OnOk result ((k : ℕ) → k < count →
-            Contains self.new.noted (addr_after self.old.now.taken k)) }
         ensures others { OnOk result ((other : ℕ) →
             Contains self.old.touched other → Contains self.new.touched other) }
-        ensures others_noted { OnOk result ((other : ℕ) →
-            Contains self.old.noted other → Contains self.new.noted other) }
         ensures saved { self.new.saved ≡ self.old.saved }
     {
         let first = 8 * (self.taken + 1);

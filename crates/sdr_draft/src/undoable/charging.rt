@@ -8,7 +8,7 @@ ghost use Rattle.sdr_model.specs.Charges.{occupancies};
 ghost use Rattle.sdr_model.specs.Charging.{with_used};
 ghost use Rattle.sdr_model.specs.Queue.{enqueued, with_served};
 ghost use Rattle.sdr_parts.specs.Grants.{KeepGrants};
-ghost use Rattle.sdr_tally.specs.Allowed.{IsBound, IsGrantOf, MayTakeBack, RefusesCharge, refusal_of, with_back};
+ghost use Rattle.sdr_draft.specs.Allowed.{IsBound, IsGrantOf, MayTakeBack, RefusesCharge, refusal_of, with_back};
 
 use crate::Undoable;
 use sdr_base::{Acct, Amounts, NoMemory, Refusal};
@@ -24,14 +24,14 @@ impl Undoable {
         self.accounts.now()
     }
 
-    /// What is occupied in an account. It is linear in the account's queue.
+    /// What is occupied in an account. It is linear in the account's queue, and goes over all things as `charged` does.
     pub fn occupied(&self, acct: Acct) -> Amounts
         ensures value { result ≡ occupancies self.now.now acct }
         ensures small { (space : GhostSpace) → amount result space ≤ most_amount }
         ensures keep { KeepGrants self.now.now.accounts }
     {
         let account = self.accounts.now().account(acct);
-        plus(&self.tally.now.to(acct), &left(account.tickets.as_slice()))
+        plus(&self.charged(acct), &left(account.tickets.as_slice()))
     }
 
     /// Copies the accounts, so that they may be changed. Want of memory leaves the world as before.

@@ -1,4 +1,4 @@
-// Sources that are looked up, and notes of what is to be changed.
+// Sources that are looked up.
 ghost use Rattle.std.specs.Option.{option_copied};
 ghost use Rattle.std.specs.Prelude.{◌≡◌, ◌≤◌, ◌<◌, IfSome};
 ghost use Rattle.sdr_model.specs.Dry.{next_addr};

@@ -6,16 +6,14 @@ ghost use Rattle.sdr_model.specs.World.{thing_at};
 ghost use Rattle.sdr_model.specs.Zco.{naming, object_at, uses_of};
 ghost use Rattle.sdr_model.specs.declared.things.Thing.{Thing};
 ghost use Rattle.sdr_parts.specs.Bounds.{IsModest};
-ghost use Rattle.sdr_parts.specs.Trims.{MayTrim, trim_charge, trimmed};
-ghost use Rattle.sdr_tally.specs.Allowed.{IsBound};
-ghost use Rattle.sdr_tally.specs.Tallies.{is_plain, raw_at};
+ghost use Rattle.sdr_parts.specs.Trims.{MayTrim, trimmed};
+ghost use Rattle.sdr_draft.specs.Allowed.{IsBound};
+ghost use Rattle.sdr_draft.specs.Sound.{is_plain, raw_at};
 ghost use Rattle.sdr_undo.specs.Owners.{MayPut};
 
 use crate::Undoable;
 use sdr_base::{Addr, NoMemory};
-use sdr_parts::charges::heap_charge;
-use sdr_parts::edits::trim_charge;
-use sdr_parts::{Change, Edit, Trim};
+use sdr_parts::{Edit, Trim};
 
 impl Undoable {
     /// What is always known of the object at an address: it keeps to the limits, may be put there again,
@@ -34,16 +32,6 @@ impl Undoable {
         let _ = self.things.get(addr);
     }
 
-    // The heap space that the object at an address charges less once it is trimmed, 0 where there is none.
-    fn trim_charge(&self, addr: Addr, trim: Trim) -> u64
-        ensures { IfSome (object_at self.now.now addr) (λ z. result ≡ trim_charge trim z) }
-    {
-        match self.object(addr) {
-            Some(object) => trim_charge(object, trim),
-            None => 0,
-        }
-    }
-
     /// Trims the object at an address in place. Want of memory leaves the world as before. The first change
     /// of the object in a transaction copies it; else a header that goes moves the others, and all else takes
     /// the logarithm of the world.
@@ -56,8 +44,6 @@ impl Undoable {
         ensures same { OnErr result (self.new.now ≡ self.old.now) }
     {
         self.known_object(addr);
-        let released = heap_charge(self.trim_charge(addr, trim));
-        let by = Change::releasing(self.alloc, released);
-        self.edit_object(addr, Edit::Trim(trim), &by)
+        self.edit_object(addr, Edit::Trim(trim))
     }
 }

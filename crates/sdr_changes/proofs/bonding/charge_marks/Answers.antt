@@ -1,6 +1,6 @@
 use Rattle.std.proofs.Common.{◌∙◌, [], ap, subst, sym}
 use Rattle.std.specs.Prelude.{OnOk}
-use Rattle.sdr_tally.specs.Allowed.{HasRoomFor}
+use Rattle.sdr_draft.specs.Allowed.{HasRoomFor}
 use Rattle.sdr_model.specs.World.{World}
 use Rattle.sdr_changes.proofs.bonding.charge_marks.Goals as goal
 

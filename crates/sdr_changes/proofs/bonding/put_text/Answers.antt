@@ -1,11 +1,11 @@
 use Rattle.std.proofs.Common.{◌+◌, Some, ap, ◌∙◌, arith}
 use Rattle.sdr_model.specs.Steps.{with_thing}
-use Rattle.sdr_tally.specs.Tallies.{is_plain}
+use Rattle.sdr_draft.specs.Sound.{is_plain}
 use Rattle.sdr_model.specs.World.{thing_at}
 use Rattle.sdr_model.specs.SourceSteps.{new_source}
 use Rattle.sdr_model.specs.declared.things.Thing.TheVariants as things
 use Rattle.sdr_model.specs.declared.zco.Subject.TheVariants as subjects
-use Rattle.sdr_tally.proofs.BondLemmas.{get-other, text_objects, text_occupancy, text_put, text_space}
+use Rattle.sdr_draft.proofs.BondLemmas.{get-other, text_objects, text_occupancy, text_put, text_space}
 use Rattle.sdr_changes.proofs.bonding.put_text.Goals as goal
 
 pub put-requires-clause-was_plain : goal.put-requires-clause-was_plain

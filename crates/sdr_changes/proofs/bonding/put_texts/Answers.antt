@@ -6,7 +6,7 @@ use Rattle.std.specs.Vec.Iter.{into_iter_items}
 use Rattle.sdr_model.specs.Dry.{addr_after, next_addr}
 use Rattle.sdr_parts.specs.Bounds.{IsShort}
 use Rattle.sdr_model.specs.World.{World}
-use Rattle.sdr_tally.proofs.BondLemmas.{texts_put, texts_put-cons}
+use Rattle.sdr_draft.proofs.BondLemmas.{texts_put, texts_put-cons}
 use Rattle.sdr_undo.proofs.TakenLemmas.{addr_after-next}
 use Rattle.sdr_changes.proofs.bonding.put_texts.Goals as goal
 
@@ -17,10 +17,6 @@ put_text-requires-clause-touched_raw c =
 pub put_text-requires-clause-touched_source : goal.put_text-requires-clause-touched_source
 put_text-requires-clause-touched_source c =
     c.loop-capsule.invariant.touched 1 (omega (arith, ap length c.in-Some.ensures.steps.0))
-
-pub put_text-requires-clause-noted : goal.put_text-requires-clause-noted
-put_text-requires-clause-noted c =
-    c.loop-capsule.invariant.noted 0 (omega (arith, ap length c.in-Some.ensures.steps.0))
 
 pub loop-capsule-preserved : goal.loop-capsule-preserved
 loop-capsule-preserved c =
@@ -43,8 +39,6 @@ loop-capsule-preserved c =
       later = omega (arith, taken, was.later);
       touched = λ k less. subst (λ t. Contains t (addr_after new.now.taken k)) (sym c.put_text.ensures.touched)
           (subst (Contains old.touched) (sym (next k)) (was.touched (3 + k) (omega (arith, less, longer))));
-      noted = λ k less. subst (λ t. Contains t (addr_after new.now.taken k)) (sym c.put_text.ensures.noted_stay)
-          (subst (Contains old.noted) (sym (next k)) (was.noted (3 + k) (omega (arith, less, longer))));
       short = All-tail IsShort x rest (subst (All IsShort) steps was.short);
       hidden = ap (λ (v : World). v.shown) c.put_text.ensures.put;
       put = texts_put-cons old.now new.now x rest c.put_text.ensures.put ∙ sym (ap (texts_put old.now) steps) ∙ was.put;
@@ -54,6 +48,5 @@ loop-capsule-preserved c =
       begun = c.put_text.ensures.begun ∙ was.begun;
       owners = c.put_text.ensures.owners ∙ was.owners;
       touched_stay = c.put_text.ensures.touched ∙ was.touched_stay;
-      noted_stay = c.put_text.ensures.noted_stay ∙ was.noted_stay;
       saved = c.put_text.ensures.saved ∙ was.saved;
     }

@@ -8,7 +8,7 @@ use Rattle.sdr_model.specs.Charges.{occupancy, space_in}
 use Rattle.sdr_model.specs.Dry.{addr_after, next_addr}
 use Rattle.sdr_parts.specs.Bounds.{IsShort}
 use Rattle.sdr_model.specs.Zco.{object_at, source_at}
-use Rattle.sdr_tally.proofs.BondLemmas.{texts_put}
+use Rattle.sdr_draft.proofs.BondLemmas.{texts_put}
 use Rattle.sdr_changes.proofs.bonding.put_texts.Given as goal
 
 abbrev pub invariant-loop-capsule : goal.invariant-loop-capsule
@@ -19,8 +19,6 @@ invariant-loop-capsule l = record {
   later : l.initial.world.now.taken ≤ l.world.now.taken;
   touched : (k : ℕ) → k < 3 * length (into_iter_items l.capsule-iterator)
       → Contains l.world.touched (addr_after l.world.now.taken k);
-  noted : (k : ℕ) → k < 3 * length (into_iter_items l.capsule-iterator)
-      → Contains l.world.noted (addr_after l.world.now.taken k);
   short : All IsShort (into_iter_items l.capsule-iterator);
   hidden : l.world.now.shown ≡ [];
   put : texts_put l.world.now (into_iter_items l.capsule-iterator) ≡ texts_put l.initial.world.now l.fn.capsules.items;
@@ -31,6 +29,5 @@ invariant-loop-capsule l = record {
   begun : l.world.begun ≡ l.initial.world.begun;
   owners : l.world.owners ≡ l.initial.world.owners;
   touched_stay : l.world.touched ≡ l.initial.world.touched;
-  noted_stay : l.world.noted ≡ l.initial.world.noted;
   saved : l.world.saved ≡ l.initial.world.saved;
 }

@@ -1,9 +1,9 @@
 use Rattle.std.proofs.Common.{ap, subst, sym, ◌∙◌}
-use Rattle.sdr_tally.specs.Allowed.{HasRoomFor, MayTakeBack, refusal_of, with_back}
+use Rattle.sdr_draft.specs.Allowed.{HasRoomFor, MayTakeBack, refusal_of, with_back}
 use Rattle.sdr_model.specs.Amounts.{minus}
 use Rattle.sdr_model.specs.Charging.{with_used}
 use Rattle.sdr_undo.specs.Draft.{Draft}
-use Rattle.sdr_tally.proofs.ChargeLemmas.{charge_refused_by, granted_of, may_take_back, room_allowed, room_used, with_back-used}
+use Rattle.sdr_draft.proofs.ChargeLemmas.{charge_refused_by, granted_of, may_take_back, room_allowed, room_used, with_back-used}
 use Rattle.sdr_changes.proofs.charging.charge_account.Goals as goal
 
 pub returns-in-Some-clause-refused : goal.returns-in-Some-clause-refused

@@ -2,10 +2,10 @@ use Rattle.std.proofs.Common.{◌+◌, ap, sym, ◌∙◌, drop, get_or, subst}
 use Rattle.std.proofs.lemmas.List.{drop_more}
 use Rattle.std.proofs.lemmas.List.Elements.{All-head, All-tail, All-weaker}
 use Rattle.std.specs.List.{All}
-use Rattle.sdr_tally.specs.Drops.{MayGo}
+use Rattle.sdr_draft.specs.Drops.{MayGo}
 use Rattle.sdr_model.specs.Gone.{without_things}
 use Rattle.sdr_model.specs.World.{World}
-use Rattle.sdr_tally.proofs.DropLemmas.{MayGo-without}
+use Rattle.sdr_draft.proofs.DropLemmas.{MayGo-without}
 use Rattle.sdr_changes.proofs.dropping.drop_all.Goals as goal
 
 pub drop_one-requires : goal.drop_one-requires
@@ -28,7 +28,7 @@ loop-addr-preserved c =
     let more = drop_more all i 0 c.loop-addr-test.true in
     record {
       may = All-weaker (MayGo old) (MayGo new)
-          (λ addr may. MayGo-without old new a addr c.drop_one.ensures.dropped c.drop_one.ensures.touched c.drop_one.ensures.noted_stay may)
+          (λ addr may. MayGo-without old new a addr c.drop_one.ensures.dropped c.drop_one.ensures.touched may)
           (drop (i + 1) all) (All-tail (MayGo old) a (drop (i + 1) all) (subst (All (MayGo old)) more c.loop-addr.invariant.may));
       dropped = ap (λ (w : World). without_things w (drop (i + 1) all)) c.drop_one.ensures.dropped
           ∙ sym (ap (without_things old.now) more) ∙ c.loop-addr.invariant.dropped;

@@ -1,6 +1,6 @@
 use Rattle.std.proofs.Common.{◌≡◌, drop}
 use Rattle.std.specs.List.{All}
-use Rattle.sdr_tally.specs.Drops.{MayGo}
+use Rattle.sdr_draft.specs.Drops.{MayGo}
 use Rattle.sdr_model.specs.Gone.{without_things}
 use Rattle.sdr_changes.proofs.dropping.drop_all.Given as goal
 

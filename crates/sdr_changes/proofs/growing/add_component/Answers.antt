@@ -1,12 +1,12 @@
 use Rattle.std.proofs.Common.{◌≡◌, ◌<◌, ◌+◌, ◌∙◌, ap, arith, sym, subst, true}
 use Rattle.std.specs.Prelude.{Contains, IfErr, IfOk, IfSome, IsSome, OnOk}
-use Rattle.sdr_tally.specs.Allowed.{HasRoomFor, MayCharge, RefusesCharge}
+use Rattle.sdr_draft.specs.Allowed.{HasRoomFor, MayCharge, RefusesCharge}
 use Rattle.sdr_model.specs.Charging.{with_used}
 use Rattle.sdr_parts.specs.Components.{Grows, component_charges, source_of}
 use Rattle.sdr_undo.specs.Draft.{Draft}
 use Rattle.sdr_model.specs.Dry.{addr_after, next_addr, with_blocks}
 use Rattle.sdr_model.specs.Zco.{object_at}
-use Rattle.sdr_tally.proofs.GrowLemmas.{charges-used, object_at-used, source_on-used, taken-used}
+use Rattle.sdr_draft.proofs.GrowLemmas.{charges-used, object_at-used, source_on-used, taken-used}
 use Rattle.sdr_changes.proofs.growing.add_component.Goals as goal
 
 pub returns-in-Err-clause-refused : goal.returns-in-Err-clause-refused
@@ -36,15 +36,6 @@ take_component-requires-clause-there c =
     subst (λ r. IfOk r (λ p. c.charge_account.new.world ≡ record d { now = with_used d.now p amounts; saved = true })) c.in-Ok.is
     c.in_ok-granted.ensures.charged in
     subst IsSome (sym (object_at-used d.now _ c.in-Ok.granted amounts (ap (λ (d : Draft). d.now) is) c.args.addr)) c.requires.there
-
-pub take_component-requires-clause-noted : goal.take_component-requires-clause-noted
-take_component-requires-clause-noted c =
-    let d = c.args.world.now in
-    let amounts = c.component_charges-charge.result in
-    let is : c.charge_account.new.world ≡ record d { now = with_used d.now c.in-Ok.granted amounts; saved = true } =
-    subst (λ r. IfOk r (λ p. c.charge_account.new.world ≡ record d { now = with_used d.now p amounts; saved = true })) c.in-Ok.is
-    c.in_ok-granted.ensures.charged in
-    subst (λ (e : Draft). IfSome (source_of c.args.component) (Contains e.noted)) (sym is) c.requires.noted
 
 pub take_component-requires-clause-below : goal.take_component-requires-clause-below
 take_component-requires-clause-below c =
@@ -108,15 +99,15 @@ returns-in-Ok-take_component-clause-added c =
     (subst (λ o. Grows o k m (with_blocks c.charge_account.new.world.now (c.args.before + 1)) c.take_component.new.world.now)
     (object_at-used d.now _ c.in-Ok.granted amounts now k) c.in-Ok-take_component.ensures.added))
 
-pub returns-in-Ok-take_component-clause-named : goal.returns-in-Ok-take_component-clause-named
-returns-in-Ok-take_component-clause-named c raw =
+pub returns-in-Ok-take_component-clause-unnamed : goal.returns-in-Ok-take_component-clause-unnamed
+returns-in-Ok-take_component-clause-unnamed c raw none =
     let d = c.args.world.now in
     let amounts = c.component_charges-charge.result in
     let is : c.charge_account.new.world ≡ record d { now = with_used d.now c.in-Ok.granted amounts; saved = true } =
     subst (λ r. IfOk r (λ p. c.charge_account.new.world ≡ record d { now = with_used d.now p amounts; saved = true })) c.in-Ok.is
     c.in_ok-granted.ensures.charged in
-    c.in-Ok-take_component.ensures.named raw
-    ∙ source_on-used d.now _ c.in-Ok.granted amounts (ap (λ (d : Draft). d.now) is) raw
+    c.in-Ok-take_component.ensures.unnamed raw
+    (source_on-used d.now _ c.in-Ok.granted amounts (ap (λ (d : Draft). d.now) is) raw ∙ none)
 
 pub returns-in-Ok-take_component-clause-touched : goal.returns-in-Ok-take_component-clause-touched
 returns-in-Ok-take_component-clause-touched c other has =

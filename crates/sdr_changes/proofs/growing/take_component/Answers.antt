@@ -2,7 +2,7 @@ use Rattle.std.proofs.Common.{◌≡◌, ◌<◌, ◌+◌, ◌++◌, ◌∙◌, 
 use Rattle.std.proofs.Math.Seq.{take-append_seam}
 use Rattle.std.specs.FinMap.{get}
 use Rattle.std.specs.Prelude.{Contains, IfSome, IsSome}
-use Rattle.sdr_tally.specs.Allowed.{HasRoomFor}
+use Rattle.sdr_draft.specs.Allowed.{HasRoomFor}
 use Rattle.sdr_parts.specs.Components.{Grows, component_charges, source_of}
 use Rattle.sdr_model.specs.Dry.{next_addr, next_addrs}
 use Rattle.sdr_model.specs.World.{World}
@@ -13,10 +13,6 @@ use Rattle.sdr_changes.proofs.growing.take_component.Goals as goal
 pub push_component-requires-clause-there : goal.push_component-requires-clause-there
 push_component-requires-clause-there c =
     subst (λ w. IsSome (object_at w c.args.addr)) (sym c.in_ok-reserve_blocks.ensures.marked) c.requires.there
-
-pub push_component-requires-clause-noted : goal.push_component-requires-clause-noted
-push_component-requires-clause-noted c =
-    subst (λ noted. IfSome (source_of c.args.component) (Contains noted)) (sym c.reserve_blocks.ensures.noted) c.requires.noted
 
 pub push_component-requires-clause-below : goal.push_component-requires-clause-below
 push_component-requires-clause-below c =
@@ -44,9 +40,9 @@ returns-in-Ok-clause-added c =
     (record w { shown = []; taken = w.taken + (c.args.before + 1) }) c.push_component.new.self.now)
     c.in_ok-reserve_blocks.ensures.marked c.in-Ok.ensures.added
 
-pub returns-in-Ok-clause-named : goal.returns-in-Ok-clause-named
-returns-in-Ok-clause-named c raw =
-    c.in-Ok.ensures.named raw ∙ ap (λ w. source_on w raw) c.in_ok-reserve_blocks.ensures.marked
+pub returns-in-Ok-clause-unnamed : goal.returns-in-Ok-clause-unnamed
+returns-in-Ok-clause-unnamed c raw none =
+    c.in-Ok.ensures.unnamed raw (ap (λ w. source_on w raw) c.in_ok-reserve_blocks.ensures.marked ∙ none)
 
 pub returns-in-Ok-clause-touched : goal.returns-in-Ok-clause-touched
 returns-in-Ok-clause-touched c other has =

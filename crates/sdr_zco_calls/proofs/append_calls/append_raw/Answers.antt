@@ -8,15 +8,15 @@ use Rattle.sdr_parts.specs.Components.{component_charges, with_component}
 use Rattle.sdr_model.specs.Dry.{next_addr, with_blocks}
 use Rattle.sdr_model.specs.ObjectSteps.{with_object}
 use Rattle.sdr_model.specs.Steps.{with_thing}
-use Rattle.sdr_tally.specs.Tallies.{is_plain}
+use Rattle.sdr_draft.specs.Sound.{is_plain}
 use Rattle.sdr_model.specs.World.{World, thing_at}
 use Rattle.sdr_model.specs.Zco.{as_object, as_source, object_at}
 use Rattle.sdr_parts.specs.declared.component.Component.{Component}
 use Rattle.sdr_parts.specs.declared.component.Component.TheVariants as components
 use Rattle.sdr_model.specs.declared.things.Thing.TheVariants as things
 use Rattle.sdr_model.proofs.Cases.{some_is}
-use Rattle.sdr_tally.proofs.GrowLemmas.{allowed_at, grown_at, refused_at}
-use Rattle.sdr_tally.proofs.ObjectCallLemmas.{thing_at-blocks}
+use Rattle.sdr_draft.proofs.GrowLemmas.{allowed_at, grown_at, refused_at}
+use Rattle.sdr_draft.proofs.ObjectCallLemmas.{thing_at-blocks}
 use Rattle.sdr_zco_calls.proofs.RawExtentLemmas.{made_behind, plain_still, raw_append-refused, raw_append-step, raw_appended, raw_plain, taking_source}
 use Rattle.sdr_zco_calls.proofs.append_calls.append_raw.Goals as goal
 
@@ -26,10 +26,10 @@ take_over-requires-clause-plain c =
     let a = c.args.asked.now in
     let src = c.next-source.result in
     let z = some_is (object_at w a.object) c.requires.object in
-    let same : c.touch-2.new.self.now ≡ w = c.touch-2.ensures.now ∙ c.touch.ensures.now in
+    let same : c.touch.new.self.now ≡ w = c.touch.ensures.now in
     let made : Component =
     components.Extent (record { block = src + 8; source = src; offset = a.offset; length = a.bytes }) in
-    let put = grown_at w c.touch-2.new.self.now a.object a.ticket 2 z.0 c.extent-extent.result made same z.1 c.extent-extent.ensures
+    let put = grown_at w c.touch.new.self.now a.object a.ticket 2 z.0 c.extent-extent.result made same z.1 c.extent-extent.ensures
     c.add_component.new.world.now _ c.in-Ok.granted c.in-Ok.is c.in_ok-granted.ensures.added in
     plain_still w _ a.object z.0 _ c.in-Ok.granted _ z.1 put src ∙ ap is_plain (c.next-source.ensures.fresh src (omega arith))
 
@@ -39,10 +39,10 @@ take_over-requires-clause-raw_plain c =
     let a = c.args.asked.now in
     let src = c.next-source.result in
     let z = some_is (object_at w a.object) c.requires.object in
-    let same : c.touch-2.new.self.now ≡ w = c.touch-2.ensures.now ∙ c.touch.ensures.now in
+    let same : c.touch.new.self.now ≡ w = c.touch.ensures.now in
     let made : Component =
     components.Extent (record { block = src + 8; source = src; offset = a.offset; length = a.bytes }) in
-    let put = grown_at w c.touch-2.new.self.now a.object a.ticket 2 z.0 c.extent-extent.result made same z.1 c.extent-extent.ensures
+    let put = grown_at w c.touch.new.self.now a.object a.ticket 2 z.0 c.extent-extent.result made same z.1 c.extent-extent.ensures
     c.add_component.new.world.now _ c.in-Ok.granted c.in-Ok.is c.in_ok-granted.ensures.added in
     plain_still w _ a.object z.0 _ c.in-Ok.granted _ z.1 put a.named
     ∙ raw_plain (thing_at w a.named) c.in-Some.bytes.now (sym c.in-Some.ensures.value)
@@ -53,7 +53,7 @@ returns-in-Err c =
     let a = c.args.asked.now in
     let src = c.next-source.result in
     let z = some_is (object_at w a.object) c.requires.object in
-    let same : c.touch-2.new.self.now ≡ w = c.touch-2.ensures.now ∙ c.touch.ensures.now in
+    let same : c.touch.new.self.now ≡ w = c.touch.ensures.now in
     let made : Component =
     components.Extent (record { block = src + 8; source = src; offset = a.offset; length = a.bytes }) in
     let text = c.in-Some.bytes.now in
@@ -66,11 +66,11 @@ returns-in-Err c =
       step = raw_append-refused w c.add_component.new.world.now a.object a.ticket a.named a.offset a.bytes z.0 text
           (component_charges w made) c.in-Err.refusal z.1 c.requires.no_source (sym c.in-Some.ensures.value)
           (sym c.in_default-source_on.ensures) inside is
-          (refused_at w c.touch-2.new.self.now a.object a.ticket 2 z.0 c.extent-extent.result made same z.1
+          (refused_at w c.touch.new.self.now a.object a.ticket 2 z.0 c.extent-extent.result made same z.1
           c.extent-extent.ensures _ c.in-Err.refusal c.in-Err.is c.in_ok-granted.ensures.refused)
-          (subst (λ r. OnErr r (c.add_component.new.world.now ≡ c.touch-2.new.self.now)) c.in-Err.is
+          (subst (λ r. OnErr r (c.add_component.new.world.now ≡ c.touch.new.self.now)) c.in-Err.is
           c.in_ok-granted.ensures.same ∙ same);
-      begun = c.add_component.ensures.begun ∙ c.touch-2.ensures.begun ∙ c.touch.ensures.begun;
+      begun = c.add_component.ensures.begun ∙ c.touch.ensures.begun;
       same = tt;
     }
 
@@ -80,7 +80,7 @@ returns c =
     let a = c.args.asked.now in
     let src = c.next-source.result in
     let z = some_is (object_at w a.object) c.requires.object in
-    let same : c.touch-2.new.self.now ≡ w = c.touch-2.ensures.now ∙ c.touch.ensures.now in
+    let same : c.touch.new.self.now ≡ w = c.touch.ensures.now in
     let made : Component =
     components.Extent (record { block = src + 8; source = src; offset = a.offset; length = a.bytes }) in
     let text = c.in-Some.bytes.now in
@@ -89,7 +89,7 @@ returns c =
     ∙ c.if-is_outside.false in
     let is : component_charges w made ≡ amounts_by (bytes_charge spaces.Heap a.bytes) =
     ap (λ t. amounts_by (bytes_charge (space_in (as_source t)) a.bytes)) (c.next-source.ensures.fresh src (omega arith)) in
-    let put = grown_at w c.touch-2.new.self.now a.object a.ticket 2 z.0 c.extent-extent.result made same z.1 c.extent-extent.ensures
+    let put = grown_at w c.touch.new.self.now a.object a.ticket 2 z.0 c.extent-extent.result made same z.1 c.extent-extent.ensures
     c.add_component.new.world.now _ c.in-Ok.granted c.in-Ok.is c.in_ok-granted.ensures.added in
     let charged : World = with_blocks (with_used w c.in-Ok.granted (component_charges w made)) 2 in
     let second : src + 8 ≡ next_addr (w.taken + 1) = omega (arith, c.next-source.ensures.value) in
@@ -108,9 +108,9 @@ returns c =
       step = raw_append-step w c.take_over.new.self.now a.object a.ticket a.named a.offset a.bytes z.0 text
           (component_charges w made) c.in-Ok.granted z.1 c.requires.no_source (sym c.in-Some.ensures.value)
           (sym c.in_default-source_on.ensures) inside is
-          (allowed_at w c.touch-2.new.self.now a.object a.ticket 2 z.0 c.extent-extent.result made same z.1
+          (allowed_at w c.touch.new.self.now a.object a.ticket 2 z.0 c.extent-extent.result made same z.1
           c.extent-extent.ensures _ c.in-Ok.granted c.in-Ok.is c.in_ok-granted.ensures.allowed)
           after;
-      begun = c.take_over.ensures.begun ∙ c.add_component.ensures.begun ∙ c.touch-2.ensures.begun ∙ c.touch.ensures.begun;
+      begun = c.take_over.ensures.begun ∙ c.add_component.ensures.begun ∙ c.touch.ensures.begun;
       same = tt;
     }

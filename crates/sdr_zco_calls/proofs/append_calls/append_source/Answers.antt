@@ -1,17 +1,16 @@
-use Rattle.std.proofs.Common.{◌≡◌, ◌+◌, ◌∙◌, ◌==◌, ◌||◌, false, ap, sym, subst}
+use Rattle.std.proofs.Common.{refl, ◌≡◌, ◌+◌, ◌∙◌, ◌==◌, ◌||◌, false, ap, sym, subst}
 use Rattle.std.specs.Prelude.{OnErr, nat_lt}
 use Rattle.sdr_model.specs.Amounts.{amounts_by}
 use Rattle.sdr_model.specs.Charges.{bytes_charge, space_in}
 use Rattle.sdr_parts.specs.Components.{component_charges}
 use Rattle.sdr_model.specs.Dry.{next_addr}
-use Rattle.sdr_model.specs.World.{World}
 use Rattle.sdr_model.specs.Zco.{object_at, space_of}
 use Rattle.sdr_parts.specs.declared.component.Component.{Component}
 use Rattle.sdr_parts.specs.declared.component.Component.TheVariants as components
 use Rattle.sdr_model.specs.declared.zco.ZcoSource.{ZcoSource}
 use Rattle.sdr_model.proofs.Cases.{some_is}
-use Rattle.sdr_tally.proofs.ExtentLemmas.{append-refused, append-step}
-use Rattle.sdr_tally.proofs.GrowLemmas.{allowed_at, grown_at, refused_at}
+use Rattle.sdr_draft.proofs.ExtentLemmas.{append-refused, append-step}
+use Rattle.sdr_draft.proofs.GrowLemmas.{allowed_at, grown_at, refused_at}
 use Rattle.sdr_zco_calls.proofs.append_calls.append_source.Goals as goal
 
 pub returns-in-Err : goal.returns-in-Err
@@ -28,11 +27,10 @@ returns-in-Err c =
     record {
       step = append-refused w c.add_component.new.world.now a.object a.ticket a.named a.offset a.bytes z.0 s
           (component_charges w made) c.in-Err.refusal z.1 (sym c.in-Some.ensures.value) c.if-source.false inside is
-          (refused_at w c.touch.new.self.now a.object a.ticket 1 z.0 c.extent-extent.result made c.touch.ensures.now z.1
+          (refused_at w w a.object a.ticket 1 z.0 c.extent-extent.result made refl z.1
           c.extent-extent.ensures _ c.in-Err.refusal c.in-Err.is c.in_ok-granted.ensures.refused)
-          (subst (λ r. OnErr r (c.add_component.new.world.now ≡ c.touch.new.self.now)) c.in-Err.is
-          c.in_ok-granted.ensures.same ∙ c.touch.ensures.now);
-      begun = c.add_component.ensures.begun ∙ c.touch.ensures.begun;
+          (subst (λ r. OnErr r (c.add_component.new.world.now ≡ w)) c.in-Err.is c.in_ok-granted.ensures.same);
+      begun = c.add_component.ensures.begun;
       same = tt;
     }
 
@@ -47,17 +45,17 @@ returns c =
     let component : c.extent-extent.result ≡ made =
     c.extent-extent.ensures
     ∙ ap (λ b. components.Extent (record { block = b; source = a.named; offset = a.offset; length = a.bytes }))
-    (c.next.ensures.value ∙ ap (λ (v : World). next_addr v.taken) c.touch.ensures.now) in
+    c.next.ensures.value in
     let inside : (a.bytes == 0 || nat_lt s.length (a.offset + a.bytes)) ≡ false = sym c.is_outside.ensures ∙ c.if-is_outside.false in
     let is : component_charges w made ≡ amounts_by (bytes_charge (space_of s.subject) a.bytes) =
     ap (λ o. amounts_by (bytes_charge (space_in o) a.bytes)) (sym c.in-Some.ensures.value) in
     record {
       step = append-step w c.add_component.new.world.now a.object a.ticket a.named a.offset a.bytes z.0 s
           (component_charges w made) c.in-Ok.granted z.1 (sym c.in-Some.ensures.value) c.if-source.false inside is
-          (allowed_at w c.touch.new.self.now a.object a.ticket 1 z.0 c.extent-extent.result made c.touch.ensures.now z.1
+          (allowed_at w w a.object a.ticket 1 z.0 c.extent-extent.result made refl z.1
           component _ c.in-Ok.granted c.in-Ok.is c.in_ok-granted.ensures.allowed)
-          (grown_at w c.touch.new.self.now a.object a.ticket 1 z.0 c.extent-extent.result made c.touch.ensures.now z.1
+          (grown_at w w a.object a.ticket 1 z.0 c.extent-extent.result made refl z.1
           component c.add_component.new.world.now _ c.in-Ok.granted c.in-Ok.is c.in_ok-granted.ensures.added);
-      begun = c.add_component.ensures.begun ∙ c.touch.ensures.begun;
+      begun = c.add_component.ensures.begun;
       same = tt;
     }

@@ -1,14 +1,14 @@
 use Rattle.std.proofs.Common.{◌≡◌, ◌<◌, ◌+◌, ◌*◌, ◌∙◌, ℕ, List, Some, ap, ap₂, sym, subst, arith, length, length-append}
-use Rattle.std.proofs.lemmas.List.Elements.{All-append, All-nil}
+use Rattle.std.proofs.lemmas.List.Elements.{All-append}
 use Rattle.std.specs.FinMap.{get}
 use Rattle.std.specs.List.{All}
 use Rattle.std.specs.Prelude.{Contains, IfErr, IfOk, OnErr, OnOk}
 use Rattle.sdr_base.specs.declared.account.Amounts.{Amounts}
-use Rattle.sdr_tally.specs.Allowed.{HasRoomFor, MayCharge, RefusesCharge}
+use Rattle.sdr_draft.specs.Allowed.{HasRoomFor, MayCharge, RefusesCharge}
 use Rattle.sdr_model.specs.Amounts.{amounts_by}
-use Rattle.sdr_model.specs.BondSteps.{bond_charge, bonded, bonded_extents, capsules_of}
+use Rattle.sdr_model.specs.BondSteps.{bond_charge, bonded, capsules_of}
 use Rattle.sdr_model.specs.Dry.{addr_after, next_addr}
-use Rattle.sdr_tally.specs.Edits.{MayChange}
+use Rattle.sdr_draft.specs.Edits.{MayChange}
 use Rattle.sdr_model.specs.Few.{most_pieces}
 use Rattle.sdr_model.specs.ObjectSteps.{with_object}
 use Rattle.sdr_undo.specs.Owners.{OwnsInside}
@@ -18,8 +18,8 @@ use Rattle.sdr_model.specs.Zco.{object_at}
 use Rattle.sdr_model.specs.declared.things.Thing.TheVariants as things
 use Rattle.sdr_model.specs.declared.zco.Capsule.{Capsule}
 use Rattle.sdr_model.specs.declared.zco.ZcoObject.{ZcoObject}
-use Rattle.sdr_tally.proofs.BondLemmas.{texts_put}
-use Rattle.sdr_zco_calls.proofs.BondCallLemmas.{Differ-bonded, gained-next, heap-texts, modest-bonded, noted-marks, owned-bonded, sources-bonded, taken-marks, there-texts, wire-most, with_marks}
+use Rattle.sdr_draft.proofs.BondLemmas.{texts_put}
+use Rattle.sdr_zco_calls.proofs.BondCallLemmas.{heap-texts, modest-bonded, owned-bonded, room-bonded, taken-marks, there-texts, touched-marks, wire-most, with_marks}
 use Rattle.sdr_zco_calls.proofs.BondRowLemmas.{bond-refused, bond-step, bonded-next}
 use Rattle.sdr_model.proofs.FewLemmas.{few_of_object}
 use Rattle.sdr_undo.proofs.TakenLemmas.{addr_after-next}
@@ -36,9 +36,9 @@ returns-in-Err c =
     let wn : World = c.touch_next.new.self.now in
     let same : wn ≡ w = c.touch_next.ensures.now ∙ c.touch.ensures.now in
     let capsules : c.in_ok-capsules.capsules.items ≡ capsules_of z = c.in_ok-capsules.ensures in
-    let amounts : Amounts = c.in_ok-by.by.charged in
+    let amounts : Amounts = c.bond_charge-charge.result in
     let is : amounts ≡ amounts_by (bond_charge (capsules_of z)) =
-    c.in_ok-by.ensures.charged ∙ ap (λ l. amounts_by (bond_charge l)) (c.as_slice.ensures.value ∙ capsules) in
+    c.bond_charge-charge.ensures ∙ ap (λ l. amounts_by (bond_charge l)) (c.as_slice.ensures.value ∙ capsules) in
     let wm : World = c.charge_marks.new.world.now in
     let refused = subst (λ r. IfErr r (RefusesCharge wn z.account c.args.number amounts)) c.in-Err.is c.in_ok-granted.ensures.refused in
     let left = subst (λ r. OnErr r (wm ≡ wn)) c.in-Err.is c.in_ok-granted.ensures.same in
@@ -57,7 +57,7 @@ put_texts-requires-clause-taken c =
     let same : wn ≡ w = c.touch_next.ensures.now ∙ c.touch.ensures.now in
     let capsules : c.in_ok-capsules.capsules.items ≡ capsules_of z = c.in_ok-capsules.ensures in
     let n : ℕ = 3 * c.len.result in
-    let amounts : Amounts = c.in_ok-by.by.charged in
+    let amounts : Amounts = c.bond_charge-charge.result in
     let wm : World = c.charge_marks.new.world.now in
     let marked : wm ≡ with_marks w c.in-Ok.granted amounts n =
     subst (λ r. IfOk r (λ p. wm ≡ with_marks wn p amounts n)) c.in-Ok.is c.in_ok-granted.ensures.marked
@@ -79,34 +79,16 @@ put_texts-requires-clause-touched c =
     let wn : World = c.touch_next.new.self.now in
     let same : wn ≡ w = c.touch_next.ensures.now ∙ c.touch.ensures.now in
     let n : ℕ = 3 * c.len.result in
-    let amounts : Amounts = c.in_ok-by.by.charged in
+    let amounts : Amounts = c.bond_charge-charge.result in
     let wm : World = c.charge_marks.new.world.now in
     let marked : wm ≡ with_marks w c.in-Ok.granted amounts n =
     subst (λ r. IfOk r (λ p. wm ≡ with_marks wn p amounts n)) c.in-Ok.is c.in_ok-granted.ensures.marked
     ∙ ap (λ v. with_marks v c.in-Ok.granted amounts n) same in
     let left : wm.taken ≡ w.taken = ap (λ (v : World). v.taken) marked ∙ taken-marks w c.in-Ok.granted amounts n in
-    noted-marks c.touch_next.new.self.touched c.charge_marks.new.world.touched c.touch.new.self.now.taken wm.taken n
+    touched-marks c.touch_next.new.self.touched c.charge_marks.new.world.touched c.touch.new.self.now.taken wm.taken n
     (3 * length c.in_ok-capsules.capsules.items) c.charge_marks.ensures.touched
     (left ∙ sym (ap (λ (v : World). v.taken) c.touch.ensures.now)) (omega (arith, c.len.ensures, c.in_ok-capsules.capsules.ok.0))
     c.in_ok-touch_next.ensures.touched
-
-pub put_texts-requires-clause-noted : goal.put_texts-requires-clause-noted
-put_texts-requires-clause-noted c =
-    let w : World = c.args.world.now.now in
-    let z : ZcoObject = c.in-Some.object.now in
-    let wn : World = c.touch_next.new.self.now in
-    let same : wn ≡ w = c.touch_next.ensures.now ∙ c.touch.ensures.now in
-    let n : ℕ = 3 * c.len.result in
-    let amounts : Amounts = c.in_ok-by.by.charged in
-    let wm : World = c.charge_marks.new.world.now in
-    let marked : wm ≡ with_marks w c.in-Ok.granted amounts n =
-    subst (λ r. IfOk r (λ p. wm ≡ with_marks wn p amounts n)) c.in-Ok.is c.in_ok-granted.ensures.marked
-    ∙ ap (λ v. with_marks v c.in-Ok.granted amounts n) same in
-    let left : wm.taken ≡ w.taken = ap (λ (v : World). v.taken) marked ∙ taken-marks w c.in-Ok.granted amounts n in
-    noted-marks c.touch_next.new.self.noted c.charge_marks.new.world.noted c.touch.new.self.now.taken wm.taken n
-    (3 * length c.in_ok-capsules.capsules.items) c.charge_marks.ensures.noted
-    (left ∙ sym (ap (λ (v : World). v.taken) c.touch.ensures.now)) (omega (arith, c.len.ensures, c.in_ok-capsules.capsules.ok.0))
-    c.in_ok-touch_next.ensures.noted
 
 pub put_texts-requires-clause-short : goal.put_texts-requires-clause-short
 put_texts-requires-clause-short c =
@@ -119,7 +101,7 @@ change_object-requires-clause-touched c =
     subst (λ l. Contains l c.args.addr) (sym (c.put_texts.ensures.touched_stay ∙ c.charge_marks.ensures.touched))
     (c.in_ok-touch_next.ensures.others c.args.addr c.in_ok-touch.ensures.touched)
 
--- its sources were noted, it keeps to the limits and owns its blocks, and the account has room for it
+-- it keeps to the limits and owns its blocks, and the account has room for it
 pub change_object-requires-clause-may : goal.change_object-requires-clause-may
 change_object-requires-clause-may c =
     let w : World = c.args.world.now.now in
@@ -132,12 +114,9 @@ change_object-requires-clause-may c =
     let n : ℕ = 3 * c.len.result in
     let size : n ≡ 3 * length (capsules_of z) =
     omega (arith, c.len.ensures, c.in_ok-capsules.capsules.ok.0, ap length capsules) in
-    let amounts : Amounts = c.in_ok-by.by.charged in
+    let amounts : Amounts = c.bond_charge-charge.result in
     let is : amounts ≡ amounts_by (bond_charge (capsules_of z)) =
-    c.in_ok-by.ensures.charged ∙ ap (λ l. amounts_by (bond_charge l)) (c.as_slice.ensures.value ∙ capsules) in
-    let gained : c.in_ok-by.by.gained ≡ bonded_extents (addr_after w.taken) 0 (capsules_of z) =
-    gained-next w.taken c.next-first.result c.in_ok-by.by.gained c.as_slice.result.now (capsules_of z) c.next-first.ensures.value
-    (c.as_slice.ensures.value ∙ capsules) c.in_ok-by.ensures.gained in
+    c.bond_charge-charge.ensures ∙ ap (λ l. amounts_by (bond_charge l)) (c.as_slice.ensures.value ∙ capsules) in
     let wm : World = c.charge_marks.new.world.now in
     let marked : wm ≡ with_marks w c.in-Ok.granted amounts n =
     subst (λ r. IfOk r (λ p. wm ≡ with_marks wn p amounts n)) c.in-Ok.is c.in_ok-granted.ensures.marked
@@ -157,14 +136,9 @@ change_object-requires-clause-may c =
     let owned = subst (λ r. OnOk r ((k : ℕ) → k < n → get owners (addr_after wn.taken k) ≡ Some addr)) c.in-Ok.is
     c.in_ok-granted.ensures.owned in
     let room = subst (λ r. OnOk r (HasRoomFor wm z.account amounts)) c.in-Ok.is c.in_ok-granted.ensures.room in
-    let noted : (i : ℕ) → i < 3 * length (capsules_of z) → Contains d.noted (addr_after w.taken i) =
-    λ i inside.
-    subst (λ l. Contains l (addr_after w.taken i)) (sym (c.put_texts.ensures.noted_stay ∙ c.charge_marks.ensures.noted))
-    (subst (λ t. Contains c.touch_next.new.self.noted (addr_after t i)) (ap (λ (v : World). v.taken) c.touch.ensures.now)
-    (c.in_ok-touch_next.ensures.noted i (omega (arith, inside, size)))) in
-    subst (MayChange d addr c.in_ok-by.by (λ z. c.in_ok-changed.changed)) (sym there) (record {
-      differ = Differ-bonded wp wm (addr_after w.taken) z c.in_ok-changed.changed c.in_ok-by.by object c.in_ok-by.ensures.lost gained
-          c.in_ok-by.ensures.released is
+    subst (MayChange d addr (λ z. c.in_ok-changed.changed)) (sym there) (record {
+      account = ap (λ (y : ZcoObject). y.account) object;
+      room = room-bonded wp wm (addr_after w.taken) z c.in_ok-changed.changed amounts object is
           (heap-texts w wm wp c.in-Ok.granted amounts n c.next-first.result marked c.put_texts.ensures.spaces
           c.next-first.ensures.value c.next-first.ensures.fresh)
           (c.put_texts.ensures.occupied z.account) room;
@@ -180,9 +154,6 @@ change_object-requires-clause-may c =
             noted = subst (λ t. get owners (addr_after t i) ≡ Some addr) lower (owned i (omega (arith, inside, size)));
             below = omega (arith, addr_after-next w.taken i, inside, count);
           })));
-      lost = subst (All (λ e. Contains d.noted e.source)) (sym c.in_ok-by.ensures.lost) (All-nil (λ e. Contains d.noted e.source));
-      gained = subst (All (λ e. Contains d.noted e.source)) (sym gained)
-          (sources-bonded (Contains d.noted) (addr_after w.taken) 0 (3 * length (capsules_of z)) (capsules_of z) (omega arith) noted);
     })
 
 pub returns : goal.returns
@@ -195,9 +166,9 @@ returns c =
     let n : ℕ = 3 * c.len.result in
     let size : n ≡ 3 * length (capsules_of z) =
     omega (arith, c.len.ensures, c.in_ok-capsules.capsules.ok.0, ap length capsules) in
-    let amounts : Amounts = c.in_ok-by.by.charged in
+    let amounts : Amounts = c.bond_charge-charge.result in
     let is : amounts ≡ amounts_by (bond_charge (capsules_of z)) =
-    c.in_ok-by.ensures.charged ∙ ap (λ l. amounts_by (bond_charge l)) (c.as_slice.ensures.value ∙ capsules) in
+    c.bond_charge-charge.ensures ∙ ap (λ l. amounts_by (bond_charge l)) (c.as_slice.ensures.value ∙ capsules) in
     let wm : World = c.charge_marks.new.world.now in
     let marked : wm ≡ with_marks w c.in-Ok.granted amounts n =
     subst (λ r. IfOk r (λ p. wm ≡ with_marks wn p amounts n)) c.in-Ok.is c.in_ok-granted.ensures.marked

@@ -1,5 +1,5 @@
 use Rattle.std.proofs.Common.{◌≡◌, ◌≤◌, ◌<◌, ◌+◌, ◌∙◌, ap, sym, subst, arith, is_some, length, not, refl}
-use Rattle.std.specs.Prelude.{Contains, IfSome, OnErr}
+use Rattle.std.specs.Prelude.{IfSome, OnErr}
 use Rattle.sdr_base.specs.declared.kind.Space.TheVariants as spaces
 use Rattle.sdr_model.specs.Amounts.{amounts_by, in_space}
 use Rattle.sdr_model.specs.Charges.{capsule_bytes}
@@ -12,14 +12,10 @@ use Rattle.sdr_parts.specs.Sides.{component_on}
 use Rattle.sdr_model.specs.Zco.{object_at}
 use Rattle.sdr_parts.specs.declared.component.Component.{Component}
 use Rattle.sdr_model.specs.declared.zco.Capsule.{Capsule}
-use Rattle.sdr_tally.proofs.CapsuleLemmas.{capsule-refused, capsule-step, some_capsule}
+use Rattle.sdr_draft.proofs.CapsuleLemmas.{capsule-refused, capsule-step, some_capsule}
 use Rattle.sdr_model.proofs.Cases.{mapped_some, some_is}
-use Rattle.sdr_tally.proofs.GrowLemmas.{allowed_at, block-on, charges-on, grown_at, limits-on, object-on, refused_at, source-on}
+use Rattle.sdr_draft.proofs.GrowLemmas.{allowed_at, block-on, charges-on, grown_at, limits-on, object-on, refused_at, source-on}
 use Rattle.sdr_zco_calls.proofs.capsule_calls.add_capsule.Goals as goal
-
-pub add_component-requires-clause-noted : goal.add_component-requires-clause-noted
-add_component-requires-clause-noted c =
-    subst (λ o. IfSome o (Contains c.args.world.now.noted)) (sym (ap source_of c.component-capsule.ensures ∙ source-on c.args.side _)) tt
 
 pub add_component-requires-clause-limits : goal.add_component-requires-clause-limits
 add_component-requires-clause-limits c =

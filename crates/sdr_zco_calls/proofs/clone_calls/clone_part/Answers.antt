@@ -1,11 +1,10 @@
 use Rattle.std.proofs.Common.{◌≡◌, ◌≤◌, ◌<◌, ◌+◌, ◌∙◌, ◌==◌, ◌||◌, ℕ, suc, List, Some, false, refl, ap, ap₂, sym, subst, arith, length}
 use Rattle.std.specs.FinMap.{get}
-use Rattle.std.specs.List.{All}
-use Rattle.std.specs.Prelude.{Contains, IfErr, IfOk, OnErr, OnOk, nat_lt}
+use Rattle.std.specs.Prelude.{IfErr, IfOk, OnErr, OnOk, nat_lt}
 use Rattle.sdr_base.specs.declared.account.Amounts.{Amounts}
 use Rattle.sdr_base.specs.declared.kind.Space.{Space}
 use Rattle.sdr_model.specs.Accounts.{most_amount}
-use Rattle.sdr_tally.specs.Allowed.{HasRoomFor, MayCharge, RefusesCharge}
+use Rattle.sdr_draft.specs.Allowed.{HasRoomFor, MayCharge, RefusesCharge}
 use Rattle.sdr_model.specs.Amounts.{amounts_by}
 use Rattle.sdr_model.specs.Charges.{object_charge, occupancy}
 use Rattle.sdr_model.specs.Charging.{with_used}
@@ -25,7 +24,7 @@ use Rattle.sdr_model.specs.declared.zco.Extent.{Extent}
 use Rattle.sdr_model.specs.declared.zco.ZcoObject.{ZcoObject}
 use Rattle.sdr_zco_calls.proofs.CloneCallLemmas.{clone-amounts, clone-less, clone-modest, clone-owned, clone-refused, clone-step, placed-next, room-charged}
 use Rattle.sdr_model.proofs.FewLemmas.{few_of_object, length-cut_all, length-placed}
-use Rattle.sdr_tally.proofs.ObjectCallLemmas.{taken_after}
+use Rattle.sdr_draft.proofs.ObjectCallLemmas.{taken_after}
 use Rattle.sdr_zco_calls.proofs.clone_calls.clone_part.Goals as goal
 
 pub object_charge-charge-requires : goal.object_charge-charge-requires
@@ -61,7 +60,7 @@ charge_blocks-requires c =
       taken = omega (
         arith,
         size,
-        ap (λ (v : World). v.taken) c.touch_object.ensures.now,
+        ap (λ (v : World). v.taken) c.touch.ensures.now,
         c.requires.taken,
         few_of_object most_pieces w c.args.addr z c.requires.few (sym c.in-Some.ensures.is),
         length-cut_all from (from + c.args.bytes) z.extents,
@@ -76,8 +75,8 @@ returns-in-Err c =
     let es : List Extent = asked_extents z c.args.offset c.args.bytes in
     let object : c.in_ok-clone.clone ≡ object_of z.account (placed (addr_after w.taken) 1 es) =
     c.in_ok-clone.ensures ∙ ap (object_of z.account) (placed-next w.taken c.next-made.result es c.next-made.ensures.value) in
-    let wt : World = c.touch_object.new.world.now in
-    let same : wt ≡ w = c.touch_object.ensures.now in
+    let wt : World = c.touch.new.self.now in
+    let same : wt ≡ w = c.touch.ensures.now in
     let inside : (c.args.bytes == 0 || nat_lt z.part.length (c.args.offset + c.args.bytes)) ≡ false =
     sym c.is_outside.ensures ∙ c.if-is_outside.false in
     let amounts : Amounts = c.object_charge-charge.result in
@@ -91,7 +90,7 @@ returns-in-Err c =
       step = clone-refused w c.charge_blocks.new.world.now c.args.addr c.args.number c.args.offset c.args.bytes z amounts
           c.in-Err.refusal (sym c.in-Some.ensures.is) inside is
           (subst (λ v. RefusesCharge v z.account c.args.number amounts c.in-Err.refusal) same refused) (left ∙ same);
-      begun = c.charge_blocks.ensures.begun ∙ c.touch_object.ensures.begun;
+      begun = c.charge_blocks.ensures.begun ∙ c.touch.ensures.begun;
       same = tt;
     }
 
@@ -107,8 +106,8 @@ add_object-requires-clause-may_put c =
     let size : n ≡ suc (length es) =
     let there : c.len.result ≡ length es =
     c.len.ensures ∙ ap (λ (y : ZcoObject). length y.extents) object ∙ length-placed (addr_after w.taken) 1 es in omega (arith, there) in
-    let wt : World = c.touch_object.new.world.now in
-    let same : wt ≡ w = c.touch_object.ensures.now in
+    let wt : World = c.touch.new.self.now in
+    let same : wt ≡ w = c.touch.ensures.now in
     let amounts : Amounts = c.object_charge-charge.result in
     let wc : World = c.charge_blocks.new.world.now in
     let taken : wc ≡ with_blocks (with_used w c.in-Ok.granted amounts) n =
@@ -123,11 +122,6 @@ add_object-requires-clause-may_put c =
     (clone-owned owners w.taken (next_addr wc.taken) made n z.account es c.next-made.ensures.value size (ap next_addr count)
     (subst (λ (v : World). (k : ℕ) → k < n → get owners (addr_after v.taken k) ≡ Some made) same owned))
 
-pub add_object-requires-clause-noted : goal.add_object-requires-clause-noted
-add_object-requires-clause-noted c =
-    subst (λ noted. All (λ e. Contains noted e.source) c.in_ok-clone.clone.extents) (sym c.charge_blocks.ensures.noted)
-    c.in_ok-touch_object.ensures.noted
-
 pub add_object-requires-clause-modest : goal.add_object-requires-clause-modest
 add_object-requires-clause-modest c =
     let w : World = c.args.world.now.now in
@@ -140,8 +134,8 @@ add_object-requires-clause-modest c =
     let size : n ≡ suc (length es) =
     let there : c.len.result ≡ length es =
     c.len.ensures ∙ ap (λ (y : ZcoObject). length y.extents) object ∙ length-placed (addr_after w.taken) 1 es in omega (arith, there) in
-    let wt : World = c.touch_object.new.world.now in
-    let same : wt ≡ w = c.touch_object.ensures.now in
+    let wt : World = c.touch.new.self.now in
+    let same : wt ≡ w = c.touch.ensures.now in
     let amounts : Amounts = c.object_charge-charge.result in
     let wc : World = c.charge_blocks.new.world.now in
     let taken : wc ≡ with_blocks (with_used w c.in-Ok.granted amounts) n =
@@ -164,8 +158,8 @@ add_object-requires-clause-room c =
     let size : n ≡ suc (length es) =
     let there : c.len.result ≡ length es =
     c.len.ensures ∙ ap (λ (y : ZcoObject). length y.extents) object ∙ length-placed (addr_after w.taken) 1 es in omega (arith, there) in
-    let wt : World = c.touch_object.new.world.now in
-    let same : wt ≡ w = c.touch_object.ensures.now in
+    let wt : World = c.touch.new.self.now in
+    let same : wt ≡ w = c.touch.ensures.now in
     let amounts : Amounts = c.object_charge-charge.result in
     let wc : World = c.charge_blocks.new.world.now in
     let taken : wc ≡ with_blocks (with_used w c.in-Ok.granted amounts) n =
@@ -189,8 +183,8 @@ returns c =
     let size : n ≡ suc (length es) =
     let there : c.len.result ≡ length es =
     c.len.ensures ∙ ap (λ (y : ZcoObject). length y.extents) object ∙ length-placed (addr_after w.taken) 1 es in omega (arith, there) in
-    let wt : World = c.touch_object.new.world.now in
-    let same : wt ≡ w = c.touch_object.ensures.now in
+    let wt : World = c.touch.new.self.now in
+    let same : wt ≡ w = c.touch.ensures.now in
     let inside : (c.args.bytes == 0 || nat_lt z.part.length (c.args.offset + c.args.bytes)) ≡ false =
     sym c.is_outside.ensures ∙ c.if-is_outside.false in
     let amounts : Amounts = c.object_charge-charge.result in
@@ -217,6 +211,6 @@ returns c =
           (clone-step w w' c.args.addr c.args.number c.args.offset c.args.bytes z amounts c.in-Ok.granted
           (sym c.in-Some.ensures.is) inside is
           (subst (λ v. MayCharge v z.account c.args.number amounts c.in-Ok.granted) same allowed) put);
-      begun = c.add_object.ensures.begun ∙ c.charge_blocks.ensures.begun ∙ c.touch_object.ensures.begun;
+      begun = c.add_object.ensures.begun ∙ c.charge_blocks.ensures.begun ∙ c.touch.ensures.begun;
       same = tt;
     }

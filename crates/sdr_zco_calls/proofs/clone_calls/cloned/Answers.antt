@@ -4,7 +4,7 @@ use Rattle.sdr_model.specs.declared.zco.Extent.{Extent}
 use Rattle.sdr_model.specs.declared.zco.ZcoObject.{ZcoObject}
 use Rattle.sdr_zco_calls.proofs.CloneLemmas.{placed-length}
 use Rattle.sdr_model.proofs.FewLemmas.{length-cut_all}
-use Rattle.sdr_tally.proofs.StripLemmas.{length-cut}
+use Rattle.sdr_draft.proofs.StripLemmas.{length-cut}
 use Rattle.sdr_zco_calls.proofs.clone_calls.cloned.Goals as goal
 
 pub placed_behind-requires : goal.placed_behind-requires

@@ -1,34 +1,20 @@
 use Rattle.std.proofs.Common.{◌≡◌, Some, ap, ap₂, sym, subst, ◌∙◌, get_or}
-use Rattle.std.proofs.lemmas.List.Elements.{All-weaker}
 use Rattle.std.specs.List.{All}
-use Rattle.std.specs.Prelude.{Contains, IfSome, []}
+use Rattle.std.specs.Prelude.{Contains, []}
 use Rattle.sdr_undo.specs.Draft.{Draft}
-use Rattle.sdr_tally.specs.Drops.{GoesWith, IsNoted, MayGo}
+use Rattle.sdr_draft.specs.Drops.{GoesWith, MayGo}
 use Rattle.sdr_model.specs.Gone.{gone_things, without_things}
 use Rattle.sdr_model.specs.Queue.{with_served}
 use Rattle.sdr_model.specs.Steps.{without_thing}
 use Rattle.sdr_model.specs.World.{World}
 use Rattle.sdr_model.specs.Zco.{object_at}
-use Rattle.sdr_tally.proofs.DropLemmas.{IsNoted-more, MayGo-lost, gone_go, without_things-swap}
+use Rattle.sdr_draft.proofs.DropLemmas.{MayGo-lost, gone_go, without_things-swap}
 use Rattle.sdr_zco_calls.proofs.destroy_calls.lose_whole.Goals as goal
 
 pub lose_object-requires-clause-touched : goal.lose_object-requires-clause-touched
 lose_object-requires-clause-touched c =
     subst (λ (d : Draft). Contains d.touched c.args.addr) (sym c.in_ok-save_accounts.ensures.saved)
-    (c.in_ok-touch_all.ensures.others c.args.addr c.in_ok-touch_object.ensures.touched)
-
-pub lose_object-requires-clause-noted : goal.lose_object-requires-clause-noted
-lose_object-requires-clause-noted c =
-    let d = c.save_accounts.new.self in
-    let addr = c.args.addr in
-    let saved = c.in_ok-save_accounts.ensures.saved in
-    let now : d.now ≡ c.args.world.now.now =
-    ap (λ (d : Draft). d.now) saved ∙ c.touch_all.ensures.now ∙ c.touch_object.ensures.now in
-    let there : object_at d.now addr ≡ Some c.args.object.now = ap (λ (w : World). object_at w addr) now ∙ c.requires.there in
-    subst (λ o. IfSome o (λ z. All (λ e. Contains d.noted e.source) z.extents)) (sym there)
-    (subst (λ (d : Draft). All (λ e. Contains d.noted e.source) c.args.object.now.extents) (sym saved)
-    (All-weaker (λ e. Contains c.touch_object.new.world.noted e.source) (λ e. Contains c.touch_all.new.world.noted e.source)
-    (λ e. c.in_ok-touch_all.ensures.others_noted e.source) c.args.object.now.extents c.in_ok-touch_object.ensures.noted))
+    (c.in_ok-touch_all.ensures.others c.args.addr c.in_ok-touch.ensures.touched)
 
 pub drop_all-requires : goal.drop_all-requires
 drop_all-requires c =
@@ -38,21 +24,17 @@ drop_all-requires c =
     let d = c.save_accounts.new.self in
     let new = c.lose_object.new.self in
     let saved = c.in_ok-save_accounts.ensures.saved in
-    let now : d.now ≡ w = ap (λ (d : Draft). d.now) saved ∙ c.touch_all.ensures.now ∙ c.touch_object.ensures.now in
+    let now : d.now ≡ w = ap (λ (d : Draft). d.now) saved ∙ c.touch_all.ensures.now ∙ c.touch.ensures.now in
     let there : object_at d.now addr ≡ Some c.args.object.now = ap (λ (w : World). object_at w addr) now ∙ c.requires.there in
     let gone : c.in_ok-gone.gone ≡ gone_things w all all = c.in_ok-gone.ensures ∙ ap (λ es. gone_things w es es) c.as_slice.ensures in
-    let going : All (IsNoted d) (gone_things w all all) =
-    All-weaker (IsNoted c.touch_all.new.world) (IsNoted d)
-    (λ a was. IsNoted-more c.touch_all.new.world d a (ap (λ (d : Draft). d.now) saved)
-    (λ other was. subst (λ (d : Draft). Contains d.touched other) (sym saved) was)
-    (λ other was. subst (λ (d : Draft). Contains d.noted other) (sym saved) was) was)
-    (gone_things w all all)
-    (subst (All (IsNoted c.touch_all.new.world)) (c.as_slice-2.ensures ∙ gone) c.in_ok-touch_all.ensures.going) in
+    let going : All (Contains d.touched) (gone_things w all all) =
+    subst (λ (d : Draft). All (Contains d.touched) (gone_things w all all)) (sym saved)
+    (subst (All (Contains c.touch_all.new.world.touched)) (c.as_slice-2.ensures ∙ gone) c.in_ok-touch_all.ensures.touched) in
     let goes : All (GoesWith d.now all) (gone_things w all all) =
     subst (λ v. All (GoesWith v all) (gone_things w all all)) (sym now) (gone_go w all c.known_object.ensures.plain all) in
     let may : All (MayGo new) (gone_things w all all) =
     λ k x inside. MayGo-lost d new addr (get_or (gone_things w all all) k x) c.args.object.now there c.lose_object.ensures.lost
-    c.lose_object.ensures.touched c.lose_object.ensures.noted_stay (going k x inside) (goes k x inside) in
+    c.lose_object.ensures.touched (going k x inside) (goes k x inside) in
     record { may = subst (All (MayGo new)) (sym (c.as_slice-3.ensures ∙ gone)) may }
 
 pub returns-clause-lost : goal.returns-clause-lost
@@ -62,7 +44,7 @@ returns-clause-lost c =
     let addr = c.args.addr in
     let d = c.save_accounts.new.self in
     let now : d.now ≡ w =
-    ap (λ (d : Draft). d.now) c.in_ok-save_accounts.ensures.saved ∙ c.touch_all.ensures.now ∙ c.touch_object.ensures.now in
+    ap (λ (d : Draft). d.now) c.in_ok-save_accounts.ensures.saved ∙ c.touch_all.ensures.now ∙ c.touch.ensures.now in
     let gone : c.in_ok-gone.gone ≡ gone_things w all all = c.in_ok-gone.ensures ∙ ap (λ es. gone_things w es es) c.as_slice.ensures in
     let left : c.drop_all.new.world.now ≡ without_thing (without_things w (gone_things w all all)) addr =
     c.drop_all.ensures.dropped

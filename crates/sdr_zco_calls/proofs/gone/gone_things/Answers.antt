@@ -1,4 +1,4 @@
-use Rattle.std.proofs.Common.{◌≡◌, ◌+◌, ◌++◌, ◌∙◌, ◌==◌, ℕ, List, [], ap, sym, append_assoc, take, drop, get_or, refl, arith, length-take}
+use Rattle.std.proofs.Common.{◌≡◌, ◌+◌, ◌++◌, ◌∙◌, ◌==◌, ℕ, List, [], ap, sym, append_assoc, take, drop, get_or, refl, arith, length-take, unwrap_or}
 use Rattle.std.proofs.lemmas.List.Sums.{sum_by_more}
 use Rattle.std.specs.Prelude.{if◌then◌else◌}
 use Rattle.sdr_model.specs.Gone.{gone_things, source_blocks}
@@ -21,10 +21,14 @@ loop-extent-preserved c =
     let counted : c.in_ok-count.count ≡ naming e.source (take (i + 1) all) =
     c.in_ok-count.ensures.count ∙ ap (λ n. n + 1) (c.loop-extent.invariant.seen e.source)
     ∙ naming-more e.source all i d c.loop-extent-test.true refl in
+    let uses : c.count_at-all.result ≡ uses_of w e.source =
+    c.count_at-all.ensures ∙ ap (λ o. unwrap_or o 0) (c.in_ok-uses.ensures i d c.loop-extent-test.true) in
     let goes = λ (n : ℕ). if n == uses_of w e.source then source_blocks e.source (source_at w e.source) else [] in
     record {
       seen = λ s. c.in_ok-count.ensures.counted s ∙ ap (λ n. n + one s) (c.loop-extent.invariant.seen s) ∙ more s;
-      gone = ap (λ (g : List ℕ). g ++ rest) c.in_ok-add_last.ensures ∙ append_assoc c.loop-extent.gone (goes c.in_ok-count.count) rest
+      gone = ap (λ (g : List ℕ). g ++ rest) (c.in_ok-add_last.ensures
+          ∙ ap (λ all. c.loop-extent.gone ++ (if c.in_ok-count.count == all then source_blocks e.source (source_at w e.source) else [])) uses)
+          ∙ append_assoc c.loop-extent.gone (goes c.in_ok-count.count) rest
           ∙ ap (λ (t : List ℕ). c.loop-extent.gone ++ t)
           (ap (λ n. goes n ++ rest) counted
           ∙ sym (gone_things-step w all i d c.loop-extent-test.true (c.requires.used e.source)))

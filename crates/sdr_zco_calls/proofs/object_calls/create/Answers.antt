@@ -1,7 +1,7 @@
 use Rattle.std.proofs.Common.{◌≡◌, ap, ap₂, sym, subst, ◌∙◌, refl}
 use Rattle.std.specs.Prelude.{IfOk, OnOk}
 use Rattle.sdr_base.specs.declared.kind.Space.TheVariants as spaces
-use Rattle.sdr_tally.specs.Allowed.{HasRoomFor, MayCharge}
+use Rattle.sdr_draft.specs.Allowed.{HasRoomFor, MayCharge}
 use Rattle.sdr_model.specs.Amounts.{in_space}
 use Rattle.sdr_model.specs.Charges.{object_bytes}
 use Rattle.sdr_model.specs.Charging.{with_used}
@@ -12,7 +12,7 @@ use Rattle.sdr_model.specs.Zco.{empty_object}
 use Rattle.sdr_model.specs.declared.answer.Reply.TheVariants as replies
 use Rattle.sdr_model.specs.declared.call.Call.{Call}
 use Rattle.sdr_model.specs.declared.call.Call.TheVariants as calls
-use Rattle.sdr_tally.proofs.ObjectCallLemmas.{charged_one, room_made, taken_one}
+use Rattle.sdr_draft.proofs.ObjectCallLemmas.{charged_one, room_made, taken_one}
 use Rattle.sdr_zco_calls.proofs.object_calls.create.Goals as goal
 
 pub add_object-requires-clause-room : goal.add_object-requires-clause-room

@@ -2,7 +2,7 @@ use Rattle.std.proofs.Common.{ap, sym, subst, ◌∙◌, arith}
 use Rattle.sdr_parts.specs.Bounds.{AreFewBytes}
 use Rattle.sdr_model.specs.Cuts.{cut_all}
 use Rattle.sdr_model.specs.Zco.{extents_length}
-use Rattle.sdr_tally.proofs.StripLemmas.{length-cut}
+use Rattle.sdr_draft.proofs.StripLemmas.{length-cut}
 use Rattle.sdr_zco_calls.proofs.strip_calls.cut_to_part.Goals as goal
 
 pub whole_of-part-requires : goal.whole_of-part-requires

@@ -1,7 +1,7 @@
 use Rattle.std.proofs.Common.{◌≡◌, Some, sym, subst}
 use Rattle.std.specs.Prelude.{IfSome}
 use Rattle.sdr_model.specs.Dry.{StepsDry, dry_moves}
-use Rattle.sdr_tally.specs.Strips.{IsStripped}
+use Rattle.sdr_draft.specs.Strips.{IsStripped}
 use Rattle.sdr_model.specs.Zco.{object_at}
 use Rattle.sdr_model.specs.declared.call.Call.{Call}
 use Rattle.sdr_model.specs.declared.call.Call.TheVariants as calls

@@ -2,12 +2,12 @@ use Rattle.std.proofs.Common.{◌≡◌, [], Some, ap, sym, subst, ◌∙◌}
 use Rattle.std.specs.FinMap.{insert}
 use Rattle.sdr_model.specs.SourceSteps.{flagged}
 use Rattle.sdr_model.specs.Steps.{with_thing}
-use Rattle.sdr_tally.specs.Tallies.{FlagsSource}
+use Rattle.sdr_draft.specs.Sound.{FlagsSource}
 use Rattle.sdr_model.specs.World.{World}
 use Rattle.sdr_model.specs.Zco.{as_source, source_at}
 use Rattle.sdr_draft.specs.contracts.undoable.Undoable.{the_view}
 use Rattle.sdr_model.specs.declared.things.Thing.TheVariants as things
-use Rattle.sdr_tally.proofs.SourceLemmas.{IsKept-flagged}
+use Rattle.sdr_draft.proofs.SourceLemmas.{IsKept-flagged}
 use Rattle.sdr_model.proofs.ThingsLemmas.{insert-removed}
 use Rattle.sdr_draft.proofs.undoable.Undoable.flag_source.Goals as goal
 
@@ -16,7 +16,7 @@ invariant_of-self-in-Source c =
     let inside = c.self.inside in
     let k = c.args.addr in
     let s = c.in-Source.source in
-    IsKept-flagged inside.owners inside.tally _ inside.things c.put.new.self inside.accounts k s
+    IsKept-flagged inside.owners _ inside.things c.put.new.self inside.accounts k s
     (c.put.ensures.begun ∙ c.take.ensures.begun)
     (c.put.ensures.now ∙ ap (λ m. insert m k (things.Source (flagged s))) c.in_ok-source.ensures.without
     ∙ insert-removed inside.things.now k (things.Source (flagged s)))

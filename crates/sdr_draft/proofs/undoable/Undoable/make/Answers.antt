@@ -1,9 +1,9 @@
 use Rattle.std.proofs.Common.{◌≡◌, ◌+◌, ◌≤◌, Some, ap, arith, sym, subst₂, ◌∙◌}
 use Rattle.sdr_model.specs.Dry.{next_addr}
 use Rattle.sdr_undo.specs.Owners.{AllOwnInside}
-use Rattle.sdr_tally.specs.Tallies.{is_plain}
+use Rattle.sdr_draft.specs.Sound.{is_plain}
 use Rattle.sdr_undo.proofs.OwnersLemmas.{OwnInside-insert, OwnInside-raised, owns_nothing}
-use Rattle.sdr_tally.proofs.TallyLemmas.{AllTallied-plain, AllTallied-raised, nothing_next, IsSound-raised}
+use Rattle.sdr_draft.proofs.SoundLemmas.{AreSound-plain, AreSound-raised, nothing_next, IsSound-raised}
 use Rattle.sdr_draft.proofs.undoable.Undoable.make.Goals as goal
 
 pub invariant_of-self : goal.invariant_of-self
@@ -23,10 +23,10 @@ invariant_of-self c =
             begun = OwnInside-raised inside.owners _ more higher inside.things.begun kept.own.begun;
             now = OwnInside-insert inside.owners more _ c.in_ok-addr.addr now c.args.thing bare;
           });
-      told = AllTallied-plain inside.tally more inside.things c.replace.new.self inside.accounts c.in_ok-addr.addr (Some c.args.thing)
+      sound = AreSound-plain more inside.things c.replace.new.self inside.accounts c.in_ok-addr.addr (Some c.args.thing)
           c.in-Ok.ensures.begun c.in-Ok.ensures.now
           (ap is_plain (nothing_next inside.owners _ c.in_ok-addr.addr inside.things.now kept.own.now (omega (arith, addr))))
           c.requires.plain
           (IsSound-raised _ more (omega (arith, addr, c.in_ok-addr.ensures.addr)) c.args.thing c.requires.sound)
-          (AllTallied-raised inside.tally _ more inside.things inside.accounts higher kept.told);
+          (AreSound-raised _ more inside.things inside.accounts higher kept.sound);
     }

@@ -11,14 +11,14 @@ pub invariant_of-self-in_err-push : goal.invariant_of-self-in_err-push
 invariant_of-self-in_err-push c = record {
   own = AllOwnInside-noted _ _ _ _ (omega (arith, c.requires.new, ap (λ (d : Draft). d.now.taken) c.self.view_is)) _ _ _
       c.in_ok-insert.ensures.ok c.self.invariant.own;
-  told = c.self.invariant.told;
+  sound = c.self.invariant.sound;
 }
 
 pub invariant_of-self-2 : goal.invariant_of-self-2
 invariant_of-self-2 c = record {
   own = AllOwnInside-noted _ _ _ _ (omega (arith, c.requires.new, ap (λ (d : Draft). d.now.taken) c.self.view_is)) _ _ _
       c.in_ok-insert.ensures.ok c.self.invariant.own;
-  told = c.self.invariant.told;
+  sound = c.self.invariant.sound;
 }
 
 pub returns-clause-owner : goal.returns-clause-owner

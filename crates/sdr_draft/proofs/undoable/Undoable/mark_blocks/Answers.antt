@@ -29,7 +29,6 @@ loop-k-preserved c =
           (c.loop-k.invariant.others other of lower is);
       begun = c.mark_at.ensures.begun ∙ c.loop-k.invariant.begun;
       touched = c.mark_at.ensures.touched ∙ c.loop-k.invariant.touched;
-      noted = c.mark_at.ensures.noted ∙ c.loop-k.invariant.noted;
       saved = c.mark_at.ensures.saved ∙ c.loop-k.invariant.saved;
       first = c.loop-k.invariant.first;
     }

@@ -13,7 +13,6 @@ invariant-loop-k l = record {
       → get l.self.owners other ≡ Some of;
   begun : l.self.begun ≡ l.initial.self.begun;
   touched : l.self.touched ≡ l.initial.self.touched;
-  noted : l.self.noted ≡ l.initial.self.noted;
   saved : l.self.saved ≡ l.initial.self.saved;
   first : l.first ≡ next_addr l.initial.self.now.taken;
 }

@@ -1,10 +1,10 @@
 use Rattle.std.proofs.Common.{◌+◌, ap, ap₂, sym, ◌∙◌}
 use Rattle.sdr_base.specs.declared.account.Amounts.{Amounts}
-use Rattle.sdr_model.specs.Amounts.{amount}
+use Rattle.sdr_model.specs.Amounts.{amount, amounts_by}
 use Rattle.sdr_model.specs.Accounts.{account_of}
 use Rattle.sdr_model.specs.Charges.{left_in, occupancies, occupancy}
 use Rattle.sdr_undo.specs.Draft.{Draft}
-use Rattle.sdr_tally.specs.Tallies.{world_of}
+use Rattle.sdr_draft.specs.Sound.{charged, world_of}
 use Rattle.sdr_model.specs.declared.accounts.Account.{Account}
 use Rattle.sdr_model.specs.declared.accounts.Accounts.{Accounts}
 use Rattle.sdr_model.proofs.AmountLemmas.{amount-by, amount-plus, same_amounts}
@@ -15,9 +15,10 @@ returns-clause-value c =
     let inside = c.self.inside in
     let acct = c.args.acct in
     same_amounts c.plus.result (occupancies (world_of inside.things.now inside.accounts.now) acct) (λ space.
-    ap (λ (a : Amounts). amount a space) c.plus.ensures ∙ amount-plus c.to.result c.left.result space
+    ap (λ (a : Amounts). amount a space) c.plus.ensures ∙ amount-plus c.charged.result c.left.result space
     ∙ ap₂ (λ a b. a + b)
-    (ap (λ (a : Amounts). amount a space) c.to.ensures ∙ c.self.invariant.told.now.charges acct space)
+    (ap (λ (a : Amounts). amount a space) (c.charged.ensures.value ∙ ap (λ (d : Draft). amounts_by (charged d.now acct)) (sym c.self.view_is))
+    ∙ amount-by (charged (world_of inside.things.now inside.accounts.now) acct) space)
     (ap (λ (a : Amounts). amount a space) c.left.ensures ∙ amount-by (λ space. left_in space c.as_slice.result.now) space
     ∙ ap (left_in space) (c.as_slice.ensures
     ∙ ap (λ (a : Account). a.tickets) (c.account-account.ensures ∙ ap (λ (a : Accounts). account_of a acct) c.now.ensures.value)))

@@ -7,7 +7,7 @@ use Rattle.sdr_draft.proofs.undoable.Undoable.raw.Goals as goal
 
 pub returns-in-Some-Raw-clause-short : goal.returns-in-Some-Raw-clause-short
 returns-in-Some-Raw-clause-short c =
-    c.self.invariant.told.now.sound c.args.addr (things.Raw c.in-Some-Raw.bytes)
+    c.self.invariant.sound.now.each c.args.addr (things.Raw c.in-Some-Raw.bytes)
     (sym c.get.ensures ∙ ap option_copied c.in-Some-Raw.is ∙ ap Some c.in-Some-Raw.field-0-is)
 
 pub returns-in-Some-Raw-clause-below : goal.returns-in-Some-Raw-clause-below

@@ -6,7 +6,7 @@ use Rattle.sdr_draft.proofs.undoable.Undoable.sound_source.Goals as goal
 
 pub returns-in-Some-Source-clause-small : goal.returns-in-Some-Source-clause-small
 returns-in-Some-Source-clause-small c =
-    c.self.invariant.told.now.sound c.args.addr (things.Source c.in-Some-Source.source)
+    c.self.invariant.sound.now.each c.args.addr (things.Source c.in-Some-Source.source)
     (sym c.get.ensures ∙ ap option_copied c.in-Some-Source.is ∙ ap Some c.in-Some-Source.field-0-is)
 
 pub returns-in-Some-Source-clause-below : goal.returns-in-Some-Source-clause-below

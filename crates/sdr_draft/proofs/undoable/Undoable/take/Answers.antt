@@ -3,13 +3,13 @@ use Rattle.std.proofs.lemmas.Result.{on_ok_weaker}
 use Rattle.std.specs.FinMap.{get, insert}
 use Rattle.sdr_model.specs.Steps.{with_thing}
 use Rattle.sdr_model.specs.Things.{Things}
-use Rattle.sdr_tally.specs.Tallies.{is_plain}
+use Rattle.sdr_draft.specs.Sound.{is_plain}
 use Rattle.sdr_model.specs.World.{World, thing_at}
 use Rattle.sdr_draft.specs.contracts.undoable.Undoable.{the_view}
 use Rattle.sdr_model.proofs.Cases.{in_ok}
 use Rattle.sdr_undo.proofs.OwnersLemmas.{AllOwnInside-taken}
 use Rattle.sdr_model.proofs.ThingsLemmas.{get-removed, insert-removed, with_at-again}
-use Rattle.sdr_tally.proofs.TallyLemmas.{AllTallied-taken}
+use Rattle.sdr_draft.proofs.SoundLemmas.{AreSound-taken}
 use Rattle.sdr_draft.proofs.undoable.Undoable.take.Goals as goal
 
 abbrev with_things : World → Things → World
@@ -38,9 +38,9 @@ pub invariant_of-self : goal.invariant_of-self
 invariant_of-self c = record {
   own = AllOwnInside-taken _ _ c.args.addr _ _ _ _ c.take.result
       c.take.ensures.begun c.take.ensures.without c.take.ensures.same c.self.invariant.own;
-  told = AllTallied-taken c.self.inside.tally _ c.self.inside.things _ c.self.inside.accounts c.args.addr c.take.result
+  sound = AreSound-taken _ c.self.inside.things _ c.self.inside.accounts c.args.addr c.take.result
       c.take.ensures.begun c.take.ensures.without c.take.ensures.same
-      (ap (λ d. is_plain (thing_at d.now c.args.addr)) c.self.view_is ∙ c.requires.plain) c.self.invariant.told;
+      (ap (λ d. is_plain (thing_at d.now c.args.addr)) c.self.view_is ∙ c.requires.plain) c.self.invariant.sound;
 }
 
 pub returns-clause-plain : goal.returns-clause-plain

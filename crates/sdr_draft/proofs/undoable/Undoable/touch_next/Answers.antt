@@ -19,10 +19,7 @@ loop-k-preserved c =
       owners = c.touch.ensures.owners ∙ was.owners;
       touched = below_more _ _ (λ j lower. c.in_ok-touch.ensures.others (addr_after taken j) (was.touched j lower))
           (subst (Contains c.touch.new.self.touched) here c.in_ok-touch.ensures.touched);
-      noted = below_more _ _ (λ j lower. c.in_ok-touch.ensures.others_noted (addr_after taken j) (was.noted j lower))
-          (subst (Contains c.touch.new.self.noted) here c.in_ok-touch.ensures.noted);
       others = λ other has. c.in_ok-touch.ensures.others other (was.others other has);
-      others_noted = λ other has. c.in_ok-touch.ensures.others_noted other (was.others_noted other has);
       saved = c.touch.ensures.saved ∙ was.saved;
       first = was.first;
     }

@@ -9,9 +9,7 @@ invariant-loop-k l = record {
   begun : l.self.begun ≡ l.initial.self.begun;
   owners : l.self.owners ≡ l.initial.self.owners;
   touched : (k : ℕ) → k < l.k → Contains l.self.touched (addr_after l.initial.self.now.taken k);
-  noted : (k : ℕ) → k < l.k → Contains l.self.noted (addr_after l.initial.self.now.taken k);
   others : (other : ℕ) → Contains l.initial.self.touched other → Contains l.self.touched other;
-  others_noted : (other : ℕ) → Contains l.initial.self.noted other → Contains l.self.noted other;
   saved : l.self.saved ≡ l.initial.self.saved;
   first : l.first ≡ next_addr l.initial.self.now.taken;
 }

@@ -1,0 +1,179 @@
+-- Objects that get one more component.
+use Rattle.std.proofs.Common.{◌≡◌, ◌≤◌, ◌<◌, ◌+◌, ℕ, length, Option, Some, None, Ok, Err, ap, ◌∙◌, refl, subst}
+use Rattle.std.specs.Prelude.{Result, IfErr, IfOk, IfSome}
+use Rattle.sdr_base.specs.declared.account.Amounts.{Amounts}
+use Rattle.sdr_base.specs.declared.kind.Space.{Space}
+use Rattle.sdr_base.specs.declared.kind.Space.TheVariants as spaces
+use Rattle.sdr_base.specs.declared.refusal.Refusal.{Refusal}
+use Rattle.sdr_model.specs.declared.accounts.Pending.{Pending}
+use Rattle.sdr_draft.specs.Allowed.{MayCharge, RefusesCharge}
+use Rattle.sdr_model.specs.Amounts.{amount, amounts_by, in_space}
+use Rattle.sdr_model.specs.Charges.{capsule_bytes, object_charge}
+use Rattle.sdr_model.specs.Charging.{with_used}
+use Rattle.sdr_parts.specs.Components.{Grows, KeepsLimits, block_of, component_charge, component_charges, source_of, with_component}
+use Rattle.sdr_model.specs.Dry.{with_blocks}
+use Rattle.sdr_model.specs.ObjectSteps.{with_object}
+use Rattle.sdr_undo.specs.Owners.{IsOwned, OwnsInside}
+use Rattle.sdr_parts.specs.Sides.{component_on, with_capsule}
+use Rattle.sdr_parts.specs.Bounds.{IsModest, IsShort}
+use Rattle.sdr_model.specs.Things.{Owners}
+use Rattle.sdr_model.specs.World.{World}
+use Rattle.sdr_model.specs.Zco.{object_at, source_on}
+use Rattle.sdr_parts.specs.declared.component.Side.{Side}
+use Rattle.sdr_parts.specs.declared.component.Side.TheVariants as sides
+use Rattle.sdr_parts.specs.declared.component.Component.{Component}
+use Rattle.sdr_parts.specs.declared.component.Component.TheVariants as components
+use Rattle.sdr_model.specs.declared.things.Thing.TheVariants as things
+use Rattle.sdr_model.specs.declared.zco.Capsule.{Capsule}
+use Rattle.sdr_model.specs.declared.zco.ZcoObject.{ZcoObject}
+use Rattle.sdr_draft.proofs.CapsuleLemmas.{charge-capsule, modest-capsule, owned-capsule}
+use Rattle.sdr_draft.proofs.ExtentLemmas.{charge-extent, modest-extent, owned-extent}
+
+-- a component that keeps to the limits leaves the object modest
+pub modest-component : (z : ZcoObject) (component : Component) (next more : ℕ) → next ≤ more → IsModest next z
+    → KeepsLimits component → IfSome (source_of component) (λ s. s < more) → IsModest more (with_component z component)
+modest-component z (components.Extent e) next more higher modest ends below = modest-extent z e next more higher modest ends below
+modest-component z (components.Header c) next more higher modest short below =
+    modest-capsule sides.Front z c next more higher modest short
+modest-component z (components.Trailer c) next more higher modest short below =
+    modest-capsule sides.Back z c next more higher modest short
+
+-- the object owns its new component too
+pub owned-component : (owners : Owners) (next more k : ℕ) (z : ZcoObject) (component : Component) → next ≤ more
+    → OwnsInside owners next k (things.Object z) → IsOwned owners more k (block_of component)
+    → OwnsInside owners more k (things.Object (with_component z component))
+owned-component owners next more k z (components.Extent e) higher owns here =
+    owned-extent owners owners next more k z e higher (λ other of lower is. is) owns here.noted here.below
+owned-component owners next more k z (components.Header c) higher owns here =
+    owned-capsule sides.Front owners owners next more k z c higher (λ other of lower is. is) owns here.noted here.below
+owned-component owners next more k z (components.Trailer c) higher owns here =
+    owned-capsule sides.Back owners owners next more k z c higher (λ other of lower is. is) owns here.noted here.below
+
+-- its account is that of the object
+pub account-component : (z : ZcoObject) (component : Component) → (with_component z component).account ≡ z.account
+account-component z (components.Extent e) = refl
+account-component z (components.Header c) = refl
+account-component z (components.Trailer c) = refl
+
+-- what the object charges
+pub charge-component : (w : World) (z : ZcoObject) (component : Component) (space : Space)
+    → object_charge w space (with_component z component) ≡ object_charge w space z + component_charge w space component
+charge-component w z (components.Extent e) space = charge-extent w space z e
+charge-component w z (components.Header c) space = charge-capsule sides.Front w space z c
+charge-component w z (components.Trailer c) space = charge-capsule sides.Back w space z c
+
+-- so much of a space
+pub amount-by : (f : Space → ℕ) (space : Space) → amount (amounts_by f) space ≡ f space
+amount-by f spaces.File = refl
+amount-by f spaces.Bulk = refl
+amount-by f spaces.Heap = refl
+
+-- a header or trailer as a component
+module _ (side : Side) (c : Capsule) where
+  pub source-on : source_of (component_on side c) ≡ None
+  source-on = by side
+    where
+      by : (side : Side) → source_of (component_on side c) ≡ None
+      by sides.Front = refl
+      by sides.Back = refl
+
+  pub block-on : block_of (component_on side c) ≡ c.block
+  block-on = by side
+    where
+      by : (side : Side) → block_of (component_on side c) ≡ c.block
+      by sides.Front = refl
+      by sides.Back = refl
+
+  pub limits-on : IsShort c → KeepsLimits (component_on side c)
+  limits-on short = by side
+    where
+      by : (side : Side) → KeepsLimits (component_on side c)
+      by sides.Front = short
+      by sides.Back = short
+
+  pub charges-on : (w : World) → component_charges w (component_on side c)
+      ≡ amounts_by (in_space spaces.Heap (capsule_bytes (length c.text)))
+  charges-on w = by side
+    where
+      by : (side : Side) → component_charges w (component_on side c)
+          ≡ amounts_by (in_space spaces.Heap (capsule_bytes (length c.text)))
+      by sides.Front = refl
+      by sides.Back = refl
+
+  pub object-on : (z : ZcoObject) → with_component z (component_on side c) ≡ with_capsule side z c
+  object-on z = by side
+    where
+      by : (side : Side) → with_component z (component_on side c) ≡ with_capsule side z c
+      by sides.Front = refl
+      by sides.Back = refl
+
+-- a grant that is used leaves objects, what a component charges, the names of raw objects, and what was taken
+module _ (w used : World) (p : Option Pending) (amounts : Amounts) (is : used ≡ with_used w p amounts) where
+  pub object_at-used : (k : ℕ) → object_at used k ≡ object_at w k
+  object_at-used k = ap (λ v. object_at v k) is ∙ by p
+    where
+      by : (p : Option Pending) → object_at (with_used w p amounts) k ≡ object_at w k
+      by None = refl
+      by (Some p) = refl
+
+  pub charges-used : (component : Component) → component_charges used component ≡ component_charges w component
+  charges-used component = ap (λ v. component_charges v component) is ∙ by p
+    where
+      by : (p : Option Pending) → component_charges (with_used w p amounts) component ≡ component_charges w component
+      by None = refl
+      by (Some p) = of component
+        where
+          of : (component : Component) → component_charges (with_used w (Some p) amounts) component ≡ component_charges w component
+          of (components.Extent e) = refl
+          of (components.Header c) = refl
+          of (components.Trailer c) = refl
+
+  pub source_on-used : (raw : ℕ) → source_on used raw ≡ source_on w raw
+  source_on-used raw = ap (λ v. source_on v raw) is ∙ by p
+    where
+      by : (p : Option Pending) → source_on (with_used w p amounts) raw ≡ source_on w raw
+      by None = refl
+      by (Some p) = refl
+
+  pub taken-used : used.taken ≡ w.taken
+  taken-used = ap (λ (v : World). v.taken) is ∙ by p
+    where
+      by : (p : Option Pending) → (with_used w p amounts).taken ≡ w.taken
+      by None = refl
+      by (Some p) = refl
+
+-- what is told of a call that adds a component, where only notes were taken before it
+module _ (w wt : World) (k number count : ℕ) (z : ZcoObject) (component made : Component)
+    (same : wt ≡ w) (there : object_at w k ≡ Some z) (is : component ≡ made) where
+  -- the account refuses it
+  pub refused_at : (r : Result (Option Pending) Refusal) (refusal : Refusal) → r ≡ Err refusal
+      → IfErr r (λ refusal. IfSome (object_at wt k) (λ z. RefusesCharge wt z.account number (component_charges wt component) refusal))
+      → RefusesCharge w z.account number (component_charges w made) refusal
+  refused_at r refusal err refused =
+      subst (λ o. IfSome o (λ z. RefusesCharge w z.account number (component_charges w made) refusal)) there
+      (subst (λ v. IfSome (object_at v k) (λ z. RefusesCharge v z.account number (component_charges v made) refusal)) same
+      (subst (λ m. IfSome (object_at wt k) (λ z. RefusesCharge wt z.account number (component_charges wt m) refusal)) is
+      (subst (λ r. IfErr r (λ refusal. IfSome (object_at wt k) (λ z. RefusesCharge wt z.account number (component_charges wt component) refusal)))
+      err refused)))
+
+  -- it may be charged
+  pub allowed_at : (r : Result (Option Pending) Refusal) (p : Option Pending) → r ≡ Ok p
+      → IfOk r (λ p. IfSome (object_at wt k) (λ z. MayCharge wt z.account number (component_charges wt component) p))
+      → MayCharge w z.account number (component_charges w made) p
+  allowed_at r p ok allowed =
+      subst (λ o. IfSome o (λ z. MayCharge w z.account number (component_charges w made) p)) there
+      (subst (λ v. IfSome (object_at v k) (λ z. MayCharge v z.account number (component_charges v made) p)) same
+      (subst (λ m. IfSome (object_at wt k) (λ z. MayCharge wt z.account number (component_charges wt m) p)) is
+      (subst (λ r. IfOk r (λ p. IfSome (object_at wt k) (λ z. MayCharge wt z.account number (component_charges wt component) p)))
+      ok allowed)))
+
+  -- the object has it
+  pub grown_at : (w' : World) (r : Result (Option Pending) Refusal) (p : Option Pending) → r ≡ Ok p
+      → IfOk r (λ p. Grows (object_at wt k) k component (with_blocks (with_used wt p (component_charges wt component)) count) w')
+      → w' ≡ with_object (with_blocks (with_used w p (component_charges w made)) count) k (with_component z made)
+  grown_at w' r p ok grows =
+      subst (λ o. Grows o k made (with_blocks (with_used w p (component_charges w made)) count) w') there
+      (subst (λ v. Grows (object_at v k) k made (with_blocks (with_used v p (component_charges v made)) count) w') same
+      (subst (λ m. Grows (object_at wt k) k m (with_blocks (with_used wt p (component_charges wt m)) count) w') is
+      (subst (λ r. IfOk r (λ p. Grows (object_at wt k) k component (with_blocks (with_used wt p (component_charges wt component)) count) w'))
+      ok grows)))

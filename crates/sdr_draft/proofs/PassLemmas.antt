@@ -1,0 +1,95 @@
+-- Passes over the places of a world in the making.
+use Rattle.std.proofs.Common.{◌≡◌, ◌≤◌, ◌+◌, ℕ, Bool, true, false, List, [], ◌∷◌, ◌++◌, cond, Option, Some, None, ap, ◌∙◌, refl, arith, unwrap_or}
+use Rattle.std.proofs.lemmas.List.Sums.{sum_by-cons}
+use Rattle.std.specs.FinMap.{entries}
+use Rattle.std.specs.List.{find as find_first, sum_by}
+use Rattle.std.specs.Option.{option_map, option_to_list}
+use Rattle.sdr_base.specs.declared.account.Acct.{Acct}
+use Rattle.sdr_base.specs.declared.account.Acct.TheVariants as accts
+use Rattle.sdr_base.specs.declared.kind.Space.{Space}
+use Rattle.sdr_draft.proofs.NamedLemmas.{first_source}
+use Rattle.sdr_draft.specs.Sound.{charge_of}
+use Rattle.sdr_draft.specs.Uses.{extents_in, names_at, naming_in}
+use Rattle.sdr_model.specs.Accounts.{is_same_account}
+use Rattle.sdr_model.specs.Charges.{thing_charge}
+use Rattle.sdr_model.specs.World.{World}
+use Rattle.sdr_model.specs.Zco.{naming, names_raw, uses_in, uses_of}
+use Rattle.sdr_model.specs.declared.things.Thing.{Thing}
+use Rattle.sdr_model.specs.declared.things.Thing.TheVariants as things
+use Rattle.sdr_undo.specs.Store.{things_in}
+use Rattle.sdr_undo.specs.declared.place.Place.{Place}
+
+-- the things of some places are that of the first, if it has one, and those of the others
+module _ (e : ℕ × Place) (ps ps' : List (ℕ × Place)) (is : ps' ≡ e ∷ ps) where
+  pub charges-pass : (w : World) (acct : Acct) (space : Space) (so_far whole : ℕ)
+      → so_far + sum_by (λ e. thing_charge w acct space e.1) (things_in ps') ≡ whole
+      → so_far + charge_of w acct space e.1.thing + sum_by (λ e. thing_charge w acct space e.1) (things_in ps) ≡ whole
+  charges-pass w acct space so_far whole sum =
+      omega (arith, sum, ap (λ l. sum_by (λ e. thing_charge w acct space e.1) (things_in l)) is, by e.1.thing)
+    where
+      by : (o : Option Thing) → sum_by (λ e. thing_charge w acct space e.1) (option_to_list (option_map (λ t. (e.0, t)) o) ++ things_in ps)
+          ≡ charge_of w acct space o + sum_by (λ e. thing_charge w acct space e.1) (things_in ps)
+      by None = omega arith
+      by (Some t) = sum_by-cons (λ e. thing_charge w acct space e.1) (e.0, t) (things_in ps)
+
+  pub naming-pass : (source : ℕ) → sum_by (naming_in source) (things_in ps')
+      ≡ naming source (extents_in e.1.thing) + sum_by (naming_in source) (things_in ps)
+  naming-pass source = ap (λ l. sum_by (naming_in source) (things_in l)) is ∙ by e.1.thing
+    where
+      by : (o : Option Thing) → sum_by (naming_in source) (option_to_list (option_map (λ t. (e.0, t)) o) ++ things_in ps)
+          ≡ naming source (extents_in o) + sum_by (naming_in source) (things_in ps)
+      by None = omega arith
+      by (Some t) = sum_by-cons (naming_in source) (e.0, t) (things_in ps)
+
+  pub first-pass : (raw : ℕ) → first_source raw (things_in ps')
+      ≡ cond (names_at raw e.1.thing) (Some e.0) (first_source raw (things_in ps))
+  first-pass raw = ap (λ l. first_source raw (things_in l)) is ∙ by e.1.thing
+    where
+      by : (o : Option Thing) → first_source raw (option_to_list (option_map (λ t. (e.0, t)) o) ++ things_in ps)
+          ≡ cond (names_at raw o) (Some e.0) (first_source raw (things_in ps))
+      by None = refl
+      by (Some t) = of (names_raw raw t)
+        where
+          of : (b : Bool) → option_map (λ (e : ℕ × Thing). e.0) (cond b (Some (e.0, t)) (find_first (λ e. names_raw raw e.1) (things_in ps)))
+              ≡ cond b (Some e.0) (first_source raw (things_in ps))
+          of true = refl
+          of false = refl
+
+-- all extents that name a source are those of both accounts
+pub naming-uses : (source : ℕ) (es : List (ℕ × Thing)) → sum_by (naming_in source) es
+    ≡ sum_by (λ e. uses_in source accts.Inbound e.1) es + sum_by (λ e. uses_in source accts.Outbound e.1) es
+naming-uses source [] = refl
+naming-uses source (e ∷ es) =
+    omega (
+      arith,
+      naming-uses source es,
+      sum_by-cons (naming_in source) e es,
+      sum_by-cons (λ e. uses_in source accts.Inbound e.1) e es,
+      sum_by-cons (λ e. uses_in source accts.Outbound e.1) e es,
+      by e.1,
+    )
+  where
+    both : (a : Acct) (n : ℕ) → n ≡ cond (is_same_account accts.Inbound a) n 0 + cond (is_same_account accts.Outbound a) n 0
+    both accts.Inbound n = omega arith
+    both accts.Outbound n = omega arith
+
+    by : (t : Thing) → naming source (extents_in (Some t)) ≡ uses_in source accts.Inbound t + uses_in source accts.Outbound t
+    by (things.Object z) = both z.account (naming source z.extents)
+    by t = refl
+
+pub naming-world : (w : World) (source : ℕ) → sum_by (naming_in source) (entries w.things) ≡ uses_of w source
+naming-world w source = naming-uses source (entries w.things)
+
+-- what is added to a count in two parts
+pub added-twice : (o : Option ℕ) (a b whole : ℕ) → whole ≡ a + b
+    → option_map (λ n. n + b) (option_map (λ n. n + a) o) ≡ option_map (λ n. n + whole) o
+added-twice None a b whole is = refl
+added-twice (Some n) a b whole is = ap Some (let same : n + a + b ≡ n + whole = omega (arith, is) in same)
+
+-- a count is no more than what it was and all that is added to it
+pub added-most : (o was : Option ℕ) (a whole : ℕ) → option_map (λ n. n + a) o ≡ option_map (λ n. n + whole) was
+    → unwrap_or o 0 ≤ unwrap_or was 0 + whole
+added-most None was a whole is = omega arith
+added-most (Some n) None a whole is = let none : Some (n + a) ≡ None = is in absurd cc
+added-most (Some n) (Some m) a whole is =
+    let same : n + a ≡ m + whole = ap (λ o. unwrap_or o 0) is in omega (arith, same)

@@ -1,0 +1,6 @@
+pub mod Allowed
+pub mod Drops
+pub mod Edits
+pub mod Sound
+pub mod Strips
+pub mod Uses

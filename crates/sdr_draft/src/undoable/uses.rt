@@ -1,0 +1,105 @@
+// What names sources and raw objects, found in one pass over all things.
+ghost use Rattle.std.specs.BTreeMap.{get};
+ghost use Rattle.std.specs.Option.{option_copied, option_map};
+ghost use Rattle.std.specs.Ordering.{nat_cmp};
+ghost use Rattle.std.specs.Prelude.{◌≡◌, ◌==◌, ◌≤◌, ◌<◌, ◌+◌, ◌^◌, ℕ, if◌then◌else◌, length, unwrap_or};
+ghost use Rattle.sdr_draft.specs.Uses.{extents_in, names_at};
+ghost use Rattle.sdr_model.specs.Zco.{naming, source_on, uses_of};
+
+use crate::Undoable;
+use sdr_base::Addr;
+use sdr_model::{Extent, Thing};
+use std::collections::BTreeMap;
+
+// How many of these extents name a source.
+fn naming(source: Addr, extents: &[Extent]) -> u64
+    ensures value { result ≡ naming source extents.now }
+    ensures small { result ≤ length extents.now }
+{
+    let mut count = 0;
+    for extent in extents {
+        count += u64::from(extent.source == source);
+    }
+    count
+}
+
+// Adds one to a source, if it is counted.
+fn add_one(counts: &mut BTreeMap<Addr, u64>, source: Addr)
+    requires few { unwrap_or (get nat_cmp counts.old source) 0 < 2 ^ 63 }
+    ensures { (at : ℕ) → get nat_cmp counts.new at
+        ≡ option_map (λ n. n + (if source == at then 1 else 0)) (get nat_cmp counts.old at) }
+{
+    if let Some(count) = counts.get_mut(&source) {
+        *count += 1;
+    }
+}
+
+// Adds to each source that is counted how many of these extents name it.
+fn add_naming(counts: &mut BTreeMap<Addr, u64>, extents: &[Extent])
+    requires few { (source : ℕ) →
+        unwrap_or (get nat_cmp counts.old source) 0 + naming source extents.now < 2 ^ 63 }
+    ensures { (source : ℕ) → get nat_cmp counts.new source
+        ≡ option_map (λ n. n + naming source extents.now) (get nat_cmp counts.old source) }
+{
+    for extent in extents {
+        add_one(counts, extent.source);
+    }
+}
+
+// The extents of an object, none of anything else.
+fn extents_of(thing: Option<&Thing>) -> &[Extent]
+    ensures { result.now ≡ extents_in (option_copied thing.entry) }
+{
+    match thing {
+        Some(Thing::Object(object)) => object.extents.as_slice(),
+        _ => &[],
+    }
+}
+
+// Whether it is a source of a raw object.
+fn names_raw(raw: Addr, thing: Option<&Thing>) -> bool
+    ensures { result ≡ names_at raw (option_copied thing.entry) }
+{
+    match thing {
+        Some(Thing::Source(source)) => source.subject.raw() == Some(raw),
+        _ => false,
+    }
+}
+
+impl Undoable {
+    /// The source that names the raw object at an address. It goes over all things.
+    pub fn source_on(&self, raw: Addr) -> Option<Addr>
+        ensures { result ≡ source_on self.now.now raw }
+    {
+        for (addr, place) in self.things.places() {
+            if names_raw(raw, place.current()) {
+                return Some(*addr);
+            }
+        }
+        None
+    }
+
+    /// How many extents name the source at an address. It goes over all things and extents.
+    pub fn uses(&self, source: Addr) -> u64
+        ensures value { result ≡ uses_of self.now.now source }
+        ensures small { result ≤ 2 ^ 41 }
+    {
+        let mut uses = 0;
+        for (_, place) in self.things.places() {
+            uses += naming(source, extents_of(place.current()));
+        }
+        uses
+    }
+
+    /// Adds to each source that is counted how many extents name it. It goes over all things and extents, times
+    /// the logarithm of what is counted.
+    pub fn add_uses(&self, counts: &mut BTreeMap<Addr, u64>)
+        requires few { (source : ℕ) → unwrap_or (get nat_cmp counts.old source) 0 ≤ 2 ^ 41 }
+        ensures { (source : ℕ) → get nat_cmp counts.new source
+            ≡ option_map (λ n. n + uses_of self.now.now source) (get nat_cmp counts.old source) }
+    {
+        for (_, place) in self.things.places() {
+            add_naming(counts, extents_of(place.current()));
+        }
+    }
+}

@@ -1,0 +1,80 @@
+-- The things at the places, one after another.
+use Rattle.std.proofs.Common.{◌≡◌, ℕ, Bool, true, false, List, [], ◌∷◌, ◌&&◌, T, cond, Option, Some, None, Ordering, Less, Equal, Greater, is_lt, ap, sym, ◌∙◌, refl}
+use Rattle.std.specs.BTreeMap.{is_at}
+use Rattle.std.specs.Cmp.{nat_cmp_total}
+use Rattle.std.specs.FinMap.{empty, entries, entries-from_sorted, entries-insert, entries_sorted, find, from_sorted, get-empty, get-from_sorted, is_sorted, put}
+use Rattle.std.specs.FinMap.Entries.{below_all, by_order}
+use Rattle.std.specs.Option.{option_and_then}
+use Rattle.std.specs.Ordering.{nat_cmp}
+use Rattle.sdr_model.proofs.ThingsLemmas.{same_things, with_at-again}
+use Rattle.sdr_model.specs.Things.{with_at}
+use Rattle.sdr_model.specs.declared.things.Thing.{Thing}
+use Rattle.sdr_undo.proofs.SpotLemmas.{right_of}
+use Rattle.sdr_undo.proofs.StoreLemmas.{get-things_among}
+use Rattle.sdr_undo.specs.Store.{Places, now_at, things_among, things_at, things_in}
+use Rattle.sdr_undo.specs.declared.place.Place.{Place}
+
+left_of : (a b : Bool) → T (a && b) → T a
+left_of true b h = tt
+left_of false b h = absurd h
+
+both_of : (a b : Bool) → T a → T b → T (a && b)
+both_of true b x y = y
+both_of false b x y = absurd x
+
+-- an address below those of some places has no place among them
+missing : (k : ℕ) (ps : List (ℕ × Place)) → T (below_all nat_cmp k ps) → find nat_cmp k ps ≡ None
+missing k [] below = refl
+missing k (p ∷ ps) below =
+    apart (nat_cmp k p.0) refl (left_of _ _ below) ∙ missing k ps (right_of _ _ below)
+  where
+    apart : (o : Ordering) → nat_cmp k p.0 ≡ o → T (is_lt o) → find nat_cmp k (p ∷ ps) ≡ find nat_cmp k ps
+    apart Less is less = ap (λ o. cond (is_at (λ x. o) p.0) (Some p.1) (find nat_cmp k ps)) is
+    apart Equal is less = absurd less
+    apart Greater is less = absurd less
+
+-- it is below those of their things too
+below_things : (k : ℕ) (ps : List (ℕ × Place)) → T (below_all nat_cmp k ps) → T (below_all nat_cmp k (things_in ps))
+below_things k [] below = tt
+below_things k ((a, place) ∷ ps) below = by (below_things k ps (right_of _ _ below)) place.thing
+  where
+    by : T (below_all nat_cmp k (things_in ps)) → (o : Option Thing)
+        → T (below_all nat_cmp k (things_in ((a, record place { thing = o }) ∷ ps)))
+    by rest None = rest
+    by rest (Some thing) = both_of (is_lt (nat_cmp k a)) _ (left_of _ _ below) rest
+
+-- what is put at an address below all others comes first
+put_first : (k : ℕ) (thing : Thing) (es : List (ℕ × Thing)) → T (below_all nat_cmp k es) → put nat_cmp k thing es ≡ (k, thing) ∷ es
+put_first k thing [] below = refl
+put_first k thing (e ∷ es) below = by (nat_cmp k e.0) refl (left_of _ _ below)
+  where
+    by : (o : Ordering) → nat_cmp k e.0 ≡ o → T (is_lt o) → put nat_cmp k thing (e ∷ es) ≡ (k, thing) ∷ e ∷ es
+    by Less is less = ap (λ o. by_order o ((k, thing) ∷ e ∷ es) ((e.0, thing) ∷ es) (e ∷ put nat_cmp k thing es)) is
+    by Equal is less = absurd less
+    by Greater is less = absurd less
+
+-- no things have no entries
+entries-empty : entries (empty {K = ℕ} {X = Thing} {R = nat_cmp}) ≡ []
+entries-empty =
+    ap entries (same_things empty (from_sorted []) (λ q. get-empty nat_cmp q ∙ sym (get-from_sorted nat_cmp [] q tt)))
+    ∙ entries-from_sorted nat_cmp [] tt
+
+entries-things_among : (ps : List (ℕ × Place)) → T (is_sorted nat_cmp ps) → things_in ps ≡ entries (things_among now_at ps)
+entries-things_among [] sorted = sym entries-empty
+entries-things_among ((a, place) ∷ ps) sorted = by (entries-things_among ps (right_of _ _ sorted)) place.thing
+  where
+    by : things_in ps ≡ entries (things_among now_at ps) → (o : Option Thing)
+        → things_in ((a, record place { thing = o }) ∷ ps) ≡ entries (with_at (things_among now_at ps) a o)
+    by others None =
+        others
+        ∙ ap entries (sym (with_at-again (things_among now_at ps) a None
+        (get-things_among now_at a ps ∙ ap (option_and_then now_at) (missing a ps (left_of _ _ sorted)))))
+    by others (Some thing) =
+        sym (put_first a thing (things_in ps) (below_things a ps (left_of _ _ sorted)))
+        ∙ ap (put nat_cmp a thing) others
+        ∙ sym (entries-insert nat_cmp_total (things_among now_at ps) a thing)
+
+-- the things at all places, in order
+pub entries-things_at : (places : Places) → things_in (entries places) ≡ entries (things_at now_at places)
+unfolding things_at
+entries-things_at places = entries-things_among (entries places) (entries_sorted places)

@@ -1,0 +1,8 @@
+use Rattle.std.proofs.Common.{ap, ◌∙◌}
+use Rattle.std.specs.FinMap.{entries}
+use Rattle.sdr_undo.specs.Store.{things_in}
+use Rattle.sdr_undo.proofs.PlacesLemmas.{entries-things_at}
+use Rattle.sdr_undo.proofs.store.Store.places.Goals as goal
+
+pub returns : goal.returns
+returns c = ap things_in c.iter.ensures ∙ entries-things_at c.self.inside.places ∙ ap (λ s. entries s.now) c.self.view_is
