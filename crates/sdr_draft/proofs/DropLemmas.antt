@@ -1,5 +1,5 @@
 -- Things that go one after another.
-use Rattle.std.proofs.Common.{◌≡◌, ◌≤◌, ◌+◌, ◌++◌, ◌==◌, ◌&&◌, ℕ, Bool, true, false, not, Option, None, Some, List, [], ◌∷◌, cond, ap, sym, ◌∙◌, refl, subst, arith, Ok, Err}
+use Rattle.std.proofs.Common.{◌≡◌, ◌≤◌, ◌+◌, ◌++◌, ◌==◌, ◌&&◌, ℕ, Bool, true, false, not, Option, None, Some, List, [], ◌∷◌, cond, ap, sym, ◌∙◌, refl, subst, arith}
 use Rattle.std.proofs.lemmas.Bool.{eqb-true}
 use Rattle.std.proofs.lemmas.List.Elements.{All-append, All-cons, All-nil}
 use Rattle.std.specs.BTreeMap.{is_at}
@@ -8,7 +8,7 @@ use Rattle.std.specs.FinMap.{get, remove, get-remove, nat_cmp-IsAntisymmetric, s
 use Rattle.std.specs.List.{All}
 use Rattle.std.specs.Ordering.{nat_cmp}
 use Rattle.std.specs.Option.{option_and_then, option_to_list}
-use Rattle.std.specs.Prelude.{Contains, IfSome, OnOk, Result}
+use Rattle.std.specs.Prelude.{Contains, IfSome}
 use Rattle.sdr_base.specs.declared.account.Acct.{Acct}
 use Rattle.sdr_base.specs.declared.account.Acct.TheVariants as accts
 use Rattle.sdr_model.specs.Accounts.{is_same_account}
@@ -208,8 +208,3 @@ MayGo-lost d d' k addr z there now touched is goes = record {
     stays true = tt
     stays false =
         weaker (uses_of d.now addr ≡ naming addr z.extents) (uses_of d'.now addr ≡ 0) (as_source (thing_at d.now addr)) none goes.unused
-
--- what follows where a call succeeded
-pub on_ok : {T E P Q : Type 0} (r : Result T E) → OnOk r P → (P → Q) → OnOk r Q
-on_ok (Ok x) p f = f p
-on_ok (Err e) p f = p

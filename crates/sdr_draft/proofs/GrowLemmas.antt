@@ -7,7 +7,7 @@ use Rattle.sdr_base.specs.declared.kind.Space.TheVariants as spaces
 use Rattle.sdr_base.specs.declared.refusal.Refusal.{Refusal}
 use Rattle.sdr_model.specs.declared.accounts.Pending.{Pending}
 use Rattle.sdr_draft.specs.Allowed.{MayCharge, RefusesCharge}
-use Rattle.sdr_model.specs.Amounts.{amount, amounts_by, in_space}
+use Rattle.sdr_model.specs.Amounts.{amounts_by, in_space}
 use Rattle.sdr_model.specs.Charges.{capsule_bytes, object_charge}
 use Rattle.sdr_model.specs.Charging.{with_used}
 use Rattle.sdr_parts.specs.Components.{Grows, KeepsLimits, block_of, component_charge, component_charges, source_of, with_component}
@@ -61,12 +61,6 @@ pub charge-component : (w : World) (z : ZcoObject) (component : Component) (spac
 charge-component w z (components.Extent e) space = charge-extent w space z e
 charge-component w z (components.Header c) space = charge-capsule sides.Front w space z c
 charge-component w z (components.Trailer c) space = charge-capsule sides.Back w space z c
-
--- so much of a space
-pub amount-by : (f : Space → ℕ) (space : Space) → amount (amounts_by f) space ≡ f space
-amount-by f spaces.File = refl
-amount-by f spaces.Bulk = refl
-amount-by f spaces.Heap = refl
 
 -- a header or trailer as a component
 module _ (side : Side) (c : Capsule) where

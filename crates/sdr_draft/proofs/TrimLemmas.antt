@@ -1,6 +1,6 @@
 -- What holds of an object holds of it trimmed.
-use Rattle.std.proofs.Common.{◌≡◌, ◌≤◌, ◌-◌, ◌++◌, ◌∷◌, [], ℕ, List, Option, None, Some, cond, map, drop, take, length, ap, refl, arith}
-use Rattle.std.proofs.lemmas.List.Elements.{All-append, All-cons, All-drop, All-head, All-map, All-nil, All-tail, All-take}
+use Rattle.std.proofs.Common.{◌≡◌, ◌≤◌, ◌-◌, ◌++◌, ℕ, List, Option, None, Some, cond, map, drop, take, length, ap, refl, arith}
+use Rattle.std.proofs.lemmas.List.Elements.{All-append, All-drop, All-map, All-take}
 use Rattle.std.proofs.lemmas.List.Sums.{sum_by-take-drop}
 use Rattle.std.specs.FinMap.{get}
 use Rattle.std.specs.List.{All, sum_by}
@@ -27,19 +27,9 @@ use Rattle.sdr_model.specs.declared.things.Thing.{Thing}
 use Rattle.sdr_model.specs.declared.things.Thing.TheVariants as things
 use Rattle.sdr_model.specs.declared.zco.Capsule.{Capsule}
 use Rattle.sdr_model.specs.declared.zco.ZcoObject.{ZcoObject}
+use Rattle.sdr_draft.proofs.ExtentLemmas.{All-back, All-front}
 use Rattle.sdr_undo.proofs.OwnersLemmas.{All-from_map}
 use Rattle.sdr_model.proofs.SumLemmas.{counted_at, sum_by-removed}
-
-module _ {X : Type 0} (P : X → Type 0) where
-  -- what holds of joined items holds of those in front, and of those behind
-  pub All-left : (xs ys : List X) → All P (xs ++ ys) → All P xs
-  All-left [] ys all = All-nil P
-  All-left (x ∷ xs) ys all =
-      All-cons P x xs (All-head P x (xs ++ ys) all) (All-left xs ys (All-tail P x (xs ++ ys) all))
-
-  pub All-right : (xs ys : List X) → All P (xs ++ ys) → All P ys
-  All-right [] ys all = all
-  All-right (x ∷ xs) ys all = All-right xs ys (All-tail P x (xs ++ ys) all)
 
 -- what holds of each object at an address holds of what is there, if it is one
 pub of_object : (P : ZcoObject → Type 0) (t : Option Thing) → ((z : ZcoObject) → t ≡ Some (things.Object z) → P z)
@@ -73,18 +63,18 @@ module _ (P : Block → Type 0) (z : ZcoObject) (all : All P (object_blocks z)) 
   front = map capsule_block z.headers ++ map extent_block z.extents
 
   all_front : All P front
-  all_front = All-left P front (map capsule_block z.trailers) all
+  all_front = All-front P front (map capsule_block z.trailers) all
 
   pub headers_of : All (λ c. P (capsule_block c)) z.headers
   headers_of =
-      All-from_map P capsule_block z.headers (All-left P (map capsule_block z.headers) (map extent_block z.extents) all_front)
+      All-from_map P capsule_block z.headers (All-front P (map capsule_block z.headers) (map extent_block z.extents) all_front)
 
   pub extents_of : All (λ e. P (extent_block e)) z.extents
   extents_of =
-      All-from_map P extent_block z.extents (All-right P (map capsule_block z.headers) (map extent_block z.extents) all_front)
+      All-from_map P extent_block z.extents (All-back P (map capsule_block z.headers) (map extent_block z.extents) all_front)
 
   pub trailers_of : All (λ c. P (capsule_block c)) z.trailers
-  trailers_of = All-from_map P capsule_block z.trailers (All-right P front (map capsule_block z.trailers) all)
+  trailers_of = All-from_map P capsule_block z.trailers (All-back P front (map capsule_block z.trailers) all)
 
 pub all_blocks : (P : Block → Type 0) (z : ZcoObject) → All (λ c. P (capsule_block c)) z.headers
     → All (λ e. P (extent_block e)) z.extents → All (λ c. P (capsule_block c)) z.trailers → All P (object_blocks z)

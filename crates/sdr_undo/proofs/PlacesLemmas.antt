@@ -1,39 +1,23 @@
 -- The things at the places, one after another.
-use Rattle.std.proofs.Common.{◌≡◌, ℕ, Bool, true, false, List, [], ◌∷◌, ◌&&◌, T, cond, Option, Some, None, Ordering, Less, Equal, Greater, is_lt, ap, sym, ◌∙◌, refl}
-use Rattle.std.specs.BTreeMap.{is_at}
+use Rattle.std.proofs.Common.{◌≡◌, ℕ, Bool, true, false, List, [], ◌∷◌, ◌&&◌, T, Option, Some, None, Ordering, Less, Equal, Greater, is_lt, ap, sym, ◌∙◌, refl}
 use Rattle.std.specs.Cmp.{nat_cmp_total}
-use Rattle.std.specs.FinMap.{empty, entries, entries-from_sorted, entries-insert, entries_sorted, find, from_sorted, get-empty, get-from_sorted, is_sorted, put}
+use Rattle.std.specs.FinMap.{empty, entries, entries-from_sorted, entries-insert, entries_sorted, from_sorted, get-empty, get-from_sorted, is_sorted, put}
 use Rattle.std.specs.FinMap.Entries.{below_all, by_order}
 use Rattle.std.specs.Option.{option_and_then}
 use Rattle.std.specs.Ordering.{nat_cmp}
 use Rattle.sdr_model.proofs.ThingsLemmas.{same_things, with_at-again}
 use Rattle.sdr_model.specs.Things.{with_at}
 use Rattle.sdr_model.specs.declared.things.Thing.{Thing}
-use Rattle.sdr_undo.proofs.SpotLemmas.{right_of}
+use Rattle.sdr_undo.proofs.SpotLemmas.{left_of, missing, right_of}
 use Rattle.sdr_undo.proofs.StoreLemmas.{get-things_among}
 use Rattle.sdr_undo.specs.Store.{Places, now_at, things_among, things_at, things_in}
 use Rattle.sdr_undo.specs.declared.place.Place.{Place}
-
-left_of : (a b : Bool) → T (a && b) → T a
-left_of true b h = tt
-left_of false b h = absurd h
 
 both_of : (a b : Bool) → T a → T b → T (a && b)
 both_of true b x y = y
 both_of false b x y = absurd x
 
--- an address below those of some places has no place among them
-missing : (k : ℕ) (ps : List (ℕ × Place)) → T (below_all nat_cmp k ps) → find nat_cmp k ps ≡ None
-missing k [] below = refl
-missing k (p ∷ ps) below =
-    apart (nat_cmp k p.0) refl (left_of _ _ below) ∙ missing k ps (right_of _ _ below)
-  where
-    apart : (o : Ordering) → nat_cmp k p.0 ≡ o → T (is_lt o) → find nat_cmp k (p ∷ ps) ≡ find nat_cmp k ps
-    apart Less is less = ap (λ o. cond (is_at (λ x. o) p.0) (Some p.1) (find nat_cmp k ps)) is
-    apart Equal is less = absurd less
-    apart Greater is less = absurd less
-
--- it is below those of their things too
+-- an address below those of some places is below those of their things
 below_things : (k : ℕ) (ps : List (ℕ × Place)) → T (below_all nat_cmp k ps) → T (below_all nat_cmp k (things_in ps))
 below_things k [] below = tt
 below_things k ((a, place) ∷ ps) below = by (below_things k ps (right_of _ _ below)) place.thing

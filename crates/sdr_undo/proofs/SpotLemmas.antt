@@ -21,7 +21,7 @@ use Rattle.sdr_model.specs.declared.things.Thing.TheVariants as things
 use Rattle.sdr_undo.proofs.OwnersLemmas.{All-from_map}
 use Rattle.sdr_model.proofs.ThingsLemmas.{at_itself, same_address}
 
-left_of : (a b : Bool) → T (a && b) → T a
+pub left_of : (a b : Bool) → T (a && b) → T a
 left_of true b h = tt
 left_of false b h = absurd h
 
@@ -35,7 +35,7 @@ apart Equal h = absurd h
 apart Greater h = refl
 
 -- an address below the others isn't among them
-missing : (k : ℕ) (es : List (ℕ × Thing)) → T (below_all nat_cmp k es) → find nat_cmp k es ≡ None
+pub missing : {X : Type 0} (k : ℕ) (es : List (ℕ × X)) → T (below_all nat_cmp k es) → find nat_cmp k es ≡ None
 missing k [] below = refl
 missing k (e ∷ es) below =
     ap (λ b. cond b (Some e.1) (find nat_cmp k es)) (apart (nat_cmp k e.0) (left_of _ _ below))

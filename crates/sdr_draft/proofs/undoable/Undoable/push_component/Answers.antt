@@ -12,7 +12,8 @@ use Rattle.sdr_model.specs.Zco.{as_object, object_at, source_on}
 use Rattle.sdr_model.specs.declared.things.Thing.TheVariants as things
 use Rattle.sdr_model.specs.declared.zco.ZcoObject.{ZcoObject}
 use Rattle.sdr_parts.proofs.BoundsLemmas.{IsModest-bounded}
-use Rattle.sdr_draft.proofs.GrowLemmas.{account-component, amount-by, charge-component, modest-component, owned-component}
+use Rattle.sdr_model.proofs.AmountLemmas.{amount-by}
+use Rattle.sdr_draft.proofs.GrowLemmas.{account-component, charge-component, modest-component, owned-component}
 use Rattle.sdr_draft.proofs.ObjectLemmas.{Changes-edited, IsKept-changed, object_there, unnamed-object}
 use Rattle.sdr_draft.proofs.SumBounds.{object_charge-small}
 use Rattle.sdr_draft.proofs.SoundLemmas.{IsKept-raised}
