@@ -20,7 +20,6 @@ mod editing;
 mod growing;
 mod objects;
 mod sources;
-mod touching;
 mod trimming;
 mod uses;
 

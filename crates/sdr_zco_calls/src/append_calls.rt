@@ -77,7 +77,7 @@ fn append_source(world: &mut Undoable, asked: &Append) -> Result<Reply, NoMemory
         asked.now.offset asked.now.bytes)
         world.old world.new result }
 {
-    let Some(source) = world.sound_source(asked.named) else {
+    let Some(source) = world.source(asked.named) else {
         unreachable!()
     };
     if source.flagged {

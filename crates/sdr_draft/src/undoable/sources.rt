@@ -34,9 +34,11 @@ impl Undoable {
         }
     }
 
-    /// The source at an address.
+    /// The source at an address, which is below the next, and as long as a source may be.
     pub fn source(&self, addr: Addr) -> Option<&ZcoSource>
-        ensures { option_copied result ≡ source_at self.now.now addr }
+        ensures value { option_copied result ≡ source_at self.now.now addr }
+        ensures small { IfSome result (λ s. s.now.length ≤ longest_source) }
+        ensures below { IfSome result (λ s. addr < next_addr self.now.now.taken) }
     {
         match self.things.get(addr) {
             Some(Thing::Source(source)) => Some(source),

@@ -2,7 +2,7 @@ use Rattle.std.proofs.Common.{◌<◌, Some, ap, sym, subst, ◌∙◌}
 use Rattle.std.specs.Option.{option_copied}
 use Rattle.sdr_model.specs.Dry.{next_addr}
 use Rattle.sdr_model.specs.declared.things.Thing.TheVariants as things
-use Rattle.sdr_draft.proofs.undoable.Undoable.sound_source.Goals as goal
+use Rattle.sdr_draft.proofs.undoable.Undoable.source.Goals as goal
 
 pub returns-in-Some-Source-clause-small : goal.returns-in-Some-Source-clause-small
 returns-in-Some-Source-clause-small c =
