@@ -28,7 +28,7 @@ pub trait Tells: Serves {
     fn shown(&self) -> &[u8]
         ensures { (v : Standing) → Self.stands self.now v → result.now ≡ v.now.world.shown };
 
-    /// Room for what a call that follows may come to; want of memory where the ground serves no such call.
+    /// Room for what a call that follows may come to.
     fn room_for(&self, call: &Call) -> Result<Room, NoMemory>
         ensures { IfOk result (λ room. (v : Standing) → Self.stands self.now v →
             HoldsAny room v.now call.now) };

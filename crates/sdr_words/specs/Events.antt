@@ -6,8 +6,6 @@ use Rattle.sdr_model.specs.declared.call.Call.TheVariants as calls
 use Rattle.sdr_model.specs.declared.event.Event.{Event}
 use Rattle.sdr_model.specs.declared.event.Event.TheVariants as events
 use Rattle.sdr_model.specs.declared.keys.Keys.TheVariants as keys
-use Rattle.sdr_model.specs.declared.script.Step.{Step}
-use Rattle.sdr_words.specs.Verbs.{verb_at}
 use Rattle.sdr_words.specs.declared.given.Given.{Given}
 use Rattle.sdr_words.specs.declared.verb.Verb.{Verb}
 use Rattle.sdr_words.specs.declared.verb.Verb.TheVariants as verbs
@@ -169,7 +167,3 @@ takes_objects verbs.Request = true
 takes_objects verbs.Awarded = true
 takes_objects verbs.Shred = true
 takes_objects verb = false
-
--- the event of a step's verb without arguments
-abbrev pub event_without : Step → Event
-event_without step = event_by (verb_at step.verb) nothing_given

@@ -1,12 +1,11 @@
 // The events that verbs make of their arguments.
 ghost use Rattle.std.specs.Prelude.{◌≡◌, IfSome, IsNone, false, min};
 ghost use Rattle.sdr_model.specs.declared.event.Event.TheVariants as events;
-ghost use Rattle.sdr_words.specs.Events.{event_by, event_without, takes_objects, takes_things};
+ghost use Rattle.sdr_words.specs.Events.{event_by, takes_objects, takes_things};
 
 use crate::given::Given;
-use crate::{Verb, verb_at};
-use sdr_model::{Call, Event, Step};
-use std::alloc::Global;
+use crate::Verb;
+use sdr_model::{Call, Event};
 
 // A number as the type of a name.
 fn as_type(number: u64) -> u32
@@ -139,11 +138,4 @@ pub fn event_by(verb: Verb, given: Given) -> Event
         Verb::AppendTrailer => Event::Say(Call::AppendTrailer(a, b, text)),
         _ => unreachable!(),
     }
-}
-
-/// The event of a step's verb without arguments: of which kind it is. It takes no memory.
-pub fn event_without(alloc: Global, step: &Step) -> Event
-    ensures { result ≡ event_without step.now }
-{
-    event_by(verb_at(step.verb as usize), Given::new(alloc))
 }

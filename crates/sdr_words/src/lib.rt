@@ -25,7 +25,6 @@ pub use bindings::Bindings;
 pub use canonical::{canonical_lines_are_read, lines_give_steps};
 use error::LineError;
 pub use error::ScriptError;
-pub use events::event_without;
 pub use read::read_script;
 use verb::{Shape, Verb, place_of, shapes_at, verb_at};
 pub use words::number_of;
