@@ -6,6 +6,7 @@ use Rattle.sdr_base.specs.declared.account.Amounts.{Amounts}
 use Rattle.sdr_base.specs.declared.kind.Space.{Space}
 use Rattle.sdr_base.specs.declared.refusal.Refusal.{Refusal}
 use Rattle.sdr_base.specs.declared.refusal.Refusal.TheVariants as refusals
+use Rattle.sdr_draft.specs.Calling.{IsBound}
 use Rattle.sdr_model.specs.Accounts.{account_of, most_amount, pending_in, tickets_of, with_ticket}
 use Rattle.sdr_model.specs.declared.accounts.Pending.{Pending}
 use Rattle.sdr_model.specs.Amounts.{amount, first_above, minus}
@@ -53,10 +54,6 @@ RefusesCharge w acct number amounts refusal =
 abbrev pub with_back : World → Option Pending → World
 with_back w None = w
 with_back w (Some p) = record w { accounts = with_ticket w.accounts p p.ticket }
-
--- no more is occupied in either account than the greatest amount
-abbrev pub IsBound : World → Type 0
-IsBound w = (acct : Acct) (space : Space) → occupancy w acct space ≤ most_amount
 
 -- What a charge used of a grant may be given back: the ticket has its place and is granted, and no more is occupied after it
 -- than the greatest amount.
