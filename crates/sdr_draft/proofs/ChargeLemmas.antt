@@ -12,7 +12,8 @@ use Rattle.sdr_base.specs.declared.refusal.Refusal.{Refusal}
 use Rattle.sdr_base.specs.declared.refusal.Refusal.TheVariants as refusals
 use Rattle.sdr_model.specs.Accounts.{IsInPlace, account_of, most_amount, pending_in, ticket_at, tickets_of, with_ticket, with_tickets}
 use Rattle.sdr_model.specs.declared.accounts.Pending.{Pending}
-use Rattle.sdr_draft.specs.Allowed.{HasRoomFor, IsBound, IsGrantOf, MayCharge, MayTakeBack, RefusesCharge, refusal_by, refusal_of, space_refusal, with_back}
+use Rattle.sdr_draft.specs.Allowed.{HasRoomFor, IsGrantOf, MayCharge, MayTakeBack, RefusesCharge, refusal_by, refusal_of, space_refusal, with_back}
+use Rattle.sdr_draft.specs.Calling.{IsBound}
 use Rattle.sdr_model.specs.Amounts.{amount, amounts_by, first_above, minus, no_amounts}
 use Rattle.sdr_model.specs.Charges.{left_in, occupancies, occupancy, rooms}
 use Rattle.sdr_model.specs.Charging.{Charges, OnTicket, grant_left, no_space, with_used}

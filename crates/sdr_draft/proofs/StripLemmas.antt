@@ -25,7 +25,7 @@ use Rattle.sdr_model.specs.Steps.{without_thing}
 use Rattle.sdr_parts.specs.Bounds.{EndsInTime, IsModest}
 use Rattle.sdr_parts.specs.Trims.{edited}
 use Rattle.sdr_parts.specs.declared.edits.Stripping.{Stripping}
-use Rattle.sdr_draft.specs.Allowed.{IsBound}
+use Rattle.sdr_draft.specs.Calling.{IsBound}
 use Rattle.sdr_draft.specs.Edits.{MayChange, MayFollow}
 use Rattle.sdr_draft.specs.Strips.{Strips, StripsThere}
 use Rattle.sdr_model.specs.Accounts.{most_amount}

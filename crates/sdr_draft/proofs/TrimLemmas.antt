@@ -9,7 +9,7 @@ use Rattle.sdr_base.specs.declared.account.Acct.{Acct}
 use Rattle.sdr_base.specs.declared.account.Acct.TheVariants as accts
 use Rattle.sdr_base.specs.declared.kind.Space.{Space}
 use Rattle.sdr_model.specs.Accounts.{is_same_account}
-use Rattle.sdr_draft.specs.Allowed.{IsBound}
+use Rattle.sdr_draft.specs.Calling.{IsBound}
 use Rattle.sdr_model.specs.Charges.{capsule_charge, object_charge}
 use Rattle.sdr_undo.specs.Draft.{Draft}
 use Rattle.sdr_model.specs.Dry.{next_addr}

@@ -8,7 +8,8 @@ ghost use Rattle.sdr_model.specs.Charges.{occupancies};
 ghost use Rattle.sdr_model.specs.Charging.{with_used};
 ghost use Rattle.sdr_model.specs.Queue.{enqueued, with_served};
 ghost use Rattle.sdr_parts.specs.Grants.{KeepGrants};
-ghost use Rattle.sdr_draft.specs.Allowed.{IsBound, IsGrantOf, MayTakeBack, RefusesCharge, refusal_of, with_back};
+ghost use Rattle.sdr_draft.specs.Allowed.{IsGrantOf, MayTakeBack, RefusesCharge, refusal_of, with_back};
+ghost use Rattle.sdr_draft.specs.Calling.{IsBound};
 
 use crate::Undoable;
 use sdr_base::{Acct, Amounts, NoMemory, Refusal};

@@ -7,7 +7,7 @@ ghost use Rattle.sdr_model.specs.Zco.{naming, object_at, uses_of};
 ghost use Rattle.sdr_model.specs.declared.things.Thing.{Thing};
 ghost use Rattle.sdr_parts.specs.Bounds.{IsModest};
 ghost use Rattle.sdr_parts.specs.Trims.{MayTrim, trimmed};
-ghost use Rattle.sdr_draft.specs.Allowed.{IsBound};
+ghost use Rattle.sdr_draft.specs.Calling.{IsBound};
 ghost use Rattle.sdr_draft.specs.Sound.{is_plain, raw_at};
 ghost use Rattle.sdr_undo.specs.Owners.{MayPut};
 

@@ -1,5 +1,5 @@
 use Rattle.std.proofs.Common.{subst}
-use Rattle.sdr_draft.specs.Allowed.{IsBound}
+use Rattle.sdr_draft.specs.Calling.{IsBound}
 use Rattle.sdr_undo.specs.Draft.{Draft}
 use Rattle.sdr_draft.proofs.undoable.Undoable.known.Goals as goal
 

@@ -1,6 +1,6 @@
 use Rattle.std.proofs.Common.{◌≡◌, ◌≤◌, ℕ, Some, true, subst}
 use Rattle.std.specs.Prelude.{IfSome}
-use Rattle.sdr_draft.specs.Allowed.{IsBound}
+use Rattle.sdr_draft.specs.Calling.{IsBound}
 use Rattle.sdr_undo.specs.Draft.{Draft}
 use Rattle.sdr_model.specs.Dry.{next_addr}
 use Rattle.sdr_undo.specs.Owners.{MayPut}

@@ -1,5 +1,6 @@
 use Rattle.std.proofs.Common.{Some, ap, subst, sym}
-use Rattle.sdr_draft.specs.Allowed.{IsBound, with_back}
+use Rattle.sdr_draft.specs.Allowed.{with_back}
+use Rattle.sdr_draft.specs.Calling.{IsBound}
 use Rattle.sdr_undo.specs.Draft.{Draft}
 use Rattle.sdr_undo.specs.Ledger.{Ledger}
 use Rattle.sdr_draft.proofs.AccountLemmas.{AreBound}
