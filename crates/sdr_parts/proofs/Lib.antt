@@ -1,2 +1,3 @@
 pub mod BoundsLemmas
+pub mod CappedLemmas
 pub mod QueueLemmas

@@ -1,12 +1,12 @@
 // The queue of an account's tickets.
 ghost use Rattle.std.specs.Prelude.{◌≡◌, ◌≤◌, OnErr, OnOk, Some, None, length, if◌then◌else◌};
 ghost use Rattle.std.specs.List.{prefix_len};
-ghost use Rattle.sdr_base.specs.declared.kind.Space.{Space};
-ghost use Rattle.sdr_model.specs.Accounts.{most_amount};
-ghost use Rattle.sdr_model.specs.Amounts.{amounts_by, are_within, minus, plus};
+ghost use Rattle.sdr_model.specs.Amounts.{are_within, minus, plus};
 ghost use Rattle.sdr_model.specs.Charges.{left_in};
 ghost use Rattle.sdr_model.specs.Queue.{barrier, enqueued, front_waiting, granted, served, stands_before};
+ghost use Rattle.sdr_parts.specs.Capped.{capped_by};
 
+use crate::amounts::capped_plus;
 use sdr_base::{Amounts, Items, NoMemory};
 use sdr_model::Ticket;
 use sdr_model::amounts::{NOTHING, are_within, is_nothing, minus, plus};
@@ -43,14 +43,13 @@ pub fn enqueue(tickets: &mut Items<Ticket>, new: Ticket) -> Result<(), NoMemory>
     tickets.insert(place, new)
 }
 
-/// What is left of the grants of tickets.
+/// What is left of the grants of tickets, as far as words hold it.
 pub fn left(tickets: &[Ticket]) -> Amounts
-    requires small { (space : Space) → left_in space tickets.now ≤ most_amount }
-    ensures { result ≡ amounts_by (λ space. left_in space tickets.now) }
+    ensures { result ≡ capped_by (λ space. left_in space tickets.now) }
 {
     let mut left = NOTHING;
     for ticket in tickets {
-        left = plus(&left, &ticket.left);
+        left = capped_plus(&left, &ticket.left);
     }
     left
 }
