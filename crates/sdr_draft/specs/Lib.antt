@@ -1,7 +1,5 @@
 pub mod Allowed
 pub mod Calling
-pub mod Drops
-pub mod Edits
-pub mod Sound
+pub mod Keeps
 pub mod Strips
 pub mod Uses
