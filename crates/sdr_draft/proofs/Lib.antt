@@ -1,17 +1,2 @@
-pub mod AccountLemmas
-pub mod BondLemmas
-pub mod CapsuleLemmas
-pub mod ChargeLemmas
-pub mod DropLemmas
-pub mod ExtentLemmas
-pub mod GrowLemmas
 pub mod NamedLemmas
-pub mod ObjectCallLemmas
-pub mod ObjectLemmas
 pub mod PassLemmas
-pub mod RawLemmas
-pub mod SoundLemmas
-pub mod SourceLemmas
-pub mod StripLemmas
-pub mod SumBounds
-pub mod TrimLemmas

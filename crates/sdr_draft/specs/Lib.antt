@@ -1,5 +1,4 @@
 pub mod Allowed
 pub mod Calling
 pub mod Keeps
-pub mod Strips
 pub mod Uses
