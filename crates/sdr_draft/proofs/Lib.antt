@@ -1,2 +1,4 @@
+pub mod KeepsLemmas
 pub mod NamedLemmas
 pub mod PassLemmas
+pub mod SumBounds

@@ -9,7 +9,7 @@ ghost use Rattle.sdr_model.specs.Steps.{with_thing, without_thing};
 ghost use Rattle.sdr_model.specs.Things.{IsWithin, SpotIs, inner_among, inner_blocks};
 ghost use Rattle.sdr_model.specs.World.{at_rest, block_at, empty_world, is_marked, spot_of, thing_at};
 ghost use Rattle.sdr_model.specs.declared.things.Thing.{Thing};
-ghost use Rattle.sdr_draft.specs.Keeps.{Keeps};
+ghost use Rattle.sdr_draft.specs.Keeps.{Keeps, StayTouched};
 ghost use Rattle.sdr_undo.specs.Owners.{MayHave, MayPut};
 
 mod blocks;
@@ -229,6 +229,7 @@ impl Undoable {
         ensures now { self.new.now ≡ self.old.now }
         ensures owners { self.new.owners ≡ self.old.owners }
         ensures touched { OnOk result (Contains self.new.touched addr) }
+        ensures others { StayTouched self.old self.new }
         ensures keeps { Keeps self.old self.new }
     {
         self.things.touch(addr)
@@ -238,6 +239,7 @@ impl Undoable {
     pub fn drop(&mut self, addr: Addr)
         requires touched { Contains self.old.touched addr }
         ensures dropped { self.new.now ≡ without_thing self.old.now addr }
+        ensures others { StayTouched self.old self.new }
         ensures keeps { Keeps self.old self.new }
     {
         self.things.put(addr, None);
@@ -266,6 +268,7 @@ impl Undoable {
         ensures may_put { IfOk result (λ thing. MayPut self.new addr thing) }
         ensures touched { OnOk result (Contains self.new.touched addr) }
         ensures owners { self.new.owners ≡ self.old.owners }
+        ensures others { StayTouched self.old self.new }
         ensures keeps { Keeps self.old self.new }
         ensures same { OnErr result (self.new.now ≡ self.old.now) }
     {
@@ -278,6 +281,7 @@ impl Undoable {
         requires may_put { MayPut self.old addr thing }
         ensures put { self.new.now ≡ with_thing self.old.now addr thing }
         ensures owners { self.new.owners ≡ self.old.owners }
+        ensures others { StayTouched self.old self.new }
         ensures keeps { Keeps self.old self.new }
     {
         self.things.put(addr, Some(thing));

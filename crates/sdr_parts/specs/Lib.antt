@@ -1,4 +1,5 @@
 pub mod Bounds
 pub mod Capped
 pub mod Components
+pub mod Rooms
 pub mod Sides

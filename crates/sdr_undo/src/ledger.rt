@@ -1,7 +1,8 @@
 // The accounts of a world in the making, which can be put back to what they were at the begin.
 ghost use Rattle.std.specs.Prelude.{◌≡◌, ◌≤◌, ◌<◌, ◌+◌, OnErr, OnOk, true, false, length, remove};
 ghost use Rattle.sdr_model.specs.Accounts.{account_of, fresh_accounts, most_amount, tickets_of, with_account, with_ticket, with_tickets};
-ghost use Rattle.sdr_model.specs.Queue.{enqueued, served};
+ghost use Rattle.sdr_model.specs.Queue.{enqueued};
+ghost use Rattle.sdr_parts.specs.Rooms.{served_in};
 
 use sdr_base::{Acct, Amounts, NoMemory};
 use sdr_model::{Accounts, Pending, Ticket};
@@ -71,16 +72,15 @@ impl Ledger {
         Ok(())
     }
 
-    /// Serves the queue of an account where so much is occupied.
-    pub fn serve(&mut self, acct: Acct, occupied: &Amounts)
+    /// Serves the queue of an account in this room.
+    pub fn serve(&mut self, acct: Acct, room: Amounts)
         requires saved { self.old.saved ≡ true }
         ensures { self.new ≡ record self.old {
-          now = with_tickets self.old.now acct
-              (served (account_of self.old.now acct).maxima occupied.now (tickets_of self.old.now acct));
+          now = with_tickets self.old.now acct (served_in room (tickets_of self.old.now acct));
         } }
     {
         let mut account = self.current.take(self.alloc, acct);
-        serve(&mut account.tickets, &account.maxima, occupied);
+        serve(&mut account.tickets, room);
         self.current.put(acct, account);
     }
 

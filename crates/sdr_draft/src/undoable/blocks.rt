@@ -2,7 +2,7 @@
 ghost use Rattle.std.specs.FinMap as map;
 ghost use Rattle.std.specs.Prelude.{◌≡◌, ◌≤◌, ◌<◌, ◌+◌, ◌^◌, ◌++◌, ◌∷◌, [], ℕ, length, take, Contains, Some, OnErr, OnOk};
 ghost use Rattle.sdr_model.specs.Dry.{addr_after, next_addr, next_addrs};
-ghost use Rattle.sdr_draft.specs.Keeps.{Keeps};
+ghost use Rattle.sdr_draft.specs.Keeps.{Keeps, StayTouched};
 
 use crate::Undoable;
 use sdr_base::{Addr, Bytes, NoMemory};
@@ -16,6 +16,7 @@ impl Undoable {
         ensures touched { OnOk result ((k : ℕ) → k < count →
             Contains self.new.touched (addr_after self.old.now.taken k)) }
         ensures owners { self.new.owners ≡ self.old.owners }
+        ensures others { StayTouched self.old self.new }
         ensures keeps { Keeps self.old self.new }
     {
         let first = 8 * (self.taken + 1);
@@ -33,6 +34,7 @@ impl Undoable {
         ensures owner { OnOk result (map.get self.new.owners addr ≡ Some owner) }
         ensures others { (other of : ℕ) → other < addr → map.get self.old.owners other ≡ Some of
             → map.get self.new.owners other ≡ Some of }
+        ensures touched { StayTouched self.old self.new }
         ensures keeps { Keeps self.old self.new }
         ensures same { OnErr result (self.new.now ≡ self.old.now) }
     {
@@ -52,6 +54,7 @@ impl Undoable {
             → map.get self.new.owners (addr_after self.old.now.taken k) ≡ Some owner) }
         ensures others { (other of : ℕ) → other < next_addr self.old.now.taken
             → map.get self.old.owners other ≡ Some of → map.get self.new.owners other ≡ Some of }
+        ensures touched { StayTouched self.old self.new }
         ensures keeps { Keeps self.old self.new }
         ensures some { OnErr result (self.new.now ≡ record self.old.now { marks = self.new.now.marks }) }
         ensures front { take (length self.old.now.marks) self.new.now.marks ≡ self.old.now.marks }
@@ -74,6 +77,7 @@ impl Undoable {
             → map.get self.new.owners (addr_after self.old.now.taken k) ≡ Some owner) }
         ensures others { (other of : ℕ) → other < next_addr self.old.now.taken
             → map.get self.old.owners other ≡ Some of → map.get self.new.owners other ≡ Some of }
+        ensures touched { StayTouched self.old self.new }
         ensures keeps { Keeps self.old self.new }
         ensures same { OnErr result (self.new.now ≡ self.old.now) }
     {
@@ -92,6 +96,7 @@ impl Undoable {
         requires taken { self.old.now.taken + count < 2 ^ 60 + 2 ^ 30 }
         ensures counted { self.new.now
             ≡ record self.old.now { shown = []; taken = self.old.now.taken + count } }
+        ensures others { StayTouched self.old self.new }
         ensures keeps { Keeps self.old self.new }
         ensures owners { self.new.owners ≡ self.old.owners }
     {

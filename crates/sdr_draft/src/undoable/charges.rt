@@ -3,7 +3,7 @@ ghost use Rattle.std.specs.Prelude.{◌≡◌, sum_by};
 ghost use Rattle.std.specs.Option.{option_copied};
 ghost use Rattle.sdr_draft.specs.Uses.{charge_of, charged};
 ghost use Rattle.sdr_model.specs.Accounts.{is_same_account};
-ghost use Rattle.sdr_model.specs.Charges.{extent_charge, object_charge, occupancy, space_in};
+ghost use Rattle.sdr_model.specs.Charges.{extent_charge, object_charge, occupancy, rooms, space_in};
 ghost use Rattle.sdr_model.specs.Zco.{source_at};
 ghost use Rattle.sdr_parts.specs.Capped.{capped_by};
 
@@ -11,7 +11,7 @@ use crate::Undoable;
 use sdr_base::{Acct, Addr, Amounts, Space};
 use sdr_model::amounts::NOTHING;
 use sdr_model::{Extent, Thing, ZcoObject};
-use sdr_parts::amounts::capped_plus;
+use sdr_parts::amounts::{capped_plus, room_beside};
 use sdr_parts::charges::{bytes_charge, capsules_charge};
 use sdr_parts::queue::left;
 
@@ -104,5 +104,13 @@ impl Undoable {
     {
         let account = self.accounts.now().account(acct);
         capped_plus(&self.charged(acct), &left(account.tickets.as_slice()))
+    }
+
+    /// The room of an account: what of its maxima isn't occupied. It goes over all things as `occupied` does.
+    pub fn room(&self, acct: Acct) -> Amounts
+        ensures { result ≡ rooms self.now.now acct }
+    {
+        let account = self.accounts.now().account(acct);
+        room_beside(&account.maxima, &self.occupied(acct))
     }
 }

@@ -29,13 +29,13 @@ impl Undoable {
         self.accounts.save()
     }
 
-    /// Serves the queue of an account. It is linear in the queue.
+    /// Serves the queue of an account. It is linear in the queue, and goes over all things as `occupied` does.
     pub fn serve(&mut self, acct: Acct)
         requires saved { self.old.saved ≡ true }
         ensures { self.new ≡ record self.old { now = with_served self.old.now acct } }
     {
-        let occupied = self.occupied(acct);
-        self.accounts.serve(acct, &occupied);
+        let room = self.room(acct);
+        self.accounts.serve(acct, room);
     }
 
     /// The ticket that a charge names: it is the account's, and granted. 0 names none.
@@ -67,8 +67,8 @@ impl Undoable {
             let ticket = ticket.number;
             return Some(Refusal::Queue { ticket });
         }
+        let space = first_above(uncovered, &self.room(acct))?;
         let occupied = self.occupied(acct);
-        let space = first_above(uncovered, &minus(&account.maxima, &occupied))?;
         Some(Refusal::NoSpace {
             space,
             occupied: amount(&occupied, space),

@@ -10,6 +10,7 @@ use Rattle.sdr_draft.proofs.undoable.Undoable.charged.Given as goal
 
 abbrev pub invariant-loop-place : goal.invariant-loop-place
 invariant-loop-place l = record {
+  held : (space : Space) → amount l.charge space ≡ capped (amount l.charge space);
   sum : (space : Space) → capped (amount l.charge space + sum_by (λ e. thing_charge l.self.now l.acct space e.1) (things_in l.place-iterator))
       ≡ capped (charged l.self.now l.acct space);
 }
