@@ -1,3 +1,5 @@
+pub mod CallingLemmas
+pub mod ChargeLemmas
 pub mod KeepsLemmas
 pub mod NamedLemmas
 pub mod PassLemmas

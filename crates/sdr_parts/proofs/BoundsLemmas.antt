@@ -53,17 +53,6 @@ extents_length-charged w (e ∷ es) =
       sum_by-cons (extent_charge w spaces.Heap) e es,
     )
 
--- an object whose charges are small is bounded
-pub IsModest-bounded : (w : World) (next : ℕ) (z : ZcoObject) → IsModest next z
-    → ((space : Space) → object_charge w space z ≤ most_amount) → IsBounded z
-IsModest-bounded w next z modest charges = record {
-  headers = omega (arith, capsules_length-charged z.headers, charges spaces.Heap);
-  ends = modest.extents;
-  extents = omega (arith, extents_length-charged w z.extents, charges spaces.File, charges spaces.Bulk, charges spaces.Heap);
-  trailers = omega (arith, capsules_length-charged z.trailers, charges spaces.Heap);
-  part = modest.part;
-}
-
 -- as extents, headers or trailers charge at most three times as much more as they charge
 pub rise-most : (capsules : List Capsule)
     → sum_by (bond_rise spaces.Heap) capsules ≤ 3 * sum_by (capsule_charge spaces.Heap) capsules

@@ -34,8 +34,8 @@ pub fn bytes_charge(of: Space, bytes: u64) -> Amounts
     charge
 }
 
-// What a header or trailer of so many bytes charges, as far as a word holds it.
-fn text_charge(bytes: u64) -> u64
+/// What a header or trailer of so many bytes charges of heap space, as far as a word holds it.
+pub fn text_charge(bytes: u64) -> u64
     ensures { result ≡ capped (capsule_bytes bytes) }
 {
     let words = (u128::from(bytes) + 15) / 8;
