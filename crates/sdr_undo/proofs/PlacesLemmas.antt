@@ -1,16 +1,19 @@
 -- The things at the places, one after another.
-use Rattle.std.proofs.Common.{◌≡◌, ℕ, Bool, true, false, List, [], ◌∷◌, ◌&&◌, T, Option, Some, None, Ordering, Less, Equal, Greater, is_lt, ap, sym, ◌∙◌, refl}
+use Rattle.std.proofs.Common.{◌≡◌, ℕ, Bool, true, false, List, [], ◌∷◌, ◌&&◌, T, map, Option, Some, None, Ordering, Less, Equal, Greater, is_lt, ap, subst, sym, ◌∙◌, refl}
 use Rattle.std.specs.Cmp.{nat_cmp_total}
-use Rattle.std.specs.FinMap.{empty, entries, entries-from_sorted, entries-insert, entries_sorted, from_sorted, get-empty, get-from_sorted, is_sorted, put}
+use Rattle.std.specs.FinMap.{empty, entries, entries-from_sorted, entries-insert, entries_sorted, from_entries, from_sorted, get-empty, get-from_sorted, is_sorted, put}
 use Rattle.std.specs.FinMap.Entries.{below_all, by_order}
+use Rattle.std.specs.List.Sorted.{IsStrictlySortedBy}
 use Rattle.std.specs.Option.{option_and_then}
 use Rattle.std.specs.Ordering.{nat_cmp}
+use Rattle.sdr_model.proofs.EntryLemmas.{entries-from_entries}
+use Rattle.sdr_model.proofs.MapLemmas.{find-lookup}
 use Rattle.sdr_model.proofs.ThingsLemmas.{same_things, with_at-again}
 use Rattle.sdr_model.specs.Things.{with_at}
 use Rattle.sdr_model.specs.declared.things.Thing.{Thing}
 use Rattle.sdr_undo.proofs.SpotLemmas.{left_of, missing, right_of}
-use Rattle.sdr_undo.proofs.StoreLemmas.{get-things_among}
-use Rattle.sdr_undo.specs.Store.{Places, now_at, things_among, things_at, things_in}
+use Rattle.sdr_undo.proofs.StoreLemmas.{get-things_at}
+use Rattle.sdr_undo.specs.Store.{now_at, things_at, things_in}
 use Rattle.sdr_undo.specs.declared.place.Place.{Place}
 
 both_of : (a b : Bool) → T a → T b → T (a && b)
@@ -43,22 +46,24 @@ entries-empty =
     ap entries (same_things empty (from_sorted []) (λ q. get-empty nat_cmp q ∙ sym (get-from_sorted nat_cmp [] q tt)))
     ∙ entries-from_sorted nat_cmp [] tt
 
-entries-things_among : (ps : List (ℕ × Place)) → T (is_sorted nat_cmp ps) → things_in ps ≡ entries (things_among now_at ps)
-entries-things_among [] sorted = sym entries-empty
-entries-things_among ((a, place) ∷ ps) sorted = by (entries-things_among ps (right_of _ _ sorted)) place.thing
+-- the things at all places, in order
+pub entries-things_at : (places : List (ℕ × Place)) → T (is_sorted nat_cmp places) → things_in places ≡ entries (things_at now_at places)
+unfolding things_at
+entries-things_at [] sorted = sym entries-empty
+entries-things_at ((a, place) ∷ ps) sorted = by (entries-things_at ps (right_of _ _ sorted)) place.thing
   where
-    by : things_in ps ≡ entries (things_among now_at ps) → (o : Option Thing)
-        → things_in ((a, record place { thing = o }) ∷ ps) ≡ entries (with_at (things_among now_at ps) a o)
+    by : things_in ps ≡ entries (things_at now_at ps) → (o : Option Thing)
+        → things_in ((a, record place { thing = o }) ∷ ps) ≡ entries (with_at (things_at now_at ps) a o)
     by others None =
         others
-        ∙ ap entries (sym (with_at-again (things_among now_at ps) a None
-        (get-things_among now_at a ps ∙ ap (option_and_then now_at) (missing a ps (left_of _ _ sorted)))))
+        ∙ ap entries (sym (with_at-again (things_at now_at ps) a None
+        (get-things_at now_at ps a ∙ ap (option_and_then now_at) (sym (find-lookup a ps) ∙ missing a ps (left_of _ _ sorted)))))
     by others (Some thing) =
         sym (put_first a thing (things_in ps) (below_things a ps (left_of _ _ sorted)))
         ∙ ap (put nat_cmp a thing) others
-        ∙ sym (entries-insert nat_cmp_total (things_among now_at ps) a thing)
+        ∙ sym (entries-insert nat_cmp_total (things_at now_at ps) a thing)
 
--- the things at all places, in order
-pub entries-things_at : (places : Places) → things_in (entries places) ≡ entries (things_at now_at places)
-unfolding things_at
-entries-things_at places = entries-things_among (entries places) (entries_sorted places)
+-- the places of a map are in order
+pub sorted_places : (places : List (ℕ × Place)) → IsStrictlySortedBy nat_cmp (map (λ e. e.0) places) → T (is_sorted nat_cmp places)
+sorted_places places ordered =
+    subst (λ es. T (is_sorted nat_cmp es)) (entries-from_entries places ordered) (entries_sorted (from_entries {R = nat_cmp} places))

@@ -8,12 +8,12 @@ use Rattle.sdr_undo.proofs.store.Store.get.Goals as goal
 pub returns-in-Some : goal.returns-in-Some
 returns-in-Some c =
     c.current.ensures
-    ∙ ap (option_and_then now_at) (sym (ap option_copied c.in-Some.is) ∙ c.get.ensures)
-    ∙ sym (get-things_at now_at c.self.inside.places c.args.addr)
+    ∙ ap (option_and_then now_at) (sym (ap option_copied c.in-Some.is) ∙ c.get.ensures.value)
+    ∙ sym (get-things_at now_at c.self.inside.places.entries c.args.addr)
     ∙ ap (λ s. get s.now c.args.addr) c.self.view_is
 
 pub returns-in-None : goal.returns-in-None
 returns-in-None c =
-    ap (option_and_then now_at) (sym (ap option_copied c.in-None.is) ∙ c.get.ensures)
-    ∙ sym (get-things_at now_at c.self.inside.places c.args.addr)
+    ap (option_and_then now_at) (sym (ap option_copied c.in-None.is) ∙ c.get.ensures.value)
+    ∙ sym (get-things_at now_at c.self.inside.places.entries c.args.addr)
     ∙ ap (λ s. get s.now c.args.addr) c.self.view_is
