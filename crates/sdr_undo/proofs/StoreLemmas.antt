@@ -1,11 +1,9 @@
 -- The things at the places, now and at the begin.
 use Rattle.sdr_model.proofs.ThingsLemmas.{at_itself, get-with_at, same_address, same_things}
-use Rattle.sdr_model.specs.Things.{Things, with_at}
+use Rattle.sdr_model.specs.Things.{with_at}
 use Rattle.sdr_model.specs.declared.things.Thing.{Thing}
-use Rattle.sdr_undo.specs.Store.{AreTouched, Store, begun_at, is_saved, now_at, place_at, saved_at, staying, things_at, things_of}
+use Rattle.sdr_undo.specs.Store.{AreTouched, begun_at, is_saved, now_at, place_at, saved_at, things_at}
 use Rattle.sdr_undo.specs.declared.place.Place.{Place}
-use Rattle.sdr_undo.specs.declared.place.Stays.{Stays}
-use Rattle.sdr_undo.specs.declared.place.Stays.TheVariants as stays
 use Rattle.std.proofs.Common.{◌≡◌, ◌↔◌, ◌⊎◌, ℕ, zero, suc, arith, Bool, true, false, List, [], ◌∷◌, ◌++◌, cond, Option, Some, None, ap, ap₂, sym, ◌∙◌, refl, subst, ⊎_elim, true≢false, is_some}
 use Rattle.std.proofs.lemmas.List.Elements.{Contains-append_cases, Contains-append_left, Contains-append_right}
 use Rattle.std.specs.BTreeMap.{is_at}
@@ -113,7 +111,7 @@ module _ (old new : List (ℕ × Place)) (k : ℕ) (f : Option Place → Option 
             (Contains-append_cases touched (k ∷ []) q (among q there))
 
 -- with nothing touched, the things at the begin are the things now
-nothing_touched : (places : List (ℕ × Place)) → ((q : ℕ) → saved_at places q ≡ true → Contains [] q)
+pub nothing_touched : (places : List (ℕ × Place)) → ((q : ℕ) → saved_at places q ≡ true → Contains [] q)
     → things_at begun_at places ≡ things_at now_at places
 nothing_touched places among = same_things _ _ (λ q.
     get-things_at begun_at places q ∙ same (place_at places q) (λ was. none q (among q was)) ∙ sym (get-things_at now_at places q))
@@ -128,10 +126,3 @@ nothing_touched places among = same_things _ _ (λ q.
         by : (o : Option (Option Thing)) → (is_some o ≡ true → ⊥) → begun_at (record place { begun = o }) ≡ place.thing
         by None isn't = refl
         by (Some thing) isn't = absurd (isn't refl)
-
--- what stays of a store
-pub things_of-staying : (s : Stays) (places : List (ℕ × Place)) (touched : List ℕ)
-    → things_of s (record { begun = things_at begun_at places; now = things_at now_at places; touched = touched })
-    ≡ things_at (staying s) places
-things_of-staying stays.Now places touched = refl
-things_of-staying stays.Begun places touched = refl

@@ -12,7 +12,7 @@ use Rattle.std.specs.Map.{lookup}
 use Rattle.std.specs.Option.{option_and_then, option_map, option_to_list}
 use Rattle.std.specs.List.{flat_map}
 use Rattle.std.specs.Ordering.{nat_cmp}
-use Rattle.std.specs.Prelude.{◌≡◌, ◌↔◌, ℕ, Bool, true, List, [], ◌∷◌, Option, None, Contains, is_some, unwrap_or, refl}
+use Rattle.std.specs.Prelude.{◌≡◌, ◌↔◌, ℕ, Bool, true, List, [], ◌∷◌, Option, None, Some, Contains, is_some, unwrap_or, refl}
 
 -- the things at the begin of the open transaction, the things now, and the addresses that were touched since
 pub record Store : Type 0 where
@@ -44,6 +44,10 @@ staying stays.Begun = begun_at
 -- a place with another thing, or nothing
 abbrev pub with_thing : Option Thing → Place → Place
 with_thing thing place = record place { thing = thing }
+
+-- a place that keeps this as what was there at the begin
+abbrev pub saving : Option Thing → Option Place → Place
+saving begun place = record { begun = Some begun; thing = option_and_then now_at place }
 
 -- a place when the transaction is over
 abbrev pub settled : Stays → Place → Place

@@ -1,9 +1,9 @@
 // What is at an address, now and at the begin of a transaction.
-ghost use Rattle.std.specs.Prelude.{◌≡◌, ℕ, OnErr, OnOk, Some, None, cond, is_some, unwrap_or};
+ghost use Rattle.std.specs.Prelude.{◌≡◌, ℕ, OnErr, OnOk, Some, cond};
 ghost use Rattle.std.specs.BTreeMap.{get, is_at};
 ghost use Rattle.std.specs.Option.{option_and_then, option_copied, option_map};
 ghost use Rattle.std.specs.Ordering.{nat_cmp};
-ghost use Rattle.sdr_undo.specs.Store.{now_at, saved_at, settled, with_thing};
+ghost use Rattle.sdr_undo.specs.Store.{now_at, saved_at, saving, settled, with_thing};
 
 use sdr_base::{Addr, NoMemory};
 use sdr_model::Thing;
@@ -53,14 +53,20 @@ pub(crate) fn save(
 ) -> Result<(), NoMemory>
     ensures saved { OnOk result ((q : ℕ) → get nat_cmp places.new q
         ≡ cond (is_at (nat_cmp addr) q)
-            (Some (record { begun = Some begun; thing = option_and_then now_at (get nat_cmp places.old q) }))
-            (get nat_cmp places.old q)) }
+        (Some (saving begun (get nat_cmp places.old q)))
+        (get nat_cmp places.old q)) }
     ensures same { OnErr result (places.new.entries ≡ places.old.entries) }
 {
     match places.get_mut(&addr) {
         Some(place) => place.begun = Some(begun),
         None => {
-            places.insert(addr, Place { begun: Some(begun), thing: None })?;
+            places.insert(
+                addr,
+                Place {
+                    begun: Some(begun),
+                    thing: None,
+                },
+            )?;
         }
     }
     Ok(())
@@ -75,8 +81,8 @@ pub(crate) fn swap(
     ensures was { result ≡ option_and_then now_at (get nat_cmp places.old addr) }
     ensures now { (q : ℕ) → get nat_cmp places.new q
         ≡ cond (is_at (nat_cmp addr) q)
-            (option_map (with_thing thing) (get nat_cmp places.old q))
-            (get nat_cmp places.old q) }
+        (option_map (with_thing thing) (get nat_cmp places.old q))
+        (get nat_cmp places.old q) }
 {
     match places.get_mut(&addr) {
         Some(place) => mem::replace(&mut place.thing, thing),
@@ -88,8 +94,8 @@ pub(crate) fn swap(
 pub(crate) fn settle(places: &mut BTreeMap<u64, Place>, addr: Addr, stays: Stays)
     ensures { (q : ℕ) → get nat_cmp places.new q
         ≡ cond (is_at (nat_cmp addr) q)
-            (option_map (settled stays) (get nat_cmp places.old q))
-            (get nat_cmp places.old q) }
+        (option_map (settled stays) (get nat_cmp places.old q))
+        (get nat_cmp places.old q) }
 {
     if let Some(place) = places.get_mut(&addr) {
         match (stays, place.begun.take()) {

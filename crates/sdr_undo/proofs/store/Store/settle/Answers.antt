@@ -1,7 +1,50 @@
+use Rattle.std.proofs.Common.{◌≡◌, ◌∷◌, [], ◌++◌, ◌-◌, List, ℕ, Option, Some, None, false, append-nil, ap, sym, subst, ◌∙◌, refl}
+use Rattle.std.specs.List.{Contains}
+use Rattle.std.specs.Option.{option_and_then, option_map}
+use Rattle.std.specs.Prelude.{take}
+use Rattle.sdr_undo.specs.Store.{begun_at, is_saved, now_at, place_at, settled, staying, things_at}
+use Rattle.sdr_undo.specs.declared.place.Place.{Place}
+use Rattle.sdr_undo.specs.declared.place.Stays.{Stays}
+use Rattle.sdr_undo.specs.declared.place.Stays.TheVariants as stays
+use Rattle.sdr_undo.proofs.StoreLemmas.{nothing_touched, things_at-kept, touched-pop}
 use Rattle.sdr_undo.proofs.store.Store.settle.Goals as goal
 
+-- what stays at a place is there
+same_staying : (s : Stays) (o : Option Place) → option_and_then (staying s) (option_map (settled s) o) ≡ option_and_then (staying s) o
+same_staying s None = refl
+same_staying stays.Now (Some place) = refl
+same_staying stays.Begun (Some place) = refl
+
+none_saved : (s : Stays) (o : Option Place) → is_saved (option_map (settled s) o) ≡ false
+none_saved s None = refl
+none_saved s (Some place) = refl
+
+begun_staying : (s : Stays) (places : List (ℕ × Place)) → things_at begun_at places ≡ things_at now_at places
+    → things_at begun_at places ≡ things_at (staying s) places
+begun_staying stays.Now places same = same
+begun_staying stays.Begun places same = refl
+
 pub loop-addr-preserved : goal.loop-addr-preserved
-loop-addr-preserved c = ?
+loop-addr-preserved c =
+    let there = place_at c.loop-addr.self-inside.places.entries c.in-Some.addr in
+    record {
+      things = things_at-kept _ _ c.in-Some.addr (option_map (settled c.args.stays)) c.settle.ensures (staying c.args.stays) (same_staying c.args.stays there)
+          ∙ c.loop-addr.invariant.things;
+      among = touched-pop _ _ c.in-Some.addr (option_map (settled c.args.stays)) c.settle.ensures c.pop.new.self.items (none_saved c.args.stays there)
+          (λ q was. subst (λ xs. Contains xs q) c.in-Some.ensures.items (c.loop-addr.invariant.among q was));
+    }
 
 pub returns : goal.returns
-returns c = ?
+returns c =
+    let places = c.loop-addr.self-inside.places.entries in
+    let left : c.pop.new.self.items ≡ [] =
+    c.in_default.ensures.rest ∙ ap (λ n. take (n - 1) c.loop-addr.self-inside.touched.items) c.in_default.ensures.cases.0 in
+    let none : c.loop-addr.self-inside.touched.items ≡ [] =
+    c.in_default.ensures.items ∙ append-nil c.pop.new.self.items ∙ left in
+    let same = nothing_touched places (λ q was. subst (λ xs. Contains xs q) none (c.loop-addr.invariant.among q was)) in
+    let begun = begun_staying c.args.stays places same ∙ c.loop-addr.invariant.things in
+    λ i. record {
+      begun = begun i;
+      now = (sym same ∙ begun) i;
+      touched = left i;
+    }

@@ -1,5 +1,6 @@
-use Rattle.std.proofs.Common.{◌≡◌, true, Option, Some, None, ap, sym, ◌∙◌, refl}
+use Rattle.std.proofs.Common.{◌≡◌, true, Option, Some, None, ap, sym, ◌∙◌, refl, subst}
 use Rattle.std.specs.FinMap.{get}
+use Rattle.std.specs.List.{Contains}
 use Rattle.std.specs.Option.{option_and_then, option_map}
 use Rattle.sdr_model.specs.Things.{with_at}
 use Rattle.sdr_model.specs.declared.things.Thing.{Thing}
@@ -29,15 +30,21 @@ module _ (thing : Option Thing) where
 
 pub invariant_of-self : goal.invariant_of-self
 invariant_of-self c =
-    touched-kept c.self.inside.places.entries c.swap.new.places.entries c.args.addr (option_map (with_thing c.args.thing)) c.swap.ensures.now
-    c.self.inside.touched.items (same_saved c.args.thing (place_at c.self.inside.places.entries c.args.addr)) c.self.invariant
+    touched-kept _ _ c.args.addr (option_map (with_thing c.args.thing)) c.swap.ensures.now c.self.inside.touched.items
+    (same_saved c.args.thing (place_at c.self.inside.places.entries c.args.addr)) c.self.invariant
 
 pub returns-clause-was : goal.returns-clause-was
 returns-clause-was c =
-    ?
+    c.swap.ensures.was ∙ sym (get-things_at now_at c.self.inside.places.entries c.args.addr) ∙ ap (λ s. get s.now c.args.addr) c.self.view_is
 
 pub returns-clause-now : goal.returns-clause-now
-returns-clause-now c = ?
+returns-clause-now c =
+    things_at-put _ _ c.args.addr (option_map (with_thing c.args.thing)) c.swap.ensures.now now_at c.args.thing
+    (thing_there c.args.thing (place_at c.self.inside.places.entries c.args.addr) ((c.self.invariant c.args.addr).1 (subst (λ s. Contains s.touched c.args.addr) (sym c.self.view_is) c.requires.touched)))
+    ∙ ap (λ s. with_at s.now c.args.addr c.args.thing) c.self.view_is
 
 pub returns-clause-begun : goal.returns-clause-begun
-returns-clause-begun c = ?
+returns-clause-begun c =
+    things_at-kept _ _ c.args.addr (option_map (with_thing c.args.thing)) c.swap.ensures.now begun_at
+    (same_begun c.args.thing (place_at c.self.inside.places.entries c.args.addr) ((c.self.invariant c.args.addr).1 (subst (λ s. Contains s.touched c.args.addr) (sym c.self.view_is) c.requires.touched)))
+    ∙ ap (λ s. s.begun) c.self.view_is
