@@ -12,7 +12,7 @@ use Rattle.sdr_model.proofs.ThingsLemmas.{same_things, with_at-again}
 use Rattle.sdr_model.specs.Things.{with_at}
 use Rattle.sdr_model.specs.declared.things.Thing.{Thing}
 use Rattle.sdr_undo.proofs.SpotLemmas.{left_of, missing, right_of}
-use Rattle.sdr_undo.proofs.StoreLemmas.{get-things_at}
+use Rattle.sdr_undo.proofs.StoreLemmas.{thing_at}
 use Rattle.sdr_undo.specs.Store.{now_at, things_at, things_in}
 use Rattle.sdr_undo.specs.declared.place.Place.{Place}
 
@@ -48,7 +48,6 @@ entries-empty =
 
 -- the things at all places, in order
 pub entries-things_at : (places : List (ℕ × Place)) → T (is_sorted nat_cmp places) → things_in places ≡ entries (things_at now_at places)
-unfolding things_at
 entries-things_at [] sorted = sym entries-empty
 entries-things_at ((a, place) ∷ ps) sorted = by (entries-things_at ps (right_of _ _ sorted)) place.thing
   where
@@ -57,7 +56,7 @@ entries-things_at ((a, place) ∷ ps) sorted = by (entries-things_at ps (right_o
     by others None =
         others
         ∙ ap entries (sym (with_at-again (things_at now_at ps) a None
-        (get-things_at now_at ps a ∙ ap (option_and_then now_at) (sym (find-lookup a ps) ∙ missing a ps (left_of _ _ sorted)))))
+        (thing_at now_at ps a ∙ ap (option_and_then now_at) (sym (find-lookup a ps) ∙ missing a ps (left_of _ _ sorted)))))
     by others (Some thing) =
         sym (put_first a thing (things_in ps) (below_things a ps (left_of _ _ sorted)))
         ∙ ap (put nat_cmp a thing) others

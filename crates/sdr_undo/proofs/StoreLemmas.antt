@@ -2,8 +2,10 @@
 use Rattle.sdr_model.proofs.ThingsLemmas.{at_itself, get-with_at, same_address, same_things}
 use Rattle.sdr_model.specs.Things.{with_at}
 use Rattle.sdr_model.specs.declared.things.Thing.{Thing}
-use Rattle.sdr_undo.specs.Store.{AreTouched, begun_at, is_saved, now_at, place_at, saved_at, things_at}
+use Rattle.sdr_undo.specs.Store.{AreTouched, ChangesAt, begun_at, is_saved, now_at, place_at, saved_at, staying, things_at}
 use Rattle.sdr_undo.specs.declared.place.Place.{Place}
+use Rattle.sdr_undo.specs.declared.place.Stays.{Stays}
+use Rattle.sdr_undo.specs.declared.place.Stays.TheVariants as stays
 use Rattle.std.proofs.Common.{◌≡◌, ◌↔◌, ◌⊎◌, ℕ, zero, suc, arith, Bool, true, false, List, [], ◌∷◌, ◌++◌, cond, Option, Some, None, ap, ap₂, sym, ◌∙◌, refl, subst, ⊎_elim, true≢false, is_some}
 use Rattle.std.proofs.lemmas.List.Elements.{Contains-append_cases, Contains-append_left, Contains-append_right}
 use Rattle.std.specs.BTreeMap.{is_at}
@@ -19,13 +21,12 @@ chosen g true x y = refl
 chosen g false x y = refl
 
 -- the thing at an address is what the place there has
-pub get-things_at : (of : Place → Option Thing) (places : List (ℕ × Place)) (q : ℕ)
+pub thing_at : (of : Place → Option Thing) (places : List (ℕ × Place)) (q : ℕ)
     → get (things_at of places) q ≡ option_and_then of (place_at places q)
-unfolding things_at
-get-things_at of [] q = get-empty nat_cmp q
-get-things_at of ((addr, place) ∷ places) q =
+thing_at of [] q = get-empty nat_cmp q
+thing_at of ((addr, place) ∷ places) q =
     get-with_at (things_at of places) addr (of place) q
-    ∙ ap (cond (is_at (nat_cmp q) addr) (of place)) (get-things_at of places q)
+    ∙ ap (cond (is_at (nat_cmp q) addr) (of place)) (thing_at of places q)
     ∙ sym (chosen (option_and_then of) (is_at (nat_cmp q) addr) (Some place) (place_at places q))
 
 -- the one element of a list
@@ -35,7 +36,7 @@ only q (suc i, lt, is) = absurd (omega (arith, lt))
 
 -- places that differ at one address
 module _ (old new : List (ℕ × Place)) (k : ℕ) (f : Option Place → Option Place)
-    (changes : (q : ℕ) → place_at new q ≡ cond (is_at (nat_cmp k) q) (f (place_at old q)) (place_at old q)) where
+    (changes : ChangesAt old new k f) where
   -- what is made of the place there
   part-here : {X : Type 0} (g : Option Place → X) → g (place_at new k) ≡ g (f (place_at old k))
   part-here g = ap g (changes k) ∙ ap (λ b. g (cond b (f (place_at old k)) (place_at old k))) (at_itself k)
@@ -63,15 +64,15 @@ module _ (old new : List (ℕ × Place)) (k : ℕ) (f : Option Place → Option 
   pub things_at-put : (of : Place → Option Thing) (o : Option Thing) → option_and_then of (f (place_at old k)) ≡ o
       → things_at of new ≡ with_at (things_at of old) k o
   things_at-put of o is = same_things _ _ (λ q.
-      get-things_at of new q ∙ part (option_and_then of) q
-      ∙ ap₂ (cond (is_at (nat_cmp q) k)) is (sym (get-things_at of old q))
+      thing_at of new q ∙ part (option_and_then of) q
+      ∙ ap₂ (cond (is_at (nat_cmp q) k)) is (sym (thing_at of old q))
       ∙ sym (get-with_at (things_at of old) k o q))
 
   -- the things are the same
   pub things_at-kept : (of : Place → Option Thing) → option_and_then of (f (place_at old k)) ≡ option_and_then of (place_at old k)
       → things_at of new ≡ things_at of old
   things_at-kept of same = same_things _ _ (λ q.
-      get-things_at of new q ∙ part-kept (option_and_then of) same q ∙ sym (get-things_at of old q))
+      thing_at of new q ∙ part-kept (option_and_then of) same q ∙ sym (thing_at of old q))
 
   module _ (touched : List ℕ) where
     -- the same addresses were touched
@@ -110,19 +111,22 @@ module _ (old new : List (ℕ × Place)) (k : ℕ) (f : Option Place → Option 
             (λ last. absurd (true≢false (sym (at_itself k) ∙ ap (λ a. is_at (nat_cmp a) k) (sym (only q last)) ∙ at)))
             (Contains-append_cases touched (k ∷ []) q (among q there))
 
--- with nothing touched, the things at the begin are the things now
-pub nothing_touched : (places : List (ℕ × Place)) → ((q : ℕ) → saved_at places q ≡ true → Contains [] q)
-    → things_at begun_at places ≡ things_at now_at places
-nothing_touched places among = same_things _ _ (λ q.
-    get-things_at begun_at places q ∙ same (place_at places q) (λ was. none q (among q was)) ∙ sym (get-things_at now_at places q))
+-- at a place that keeps nothing, the same stays either way
+pub unsaved : (s : Stays) (o : Option Place) → is_saved o ≡ false → option_and_then (staying s) o ≡ option_and_then now_at o
+unsaved s None isn't = refl
+unsaved stays.Now (Some place) isn't = refl
+unsaved stays.Begun (Some place) isn't = by place.begun isn't
   where
-    none : (q : ℕ) → Contains [] q → ⊥
-    none q has = omega (arith, has.1)
+    by : (o : Option (Option Thing)) → is_some o ≡ false → begun_at (record place { begun = o }) ≡ place.thing
+    by None isn't = refl
+    by (Some begun) isn't = cc
 
-    same : (o : Option Place) → (is_saved o ≡ true → ⊥) → option_and_then begun_at o ≡ option_and_then now_at o
-    same None isn't = refl
-    same (Some place) isn't = by place.begun isn't
-      where
-        by : (o : Option (Option Thing)) → (is_some o ≡ true → ⊥) → begun_at (record place { begun = o }) ≡ place.thing
-        by None isn't = refl
-        by (Some thing) isn't = absurd (isn't refl)
+-- with nothing touched, the same things stay either way
+pub nothing_touched : (s : Stays) (places : List (ℕ × Place)) → ((q : ℕ) → saved_at places q ≡ true → Contains [] q)
+    → things_at (staying s) places ≡ things_at now_at places
+nothing_touched s places among = same_things _ _ (λ q.
+    thing_at (staying s) places q ∙ unsaved s (place_at places q) (by q (saved_at places q) refl) ∙ sym (thing_at now_at places q))
+  where
+    by : (q : ℕ) (b : Bool) → saved_at places q ≡ b → b ≡ false
+    by q false is = refl
+    by q true is = absurd (omega (arith, (among q is).1))

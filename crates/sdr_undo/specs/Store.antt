@@ -12,7 +12,7 @@ use Rattle.std.specs.Map.{lookup}
 use Rattle.std.specs.Option.{option_and_then, option_map, option_to_list}
 use Rattle.std.specs.List.{flat_map}
 use Rattle.std.specs.Ordering.{nat_cmp}
-use Rattle.std.specs.Prelude.{◌≡◌, ◌↔◌, ℕ, Bool, true, List, [], ◌∷◌, Option, None, Some, Contains, is_some, unwrap_or, refl}
+use Rattle.std.specs.Prelude.{◌≡◌, ◌↔◌, ℕ, Bool, true, List, [], ◌∷◌, cond, Option, None, Some, Contains, is_some, unwrap_or, refl}
 
 -- the things at the begin of the open transaction, the things now, and the addresses that were touched since
 pub record Store : Type 0 where
@@ -41,13 +41,21 @@ abbrev pub staying : Stays → Place → Option Thing
 staying stays.Now = now_at
 staying stays.Begun = begun_at
 
+-- the place at an address
+abbrev pub place_at : List (ℕ × Place) → ℕ → Option Place
+place_at places addr = lookup (is_at (nat_cmp addr)) places
+
+-- the places differ at one address, where the place, or none, is changed by this
+abbrev pub ChangesAt : List (ℕ × Place) → List (ℕ × Place) → ℕ → (Option Place → Option Place) → Type 0
+ChangesAt old new addr change = (q : ℕ) → place_at new q ≡ cond (is_at (nat_cmp addr) q) (change (place_at old q)) (place_at old q)
+
 -- a place with another thing, or nothing
 abbrev pub with_thing : Option Thing → Place → Place
 with_thing thing place = record place { thing = thing }
 
 -- a place that keeps this as what was there at the begin
-abbrev pub saving : Option Thing → Option Place → Place
-saving begun place = record { begun = Some begun; thing = option_and_then now_at place }
+abbrev pub saving : Option Thing → Option Place → Option Place
+saving begun place = Some (record { begun = Some begun; thing = option_and_then now_at place })
 
 -- a place when the transaction is over
 abbrev pub settled : Stays → Place → Place
@@ -58,12 +66,8 @@ abbrev pub things_of : Stays → Store → Things
 things_of stays.Now s = s.now
 things_of stays.Begun s = s.begun
 
--- the place at an address
-abbrev pub place_at : List (ℕ × Place) → ℕ → Option Place
-place_at places addr = lookup (is_at (nat_cmp addr)) places
-
 -- the things that are at these places
-unfoldable pub things_at : (Place → Option Thing) → List (ℕ × Place) → Things
+abbrev pub things_at : (Place → Option Thing) → List (ℕ × Place) → Things
 things_at of [] = finite.empty
 things_at of ((addr, place) ∷ places) = with_at (things_at of places) addr (of place)
 

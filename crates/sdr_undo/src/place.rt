@@ -1,9 +1,7 @@
 // What is at an address, now and at the begin of a transaction.
-ghost use Rattle.std.specs.Prelude.{◌≡◌, ℕ, OnErr, OnOk, Some, cond};
-ghost use Rattle.std.specs.BTreeMap.{get, is_at};
+ghost use Rattle.std.specs.Prelude.{◌≡◌, OnErr, OnOk};
 ghost use Rattle.std.specs.Option.{option_and_then, option_copied, option_map};
-ghost use Rattle.std.specs.Ordering.{nat_cmp};
-ghost use Rattle.sdr_undo.specs.Store.{now_at, saved_at, saving, settled, with_thing};
+ghost use Rattle.sdr_undo.specs.Store.{ChangesAt, now_at, place_at, saved_at, saving, settled, with_thing};
 
 use sdr_base::{Addr, NoMemory};
 use sdr_model::Thing;
@@ -39,10 +37,7 @@ impl Place {
 pub(crate) fn is_saved(places: &BTreeMap<u64, Place>, addr: Addr) -> bool
     ensures { result ≡ saved_at places.now.entries addr }
 {
-    match places.get(&addr) {
-        Some(place) => place.begun.is_some(),
-        None => false,
-    }
+    places.get(&addr).is_some_and(|place| place.begun.is_some())
 }
 
 /// Keeps a copy of what is at an address as what was there at the begin. Want of memory leaves all as before.
@@ -51,10 +46,7 @@ pub(crate) fn save(
     addr: Addr,
     begun: Option<Thing>,
 ) -> Result<(), NoMemory>
-    ensures saved { OnOk result ((q : ℕ) → get nat_cmp places.new q
-        ≡ cond (is_at (nat_cmp addr) q)
-        (Some (saving begun (get nat_cmp places.old q)))
-        (get nat_cmp places.old q)) }
+    ensures saved { OnOk result (ChangesAt places.old.entries places.new.entries addr (saving begun)) }
     ensures same { OnErr result (places.new.entries ≡ places.old.entries) }
 {
     match places.get_mut(&addr) {
@@ -78,24 +70,16 @@ pub(crate) fn swap(
     addr: Addr,
     thing: Option<Thing>,
 ) -> Option<Thing>
-    ensures was { result ≡ option_and_then now_at (get nat_cmp places.old addr) }
-    ensures now { (q : ℕ) → get nat_cmp places.new q
-        ≡ cond (is_at (nat_cmp addr) q)
-        (option_map (with_thing thing) (get nat_cmp places.old q))
-        (get nat_cmp places.old q) }
+    ensures was { result ≡ option_and_then now_at (place_at places.old.entries addr) }
+    ensures now { ChangesAt places.old.entries places.new.entries addr (option_map (with_thing thing)) }
 {
-    match places.get_mut(&addr) {
-        Some(place) => mem::replace(&mut place.thing, thing),
-        None => None,
-    }
+    let place = places.get_mut(&addr)?;
+    mem::replace(&mut place.thing, thing)
 }
 
 /// Lets one of both stay at an address.
 pub(crate) fn settle(places: &mut BTreeMap<u64, Place>, addr: Addr, stays: Stays)
-    ensures { (q : ℕ) → get nat_cmp places.new q
-        ≡ cond (is_at (nat_cmp addr) q)
-        (option_map (settled stays) (get nat_cmp places.old q))
-        (get nat_cmp places.old q) }
+    ensures { ChangesAt places.old.entries places.new.entries addr (option_map (settled stays)) }
 {
     if let Some(place) = places.get_mut(&addr) {
         match (stays, place.begun.take()) {

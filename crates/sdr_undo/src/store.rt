@@ -62,13 +62,11 @@ impl Store {
     }
 
     /// The thing at an address.
+    #[tactic(auto, using(crate::proofs::StoreLemmas::thing_at))]
     pub fn get(&self, addr: Addr) -> Option<&Thing>
         ensures { option_copied result ≡ map.get self.now.now addr }
     {
-        match self.places.get(&addr) {
-            Some(place) => place.current(),
-            None => None,
-        }
+        self.places.get(&addr)?.current()
     }
 
     /// The places of the things, by rising address.
@@ -112,6 +110,7 @@ impl Store {
     }
 
     // Puts a thing, or nothing, at an address that was touched, and hands out what was there.
+    #[tactic(auto, using(crate::proofs::StoreLemmas::thing_at))]
     fn swap(&mut self, addr: Addr, thing: Option<Thing>) -> Option<Thing>
         requires touched { Contains self.old.touched addr }
         ensures was { result ≡ map.get self.old.now addr }

@@ -1,8 +1,8 @@
-use Rattle.std.proofs.Common.{◌≡◌, ◌∷◌, [], ◌++◌, ◌-◌, List, ℕ, Option, Some, None, false, append-nil, ap, sym, subst, ◌∙◌, refl}
+use Rattle.std.proofs.Common.{◌≡◌, ◌∷◌, [], ◌++◌, ◌-◌, Option, Some, None, false, append-nil, ap, sym, subst, ◌∙◌, refl}
 use Rattle.std.specs.List.{Contains}
 use Rattle.std.specs.Option.{option_and_then, option_map}
 use Rattle.std.specs.Prelude.{take}
-use Rattle.sdr_undo.specs.Store.{begun_at, is_saved, now_at, place_at, settled, staying, things_at}
+use Rattle.sdr_undo.specs.Store.{is_saved, place_at, settled, staying}
 use Rattle.sdr_undo.specs.declared.place.Place.{Place}
 use Rattle.sdr_undo.specs.declared.place.Stays.{Stays}
 use Rattle.sdr_undo.specs.declared.place.Stays.TheVariants as stays
@@ -18,11 +18,6 @@ same_staying stays.Begun (Some place) = refl
 none_saved : (s : Stays) (o : Option Place) → is_saved (option_map (settled s) o) ≡ false
 none_saved s None = refl
 none_saved s (Some place) = refl
-
-begun_staying : (s : Stays) (places : List (ℕ × Place)) → things_at begun_at places ≡ things_at now_at places
-    → things_at begun_at places ≡ things_at (staying s) places
-begun_staying stays.Now places same = same
-begun_staying stays.Begun places same = refl
 
 pub loop-addr-preserved : goal.loop-addr-preserved
 loop-addr-preserved c =
@@ -41,10 +36,10 @@ returns c =
     c.in_default.ensures.rest ∙ ap (λ n. take (n - 1) c.loop-addr.self-inside.touched.items) c.in_default.ensures.cases.0 in
     let none : c.loop-addr.self-inside.touched.items ≡ [] =
     c.in_default.ensures.items ∙ append-nil c.pop.new.self.items ∙ left in
-    let same = nothing_touched places (λ q was. subst (λ xs. Contains xs q) none (c.loop-addr.invariant.among q was)) in
-    let begun = begun_staying c.args.stays places same ∙ c.loop-addr.invariant.things in
+    let same = λ (s : Stays). nothing_touched s places (λ q was. subst (λ xs. Contains xs q) none (c.loop-addr.invariant.among q was)) in
+    let now = sym (same c.args.stays) ∙ c.loop-addr.invariant.things in
     λ i. record {
-      begun = begun i;
-      now = (sym same ∙ begun) i;
+      begun = (same stays.Begun ∙ now) i;
+      now = now i;
       touched = left i;
     }

@@ -1,12 +1,11 @@
-use Rattle.std.proofs.Common.{◌≡◌, true, Option, Some, None, ap, sym, ◌∙◌, refl, subst}
-use Rattle.std.specs.FinMap.{get}
+use Rattle.std.proofs.Common.{◌≡◌, true, Option, Some, None, ap, arith, sym, ◌∙◌, refl, subst}
 use Rattle.std.specs.List.{Contains}
 use Rattle.std.specs.Option.{option_and_then, option_map}
 use Rattle.sdr_model.specs.Things.{with_at}
 use Rattle.sdr_model.specs.declared.things.Thing.{Thing}
 use Rattle.sdr_undo.specs.Store.{begun_at, is_saved, now_at, place_at, with_thing}
 use Rattle.sdr_undo.specs.declared.place.Place.{Place}
-use Rattle.sdr_undo.proofs.StoreLemmas.{get-things_at, things_at-kept, things_at-put, touched-kept}
+use Rattle.sdr_undo.proofs.StoreLemmas.{things_at-kept, things_at-put, touched-kept}
 use Rattle.sdr_undo.proofs.store.Store.swap.Goals as goal
 
 module _ (thing : Option Thing) where
@@ -21,21 +20,12 @@ module _ (thing : Option Thing) where
   same_begun : (o : Option Place) → is_saved o ≡ true
       → option_and_then begun_at (option_map (with_thing thing) o) ≡ option_and_then begun_at o
   same_begun None saved = refl
-  same_begun (Some place) saved = by place.begun saved
-    where
-      by : (o : Option (Option Thing)) → is_saved (Some (record place { begun = o })) ≡ true
-          → begun_at (record { begun = o; thing = thing }) ≡ begun_at (record place { begun = o })
-      by None saved = cc
-      by (Some begun) saved = refl
+  same_begun (Some place) saved = grind arith
 
 pub invariant_of-self : goal.invariant_of-self
 invariant_of-self c =
     touched-kept _ _ c.args.addr (option_map (with_thing c.args.thing)) c.swap.ensures.now c.self.inside.touched.items
     (same_saved c.args.thing (place_at c.self.inside.places.entries c.args.addr)) c.self.invariant
-
-pub returns-clause-was : goal.returns-clause-was
-returns-clause-was c =
-    c.swap.ensures.was ∙ sym (get-things_at now_at c.self.inside.places.entries c.args.addr) ∙ ap (λ s. get s.now c.args.addr) c.self.view_is
 
 pub returns-clause-now : goal.returns-clause-now
 returns-clause-now c =
