@@ -113,13 +113,7 @@ module _ (old new : List (ℕ × Place)) (k : ℕ) (f : Option Place → Option 
 
 -- at a place that keeps nothing, the same stays either way
 pub unsaved : (s : Stays) (o : Option Place) → is_saved o ≡ false → option_and_then (staying s) o ≡ option_and_then now_at o
-unsaved s None isn't = refl
-unsaved stays.Now (Some place) isn't = refl
-unsaved stays.Begun (Some place) isn't = by place.begun isn't
-  where
-    by : (o : Option (Option Thing)) → is_some o ≡ false → begun_at (record place { begun = o }) ≡ place.thing
-    by None isn't = refl
-    by (Some begun) isn't = cc
+unsaved s o isn't = grind arith
 
 -- with nothing touched, the same things stay either way
 pub nothing_touched : (s : Stays) (places : List (ℕ × Place)) → ((q : ℕ) → saved_at places q ≡ true → Contains [] q)

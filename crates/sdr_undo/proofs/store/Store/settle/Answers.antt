@@ -1,4 +1,4 @@
-use Rattle.std.proofs.Common.{◌≡◌, ◌∷◌, [], ◌++◌, ◌-◌, Option, Some, None, false, append-nil, ap, sym, subst, ◌∙◌, refl}
+use Rattle.std.proofs.Common.{◌≡◌, ◌∷◌, [], ◌++◌, ◌-◌, Option, Some, None, false, append-nil, ap, arith, sym, subst, ◌∙◌, refl}
 use Rattle.std.specs.List.{Contains}
 use Rattle.std.specs.Option.{option_and_then, option_map}
 use Rattle.std.specs.Prelude.{take}
@@ -11,13 +11,10 @@ use Rattle.sdr_undo.proofs.store.Store.settle.Goals as goal
 
 -- what stays at a place is there
 same_staying : (s : Stays) (o : Option Place) → option_and_then (staying s) (option_map (settled s) o) ≡ option_and_then (staying s) o
-same_staying s None = refl
-same_staying stays.Now (Some place) = refl
-same_staying stays.Begun (Some place) = refl
+same_staying s o = grind arith
 
 none_saved : (s : Stays) (o : Option Place) → is_saved (option_map (settled s) o) ≡ false
-none_saved s None = refl
-none_saved s (Some place) = refl
+none_saved s o = grind arith
 
 pub loop-addr-preserved : goal.loop-addr-preserved
 loop-addr-preserved c =

@@ -8,19 +8,15 @@ use Rattle.sdr_undo.specs.declared.place.Place.{Place}
 use Rattle.sdr_undo.proofs.StoreLemmas.{things_at-kept, things_at-put, touched-kept}
 use Rattle.sdr_undo.proofs.store.Store.swap.Goals as goal
 
-module _ (thing : Option Thing) where
-  same_saved : (o : Option Place) → is_saved (option_map (with_thing thing) o) ≡ is_saved o
-  same_saved None = refl
-  same_saved (Some place) = refl
+module _ (thing : Option Thing) (o : Option Place) where
+  same_saved : is_saved (option_map (with_thing thing) o) ≡ is_saved o
+  same_saved = grind arith
 
-  thing_there : (o : Option Place) → is_saved o ≡ true → option_and_then now_at (option_map (with_thing thing) o) ≡ thing
-  thing_there None saved = cc
-  thing_there (Some place) saved = refl
+  thing_there : is_saved o ≡ true → option_and_then now_at (option_map (with_thing thing) o) ≡ thing
+  thing_there saved = grind arith
 
-  same_begun : (o : Option Place) → is_saved o ≡ true
-      → option_and_then begun_at (option_map (with_thing thing) o) ≡ option_and_then begun_at o
-  same_begun None saved = refl
-  same_begun (Some place) saved = grind arith
+  same_begun : is_saved o ≡ true → option_and_then begun_at (option_map (with_thing thing) o) ≡ option_and_then begun_at o
+  same_begun saved = grind arith
 
 pub invariant_of-self : goal.invariant_of-self
 invariant_of-self c =
