@@ -35,44 +35,25 @@ only q (zero, lt, is) = sym is
 only q (suc i, lt, is) = absurd (omega (arith, lt))
 
 -- places that differ at one address
-module _ (old new : List (ℕ × Place)) (k : ℕ) (f : Option Place → Option Place)
-    (changes : ChangesAt old new k f) where
-  -- what is made of the place there
-  part-here : {X : Type 0} (g : Option Place → X) → g (place_at new k) ≡ g (f (place_at old k))
-  part-here g = ap g (changes k) ∙ ap (λ b. g (cond b (f (place_at old k)) (place_at old k))) (at_itself k)
-
+module _ (old new : List (ℕ × Place)) (k : ℕ) (f : Option Place → Option Place) (changes : ChangesAt old new k f) where
   -- what is made of the place at each address
   part : {X : Type 0} (g : Option Place → X) (q : ℕ)
       → g (place_at new q) ≡ cond (is_at (nat_cmp q) k) (g (f (place_at old k))) (g (place_at old q))
-  part g q = by (is_at (nat_cmp q) k) refl
-    where
-      by : (b : Bool) → is_at (nat_cmp q) k ≡ b → g (place_at new q) ≡ cond b (g (f (place_at old k))) (g (place_at old q))
-      by true at = ap (λ a. g (place_at new a)) (same_address q k at) ∙ part-here g
-      by false at =
-          ap g (changes q)
-          ∙ ap (λ b. g (cond b (f (place_at old q)) (place_at old q))) ((eq_by_cmp_equiv nat_cmp_total).symm k q ∙ at)
+  part g q = grind (arith, same_address, changes q, changes k, at_itself k, (eq_by_cmp_equiv nat_cmp_total).symm k q)
 
   part-kept : {X : Type 0} (g : Option Place → X) → g (f (place_at old k)) ≡ g (place_at old k)
       → (q : ℕ) → g (place_at new q) ≡ g (place_at old q)
-  part-kept g same q = part g q ∙ by (is_at (nat_cmp q) k) refl
-    where
-      by : (b : Bool) → is_at (nat_cmp q) k ≡ b → cond b (g (f (place_at old k))) (g (place_at old q)) ≡ g (place_at old q)
-      by true at = same ∙ ap (λ a. g (place_at old a)) (sym (same_address q k at))
-      by false at = refl
+  part-kept g same q = grind (arith, same_address, part g q)
 
   -- the things have another there
   pub things_at-put : (of : Place → Option Thing) (o : Option Thing) → option_and_then of (f (place_at old k)) ≡ o
       → things_at of new ≡ with_at (things_at of old) k o
-  things_at-put of o is = same_things _ _ (λ q.
-      thing_at of new q ∙ part (option_and_then of) q
-      ∙ ap₂ (cond (is_at (nat_cmp q) k)) is (sym (thing_at of old q))
-      ∙ sym (get-with_at (things_at of old) k o q))
+  things_at-put of o is = same_things _ _ (λ q. grind (arith, part (option_and_then of) q, thing_at of new q, thing_at of old q, get-with_at (things_at of old) k o q))
 
   -- the things are the same
   pub things_at-kept : (of : Place → Option Thing) → option_and_then of (f (place_at old k)) ≡ option_and_then of (place_at old k)
       → things_at of new ≡ things_at of old
-  things_at-kept of same = same_things _ _ (λ q.
-      thing_at of new q ∙ part-kept (option_and_then of) same q ∙ sym (thing_at of old q))
+  things_at-kept of same = same_things _ _ (λ q. thing_at of new q ∙ part-kept (option_and_then of) same q ∙ sym (thing_at of old q))
 
   module _ (touched : List ℕ) where
     -- the same addresses were touched
@@ -84,32 +65,24 @@ module _ (old new : List (ℕ × Place)) (k : ℕ) (f : Option Place → Option 
     touched-push is are q = (
       λ was. by (is_at (nat_cmp q) k) refl (sym (part is_saved q) ∙ was),
       λ has. ⊎_elim
-          (λ left. part is_saved q ∙ both (is_at (nat_cmp q) k) ((are q).1 left))
-          (λ last. ap (λ a. is_saved (place_at new a)) (only q last) ∙ part-here is_saved ∙ is)
+          (λ left. let was = (are q).1 left in grind (arith, part is_saved q))
+          (λ last. grind (arith, only q last, part is_saved q, at_itself k))
           (Contains-append_cases touched (k ∷ []) q has),
     )
       where
-        both : (b : Bool) → is_saved (place_at old q) ≡ true → cond b (is_saved (f (place_at old k))) (is_saved (place_at old q)) ≡ true
-        both true was = is
-        both false was = was
-
         by : (b : Bool) → is_at (nat_cmp q) k ≡ b → cond b (is_saved (f (place_at old k))) (is_saved (place_at old q)) ≡ true
             → Contains (touched ++ k ∷ []) q
-        by true at was =
-            Contains-append_right touched (k ∷ []) q (0, omega arith, sym (same_address q k at))
+        by true at was = Contains-append_right touched (k ∷ []) q (0, omega arith, sym (same_address q k at))
         by false at was = Contains-append_left touched (k ∷ []) q ((are q).0 was)
 
     -- this one is touched no more
     pub touched-pop : is_saved (f (place_at old k)) ≡ false
         → ((q : ℕ) → saved_at old q ≡ true → Contains (touched ++ k ∷ []) q) → (q : ℕ) → saved_at new q ≡ true → Contains touched q
-    touched-pop isn't among q was = by (is_at (nat_cmp q) k) refl (sym (part is_saved q) ∙ was)
-      where
-        by : (b : Bool) → is_at (nat_cmp q) k ≡ b → cond b (is_saved (f (place_at old k))) (is_saved (place_at old q)) ≡ true → Contains touched q
-        by true at here = absurd (true≢false (sym here ∙ isn't))
-        by false at there = ⊎_elim
-            (λ left. left)
-            (λ last. absurd (true≢false (sym (at_itself k) ∙ ap (λ a. is_at (nat_cmp a) k) (sym (only q last)) ∙ at)))
-            (Contains-append_cases touched (k ∷ []) q (among q there))
+    touched-pop isn't among q was =
+        ⊎_elim
+        (λ left. left)
+        (λ last. absurd (grind (arith, only q last, part is_saved q, at_itself k)))
+        (Contains-append_cases touched (k ∷ []) q (among q (grind (arith, part is_saved q))))
 
 -- at a place that keeps nothing, the same stays either way
 pub unsaved : (s : Stays) (o : Option Place) → is_saved o ≡ false → option_and_then (staying s) o ≡ option_and_then now_at o
