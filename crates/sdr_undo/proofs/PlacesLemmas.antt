@@ -1,5 +1,5 @@
 -- The things at the places, one after another.
-use Rattle.std.proofs.Common.{◌≡◌, ℕ, Bool, true, false, List, [], ◌∷◌, ◌&&◌, T, map, Option, Some, None, Ordering, Less, Equal, Greater, is_lt, ap, subst, sym, ◌∙◌, refl}
+use Rattle.std.proofs.Common.{◌≡◌, ℕ, Bool, true, false, List, [], ◌∷◌, ◌&&◌, T, map, Option, Some, None, Ordering, Less, Equal, Greater, is_lt, arith, ap, subst, sym, ◌∙◌, refl}
 use Rattle.std.specs.Cmp.{nat_cmp_total}
 use Rattle.std.specs.FinMap.{empty, entries, entries-from_sorted, entries-insert, entries_sorted, from_entries, from_sorted, get-empty, get-from_sorted, is_sorted, put}
 use Rattle.std.specs.FinMap.Entries.{below_all, by_order}
@@ -23,22 +23,17 @@ both_of false b x y = absurd x
 -- an address below those of some places is below those of their things
 below_things : (k : ℕ) (ps : List (ℕ × Place)) → T (below_all nat_cmp k ps) → T (below_all nat_cmp k (things_in ps))
 below_things k [] below = tt
-below_things k ((a, place) ∷ ps) below = by (below_things k ps (right_of _ _ below)) place.thing
-  where
-    by : T (below_all nat_cmp k (things_in ps)) → (o : Option Thing)
-        → T (below_all nat_cmp k (things_in ((a, record place { thing = o }) ∷ ps)))
-    by rest None = rest
-    by rest (Some thing) = both_of (is_lt (nat_cmp k a)) _ (left_of _ _ below) rest
+below_things k ((a, place) ∷ ps) below =
+    let here : T (is_lt (nat_cmp k a)) = left_of _ _ below in
+    let rest : T (below_all nat_cmp k (things_in ps)) = below_things k ps (right_of (is_lt (nat_cmp k a)) (below_all nat_cmp k ps) below) in
+    grind arith
 
 -- what is put at an address below all others comes first
 put_first : (k : ℕ) (thing : Thing) (es : List (ℕ × Thing)) → T (below_all nat_cmp k es) → put nat_cmp k thing es ≡ (k, thing) ∷ es
 put_first k thing [] below = refl
-put_first k thing (e ∷ es) below = by (nat_cmp k e.0) refl (left_of _ _ below)
-  where
-    by : (o : Ordering) → nat_cmp k e.0 ≡ o → T (is_lt o) → put nat_cmp k thing (e ∷ es) ≡ (k, thing) ∷ e ∷ es
-    by Less is less = ap (λ o. by_order o ((k, thing) ∷ e ∷ es) ((e.0, thing) ∷ es) (e ∷ put nat_cmp k thing es)) is
-    by Equal is less = absurd less
-    by Greater is less = absurd less
+put_first k thing (e ∷ es) below =
+    let here : T (is_lt (nat_cmp k e.0)) = left_of _ _ below in
+    grind arith
 
 -- no things have no entries
 entries-empty : entries (empty {K = ℕ} {X = Thing} {R = nat_cmp}) ≡ []
@@ -49,18 +44,20 @@ entries-empty =
 -- the things at all places, in order
 pub entries-things_at : (places : List (ℕ × Place)) → T (is_sorted nat_cmp places) → things_in places ≡ entries (things_at now_at places)
 entries-things_at [] sorted = sym entries-empty
-entries-things_at ((a, place) ∷ ps) sorted = by (entries-things_at ps (right_of _ _ sorted)) place.thing
-  where
-    by : things_in ps ≡ entries (things_at now_at ps) → (o : Option Thing)
-        → things_in ((a, record place { thing = o }) ∷ ps) ≡ entries (with_at (things_at now_at ps) a o)
-    by others None =
-        others
-        ∙ ap entries (sym (with_at-again (things_at now_at ps) a None
-        (thing_at now_at ps a ∙ ap (option_and_then now_at) (sym (find-lookup a ps) ∙ missing a ps (left_of _ _ sorted)))))
-    by others (Some thing) =
-        sym (put_first a thing (things_in ps) (below_things a ps (left_of _ _ sorted)))
-        ∙ ap (put nat_cmp a thing) others
-        ∙ sym (entries-insert nat_cmp_total (things_at now_at ps) a thing)
+entries-things_at ((a, place) ∷ ps) sorted =
+    let below : T (below_all nat_cmp a ps) = left_of _ _ sorted in
+    let rise : T (is_sorted nat_cmp ps) = right_of (below_all nat_cmp a ps) (is_sorted nat_cmp ps) sorted in
+    let first = λ (thing : Thing). put_first a thing (things_in ps) (below_things a ps below) in
+    grind (
+      arith,
+      entries-things_at ps rise,
+      with_at-again (things_at now_at ps) a None,
+      thing_at now_at ps a,
+      find-lookup a ps,
+      missing a ps below,
+      first,
+      entries-insert nat_cmp_total (things_at now_at ps) a,
+    )
 
 -- the places of a map are in order
 pub sorted_places : (places : List (ℕ × Place)) → IsStrictlySortedBy nat_cmp (map (λ e. e.0) places) → T (is_sorted nat_cmp places)

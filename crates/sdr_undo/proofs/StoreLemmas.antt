@@ -15,19 +15,11 @@ use Rattle.std.specs.List.{Contains}
 use Rattle.std.specs.Option.{option_and_then}
 use Rattle.std.specs.Ordering.{nat_cmp}
 
--- what is made of one of two
-chosen : {X Y : Type 0} (g : X → Y) (b : Bool) (x y : X) → g (cond b x y) ≡ cond b (g x) (g y)
-chosen g true x y = refl
-chosen g false x y = refl
-
 -- the thing at an address is what the place there has
 pub thing_at : (of : Place → Option Thing) (places : List (ℕ × Place)) (q : ℕ)
     → get (things_at of places) q ≡ option_and_then of (place_at places q)
 thing_at of [] q = get-empty nat_cmp q
-thing_at of ((addr, place) ∷ places) q =
-    get-with_at (things_at of places) addr (of place) q
-    ∙ ap (cond (is_at (nat_cmp q) addr) (of place)) (thing_at of places q)
-    ∙ sym (chosen (option_and_then of) (is_at (nat_cmp q) addr) (Some place) (place_at places q))
+thing_at of ((addr, place) ∷ places) q = grind (arith, get-with_at (things_at of places) addr (of place) q, thing_at of places q)
 
 -- the one element of a list
 only : {k : ℕ} (q : ℕ) → Contains (k ∷ []) q → q ≡ k
@@ -92,8 +84,8 @@ unsaved s o isn't = grind arith
 pub nothing_touched : (s : Stays) (places : List (ℕ × Place)) → ((q : ℕ) → saved_at places q ≡ true → Contains [] q)
     → things_at (staying s) places ≡ things_at now_at places
 nothing_touched s places among = same_things _ _ (λ q.
-    thing_at (staying s) places q ∙ unsaved s (place_at places q) (by q (saved_at places q) refl) ∙ sym (thing_at now_at places q))
+    thing_at (staying s) places q ∙ unsaved s (place_at places q) (none (saved_at places q) (among q)) ∙ sym (thing_at now_at places q))
   where
-    by : (q : ℕ) (b : Bool) → saved_at places q ≡ b → b ≡ false
-    by q false is = refl
-    by q true is = absurd (omega (arith, (among q is).1))
+    none : {q : ℕ} (b : Bool) → (b ≡ true → Contains [] q) → b ≡ false
+    none false has = refl
+    none true has = absurd (omega (arith, (has refl).1))
