@@ -1,15 +1,13 @@
 -- The things at the places, one after another.
-use Rattle.std.proofs.Common.{◌≡◌, ℕ, Bool, true, false, List, [], ◌∷◌, ◌&&◌, T, map, Option, Some, None, Ordering, Less, Equal, Greater, is_lt, arith, ap, subst, sym, ◌∙◌, refl}
+use Rattle.std.proofs.Common.{◌≡◌, ℕ, Bool, true, false, List, [], ◌∷◌, ◌&&◌, T, map, None, is_lt, arith, ap, subst, sym, ◌∙◌, refl}
 use Rattle.std.specs.Cmp.{nat_cmp_total}
 use Rattle.std.specs.FinMap.{empty, entries, entries-from_sorted, entries-insert, entries_sorted, from_entries, from_sorted, get-empty, get-from_sorted, is_sorted, put}
-use Rattle.std.specs.FinMap.Entries.{below_all, by_order}
+use Rattle.std.specs.FinMap.Entries.{below_all}
 use Rattle.std.specs.List.Sorted.{IsStrictlySortedBy}
-use Rattle.std.specs.Option.{option_and_then}
 use Rattle.std.specs.Ordering.{nat_cmp}
 use Rattle.sdr_model.proofs.EntryLemmas.{entries-from_entries}
 use Rattle.sdr_model.proofs.MapLemmas.{find-lookup}
 use Rattle.sdr_model.proofs.ThingsLemmas.{same_things, with_at-again}
-use Rattle.sdr_model.specs.Things.{with_at}
 use Rattle.sdr_model.specs.declared.things.Thing.{Thing}
 use Rattle.sdr_undo.proofs.SpotLemmas.{left_of, missing, right_of}
 use Rattle.sdr_undo.proofs.StoreLemmas.{thing_at}

@@ -2,11 +2,10 @@
 use Rattle.sdr_model.proofs.ThingsLemmas.{at_itself, get-with_at, same_address, same_things}
 use Rattle.sdr_model.specs.Things.{with_at}
 use Rattle.sdr_model.specs.declared.things.Thing.{Thing}
-use Rattle.sdr_undo.specs.Store.{AreTouched, ChangesAt, begun_at, is_saved, now_at, place_at, saved_at, staying, things_at}
+use Rattle.sdr_undo.specs.Store.{AreTouched, ChangesAt, is_saved, now_at, place_at, saved_at, staying, things_at}
 use Rattle.sdr_undo.specs.declared.place.Place.{Place}
 use Rattle.sdr_undo.specs.declared.place.Stays.{Stays}
-use Rattle.sdr_undo.specs.declared.place.Stays.TheVariants as stays
-use Rattle.std.proofs.Common.{◌≡◌, ◌↔◌, ◌⊎◌, ℕ, zero, suc, arith, Bool, true, false, List, [], ◌∷◌, ◌++◌, cond, Option, Some, None, ap, ap₂, sym, ◌∙◌, refl, subst, ⊎_elim, true≢false, is_some}
+use Rattle.std.proofs.Common.{◌≡◌, ◌↔◌, ℕ, zero, suc, arith, Bool, true, false, List, [], ◌∷◌, ◌++◌, cond, Option, sym, ◌∙◌, refl, subst, ⊎_elim}
 use Rattle.std.proofs.lemmas.List.Elements.{Contains-append_cases, Contains-append_left, Contains-append_right}
 use Rattle.std.specs.BTreeMap.{is_at}
 use Rattle.std.specs.Cmp.{eq_by_cmp_equiv, nat_cmp_total}

@@ -1,4 +1,4 @@
-use Rattle.std.proofs.Common.{◌≡◌, true, Option, Some, None, ap, arith, sym, ◌∙◌, refl, subst}
+use Rattle.std.proofs.Common.{◌≡◌, true, Option, ap, arith, sym, ◌∙◌, subst}
 use Rattle.std.specs.List.{Contains}
 use Rattle.std.specs.Option.{option_and_then, option_map}
 use Rattle.sdr_model.specs.Things.{with_at}
