@@ -1,5 +1,5 @@
 -- What is inside a thing is found in its owner.
-use Rattle.std.proofs.Common.{◌≡◌, ◌==◌, ℕ, Bool, true, false, List, [], ◌∷◌, ◌&&◌, T, cond, map, get_or, Option, Some, None, ap, sym, ◌∙◌, refl, subst, Ordering, Less, Equal, Greater, is_lt, is_eq, unwrap_or, position, true≢false}
+use Rattle.std.proofs.Common.{◌≡◌, ◌==◌, arith, ℕ, Bool, true, false, List, [], ◌∷◌, ◌&&◌, T, cond, map, get_or, Option, Some, None, ap, sym, ◌∙◌, refl, subst, Ordering, Less, Equal, Greater, is_lt, is_eq, unwrap_or, position, true≢false}
 use Rattle.std.proofs.lemmas.Bool.{eqb-true}
 use Rattle.std.proofs.lemmas.List.Elements.{All-get_or, All-head, All-tail}
 use Rattle.std.proofs.lemmas.List.Quantifiers.{position-Some}
@@ -29,33 +29,23 @@ pub right_of : (a b : Bool) → T (a && b) → T b
 right_of true b h = h
 right_of false b h = absurd h
 
-apart : (r : Ordering) → T (is_lt r) → is_eq r ≡ false
-apart Less h = refl
-apart Equal h = absurd h
-apart Greater h = refl
-
 -- an address below the others isn't among them
 pub missing : {X : Type 0} (k : ℕ) (es : List (ℕ × X)) → T (below_all nat_cmp k es) → find nat_cmp k es ≡ None
 missing k [] below = refl
 missing k (e ∷ es) below =
-    ap (λ b. cond b (Some e.1) (find nat_cmp k es)) (apart (nat_cmp k e.0) (left_of _ _ below))
-    ∙ missing k es (right_of _ _ below)
+    let here : T (is_lt (nat_cmp k e.0)) = left_of _ _ below in
+    grind (arith, missing k es (right_of (is_lt (nat_cmp k e.0)) (below_all nat_cmp k es) below))
 
 -- the first of some things is at its address
 pub first_there : (e : ℕ × Thing) (es : List (ℕ × Thing)) → find nat_cmp e.0 (e ∷ es) ≡ Some e.1
-first_there e es = ap (λ b. cond b (Some e.1) (find nat_cmp e.0 es)) (at_itself e.0)
+first_there e es = grind (arith, at_itself e.0)
 
 -- and so are the others
 pub rest_there : (e : ℕ × Thing) (es : List (ℕ × Thing)) (k : ℕ) (thing : Thing) → T (is_sorted nat_cmp (e ∷ es))
     → find nat_cmp k es ≡ Some thing → find nat_cmp k (e ∷ es) ≡ Some thing
-rest_there e es k thing sorted is = by (is_at (nat_cmp k) e.0) refl
-  where
-    by : (b : Bool) → is_at (nat_cmp k) e.0 ≡ b → cond b (Some e.1) (find nat_cmp k es) ≡ Some thing
-    by false at = is
-    by true at =
-        let gone : find nat_cmp k es ≡ None =
-        ap (λ q. find nat_cmp q es) (same_address k e.0 at) ∙ missing e.0 es (left_of _ _ sorted) in
-        let none : None ≡ Some thing = sym gone ∙ is in cc
+rest_there e es k thing sorted is =
+    let below : T (below_all nat_cmp e.0 es) = left_of _ _ sorted in
+    grind (arith, missing e.0 es below, same_address k e.0)
 
 or_none : {X : Type 0} (o : Option X) → option_or o None ≡ o
 or_none None = refl
@@ -83,25 +73,12 @@ module _ {X : Type 0} (at : ℕ → Thing → Option X) where
   first_at-only owner [] sorted others = refl
   first_at-only owner (e ∷ es) sorted others =
       let later = λ (k : ℕ) (thing : Thing) (is : find nat_cmp k es ≡ Some thing). rest_there e es k thing sorted is in
-      by (first_at-only owner es (right_of _ _ sorted) (λ k thing is. others k thing (later k thing is)))
-      (is_at (nat_cmp owner) e.0) refl
-    where
-      by : first_at es ≡ option_and_then (at owner) (find nat_cmp owner es) → (b : Bool) → is_at (nat_cmp owner) e.0 ≡ b
-          → first_at (e ∷ es) ≡ option_and_then (at owner) (cond b (Some e.1) (find nat_cmp owner es))
-      by rest true here =
-          let same : owner ≡ e.0 = same_address owner e.0 here in
-          let gone : find nat_cmp owner es ≡ None =
-          ap (λ q. find nat_cmp q es) same ∙ missing e.0 es (left_of _ _ sorted) in
-          ap (option_or (at e.0 e.1))
-          (first_at-none es (right_of _ _ sorted) (λ k thing is.
-          others k thing (rest_there e es k thing sorted is)
-          (λ it. let none : None ≡ Some thing = sym gone ∙ ap (λ q. find nat_cmp q es) it ∙ is in cc)))
-          ∙ or_none (at e.0 e.1) ∙ ap (λ q. at q e.1) (sym same)
-      by rest false away =
-          ap (λ o. option_or o (first_at es))
-          (others e.0 e.1 (first_there e es)
-          (λ it. true≢false (sym (at_itself e.0) ∙ ap (λ q. is_at (nat_cmp q) e.0) (sym it) ∙ away)))
-          ∙ rest
+      let below : T (below_all nat_cmp e.0 es) = left_of _ _ sorted in
+      let rise : T (is_sorted nat_cmp es) = right_of (below_all nat_cmp e.0 es) (is_sorted nat_cmp es) sorted in
+      let alone = λ (here : owner ≡ e.0). first_at-none es rise (λ k thing is.
+      others k thing (later k thing is) (λ it. absurd (grind (arith, missing e.0 es below)))) in
+      let rest = first_at-only owner es rise (λ k thing is. others k thing (later k thing is)) in
+      grind (arith, rest, alone, others e.0 e.1 (first_there e es), missing e.0 es below, same_address owner e.0, at_itself e.0, or_none (at e.0 e.1))
 
   -- where only the noted owner can have it, it is looked for in that
   first_at-noted : (owner : Option ℕ) (m : Things)
