@@ -48,8 +48,7 @@ rest_there e es k thing sorted is =
     grind (arith, missing e.0 es below, same_address k e.0)
 
 or_none : {X : Type 0} (o : Option X) → option_or o None ≡ o
-or_none None = refl
-or_none (Some x) = refl
+or_none o = grind arith
 
 -- what is looked for in things, each at an address
 module _ {X : Type 0} (at : ℕ → Thing → Option X) where
@@ -63,8 +62,9 @@ module _ {X : Type 0} (at : ℕ → Thing → Option X) where
       → ((k : ℕ) (thing : Thing) → find nat_cmp k es ≡ Some thing → at k thing ≡ None) → first_at es ≡ None
   first_at-none [] sorted none = refl
   first_at-none (e ∷ es) sorted none =
-      ap (λ o. option_or o (first_at es)) (none e.0 e.1 (first_there e es))
-      ∙ first_at-none es (right_of _ _ sorted) (λ k thing is. none k thing (rest_there e es k thing sorted is))
+      let rest = first_at-none es (right_of (below_all nat_cmp e.0 es) (is_sorted nat_cmp es) sorted)
+      (λ k thing is. none k thing (rest_there e es k thing sorted is)) in
+      grind (arith, none e.0 e.1 (first_there e es))
 
   -- where only the thing at one address can have it, it is looked for there
   first_at-only : (owner : ℕ) (es : List (ℕ × Thing)) → T (is_sorted nat_cmp es)
@@ -126,14 +126,9 @@ module _ (owners : Owners) (next owner addr : ℕ) where
     block_among-not_noted : (blocks : List Block) → All (Owns owners next owner) blocks → block_among addr blocks ≡ None
     block_among-not_noted [] all = refl
     block_among-not_noted (b ∷ bs) all =
-        by (block_among-not_noted bs (All-tail (Owns owners next owner) b bs all)) (b.addr == addr) refl
-      where
-        by : block_among addr bs ≡ None → (t : Bool) → (b.addr == addr) ≡ t
-            → cond t (Some b) (block_among addr bs) ≡ None
-        by rest true is =
-            let here = All-head (Owns owners next owner) b bs all in
-            absurd (not_noted (ap (get owners) (sym (eqb-true b.addr addr is)) ∙ here.noted))
-        by rest false is = rest
+        let here = All-head (Owns owners next owner) b bs all in
+        let rest = block_among-not_noted bs (All-tail (Owns owners next owner) b bs all) in
+        grind (arith, eqb-true b.addr addr, here.noted)
 
     place_among-not_noted : (elements : List Element) → All (Owns owners next owner) (map element_block elements)
         → position (λ e. e.block == addr) elements ≡ None
@@ -155,7 +150,7 @@ inner_at addr = option_and_then (λ thing. block_among addr (inner_blocks thing)
 inner_among-first_at : (addr : ℕ) (es : List (ℕ × Thing))
     → inner_among addr es ≡ first_at (λ k thing. block_among addr (inner_blocks thing)) es
 inner_among-first_at addr [] = refl
-inner_among-first_at addr (e ∷ es) = ap (option_or (block_among addr (inner_blocks e.1))) (inner_among-first_at addr es)
+inner_among-first_at addr (e ∷ es) = grind (arith, inner_among-first_at addr es)
 
 -- the spot of an element in the thing at an address, if there is one
 abbrev pub spot_in : ℕ → ℕ → Option Thing → Option Spot
@@ -164,8 +159,7 @@ spot_in element owner = option_and_then (λ thing. spot_in_thing element owner (
 spot_among-first_at : (element : ℕ) (es : List (ℕ × Thing))
     → spot_among element es ≡ first_at (λ k thing. spot_in_thing element k (Some thing)) es
 spot_among-first_at element [] = refl
-spot_among-first_at element (e ∷ es) =
-    ap (option_or (spot_in_thing element e.0 (Some e.1))) (spot_among-first_at element es)
+spot_among-first_at element (e ∷ es) = grind (arith, spot_among-first_at element es)
 
 -- where the things own what is inside them
 module _ (owners : Owners) (next addr : ℕ) (m : Things) (own : OwnInside owners next m) where

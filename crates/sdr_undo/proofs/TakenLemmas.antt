@@ -68,8 +68,7 @@ takes-agree : (at to : ℕ → ℕ) (k end : ℕ) (needs : List ℕ) → k + len
     → takes_from at k needs ≡ takes_from to k needs
 takes-agree at to k end [] most agree = refl
 takes-agree at to k end (need ∷ needs) most agree =
-    ap₂ (λ addr (l : List Move). Took need addr ∷ l) (agree k (omega arith) (omega (arith, most)))
-    (takes-agree at to (suc k) end needs (omega (arith, most)) (λ i from. agree i (omega (arith, from))))
+    grind (arith, agree k, takes-agree at to (suc k) end needs (omega (arith, most)) (λ i from. agree i (omega (arith, from))))
 
 pub in_order-takes : (taken k now : ℕ) (needs : List ℕ) → now ≡ taken + k
     → AreInOrder now (takes_from (addr_after taken) k needs)
@@ -88,8 +87,7 @@ pub placed-agree : (at to : ℕ → ℕ) (k end : ℕ) (extents : List Extent) �
     → placed at k extents ≡ placed to k extents
 placed-agree at to k end [] most agree = refl
 placed-agree at to k end (e ∷ es) most agree =
-    ap₂ (λ block (l : List Extent). record e { block = block } ∷ l) (agree k (omega arith) (omega (arith, most)))
-    (placed-agree at to (suc k) end es (omega (arith, most)) (λ i from. agree i (omega (arith, from))))
+    grind (arith, agree k, placed-agree at to (suc k) end es (omega (arith, most)) (λ i from. agree i (omega (arith, from))))
 
 -- the moves of a clone
 pub clone-taken : (at : ℕ → ℕ) (extents : List Extent)
@@ -118,10 +116,7 @@ clone-blocks at extents =
 -- three addresses, and then others
 run-three : (at : ℕ → ℕ) (k m n : ℕ) → n ≡ suc (suc (suc m)) → at k ∷ at (k + 1) ∷ at (k + 2) ∷ run at (k + 3) m ≡ run at k n
 run-three at k m n is =
-    ap (λ a. at k ∷ at a ∷ at (k + 2) ∷ run at (k + 3) m) (let same : k + 1 ≡ suc k = omega arith in same)
-    ∙ ap (λ a. at k ∷ at (suc k) ∷ at a ∷ run at (k + 3) m) (let same : k + 2 ≡ suc (suc k) = omega arith in same)
-    ∙ ap (λ a. at k ∷ at (suc k) ∷ at (suc (suc k)) ∷ run at a m) (let same : k + 3 ≡ suc (suc (suc k)) = omega arith in same)
-    ∙ ap (run at k) (sym is)
+    grind arith
 
 -- the moves of a bond
 pub bond-taken : (at : ℕ → ℕ) (k : ℕ) (capsules : List Capsule)
@@ -135,12 +130,8 @@ pub bond-agree : (at to : ℕ → ℕ) (k end : ℕ) (capsules : List Capsule) �
     → bond_moves at k capsules ≡ bond_moves to k capsules
 bond-agree at to k end [] most agree = refl
 bond-agree at to k end (c ∷ cs) most agree =
-    let raw : at k ≡ to k = agree k (omega arith) (omega (arith, most)) in
-    let source : at (k + 1) ≡ to (k + 1) = agree (k + 1) (omega arith) (omega (arith, most)) in
-    let extent : at (k + 2) ≡ to (k + 2) = agree (k + 2) (omega arith) (omega (arith, most)) in
-    let rest : bond_moves at (k + 3) cs ≡ bond_moves to (k + 3) cs =
-    bond-agree at to (k + 3) end cs (omega (arith, most)) (λ i from. agree i (omega (arith, from))) in
-    cc
+    let rest = bond-agree at to (k + 3) end cs (omega (arith, most)) (λ i from. agree i (omega (arith, from))) in
+    grind (arith, agree k, agree (k + 1), agree (k + 2))
 
 pub bond-in_order : (taken k now : ℕ) (capsules : List Capsule) → now ≡ taken + k
     → AreInOrder now (bond_moves (addr_after taken) k capsules)
@@ -166,11 +157,8 @@ pub bonded-agree : (at to : ℕ → ℕ) (k end : ℕ) (capsules : List Capsule)
     → bonded_extents at k capsules ≡ bonded_extents to k capsules
 bonded-agree at to k end [] most agree = refl
 bonded-agree at to k end (c ∷ cs) most agree =
-    let source : at (k + 1) ≡ to (k + 1) = agree (k + 1) (omega arith) (omega (arith, most)) in
-    let extent : at (k + 2) ≡ to (k + 2) = agree (k + 2) (omega arith) (omega (arith, most)) in
-    let rest : bonded_extents at (k + 3) cs ≡ bonded_extents to (k + 3) cs =
-    bonded-agree at to (k + 3) end cs (omega (arith, most)) (λ i from. agree i (omega (arith, from))) in
-    cc
+    let rest = bonded-agree at to (k + 3) end cs (omega (arith, most)) (λ i from. agree i (omega (arith, from))) in
+    grind (arith, agree (k + 1), agree (k + 2))
 
 -- the addresses of the next blocks, by the rule for addresses
 pub run-next : (taken k now n : ℕ) → now ≡ taken + k → run (addr_after taken) k n ≡ next_addrs now n
