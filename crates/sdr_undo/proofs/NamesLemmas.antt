@@ -46,7 +46,7 @@ pub clones_same : {X : Type 0} (R : X → X → Type 0) → ((x y : X) → R x y
 clones_same R same [] [] z = refl
 clones_same R same [] (y ∷ ys) z = absurd z
 clones_same R same (x ∷ xs) [] z = absurd z
-clones_same R same (x ∷ xs) (y ∷ ys) z = ap₂ (λ a rest. a ∷ rest) (same x y z.0) (clones_same R same xs ys z.1)
+clones_same R same (x ∷ xs) (y ∷ ys) z = grind (arith, same x y z.0, clones_same R same xs ys z.1)
 
 -- a clone of the map has the same catalogue
 pub names_in-clone : (C : Vec ℕ Global → Vec ℕ Global → Type 0) (D : Named → Named → Type 0)
@@ -55,10 +55,7 @@ pub names_in-clone : (C : Vec ℕ Global → Vec ℕ Global → Type 0) (D : Nam
 names_in-clone C D key entry [] [] z = refl
 names_in-clone C D key entry [] (f ∷ fs) z = absurd z
 names_in-clone C D key entry (e ∷ es) [] z = absurd z
-names_in-clone C D key entry (e ∷ es) (f ∷ fs) z =
-    ap₂ (λ n names. n ∷ names)
-    (ap₂ (λ name x. record { block = x.block; name = name; kind = x.kind; object = x.object }) (key e.0 f.0 z.0.0) (entry e.1 f.1 z.0.1))
-    (names_in-clone C D key entry es fs z.1)
+names_in-clone C D key entry (e ∷ es) (f ∷ fs) z = grind (arith, key e.0 f.0 z.0.0, entry e.1 f.1 z.0.1, names_in-clone C D key entry es fs z.1)
 
 -- the block of the catalogue at an address is an entry's, where one has it
 pub block_among-names : (addr : ℕ) (names : List Name)
@@ -71,6 +68,4 @@ block_among-names addr (n ∷ names) = grind (arith, eqb-true n.block addr, bloc
 pub block_tested : (addr : ℕ) (es : List (Vec ℕ Global × Named)) (names : List Name) (b : Bool) → names_in es ≡ names
     → b ≡ list_any (λ e. e.block == addr) (map (λ e. e.1) es)
     → block_among addr (map name_block names) ≡ cond b (Some (record { addr = addr; kind = kinds.Name; bytes = name_need })) None
-block_tested addr es names b is tests =
-    ap (λ ns. block_among addr (map name_block ns)) (sym is) ∙ block_among-names addr (names_in es)
-    ∙ ap (λ t. cond t (Some (record { addr = addr; kind = kinds.Name; bytes = name_need })) None) (any_block addr es ∙ sym tests)
+block_tested addr es names b is tests = grind (arith, is, tests, block_among-names addr (names_in es), any_block addr es)

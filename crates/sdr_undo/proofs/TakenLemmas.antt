@@ -27,7 +27,7 @@ Agree k end at to = (i : ℕ) → k ≤ i → i < end → at i ≡ to i
 -- the i-th of them
 run-at : (at : ℕ → ℕ) (k n i j : ℕ) → i < n → j ≡ k + i → slice_index (run at k n) i ≡ at j
 run-at at k zero i j inside is = absurd (omega (arith, inside))
-run-at at k (suc n) zero j inside is = ap at (omega (arith, is))
+run-at at k (suc n) zero j inside is = grind arith
 run-at at k (suc n) (suc i) j inside is = run-at at (suc k) n i j (omega (arith, inside)) (omega (arith, is))
 
 -- the rule by which the taken addresses are read agrees with the one by which they were given
@@ -38,10 +38,8 @@ Agree-taken at moves n is = λ i from inside.
 
 -- the address after so many more blocks
 pub addr_after-next : (taken more : ℕ) → addr_after taken more ≡ next_addr (taken + more)
-addr_after-next taken zero = ap next_addr (let same : taken ≡ taken + 0 = omega arith in same)
-addr_after-next taken (suc more) =
-    addr_after-next (taken + 1) more
-    ∙ ap next_addr (let same : taken + 1 + more ≡ taken + suc more = omega arith in same)
+addr_after-next taken zero = grind arith
+addr_after-next taken (suc more) = grind (arith, addr_after-next (taken + 1) more)
 
 -- What a call does that takes so many blocks, where the moves, the world after it and the reply depend on these alone.
 pub does-with : (w after : World) (n : ℕ) (at : ℕ → ℕ) (moves : (ℕ → ℕ) → List Move) (next : (ℕ → ℕ) → World)
@@ -100,10 +98,9 @@ clone-taken at extents =
 pub clone-agree : (at to : ℕ → ℕ) (extents : List Extent) → Agree 0 (suc (length extents)) at to
     → clone_moves at extents ≡ clone_moves to extents
 clone-agree at to extents agree =
-    ap₂ (λ addr (l : List Move). Took object_need addr ∷ l) (agree 0 (omega arith) (omega arith))
-    (takes-agree at to 1 (suc (length extents)) (map (λ e. extent_need) extents)
-    (omega (arith, length-map extents (λ (e : Extent). extent_need)))
-    (λ i from. agree i (omega arith)))
+    let rest = takes-agree at to 1 (suc (length extents)) (map (λ e. extent_need) extents)
+    (omega (arith, length-map extents (λ (e : Extent). extent_need))) (λ i from. agree i (omega arith)) in
+    grind (arith, agree 0)
 
 pub clone-in_order : (taken : ℕ) (extents : List Extent) → AreInOrder taken (clone_moves (addr_after taken) extents)
 clone-in_order taken extents =
@@ -122,9 +119,7 @@ run-three at k m n is =
 pub bond-taken : (at : ℕ → ℕ) (k : ℕ) (capsules : List Capsule)
     → taken_addresses (bond_moves at k capsules) ≡ run at k (3 * length capsules)
 bond-taken at k [] = refl
-bond-taken at k (c ∷ cs) =
-    ap (λ (l : List ℕ). at k ∷ at (k + 1) ∷ at (k + 2) ∷ l) (bond-taken at (k + 3) cs)
-    ∙ run-three at k (3 * length cs) (3 * suc (length cs)) (omega arith)
+bond-taken at k (c ∷ cs) = grind (arith, bond-taken at (k + 3) cs, run-three at k (3 * length cs) (3 * suc (length cs)))
 
 pub bond-agree : (at to : ℕ → ℕ) (k end : ℕ) (capsules : List Capsule) → k + 3 * length capsules ≤ end → Agree k end at to
     → bond_moves at k capsules ≡ bond_moves to k capsules
@@ -164,15 +159,9 @@ bonded-agree at to k end (c ∷ cs) most agree =
 pub run-next : (taken k now n : ℕ) → now ≡ taken + k → run (addr_after taken) k n ≡ next_addrs now n
 run-next taken k now zero is = refl
 run-next taken k now (suc n) is =
-    ap₂ (λ addr (l : List ℕ). addr ∷ l) (addr_after-next taken k ∙ ap next_addr (sym is))
-    (run-next taken (suc k) (now + 1) n (omega (arith, is)))
+    grind (arith, addr_after-next taken k, run-next taken (suc k) (now + 1) n (omega (arith, is)))
 
 -- one more address
 pub next_addrs-more : (taken n : ℕ) → next_addrs taken (n + 1) ≡ next_addrs taken n ++ next_addr (taken + n) ∷ []
-next_addrs-more taken zero =
-    ap (λ addr. addr ∷ []) (ap next_addr (let same : taken ≡ taken + 0 = omega arith in same))
-next_addrs-more taken (suc n) =
-    ap (next_addrs taken) (let same : suc n + 1 ≡ suc (n + 1) = omega arith in same)
-    ∙ ap (λ (l : List ℕ). next_addr taken ∷ l)
-    (next_addrs-more (taken + 1) n
-    ∙ ap (λ t. next_addrs (taken + 1) n ++ next_addr t ∷ []) (let same : taken + 1 + n ≡ taken + suc n = omega arith in same))
+next_addrs-more taken zero = grind arith
+next_addrs-more taken (suc n) = grind (arith, next_addrs-more (taken + 1) n)
