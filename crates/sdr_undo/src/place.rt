@@ -82,9 +82,11 @@ pub(crate) fn settle(places: &mut BTreeMap<u64, Place>, addr: Addr, stays: Stays
     ensures { ChangesAt places.old.entries places.new.entries addr (option_map (settled stays)) }
 {
     if let Some(place) = places.get_mut(&addr) {
-        match (stays, place.begun.take()) {
-            (Stays::Begun, Some(begun)) => place.thing = begun,
-            _ => {}
+        match stays {
+            Stays::Now => place.begun = None,
+            Stays::Begun => if let Some(begun) = place.begun.take() {
+                place.thing = begun;
+            },
         }
     }
 }
