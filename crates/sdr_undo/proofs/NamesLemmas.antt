@@ -1,5 +1,5 @@
 -- The entries of an index map as the catalogue's list.
-use Rattle.std.proofs.Common.{◌≡◌, arith, ◌==◌, ◌||◌, ◌++◌, ℕ, List, [], ◌∷◌, Bool, true, false, cond, Option, Some, None, Vec, nat_eq, ap, ap₂, sym, ◌∙◌, refl, map}
+use Rattle.std.proofs.Common.{◌≡◌, arith, ◌==◌, ◌++◌, ℕ, List, [], ◌∷◌, Bool, cond, Some, None, Vec, nat_eq, ap, sym, ◌∙◌, refl, map}
 use Rattle.std.proofs.lemmas.Bool.{eqb-true}
 use Rattle.std.proofs.lemmas.List.{map-append}
 use Rattle.indexmap.specs.IndexMap.{IndexMap, insert_entry, shift_remove_entry}

@@ -3,13 +3,12 @@ use Rattle.std.proofs.Common.{◌≡◌, ◌≤◌, ◌<◌, ◌+◌, ◌*◌, �
 use Rattle.std.proofs.lemmas.List.{length-map}
 use Rattle.std.specs.Prelude.{slice_index}
 use Rattle.sdr_base.specs.declared.moves.Move.{Move}
-use Rattle.sdr_base.specs.declared.moves.Move.TheVariants.{Took}
 use Rattle.sdr_model.specs.BondSteps.{bond_moves, bonded_extents}
 use Rattle.sdr_model.specs.Cuts.{placed}
 use Rattle.sdr_model.specs.Dry.{AreInOrder, addr_after, blocks_taken, next_addr, next_addrs}
 use Rattle.sdr_model.specs.PartSteps.{clone_moves}
 use Rattle.sdr_model.specs.Steps.{DoesWith, taken_addresses, taken_at, takes_from}
-use Rattle.sdr_model.specs.Things.{extent_need, object_need}
+use Rattle.sdr_model.specs.Things.{extent_need}
 use Rattle.sdr_model.specs.World.{World}
 use Rattle.sdr_model.specs.declared.answer.Reply.{Reply}
 use Rattle.sdr_model.specs.declared.zco.Capsule.{Capsule}
