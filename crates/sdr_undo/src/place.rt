@@ -40,7 +40,7 @@ pub(crate) fn is_saved(places: &BTreeMap<u64, Place>, addr: Addr) -> bool
     places.get(&addr).is_some_and(|place| place.begun.is_some())
 }
 
-/// Keeps a copy of what is at an address as what was there at the begin. Want of memory leaves all as before.
+/// Keeps this as what was at an address at the begin. Want of memory leaves all as before.
 pub(crate) fn save(
     places: &mut BTreeMap<u64, Place>,
     addr: Addr,
