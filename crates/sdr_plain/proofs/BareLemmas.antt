@@ -1,10 +1,13 @@
 -- A world in memory as a ground.
-use Rattle.std.proofs.Common.{lit≤, ◌≡◌, ◌∙◌, ◌≤◌, ◌+◌, ◌*◌, ◌^◌, [], true≢false, ℕ, List, suc, true, false, Option, None, Some, Bool, unwrap_or, if◌then◌else◌, refl, sym, ap, subst, inl, arith}
+use Rattle.std.proofs.Common.{◌≡◌, ◌∙◌, ◌≤◌, ◌+◌, ◌*◌, ◌^◌, [], true≢false, ℕ, List, suc, true, false, Option, None, Some, Bool, unwrap_or, if◌then◌else◌, refl, sym, ap, subst, inl, arith}
 use Rattle.std.proofs.lemmas.Option.{none-some}
-use Rattle.std.specs.FinMap.{get-empty}
+use Rattle.std.proofs.lemmas.List.{nil_from_length}
+use Rattle.std.specs.FinMap.{entries, get-empty, len-empty, len-entries}
+use Rattle.std.specs.List.{sum_by}
 use Rattle.std.specs.Ordering.{nat_cmp}
 use Rattle.sdr_base.specs.declared.moves.Move.{Move}
 use Rattle.sdr_base.specs.declared.refusal.Refusal.TheVariants as refusals
+use Rattle.sdr_base.specs.declared.account.Acct.{Acct}
 use Rattle.sdr_base.specs.declared.account.Acct.TheVariants as accts
 use Rattle.sdr_draft.specs.Calling.{IsBound, MayCall}
 use Rattle.sdr_laws.proofs.BoundLaws.{bound_kept_dry}
@@ -15,6 +18,8 @@ use Rattle.sdr_laws.specs.Refused.{is_stop}
 use Rattle.sdr_model.proofs.BlocksTaken.{few_blocks}
 use Rattle.sdr_model.proofs.FewLemmas.{few_more}
 use Rattle.sdr_model.proofs.FewSteps.{few_row}
+use Rattle.sdr_model.specs.Accounts.{tickets_of}
+use Rattle.sdr_model.specs.Charges.{left_in, thing_charge}
 use Rattle.sdr_model.specs.Dry.{StepsDry, dry_moves}
 use Rattle.sdr_model.specs.Few.{most_pieces}
 use Rattle.sdr_model.specs.World.{World, at_rest, empty_world}
@@ -22,6 +27,7 @@ use Rattle.sdr_model.specs.declared.answer.Answer.TheVariants as answers
 use Rattle.sdr_model.specs.declared.answer.Reply.{Reply}
 use Rattle.sdr_model.specs.declared.answer.Reply.TheVariants as replies
 use Rattle.sdr_model.specs.declared.call.Call.{Call}
+use Rattle.sdr_model.specs.declared.things.Thing.{Thing}
 use Rattle.sdr_lock.specs.Crash.{LeavesBefore, LeavesEither}
 use Rattle.sdr_lock.specs.Gaps.{Gaps, HasGapCause, no_gaps}
 use Rattle.sdr_lock.specs.Ground.{bare, MayMissMedia, State, Steps, kept, put_back}
@@ -102,8 +108,16 @@ lasts_may w lasts = record {
 
 -- in a world without things nothing is occupied
 empty_bound : IsBound empty_world
-empty_bound accts.Inbound space = lit≤ tt
-empty_bound accts.Outbound space = lit≤ tt
+empty_bound acct space = omega (arith, none_charged, none_left acct)
+  where
+    none_charged : sum_by (λ (e : ℕ × Thing). thing_charge empty_world acct space e.1) (entries empty_world.things) ≡ 0
+    none_charged =
+        ap (sum_by (λ (e : ℕ × Thing). thing_charge empty_world acct space e.1))
+        (nil_from_length (entries empty_world.things) (sym (len-entries empty_world.things) ∙ len-empty nat_cmp Thing))
+
+    none_left : (acct : Acct) → left_in space (tickets_of empty_world.accounts acct) ≡ 0
+    none_left accts.Inbound = refl
+    none_left accts.Outbound = refl
 
 -- empty worlds last for 2^22 calls
 pub lasts_empty : (n : ℕ) → 0 + n ≤ most_pieces → LastsBare (record { begun = empty_world; now = empty_world }) n

@@ -242,7 +242,7 @@ settled_holders r id first = by (daemon_of r id) refl
 pub settled_kept : (events : ℕ) (r r' : Roll) (w w' : Worlds) (id : ℕ) → r' ≡ roll_settled r id → KeepsGround bare_ground true w w' → IsKept events r w
     → IsKept (events + 1) r' w'
 settled_kept events r r' w w' id roll ground kept =
-    let others : IsSame (roll_settled r id) = mapped (daemon_of r id) _ (λ d. mapped d.holds _ (λ h. (refl, refl))) in
+    let others : ((roll_settled r id).drawn ≡ r.drawn) × ((roll_settled r id).failed ≡ r.failed) = mapped (daemon_of r id) _ (λ d. mapped d.holds _ (λ h. (refl, refl))) in
     subst (λ (x : Roll). IsKept (events + 1) x w') (sym roll) (record {
       drawn = omega (arith, others.0, kept.drawn);
       sound = others.1 ∙ kept.sound;
@@ -250,10 +250,8 @@ settled_kept events r r' w w' id roll ground kept =
       lasts = λ n within. ground.lasts n (kept.lasts (suc n) (omega (arith, within)));
     })
   where
-    abbrev IsSame : Roll → Type 0
-    IsSame x = (x.drawn ≡ r.drawn) × (x.failed ≡ r.failed)
-
-    mapped : {X : Type 0} (o : Option X) (f : X → Roll) → ((x : X) → IsSame (f x)) → IsSame (option_map_or f o r)
+    mapped : {X : Type 0} (o : Option X) (f : X → Roll) → ((x : X) → ((f x).drawn ≡ r.drawn) × ((f x).failed ≡ r.failed))
+        → (let x = option_map_or f o r in (x.drawn ≡ r.drawn) × (x.failed ≡ r.failed))
     mapped None f all = (refl, refl)
     mapped (Some x) f all = all x
 
