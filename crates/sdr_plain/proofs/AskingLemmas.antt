@@ -1,5 +1,5 @@
 -- Calls that read media, as steps of the machine.
-use Rattle.std.proofs.Common.{◌≡◌, ◌⊎◌, ◌≤◌, ◌==◌, ◌&&◌, ℕ, List, [], Bool, true, false, not, if◌then◌else◌, unwrap_or, Result, Ok, Err, IfOk, IfSome, Option, None, Some, inl, inr, length, refl, sym, ap, ◌∙◌, subst, arith, MatchBool, MatchOption, true≢false}
+use Rattle.std.proofs.Common.{◌≡◌, ◌⊎◌, ◌≤◌, ◌==◌, ◌&&◌, ℕ, List, [], Bool, true, false, not, if◌then◌else◌, unwrap_or, Option, None, Some, inl, inr, length, refl, sym, ap, ◌∙◌, subst, arith, MatchBool, MatchOption, true≢false}
 use Rattle.std.proofs.lemmas.Bool.{and_parts, ltb-false, not-true}
 use Rattle.std.specs.List.{list_any}
 use Rattle.std.specs.Option.{option_map_or}

@@ -1,5 +1,5 @@
 -- A world in memory as a ground.
-use Rattle.std.proofs.Common.{◌≡◌, ◌∙◌, ◌≤◌, ◌+◌, ◌*◌, ◌^◌, [], true≢false, ℕ, List, suc, true, false, Option, None, Some, Bool, unwrap_or, if◌then◌else◌, refl, sym, ap, subst, inl, arith}
+use Rattle.std.proofs.Common.{◌≡◌, ◌∙◌, ◌≤◌, ◌+◌, ◌*◌, ◌^◌, [], true≢false, ℕ, List, suc, true, false, Option, None, Bool, unwrap_or, if◌then◌else◌, refl, sym, ap, subst, inl, arith}
 use Rattle.std.proofs.lemmas.Option.{none-some}
 use Rattle.std.proofs.lemmas.List.{nil_from_length}
 use Rattle.std.specs.FinMap.{entries, get-empty, len-empty, len-entries}

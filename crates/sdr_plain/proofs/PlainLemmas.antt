@@ -1,5 +1,5 @@
 -- Events of a machine that stands on worlds with no heap.
-use Rattle.std.proofs.Common.{◌<◌, true, false, true≢false, ◌==◌, ◌++◌, Some, IsSome, is_some, filter, map, not, ◌-◌, ◌∷◌, [], drop, length, slice_index_or, take, ◌≡◌, ◌∙◌, ◌≤◌, ◌+◌, ℕ, List, Option, Bool, suc, None, refl, sym, ap, subst, arith}
+use Rattle.std.proofs.Common.{true, false, true≢false, ◌==◌, ◌++◌, Some, IsSome, is_some, filter, map, not, ◌-◌, ◌∷◌, [], drop, length, slice_index_or, take, ◌≡◌, ◌∙◌, ◌≤◌, ◌+◌, ℕ, List, Option, Bool, suc, None, refl, sym, ap, subst, arith}
 use Rattle.std.proofs.lemmas.List.{length-map, take_all}
 use Rattle.std.proofs.lemmas.List.Filters.{length-filter_both}
 use Rattle.std.specs.Option.{option_map_or}
