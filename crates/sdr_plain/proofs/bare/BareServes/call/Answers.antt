@@ -1,5 +1,5 @@
 use Rattle.std.proofs.Common.{◌∙◌}
-use Rattle.sdr_plain.proofs.BareLemmas.{brings_call, keeps_called, keeps_unmade, uncaused_dry}
+use Rattle.sdr_plain.proofs.BareLemmas.{brings_call, keeps_called, uncaused_dry}
 use Rattle.sdr_plain.proofs.bare.BareServes.call.Goals as goal
 
 pub returns-clause-answered : goal.returns-clause-answered
@@ -10,10 +10,6 @@ returns-clause-keeps c = keeps_called _ c.in-Ok.reply _ _ _ c.self.view_is c.in-
 
 pub returns-in_default-clause-memory : goal.returns-in_default-clause-memory
 returns-in_default-clause-memory c = λ _. (λ i. record { begun = c.in_default.ensures.begun i; now = c.in_default.ensures.same i }) ∙ c.self.view_is
-
-pub returns-in_default-clause-keeps : goal.returns-in_default-clause-keeps
-returns-in_default-clause-keeps c =
-    keeps_unmade _ _ ((λ i. record { begun = c.in_default.ensures.begun i; now = c.in_default.ensures.same i }) ∙ c.self.view_is)
 
 pub returns-clause-gap : goal.returns-clause-gap
 returns-clause-gap c = uncaused_dry _ _ _ _ c.in-Ok.reply _ _ c.in-Ok.ensures.step
