@@ -97,27 +97,26 @@ pub whole_from : (w w' : World) → w'.things ≡ w.things → w'.names ≡ w.na
 whole_from w w' things names accounts whole =
     whole_same w w' things accounts (valid_from w w' things names accounts whole.valid) whole
 
-module _ (w w' : World) (call : Call) (moves : List Move) (reply : Reply) (dry : IsValidDry w)
-    (steps : StepsDry w call moves w' reply) where
-  few : IsUpTo (8 * w.taken) (addresses_of (blocks_of w))
-  few = up_to (8 * w.taken) (addresses_of (blocks_of w)) dry.given
+-- A valid world of a machine without a heap stays one.
+pub valid_kept_dry : (w w' : World) (call : Call) (moves : List Move) (reply : Reply) → IsValidDry w
+    → StepsDry w call moves w' reply → IsValidDry w'
+valid_kept_dry w w' call moves reply dry steps = record {
+  whole = whole_from o.after w' refl refl refl
+      (whole_kept w o.after call moves reply dry.whole fresh (inl steps.step));
+  given = all_up_to (8 * w'.taken) (addresses_of (blocks_of w')) (λ k above.
+      omega (
+        arith,
+        counted_after w o.after moves (row_goes w call o dry.whole.valid fresh steps.step) k,
+        few k (omega (arith, above, steps.counted)),
+        taken_up_to w.taken moves steps.in_order k (omega (arith, above, steps.counted)),
+      ));
+}
+  where
+    o : Outcome
+    o = record { moves = moves; after = record w' { taken = w.taken }; reply = reply }
 
-  -- the blocks that a call takes are fresh
-  pub fresh_dry : AreFresh (addresses_of (blocks_of w)) moves
-  fresh_dry = fresh_in_order w.taken (addresses_of (blocks_of w)) moves few steps.in_order
+    few : IsUpTo (8 * w.taken) (addresses_of (blocks_of w))
+    few = up_to (8 * w.taken) (addresses_of (blocks_of w)) dry.given
 
-  -- A valid world of a machine without a heap stays one.
-  pub valid_kept_dry : IsValidDry w'
-  valid_kept_dry =
-      let o : Outcome = record { moves = moves; after = record w' { taken = w.taken }; reply = reply } in
-      record {
-        whole = whole_from o.after w' refl refl refl
-            (whole_kept w o.after call moves reply dry.whole fresh_dry (inl steps.step));
-        given = all_up_to (8 * w'.taken) (addresses_of (blocks_of w')) (λ k above.
-            omega (
-              arith,
-              counted_after w o.after moves (row_goes w call o dry.whole.valid fresh_dry steps.step) k,
-              few k (omega (arith, above, steps.counted)),
-              taken_up_to w.taken moves steps.in_order k (omega (arith, above, steps.counted)),
-            ));
-      }
+    fresh : AreFresh (addresses_of (blocks_of w)) moves
+    fresh = fresh_in_order w.taken (addresses_of (blocks_of w)) moves few steps.in_order

@@ -21,7 +21,7 @@ use Rattle.sdr_model.specs.declared.accounts.Pending.{Pending}
 use Rattle.sdr_model.specs.Amounts.{amount, amounts_by, are_within, minus}
 use Rattle.sdr_model.specs.Blocks.{addresses_of, blocks_of}
 use Rattle.sdr_model.specs.Charges.{left_in, occupancies, occupancy, rooms}
-use Rattle.sdr_model.specs.Charging.{grant_left, with_used}
+use Rattle.sdr_model.specs.Charging.{with_used}
 use Rattle.sdr_model.specs.Queue.{enqueued, front_waiting, with_served}
 use Rattle.sdr_model.specs.Step.{Step}
 use Rattle.sdr_model.specs.Steps.{Outcome}
@@ -112,34 +112,28 @@ left_set space (s ∷ ts) zero t u is =
 left_set space (s ∷ ts) (suc i) t u is =
     omega (arith, left_set space ts i t u is, left_in-cons space s ts, left_in-cons space s (set ts i u))
 
--- of what is left of a queue a ticket covers of a charge what it can
-pub record Covers (w used : World) (acct : Acct) (ticket : Option Pending) (adds : Space → ℕ) : Type 0 where
+-- a charge covers of what is left of a queue no more than what it charges
+pub record Covers (w used : World) (acct : Acct) (adds : Space → ℕ) : Type 0 where
   pub front : front_waiting (tickets_of used.accounts acct) ≡ front_waiting (tickets_of w.accounts acct)
   pub maxima : (account_of used.accounts acct).maxima ≡ (account_of w.accounts acct).maxima
-  pub left : (space : Space)
-      → left_in space (tickets_of used.accounts acct) + (adds space - (adds space - amount (grant_left ticket) space))
-      ≡ left_in space (tickets_of w.accounts acct)
+  pub left : (space : Space) → left_in space (tickets_of w.accounts acct)
+      ≤ left_in space (tickets_of used.accounts acct) + adds space
   pub other : (b : Acct) → is_same_account b acct ≡ false → account_of used.accounts b ≡ account_of w.accounts b
 
-pub covers : (w used : World) (acct : Acct) (number : ℕ) (adds : Space → ℕ) (c : IsCharged w acct number adds used)
-    → Covers w used acct c.pending adds
-covers w used acct number adds c = subst (λ v. Covers w v acct c.pending adds) (sym c.used_is) (by c.pending c.there)
+pub covers : (w used : World) (acct : Acct) (number : ℕ) (adds : Space → ℕ) → IsCharged w acct number adds used
+    → Covers w used acct adds
+covers w used acct number adds c = subst (λ v. Covers w v acct adds) (sym c.used_is) (by c.pending c.there)
   where
     by : (p : Option Pending)
         → IfSome p (λ p. (pending_in w.accounts acct number ≡ Some p) × (p.ticket.granted ≡ true))
-        → Covers w (with_used w p (amounts_by adds)) acct p adds
-    by None h = record {
-      front = refl;
-      maxima = refl;
-      left = λ space. omega (arith, amount_by (λ space. 0) space);
-      other = λ b apart. refl;
-    }
+        → Covers w (with_used w p (amounts_by adds)) acct adds
+    by None h = record { front = refl; maxima = refl; left = λ space. omega arith; other = λ b apart. refl }
     by (Some p) h =
         let at = stands_there w.accounts acct number p h.0 in
         let u : Ticket = record p.ticket { left = minus p.ticket.left (amounts_by adds) } in
         let ts = tickets_of w.accounts acct in
         let us = set ts p.place u in
-        subst (λ a. Covers w (record w { accounts = a }) acct (Some p) adds)
+        subst (λ a. Covers w (record w { accounts = a }) acct adds)
         (ap (λ a. with_tickets w.accounts a (set (tickets_of w.accounts a) p.place u)) (sym at.acct_is))
         (record {
           front = ap front_waiting (tickets_now w.accounts acct us)

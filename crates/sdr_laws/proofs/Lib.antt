@@ -12,7 +12,6 @@ pub mod BondLemmas
 pub mod BondRoom
 pub mod BondShapes
 pub mod BondTracks
-pub mod BoundLaws
 pub mod Changes
 pub mod ChargeLaws
 pub mod ChargeLemmas

@@ -107,7 +107,7 @@ run_sound told c c' (e ∷ made) sound (mid, step, rest) =
     (subst (λ (c : Core). IsSound c.machine) (sym step.history) (kind_sound c.machine step.next e sound (step_is c.machine e step.next step.step).kind)) rest
 
 -- the machine begins with the empty world
-pub empty_dry : IsValidDry empty_world
+empty_dry : IsValidDry empty_world
 empty_dry = record {
   whole = record {
     valid = empty_is_valid;

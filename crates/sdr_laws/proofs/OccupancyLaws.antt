@@ -11,7 +11,7 @@ use Rattle.sdr_laws.proofs.BarredLemmas.{amount_by, left_in-cons, tickets_now}
 use Rattle.sdr_laws.proofs.ChargeLaws.{Moves, row_moves_charge}
 use Rattle.sdr_laws.proofs.CloneLaws.{stop_unanswered}
 use Rattle.sdr_laws.proofs.DistinctLemmas.{on_test}
-use Rattle.sdr_laws.proofs.FrontLaws.{account_other, covers, queued_other, same_acct}
+use Rattle.sdr_laws.proofs.FrontLaws.{account_other, covers, left_set, queued_other, same_acct}
 use Rattle.sdr_laws.proofs.GrantLemmas.{IsAsBefore, all_as_before, never_granted, none_granted, served_grants}
 use Rattle.sdr_laws.proofs.QueueLaws.{queued_keeps}
 use Rattle.sdr_laws.proofs.QueueLemmas.{all_gone, all_replaced, times, times_next}
@@ -129,7 +129,7 @@ module _ (w : World) (q : AreQueues w.accounts) where
       (sym (ap (λ a. tickets_of a acct) is ∙ tickets_now w.accounts acct (remove (tickets_of w.accounts acct) place)))
       (all_gone (IsAsBefore (tickets_of w.accounts acct)) (tickets_of w.accounts acct) place (as_before acct))
 
-  pub queued_left : (acct : Acct) (a : Accounts) {lost : Space → ℕ} (space : Space) → Queued w acct a lost
+  queued_left : (acct : Acct) (a : Accounts) {lost : Space → ℕ} (space : Space) → Queued w acct a lost
       → left_in space (tickets_of a acct) + lost space ≡ left_in space (tickets_of w.accounts acct)
   queued_left acct a space (Queued.same l is) =
       omega (arith, ap (λ a. left_in space (tickets_of a acct)) is, ap (λ f. f space) l)
@@ -180,39 +180,51 @@ module _ (w : World) (q : AreQueues w.accounts) where
             );
       }
 
-  -- a ticket covers of a charge what it can, and none is granted
+  -- a ticket covers of a charge what it can
   queue_charged : (after used : World) (acct : Acct) (number : ℕ) (adds : Space → ℕ) (space : Space)
       → IsCharged w acct number adds used → after.accounts ≡ used.accounts
       → MovesQueue w after acct number (adds space) 0 space
-  queue_charged after used acct number adds space c is = record {
-    moved =
-        omega (
-          arith,
-          ap (λ a. left_in space (tickets_of a acct)) is,
-          (covers w used acct number adds c).left space,
-          ap (λ p. amount (grant_left p) space) c.under,
-          ap (λ a. grants ts (tickets_of a acct) space) (is ∙ ap (λ (v : World). v.accounts) c.used_is),
-          none_granted ts space _ (by c.pending c.there),
-        );
-  }
+  queue_charged after used acct number adds space c is =
+      by c.pending c.under c.there (is ∙ ap (λ (v : World). v.accounts) c.used_is)
     where
-      ts : List Ticket
-      ts = tickets_of w.accounts acct
-
-      by : (p : Option Pending)
+      by : (p : Option Pending) → p ≡ ticket_under w.accounts acct number
           → IfSome p (λ p. (pending_in w.accounts acct number ≡ Some p) × (p.ticket.granted ≡ true))
-          → AllByRecursion (IsAsBefore ts) (tickets_of (with_used w p (amounts_by adds)).accounts acct)
-      by None there = as_before acct
-      by (Some p) there =
+          → after.accounts ≡ (with_used w p (amounts_by adds)).accounts
+          → MovesQueue w after acct number (adds space) 0 space
+      by None under there same = record {
+        moved =
+            omega (
+              arith,
+              (queue_stays after acct number space (ap (λ a. tickets_of a acct) same)).moved,
+              ap (λ p. amount (grant_left p) space) under,
+              amount_by (λ space. 0) space,
+            );
+      }
+      by (Some p) under there same =
           let at = stands_there w.accounts acct number p there.0 in
           let u : Ticket = record p.ticket { left = minus p.ticket.left (amounts_by adds) } in
-          subst (AllByRecursion (IsAsBefore ts))
-          (sym (ap (λ b. tickets_of (with_tickets w.accounts b (set (tickets_of w.accounts b) p.place u)) acct) at.acct_is
-          ∙ tickets_now w.accounts acct (set ts p.place u)))
-          (all_replaced (IsAsBefore ts) ts p.place u (λ t is old.
-          subst (λ (t : Ticket). IsAsBefore ts (record t { left = minus t.left (amounts_by adds) }))
-          (ap (λ o. unwrap_or o t) (sym is ∙ at.ticket_is))
-          (record { known = old.known; waits = old.waits })) (as_before acct))
+          let ts = tickets_of w.accounts acct in
+          let now : tickets_of after.accounts acct ≡ set ts p.place u =
+          ap (λ a. tickets_of a acct) same
+          ∙ ap (λ b. tickets_of (with_tickets w.accounts b (set (tickets_of w.accounts b) p.place u)) acct) at.acct_is
+          ∙ tickets_now w.accounts acct (set ts p.place u) in
+          record {
+            moved =
+                omega (
+                  arith,
+                  ap (left_in space) now,
+                  left_set space ts p.place p.ticket u at.ticket_is,
+                  amount_by (λ space. amount p.ticket.left space - amount (amounts_by adds) space) space,
+                  amount_by adds space,
+                  ap (λ p. amount (grant_left p) space) under,
+                  ap (λ us. grants ts us space) now,
+                  none_granted ts space (set ts p.place u)
+                      (all_replaced (IsAsBefore ts) ts p.place u (λ t is old.
+                      subst (λ (t : Ticket). IsAsBefore ts (record t { left = minus t.left (amounts_by adds) }))
+                      (ap (λ o. unwrap_or o t) (sym is ∙ at.ticket_is))
+                      (record { known = old.known; waits = old.waits })) (as_before acct)),
+                );
+          }
 
   own_queue : (after : World) (acct : Acct) (number : ℕ) (adds frees lost : Space → ℕ) (space : Space)
       → AccountChange w after acct number adds frees lost
@@ -228,7 +240,7 @@ module _ (w : World) (q : AreQueues w.accounts) where
       subst (λ f. MovesQueue w after acct number (f space) (lost space) space) (sym a)
       (queue_served after v acct number space queued is)
 
-  pub other_queue : (after : World) (acct b : Acct) (number : ℕ) {adds frees lost : Space → ℕ}
+  other_queue : (after : World) (acct b : Acct) (number : ℕ) {adds frees lost : Space → ℕ}
       → AccountChange w after acct number adds frees lost → is_same_account b acct ≡ false
       → account_of after.accounts b ≡ account_of w.accounts b
   other_queue after acct b number (AccountChange.stays a f l is) apart = ap (λ a. account_of a b) is

@@ -10,9 +10,8 @@ use Rattle.sdr_base.specs.declared.refusal.Refusal.TheVariants as refusals
 use Rattle.sdr_base.specs.declared.account.Acct.{Acct}
 use Rattle.sdr_base.specs.declared.account.Acct.TheVariants as accts
 use Rattle.sdr_draft.specs.Calling.{IsBound, MayCall}
-use Rattle.sdr_laws.proofs.BoundLaws.{bound_kept_dry}
 use Rattle.sdr_laws.proofs.DryLaws.{valid_kept_dry, whole_from}
-use Rattle.sdr_laws.proofs.MachineLaws.{empty_dry}
+use Rattle.sdr_laws.proofs.MachineLaws.{dry_worlds_are_valid}
 use Rattle.sdr_laws.proofs.StepLemmas.{row_is_no_stop}
 use Rattle.sdr_laws.specs.Refused.{is_stop}
 use Rattle.sdr_model.proofs.BlocksTaken.{few_blocks}
@@ -28,6 +27,7 @@ use Rattle.sdr_model.specs.declared.answer.Reply.{Reply}
 use Rattle.sdr_model.specs.declared.answer.Reply.TheVariants as replies
 use Rattle.sdr_model.specs.declared.call.Call.{Call}
 use Rattle.sdr_model.specs.declared.things.Thing.{Thing}
+use Rattle.sdr_lock.specs.Core.{first_core}
 use Rattle.sdr_lock.specs.Crash.{LeavesBefore, LeavesEither}
 use Rattle.sdr_lock.specs.Gaps.{Gaps, HasGapCause, no_gaps}
 use Rattle.sdr_lock.specs.Ground.{bare, MayMissMedia, State, Steps, kept, put_back}
@@ -35,6 +35,7 @@ use Rattle.sdr_lock.specs.Standing.{Standing}
 use Rattle.sdr_lock.specs.Serving.{Brings, Calls, Keeps, KeepsGround, PutsBack, Shows, ShowsBytes, shown_in, with_given}
 use Rattle.sdr_lock.specs.declared.has_ground.HasGround.{Ghosts}
 use Rattle.sdr_lock.proofs.GroundLemmas.{gaps_same, leaves_either, one_less}
+use Rattle.sdr_plain.proofs.BoundLaws.{bound_kept_dry}
 use Rattle.sdr_plain.specs.Bare.{IsAfter, LastsBare, StandsBare, Worlds, worlds_back, worlds_kept, worlds_shown}
 
 -- the worlds as a ground
@@ -92,7 +93,7 @@ lasts_called old new call reply n s begun lasts =
         taken = few;
         few = few_row most w (record { moves = moves; after = record w' { taken = w.taken }; reply = reply }) lasts.now.few call s.step;
         valid = valid_kept_dry w w' call moves reply lasts.now.valid s;
-        bound = λ acct space. bound_kept_dry w w' call moves reply acct space lasts.now.valid s (lasts.now.bound acct space);
+        bound = bound_kept_dry w w' call moves reply lasts.now.valid s lasts.now.bound;
       };
       within = omega (arith, lasts.within);
     }
@@ -127,7 +128,7 @@ lasts_empty n within = record { calls = 0; back = empty; now = empty; within = w
     empty = record {
       taken = omega arith;
       few = record { each = λ addr z is. absurd (none-some _ (sym (get-empty nat_cmp addr) ∙ is)) };
-      valid = empty_dry;
+      valid = (dry_worlds_are_valid None [] [] (first_core [] (bare empty_world)) refl).0;
       bound = empty_bound;
     }
 
