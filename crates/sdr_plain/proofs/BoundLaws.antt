@@ -92,10 +92,10 @@ occupied_served space m o (t ∷ ts) other most valid is small bounded =
     (λ waits above. omega (arith, is, small))
 
 -- a maximum is at most the greatest amount
-maximum_small : (a : Account) (space : Space) → are_within a.maxima (amounts_by (λ space. most_amount)) ≡ true
-    → amount a.maxima space ≤ most_amount
-maximum_small a space within =
-    omega (arith, within_in a.maxima (amounts_by (λ space. most_amount)) space within, amount_by (λ space. most_amount) space)
+maximum_small : (m : Amounts) (space : Space) → are_within m (amounts_by (λ space. most_amount)) ≡ true
+    → amount m space ≤ most_amount
+maximum_small m space within =
+    omega (arith, within_in m (amounts_by (λ space. most_amount)) space within, amount_by (λ space. most_amount) space)
 
 -- of a charge a ticket covers what is left of it, and that goes from what is left of the queue
 used_left : (w : World) (acct : Acct) (number : ℕ) (adds : Space → ℕ) (space : Space) (p : Option Pending)
@@ -129,10 +129,7 @@ queued_left : (w : World) (acct : Acct) (a : Accounts) {lost : Space → ℕ} (s
     → left_in space (tickets_of a acct) ≤ left_in space (tickets_of w.accounts acct)
 queued_left w acct a space (Queued.same l is) = omega (arith, ap (λ a. left_in space (tickets_of a acct)) is)
 queued_left w acct a space (Queued.maximum one value low l is) =
-    omega (
-      arith,
-      ap (left_in space) (put_tickets w.accounts a acct _ a.next (ap (λ (b : Accounts). record b { next = a.next }) is)),
-    )
+    omega (arith, ap (left_in space) (put_tickets w.accounts a acct _ a.next (λ i. record (is i) { next = a.next })))
 queued_left w acct a space (Queued.entered t asked block coarse fine new above last l is) =
     omega (
       arith,
@@ -145,7 +142,7 @@ queued_left w acct a space (Queued.gone place l is) =
     omega (
       arith,
       l space,
-      ap (left_in space) (put_tickets w.accounts a acct _ a.next (ap (λ (b : Accounts). record b { next = a.next }) is)),
+      ap (left_in space) (put_tickets w.accounts a acct _ a.next (λ i. record (is i) { next = a.next })),
     )
 
 -- the account that a call charges, releases or serves
@@ -154,16 +151,10 @@ own_bound : (w after : World) (q : AreQueues w.accounts) (acct : Acct) (number :
     → MovesCharge w.things after.things acct adds frees → occupancy w acct space ≤ most_amount
     → occupancy after acct space ≤ most_amount
 own_bound w after q acct number adds frees lost space (AccountChange.stays a f l is) charge bound =
-    omega (
-      arith,
-      bound,
-      charge.own space,
-      ap (λ f. f space) a,
-      ap (λ a. left_in space (tickets_of a acct)) is,
-    )
+    omega (arith, bound, charge.own space, ap (λ f. f space) a, ap (λ a. left_in space (tickets_of a acct)) is)
 own_bound w after q acct number adds frees lost space (AccountChange.charged used c f l is) charge bound =
     let uncovered = minus (amounts_by adds) (grant_left c.pending) in
-    let account = account_of w.accounts acct in
+    let m = (account_of w.accounts acct).maxima in
     omega (
       arith,
       bound,
@@ -173,32 +164,25 @@ own_bound w after q acct number adds frees lost space (AccountChange.charged use
       first_above-none uncovered (rooms w acct) space c.room,
       amount-minus (amounts_by adds) (grant_left c.pending) space,
       amount_by adds space,
-      amount-minus account.maxima (occupancies w acct) space,
+      amount-minus m (occupancies w acct) space,
       amount_by (occupancy w acct) space,
-      maximum_small account space (account_kept w.accounts acct q).maxima,
+      maximum_small m space (account_kept w.accounts acct q).maxima,
     )
 own_bound w after q acct number adds frees lost space (AccountChange.served v a queued things is) charge bound =
     let ts = tickets_of v.accounts acct in
-    let account = account_of v.accounts acct in
+    let m = (account_of v.accounts acct).maxima in
     let o = occupancies v acct in
     let kept = account_kept v.accounts acct (queued_keeps w acct v.accounts queued q) in
-    let now : occupancy v acct space ≤ most_amount =
+    let same = ap (λ m. things_charge m acct space) things in
+    let was = amount_by (occupancy v acct) space in
+    let less = queued_left w acct v.accounts space queued in
     omega (
       arith,
-      bound,
-      charge.own space,
-      ap (λ f. f space) a,
-      ap (λ m. things_charge m acct space) things,
-      queued_left w acct v.accounts space queued,
-    ) in
-    omega (
-      arith,
-      ap (λ m. things_charge m acct space) things,
-      ap (λ a. left_in space (tickets_of a acct)) is,
-      ap (left_in space) (tickets_now v.accounts acct (served account.maxima o ts)),
-      occupied_served space account.maxima o ts (things_charge v.things acct space) most_amount kept.queue.valid
-          (amount_by (occupancy v acct) space) (omega (arith, now, amount_by (occupancy v acct) space))
-          (maximum_small account space kept.maxima),
+      same,
+      ap (left_in space) (ap (λ a. tickets_of a acct) is ∙ tickets_now v.accounts acct (served m o ts)),
+      occupied_served space m o ts (things_charge v.things acct space) most_amount kept.queue.valid was
+          (omega (arith, was, bound, charge.own space, ap (λ f. f space) a, same, less))
+          (maximum_small m space kept.maxima),
     )
 
 -- the other account stays
