@@ -82,11 +82,10 @@ fn append_source(world: &mut Undoable, asked: &Append) -> Result<Reply, NoMemory
         return Ok(asked.bad_range(source.length));
     }
     let extent = asked.extent(world.next(), asked.named);
-    let _granted = match add_component(world, asked.object, asked.ticket, extent, 0)? {
-        Ok(granted) => granted,
-        Err(refusal) => return Ok(Reply::Refused(refusal)),
-    };
-    Ok(Reply::Done)
+    match add_component(world, asked.object, asked.ticket, extent, 0)? {
+        Ok(_) => Ok(Reply::Done),
+        Err(refusal) => Ok(Reply::Refused(refusal)),
+    }
 }
 
 // Appends a part of a raw object, which a new source takes over, to an object that is there, which isn't copied.
@@ -111,17 +110,18 @@ fn append_raw(world: &mut Undoable, asked: &Append) -> Result<Reply, NoMemory>
     let source = world.next();
     world.touch(source)?;
     let extent = asked.extent(source + 8, source);
-    let _granted = match add_component(world, asked.object, asked.ticket, extent, 1)? {
-        Ok(granted) => granted,
-        Err(refusal) => return Ok(Reply::Refused(refusal)),
-    };
     let taking = ZcoSource {
         subject: Subject::Heap(asked.named),
         length,
         flagged: false,
     };
-    world.put(source, Thing::Source(taking));
-    Ok(Reply::Done)
+    match add_component(world, asked.object, asked.ticket, extent, 1)? {
+        Ok(_) => {
+            world.put(source, Thing::Source(taking));
+            Ok(Reply::Done)
+        }
+        Err(refusal) => Ok(Reply::Refused(refusal)),
+    }
 }
 
 /// Appends a part of a source, or of a raw object, to an object. It is linear in the object's extents, and goes over all

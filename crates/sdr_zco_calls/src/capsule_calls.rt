@@ -36,11 +36,10 @@ fn add_capsule(
     let text = Bytes::copied(alloc, text.as_slice())?;
     let block = world.next();
     let capsule = side.component(Capsule { block, text });
-    let _granted = match add_component(world, addr, number, capsule, 0)? {
-        Ok(granted) => granted,
-        Err(refusal) => return Ok(Reply::Refused(refusal)),
-    };
-    Ok(Reply::Done)
+    match add_component(world, addr, number, capsule, 0)? {
+        Ok(_) => Ok(Reply::Done),
+        Err(refusal) => Ok(Reply::Refused(refusal)),
+    }
 }
 
 pub fn prepend_header(

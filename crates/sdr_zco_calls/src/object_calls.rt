@@ -65,12 +65,13 @@ pub fn create(
 {
     let addr = world.next();
     world.touch(addr)?;
-    let _granted = match charge_blocks(world, acct, number, &heap_charge(72), addr, 1)? {
-        Ok(granted) => granted,
-        Err(refusal) => return Ok(Reply::Refused(refusal)),
-    };
-    world.put(addr, Thing::Object(empty_object(alloc, acct)));
-    Ok(Reply::At { addr })
+    match charge_blocks(world, acct, number, &heap_charge(72), addr, 1)? {
+        Ok(_) => {
+            world.put(addr, Thing::Object(empty_object(alloc, acct)));
+            Ok(Reply::At { addr })
+        }
+        Err(refusal) => Ok(Reply::Refused(refusal)),
+    }
 }
 
 /// Sets the part of an object. It looks at the lengths of the extents; all else takes about the logarithm of

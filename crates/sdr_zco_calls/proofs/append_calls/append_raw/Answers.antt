@@ -16,7 +16,7 @@ use Rattle.sdr_model.specs.declared.call.Call.TheVariants as calls
 use Rattle.sdr_model.specs.declared.things.Thing.TheVariants as things
 use Rattle.sdr_model.specs.declared.zco.Subject.TheVariants as subjects
 use Rattle.sdr_parts.specs.Bounds.{IsBounded}
-use Rattle.sdr_parts.specs.Components.{component_charges}
+use Rattle.sdr_parts.specs.Components.{component_charges, with_component}
 use Rattle.sdr_parts.specs.declared.component.Component.{Component}
 use Rattle.sdr_parts.specs.declared.component.Component.TheVariants as components
 use Rattle.sdr_zco_calls.proofs.ObjectCallLemmas.{charged-refused}
@@ -51,18 +51,18 @@ returns-in-Err c =
           (sym c.in_default-source_on.ensures) inside)
           is c.in-Err.refusal
           (refused_at w c.touch.new.self.now a.object a.ticket 2 z.0 c.extent-extent.result made c.touch.ensures.now z.1
-          c.extent-extent.ensures _ c.in-Err.refusal c.in-Err.is c.in_ok-granted.ensures.refused)
-          (subst (λ r. OnErr r (c.add_component.new.world.now ≡ c.touch.new.self.now)) c.in-Err.is c.in_ok-granted.ensures.same
+          c.extent-extent.ensures _ c.in-Err.refusal c.in-Err.is c.in_ok-add_component.ensures.refused)
+          (subst (λ r. OnErr r (c.add_component.new.world.now ≡ c.touch.new.self.now)) c.in-Err.is c.in_ok-add_component.ensures.same
           ∙ c.touch.ensures.now);
       begun = c.add_component.ensures.keeps.begun ∙ c.touch.ensures.keeps.begun;
       same = tt;
     }
 
-pub returns : goal.returns
-returns c =
+pub returns-in-Ok : goal.returns-in-Ok
+returns-in-Ok c =
     let w = c.args.world.now.now in
     let a = c.args.asked.now in
-    let p = c.in-Ok.granted in
+    let p = c.in-Ok.field-0 in
     let src : ℕ = next_addr w.taken in
     let text = c.in-Some.bytes.now in
     let z = some_is (object_at w a.object) c.requires.object in
@@ -74,17 +74,19 @@ returns c =
     ap (λ n. a.bytes == 0 || nat_lt n (a.offset + a.bytes)) (sym c.len-length.ensures) ∙ sym c.is_outside.ensures ∙ c.if-is_outside.false in
     let fresh = c.next-source.ensures.fresh src (omega (arith, c.next-source.ensures.value)) in
     let charges = component_charges w made in
+    let taking = λ (n : ℕ). things.Source (new_source (subjects.Heap a.named) n) in
+    let grown = with_object (with_blocks (with_used w p charges) 2) a.object (with_component z.0 made) in
     let put = grown_at w c.touch.new.self.now a.object a.ticket 2 z.0 c.extent-extent.result made c.touch.ensures.now z.1 component
-    c.add_component.new.world.now _ p c.in-Ok.is c.in_ok-granted.ensures.added in
+    c.add_component.new.world.now _ p c.in-Ok.is c.in_ok-add_component.ensures.added in
     record {
       step = raw-step w a.object a.ticket a.named a.offset a.bytes z.0 text z.1 c.requires.no_source (sym c.in-Some.ensures)
           (sym c.in_default-source_on.ensures) inside c.put.new.self.now p charges
           (ap (λ t. amounts_by (bytes_charge (space_in (as_source t)) a.bytes)) fresh)
           (allowed_at w c.touch.new.self.now a.object a.ticket 2 z.0 c.extent-extent.result made c.touch.ensures.now z.1 component
-          _ p c.in-Ok.is c.in_ok-granted.ensures.allowed)
+          _ p c.in-Ok.is c.in_ok-add_component.ensures.allowed)
           fresh
-          (c.put.ensures.put ∙ ap (λ v. with_thing v c.next-source.result _) put
-          ∙ ap₂ (λ s n. with_thing _ s (things.Source (new_source (subjects.Heap a.named) n))) c.next-source.ensures.value c.len-length.ensures);
+          (c.put.ensures.put ∙ ap (λ v. with_thing v c.next-source.result (taking c.len-length.result)) put
+          ∙ ap₂ (λ s n. with_thing grown s (taking n)) c.next-source.ensures.value c.len-length.ensures);
       begun = c.put.ensures.keeps.begun ∙ c.add_component.ensures.keeps.begun ∙ c.touch.ensures.keeps.begun;
       same = tt;
     }

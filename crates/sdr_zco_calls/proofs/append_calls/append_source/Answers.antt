@@ -35,13 +35,13 @@ returns-in-Err c =
           a.ticket extent_need z.0 extent c.extent-extent.result
           (append-row w a.object a.ticket a.named a.offset a.bytes z.0 s z.1 (sym c.in-Some.ensures) c.if-source.false inside)
           z.1 (c.extent-extent.ensures ∙ ap extent c.next.ensures.value) _
-          c.in-Err.refusal c.in-Err.is c.in_ok-granted.ensures.refused c.in_ok-granted.ensures.same;
+          c.in-Err.refusal c.in-Err.is c.in_ok-add_component.ensures.refused c.in_ok-add_component.ensures.same;
       begun = c.add_component.ensures.keeps.begun;
       same = tt;
     }
 
-pub returns : goal.returns
-returns c =
+pub returns-in-Ok : goal.returns-in-Ok
+returns-in-Ok c =
     let w = c.args.world.now.now in
     let a = c.args.asked.now in
     let s : ZcoSource = c.in-Some.source.now in
@@ -56,7 +56,7 @@ returns c =
           (component-step w c.add_component.new.world.now call a.object a.ticket extent_need z.0 extent c.extent-extent.result
           (append-row w a.object a.ticket a.named a.offset a.bytes z.0 s z.1 source c.if-source.false inside)
           z.1 (c.extent-extent.ensures ∙ ap extent c.next.ensures.value) _
-          c.in-Ok.granted c.in-Ok.is c.in_ok-granted.ensures.allowed c.in_ok-granted.ensures.added);
+          c.in-Ok.field-0 c.in-Ok.is c.in_ok-add_component.ensures.allowed c.in_ok-add_component.ensures.added);
       begun = c.add_component.ensures.keeps.begun;
       same = tt;
     }

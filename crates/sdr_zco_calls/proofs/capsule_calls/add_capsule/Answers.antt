@@ -24,13 +24,13 @@ returns-in-Err c =
       step = component-refused w c.add_component.new.world.now (capsule_call c.args.side c.args.addr c.args.number text) c.args.addr
           c.args.number (capsule_need (length text)) z.0 (capsule_in c.args.side w c.args.addr c.args.number text)
           c.component-capsule.result (capsule-row c.args.side w c.args.addr c.args.number text z.0 z.1 some) z.1 component _
-          c.in-Err.refusal c.in-Err.is c.in_ok-granted.ensures.refused c.in_ok-granted.ensures.same;
+          c.in-Err.refusal c.in-Err.is c.in_ok-add_component.ensures.refused c.in_ok-add_component.ensures.same;
       begun = c.add_component.ensures.keeps.begun;
       same = tt;
     }
 
-pub returns : goal.returns
-returns c =
+pub returns-in-Ok : goal.returns-in-Ok
+returns-in-Ok c =
     let w = c.args.world.now.now in
     let text = c.args.text.now in
     let z = some_is (object_at w c.args.addr)
@@ -47,7 +47,7 @@ returns c =
           (component-step w c.add_component.new.world.now call c.args.addr c.args.number (capsule_need (length text)) z.0
           (capsule_in c.args.side w c.args.addr c.args.number text) c.component-capsule.result
           (capsule-row c.args.side w c.args.addr c.args.number text z.0 z.1 some) z.1 component _
-          c.in-Ok.granted c.in-Ok.is c.in_ok-granted.ensures.allowed c.in_ok-granted.ensures.added);
+          c.in-Ok.field-0 c.in-Ok.is c.in_ok-add_component.ensures.allowed c.in_ok-add_component.ensures.added);
       begun = c.add_component.ensures.keeps.begun;
       same = tt;
     }

@@ -15,16 +15,16 @@ use Rattle.sdr_model.specs.declared.call.Call.TheVariants as calls
 use Rattle.sdr_zco_calls.proofs.ObjectCallLemmas.{one-step}
 use Rattle.sdr_zco_calls.proofs.object_calls.create.Goals as goal
 
-pub returns : goal.returns
-returns c =
+pub returns-in-Ok : goal.returns-in-Ok
+returns-in-Ok c =
     let w = c.args.world.now.now in
     let amounts = c.heap_charge.result in
-    let p = c.in-Ok.granted in
+    let p = c.in-Ok.field-0 in
     let call : Call = calls.Create c.args.acct c.args.number in
     let may = subst (λ v. MayCharge v c.args.acct c.args.number amounts p) c.touch.ensures.now
-    (subst (λ r. IfOk r (MayCharge c.touch.new.self.now c.args.acct c.args.number amounts)) c.in-Ok.is c.in_ok-granted.ensures.allowed) in
+    (subst (λ r. IfOk r (MayCharge c.touch.new.self.now c.args.acct c.args.number amounts)) c.in-Ok.is c.in_ok-charge_blocks.ensures.allowed) in
     let taken = subst (λ r. IfOk r (λ p. c.charge_blocks.new.world.now ≡ with_blocks (with_used c.touch.new.self.now p amounts) 1))
-    c.in-Ok.is c.in_ok-granted.ensures.taken in
+    c.in-Ok.is c.in_ok-charge_blocks.ensures.taken in
     let charged : c.charge_blocks.new.world.now ≡ with_blocks (with_used w p amounts) 1 =
     taken ∙ ap (λ v. with_blocks (with_used v p amounts) 1) c.touch.ensures.now in
     record {
