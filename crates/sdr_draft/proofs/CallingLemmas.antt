@@ -1,7 +1,6 @@
 -- What is known of a world on which a call can be made.
-use Rattle.std.proofs.Common.{◌≡◌, ◌≤◌, ◌+◌, ℕ, arith, None, Option, Some, ap, subst, sym}
-use Rattle.std.specs.FinMap.{get}
-use Rattle.std.specs.List.{All}
+use Rattle.std.proofs.Common.{◌≡◌, ◌≤◌, ℕ, arith, None, Option, Some, subst}
+use Rattle.std.proofs.lemmas.List.Elements.{All-weaker}
 use Rattle.std.specs.Prelude.{IfSome}
 use Rattle.sdr_base.specs.declared.kind.Space.TheVariants as spaces
 use Rattle.sdr_draft.proofs.SumBounds.{object_charge-small}
@@ -59,7 +58,7 @@ module _ (w : World) (may : MayCall w) where
         let valid = subst (λ t. IfSome t IsValidThing) there (may.whole.valid.things addr) in
         record {
           headers = omega (arith, capsules_length-charged z.headers, charges spaces.Heap);
-          ends = λ k x below. ends_in_time _ (inside k x below);
+          ends = All-weaker (λ e. LiesInside e (source_at w e.source)) EndsInTime ends_in_time z.extents inside;
           extents = omega (arith, extents_length-charged w z.extents, charges spaces.File, charges spaces.Bulk, charges spaces.Heap);
           trailers = omega (arith, capsules_length-charged z.trailers, charges spaces.Heap);
           part = valid.part;

@@ -1,7 +1,6 @@
 -- What an account allows, and what a charge leaves.
-use Rattle.std.proofs.Common.{true≢false, position, ◌≡◌, ◌≤◌, ◌<◌, ◌+◌, ◌-◌, ◌==◌, ℕ, List, [], Bool, true, false, Option, None, Some, MatchBool, MatchOption, IfSome, ap, sym, ◌∙◌, subst, refl, arith, set, length, slice_get, length-set}
+use Rattle.std.proofs.Common.{true≢false, ◌≡◌, ◌==◌, ℕ, List, [], Bool, true, false, Option, None, Some, MatchBool, MatchOption, IfSome, ap, sym, ◌∙◌, subst, refl, set, slice_get}
 use Rattle.std.proofs.lemmas.List.{set-set, set-get_or}
-use Rattle.std.proofs.lemmas.List.Sums.{sum_by-set}
 use Rattle.std.proofs.lemmas.Option.{get_or_from_slice_get}
 use Rattle.std.specs.Option.{option_map}
 use Rattle.sdr_base.specs.declared.account.Acct.{Acct}
@@ -10,25 +9,19 @@ use Rattle.sdr_base.specs.declared.account.Amounts.{Amounts}
 use Rattle.sdr_base.specs.declared.kind.Space.{Space}
 use Rattle.sdr_base.specs.declared.refusal.Refusal.{Refusal}
 use Rattle.sdr_base.specs.declared.refusal.Refusal.TheVariants as refusals
-use Rattle.sdr_model.specs.Accounts.{IsInPlace, account_of, most_amount, pending_in, ticket_at, tickets_of, with_ticket, with_tickets}
+use Rattle.sdr_model.specs.Accounts.{IsInPlace, pending_in, tickets_of, with_ticket, with_tickets}
 use Rattle.sdr_model.specs.declared.accounts.Pending.{Pending}
-use Rattle.sdr_draft.specs.Allowed.{HasRoomFor, IsGrantOf, MayCharge, MayTakeBack, RefusesCharge, refusal_by, refusal_of, space_refusal, with_back}
-use Rattle.sdr_draft.specs.Calling.{IsBound}
-use Rattle.sdr_model.specs.Amounts.{amount, amounts_by, first_above, minus, no_amounts}
-use Rattle.sdr_model.specs.Charges.{left_in, occupancies, occupancy, rooms}
+use Rattle.sdr_draft.specs.Allowed.{IsGrantOf, MayCharge, RefusesCharge, refusal_by, refusal_of, space_refusal, with_back}
+use Rattle.sdr_model.specs.Amounts.{amounts_by, first_above, minus}
+use Rattle.sdr_model.specs.Charges.{rooms}
 use Rattle.sdr_model.specs.Charging.{Charges, OnTicket, grant_left, no_space, with_used}
-use Rattle.sdr_parts.specs.Grants.{KeepGrants}
 use Rattle.sdr_model.specs.Queue.{barrier}
 use Rattle.sdr_model.specs.Steps.{Outcome, Refuses}
-use Rattle.sdr_model.specs.Things.{Things}
 use Rattle.sdr_model.specs.World.{World}
 use Rattle.sdr_model.specs.declared.accounts.Accounts.{Accounts}
 use Rattle.sdr_model.specs.declared.accounts.Ticket.{Ticket}
 use Rattle.sdr_model.specs.declared.answer.Reply.TheVariants as replies
-use Rattle.sdr_draft.proofs.AccountLemmas.{AreBound, bound_less}
-use Rattle.sdr_model.proofs.AmountLemmas.{amount-by, amount-minus, first_above-none, nothing_in}
 use Rattle.sdr_model.proofs.Cases.{on_false}
-use Rattle.sdr_parts.proofs.QueueLemmas.{keeps_of}
 
 pub tickets_of-with_tickets : (accounts : Accounts) (acct : Acct) (ts : List Ticket)
     → tickets_of (with_tickets accounts acct ts) acct ≡ ts

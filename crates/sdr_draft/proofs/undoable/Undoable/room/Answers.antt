@@ -1,7 +1,7 @@
 use Rattle.std.proofs.Common.{ap, ◌∙◌}
 use Rattle.sdr_model.specs.Accounts.{account_of}
 use Rattle.sdr_model.specs.Amounts.{minus}
-use Rattle.sdr_model.specs.Charges.{occupancies, occupancy, rooms}
+use Rattle.sdr_model.specs.Charges.{occupancies, occupancy}
 use Rattle.sdr_model.specs.declared.accounts.Account.{Account}
 use Rattle.sdr_model.specs.declared.accounts.Accounts.{Accounts}
 use Rattle.sdr_undo.specs.Draft.{Draft}

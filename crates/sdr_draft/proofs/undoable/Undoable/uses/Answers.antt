@@ -1,4 +1,4 @@
-use Rattle.std.proofs.Common.{◌≤◌, ◌^◌, arith, ap, subst, ◌∙◌}
+use Rattle.std.proofs.Common.{arith, ap, ◌∙◌}
 use Rattle.std.specs.Prelude.{sum_by}
 use Rattle.sdr_model.specs.Zco.{naming, uses_of}
 use Rattle.sdr_undo.specs.Store.{things_in}
