@@ -1,8 +1,10 @@
+pub mod BlockCallLemmas
 pub mod BondCallLemmas
 pub mod BondRowLemmas
 pub mod CloneCallLemmas
-pub mod CloneLemmas
+pub mod CutLemmas
 pub mod DiscardLemmas
 pub mod GatherLemmas
 pub mod GoneLemmas
+pub mod InsideLemmas
 pub mod RawExtentLemmas
