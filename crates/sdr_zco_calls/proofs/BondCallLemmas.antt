@@ -12,6 +12,7 @@ use Rattle.sdr_model.specs.BondSteps.{bond_charge, bond_extents, bond_rise, bond
 use Rattle.sdr_model.specs.ObjectSteps.{wire_length}
 use Rattle.sdr_model.specs.Things.{Owners, extent_block, inner_blocks}
 use Rattle.sdr_model.specs.Zco.{capsules_length, extents_length}
+use Rattle.sdr_model.specs.declared.things.Block.{Block}
 use Rattle.sdr_model.specs.declared.things.Thing.TheVariants as things
 use Rattle.sdr_model.specs.declared.zco.Capsule.{Capsule}
 use Rattle.sdr_model.specs.declared.zco.Extent.{Extent}
@@ -100,6 +101,7 @@ owned-bonded owners now next more k at z higher stay owns owned = record {
       (All-nil P);
 }
   where
+    P : Block → Type 0
     P = Owns now more k
 
     front : List Extent
@@ -111,7 +113,8 @@ owned-bonded owners now next more k at z higher stay owns owned = record {
     end : ℕ
     end = 3 * length (capsules_of z)
 
-    size = length-append z.headers z.trailers
+    size : end ≡ 3 * (length z.headers + length z.trailers)
+    size = ap (λ n. 3 * n) (length-append z.headers z.trailers)
 
     kept : All P (inner_blocks (things.Object z))
     kept =
