@@ -7,7 +7,7 @@ ghost use Rattle.sdr_model.specs.Dry.{with_taken, next_addr};
 ghost use Rattle.sdr_model.specs.Queue.{with_served};
 ghost use Rattle.sdr_draft.specs.Allowed.{MayCharge, RefusesCharge, with_back};
 ghost use Rattle.sdr_draft.specs.Calling.{IsBound};
-ghost use Rattle.sdr_draft.specs.Keeps.{Keeps};
+ghost use Rattle.sdr_draft.specs.Keeps.{Keeps, StayTouched};
 
 use sdr_base::{Acct, Amounts, NoMemory, Refusal, Space};
 use sdr_draft::Undoable;
@@ -41,6 +41,7 @@ pub fn charge_account(
     ensures stands { IfOk result (λ r. IfOk r (λ p. IfSome p (λ p.
         p.place < length (tickets_of world.new.now.accounts p.acct)))) }
     ensures back { IfOk result (λ r. IfOk r (λ p. with_back world.new.now p ≡ world.old.now)) }
+    ensures touched { StayTouched world.old world.new }
     ensures refused { IfOk result (λ r. IfErr r (RefusesCharge world.old.now acct number
         amounts.now)) }
     ensures same { IfOk result (λ r. OnErr r (world.new ≡ world.old)) }

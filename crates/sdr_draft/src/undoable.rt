@@ -167,6 +167,7 @@ impl Undoable {
     /// Takes the marks behind the first so many off.
     pub fn unmark(&mut self, marks: usize)
         ensures unmarked { self.new.now ≡ record self.old.now { marks = take marks self.old.now.marks } }
+        ensures others { StayTouched self.old self.new }
         ensures keeps { Keeps self.old self.new }
     {
         self.marks.truncate(marks);

@@ -34,7 +34,6 @@ impl Model for Ledger {
 impl Ledger {
     /// Accounts without tickets, whose heap space has this maximum. It takes no memory.
     pub fn new(alloc: Global, heap: u64) -> Ledger
-        requires small { heap ≤ most_amount }
         ensures { let fresh = fresh_accounts heap in result ≡ record { begun = fresh; now = fresh; saved = false } }
     {
         Ledger {

@@ -3,8 +3,8 @@ ghost use Rattle.std.specs.Prelude.{◌≡◌, IfSome, IsNone, false, min};
 ghost use Rattle.sdr_model.specs.declared.event.Event.TheVariants as events;
 ghost use Rattle.sdr_words.specs.Events.{event_by, takes_objects, takes_things};
 
-use crate::given::Given;
 use crate::Verb;
+use crate::given::Given;
 use sdr_model::{Call, Event};
 
 // A number as the type of a name.
