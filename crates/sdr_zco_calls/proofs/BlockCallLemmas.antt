@@ -30,6 +30,11 @@ pub taken-used : (w : World) (p : Option Pending) (amounts : Amounts) → (with_
 taken-used w None amounts = refl
 taken-used w (Some p) amounts = refl
 
+-- they are counted
+pub taken-blocks : (w after : World) (p : Option Pending) (amounts : Amounts) (n : ℕ)
+    → after ≡ with_blocks (with_used w p amounts) n → after.taken ≡ w.taken + n
+taken-blocks w after p amounts n is = ap (λ (v : World). v.taken) (is ∙ blocks-used w p amounts n)
+
 module _ (w w' : World) (call : Call) (acct : Acct) (number n : ℕ) (charge : Space → ℕ) (amounts : Amounts)
     (moves : (ℕ → ℕ) → List Move) (next : World → (ℕ → ℕ) → World) (reply : (ℕ → ℕ) → Reply)
     (row : (o : Outcome) → Charges w o acct number charge (λ used. DoesWith w o moves (next used) reply) → ByRow w o call)

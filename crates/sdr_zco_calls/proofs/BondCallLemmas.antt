@@ -1,22 +1,31 @@
 -- Objects whose headers and trailers become extents.
-use Rattle.std.proofs.Common.{◌≡◌, ◌≤◌, ◌<◌, ◌+◌, ◌*◌, ◌++◌, ◌∷◌, [], ℕ, List, Some, ap, sym, ◌∙◌, refl, subst, arith, length, length-append, map}
+use Rattle.std.proofs.Common.{◌≡◌, ◌≤◌, ◌<◌, ◌+◌, ◌*◌, ◌^◌, ◌++◌, ◌∷◌, [], ℕ, List, Some, ap, sym, ◌∙◌, refl, subst, arith, length, length-append, map}
 use Rattle.std.proofs.lemmas.List.{map-append}
 use Rattle.std.proofs.lemmas.List.Elements.{All-append, All-cons, All-nil, All-weaker}
 use Rattle.std.proofs.lemmas.List.Sums.{sum_by-append, sum_by-cons}
 use Rattle.std.specs.FinMap.{get}
-use Rattle.std.specs.List.{All}
+use Rattle.std.specs.List.{All, sum_by}
 use Rattle.sdr_base.specs.declared.account.Amounts.{Amounts}
+use Rattle.sdr_base.specs.declared.kind.Space.{Space}
 use Rattle.sdr_base.specs.declared.kind.Space.TheVariants as spaces
+use Rattle.sdr_draft.proofs.SumBounds.{object_charge-small}
+use Rattle.sdr_draft.specs.Calling.{IsBound}
+use Rattle.sdr_model.proofs.FewLemmas.{few_of_object, object_is}
+use Rattle.sdr_model.specs.Accounts.{most_amount}
 use Rattle.sdr_model.specs.Amounts.{amounts_by, in_space}
 use Rattle.sdr_model.specs.BondSteps.{bond_charge, bond_extents, bond_rise, bonded, bonded_extents, capsules_of}
+use Rattle.sdr_model.specs.Charges.{capsule_charge, object_charge}
+use Rattle.sdr_model.specs.Few.{HasFewPieces, most_pieces}
 use Rattle.sdr_model.specs.ObjectSteps.{wire_length}
 use Rattle.sdr_model.specs.Things.{Owners, extent_block, inner_blocks}
-use Rattle.sdr_model.specs.Zco.{capsules_length, extents_length}
+use Rattle.sdr_model.specs.World.{World, thing_at}
+use Rattle.sdr_model.specs.Zco.{capsules_length, extents_length, object_at}
 use Rattle.sdr_model.specs.declared.things.Block.{Block}
 use Rattle.sdr_model.specs.declared.things.Thing.TheVariants as things
 use Rattle.sdr_model.specs.declared.zco.Capsule.{Capsule}
 use Rattle.sdr_model.specs.declared.zco.Extent.{Extent}
 use Rattle.sdr_model.specs.declared.zco.ZcoObject.{ZcoObject}
+use Rattle.sdr_parts.proofs.BoundsLemmas.{capsules_length-charged, extents_length-charged}
 use Rattle.sdr_undo.specs.Owners.{IsOwned, Owns, OwnsInside}
 use Rattle.sdr_zco_calls.proofs.InsideLemmas.{all_blocks, extents_of}
 
@@ -57,6 +66,32 @@ extents_length-bond at z =
       extents_length-bonded at 0 z.headers,
       extents_length-bonded at (3 * length z.headers) z.trailers,
     )
+
+-- the bytes of an object are few, and so is what its headers and trailers charge
+module _ (w : World) (bound : IsBound w) (addr : ℕ) (z : ZcoObject) (is : object_at w addr ≡ Some z) where
+  small : (space : Space) → object_charge w space z ≤ most_amount
+  small = object_charge-small w bound addr z (object_is (thing_at w addr) z is)
+
+  pub wire-small : wire_length z ≤ 2 ^ 42
+  wire-small =
+      omega (
+        arith,
+        capsules_length-charged z.headers,
+        capsules_length-charged z.trailers,
+        extents_length-charged w z.extents,
+        small spaces.File,
+        small spaces.Bulk,
+        small spaces.Heap,
+      )
+
+  pub capsules-small : sum_by (capsule_charge spaces.Heap) (capsules_of z) ≤ 2 ^ 41
+  capsules-small = omega (arith, small spaces.Heap, sum_by-append (capsule_charge spaces.Heap) z.headers z.trailers)
+
+-- they are few
+pub capsules-few : (w : World) (addr : ℕ) (z : ZcoObject) → HasFewPieces most_pieces w.things → object_at w addr ≡ Some z
+    → length (capsules_of z) ≤ most_pieces
+capsules-few w addr z few is =
+    omega (arith, few_of_object most_pieces w addr z few is, length-append z.headers z.trailers)
 
 -- more is charged of heap space alone
 no_file : (cs : List Capsule) → bond_charge cs spaces.File ≡ 0

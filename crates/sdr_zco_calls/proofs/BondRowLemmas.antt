@@ -38,7 +38,7 @@ bonded-fields : (at : ℕ → ℕ) (cs : List Capsule) (marks shown : List ℕ) 
 bonded-fields at [] marks shown taken w k = refl
 bonded-fields at (c ∷ cs) marks shown taken w k = bonded-fields at cs marks shown taken (with_first w at k c) (k + 3)
 
-bonded-taken : (at : ℕ → ℕ) (cs : List Capsule) (w : World) (k : ℕ) → (with_bonded w at k cs).taken ≡ w.taken
+pub bonded-taken : (at : ℕ → ℕ) (cs : List Capsule) (w : World) (k : ℕ) → (with_bonded w at k cs).taken ≡ w.taken
 bonded-taken at [] w k = refl
 bonded-taken at (c ∷ cs) w k = bonded-taken at cs (with_first w at k c) (k + 3)
 

@@ -57,10 +57,11 @@ clone-charge w acct at from to z small =
     let es = cut_all from to z.extents in
     capped-small (λ space. object_charge w space (object_of acct (placed at 1 es)))
     (λ space. omega (arith, small space, placed-charge w space at 1 es, cut_all-charge w space from to z.extents))
-    ∙ same _ _ (λ space. omega (arith, placed-charge w space at 1 es))
+    ∙ λ i. record { file = same spaces.File i; bulk = same spaces.Bulk i; heap = same spaces.Heap i }
   where
-    same : (of to : Space → ℕ) → ((space : Space) → of space ≡ to space) → amounts_by of ≡ amounts_by to
-    same of to all = λ i. record { file = all spaces.File i; bulk = all spaces.Bulk i; heap = all spaces.Heap i }
+    same : (space : Space) → let es = cut_all from to z.extents in
+        object_charge w space (object_of acct (placed at 1 es)) ≡ object_charge w space (object_of acct es)
+    same space = omega (arith, placed-charge w space at 1 (cut_all from to z.extents))
 
 -- extents whose blocks are owned
 owns-placed : (owners : Owners) (next owner k end : ℕ) (at : ℕ → ℕ) (es : List Extent) → k + length es ≤ end

@@ -1,12 +1,12 @@
 // What a call that strips an object does to a world.
-ghost use Rattle.std.specs.Prelude.{◌≡◌, IfOk, IfSome, IsSome, OnErr, OnOk};
+ghost use Rattle.std.specs.Prelude.{◌≡◌, IfSome, IsSome, OnErr, OnOk};
 ghost use Rattle.sdr_calls.specs.Answers.{Answers};
 ghost use Rattle.sdr_draft.specs.Calling.{MayCall};
 ghost use Rattle.sdr_draft.specs.Keeps.{Keeps, StayTouched};
 ghost use Rattle.sdr_model.specs.ObjectSteps.{with_object};
-ghost use Rattle.sdr_model.specs.PartSteps.{outside_part, stripped};
+ghost use Rattle.sdr_model.specs.PartSteps.{stripped};
 ghost use Rattle.sdr_model.specs.Zco.{object_at};
-ghost use Rattle.sdr_parts.specs.Bounds.{AreFewBytes, IsBounded};
+ghost use Rattle.sdr_parts.specs.Bounds.{IsBounded};
 
 use crate::gone::gone_things;
 use crate::object_calls::object;
@@ -14,26 +14,16 @@ use sdr_base::{Addr, Items, NoMemory};
 use sdr_calls::raw_calls::misnamed;
 use sdr_changes::dropping::{drop_all, touch_all};
 use sdr_draft::Undoable;
-use sdr_model::{Call, Extent, Reply, Thing, ZcoObject};
+use sdr_model::{Call, Extent, Reply, Thing};
 use sdr_parts::cuts::{cut_all, whole_of};
 use sdr_parts::object::{outside_part, part_end};
 use std::alloc::Global;
 
-// The extents of an object, cut to its part.
-fn cut_to_part(alloc: Global, object: &ZcoObject) -> Result<Items<Extent>, NoMemory>
-    requires bounded { IsBounded object.now }
-    ensures cuts { IfOk result (λ cuts. cuts ≡ (stripped object.now).extents) }
-    ensures few { IfOk result (λ cuts. AreFewBytes cuts) }
-{
-    let from = object.part.offset;
-    cut_all(alloc, from, part_end(object), object.extents.as_slice())
-}
-
 // Puts the extents of the object at an address, cut to its part, in their place. The part is then the whole.
 fn put_cuts(world: &mut Undoable, addr: Addr, cuts: Items<Extent>) -> Result<(), NoMemory>
     requires there { IsSome (object_at world.old.now addr) }
+    requires bounded { IfSome (object_at world.old.now addr) IsBounded }
     requires cuts { IfSome (object_at world.old.now addr) (λ z. cuts ≡ (stripped z).extents) }
-    requires few { AreFewBytes cuts }
     ensures put { OnOk result (IfSome (object_at world.old.now addr) (λ z.
         world.new.now ≡ with_object world.old.now addr (stripped z))) }
     ensures others { StayTouched world.old world.new }
@@ -59,7 +49,8 @@ pub fn strip(alloc: Global, world: &mut Undoable, addr: Addr) -> Result<Reply, N
         return Ok(misnamed(world, addr));
     };
     let account = object.account;
-    let cuts = cut_to_part(alloc, object)?;
+    let (from, to) = (object.part.offset, part_end(object));
+    let cuts = cut_all(alloc, from, to, object.extents.as_slice())?;
     let lost = outside_part(object, alloc)?;
     let gone = gone_things(alloc, world, lost.as_slice())?;
     touch_all(world, gone.as_slice())?;
