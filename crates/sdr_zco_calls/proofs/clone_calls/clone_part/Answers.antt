@@ -1,4 +1,4 @@
-use Rattle.std.proofs.Common.{◌≡◌, ◌<◌, ◌+◌, ◌∙◌, ◌==◌, ◌||◌, ℕ, suc, List, Some, false, ap, ap₂, sym, subst, arith, length}
+use Rattle.std.proofs.Common.{◌≡◌, ◌<◌, ◌+◌, ◌*◌, ◌∙◌, ◌==◌, ◌||◌, ℕ, suc, List, Some, false, ap, ap₂, sym, subst, arith, length}
 use Rattle.std.specs.FinMap.{get}
 use Rattle.std.specs.Prelude.{IfErr, IfOk, OnErr, OnOk, nat_lt}
 use Rattle.sdr_base.specs.declared.account.Amounts.{Amounts}

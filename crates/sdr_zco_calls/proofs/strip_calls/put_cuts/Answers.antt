@@ -10,8 +10,8 @@ use Rattle.sdr_zco_calls.proofs.CutLemmas.{length-cut}
 use Rattle.sdr_zco_calls.proofs.InsideLemmas.{stripped-owned}
 use Rattle.sdr_zco_calls.proofs.strip_calls.put_cuts.Goals as goal
 
-pub whole_of-requires : goal.whole_of-requires
-whole_of-requires c =
+pub whole_of-object-requires : goal.whole_of-object-requires
+whole_of-object-requires c =
     let z = c.in-Object.object in
     let there : object_at c.args.world.now.now c.args.addr ≡ Some z =
     ap as_object (c.in_ok-object.ensures.taken ∙ ap Some c.in-Object.is) in
@@ -28,5 +28,5 @@ put-requires-clause-may_put c =
     let there : object_at c.args.world.now.now c.args.addr ≡ Some z =
     ap as_object (c.in_ok-object.ensures.taken ∙ ap Some c.in-Object.is) in
     let cuts = subst (λ o. IfSome o (λ z. c.args.cuts ≡ (stripped z).extents)) there c.requires.cuts in
-    stripped-owned c.take.new.self c.args.addr z c.args.cuts c.whole_of.result cuts
+    stripped-owned c.take.new.self c.args.addr z c.args.cuts c.whole_of-object.result cuts
     (subst (MayPut c.take.new.self c.args.addr) c.in-Object.is c.in_ok-object.ensures.may_put)
