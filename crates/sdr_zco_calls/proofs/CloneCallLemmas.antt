@@ -1,5 +1,5 @@
 -- A part of an object, as another object.
-use Rattle.std.proofs.Common.{◌≡◌, ◌≤◌, ◌<◌, ◌+◌, ◌*◌, ◌==◌, ◌||◌, ◌∷◌, [], ℕ, suc, List, Option, None, Some, false, ap, sym, ◌∙◌, ap₂, subst, arith, length, map}
+use Rattle.std.proofs.Common.{◌≡◌, ◌≤◌, ◌<◌, ◌+◌, ◌*◌, ◌==◌, ◌||◌, ◌∷◌, [], ℕ, suc, List, Option, Some, false, ap, sym, ◌∙◌, ap₂, subst, arith, length, map}
 use Rattle.std.proofs.lemmas.List.Elements.{All-cons, All-nil}
 use Rattle.std.specs.FinMap.{get}
 use Rattle.std.specs.List.{All}

@@ -1,6 +1,6 @@
-use Rattle.std.proofs.Common.{◌≡◌, ◌<◌, ◌+◌, ◌*◌, ◌∙◌, ◌==◌, ◌||◌, ℕ, suc, List, Some, false, ap, ap₂, sym, subst, arith, length}
+use Rattle.std.proofs.Common.{◌≡◌, ◌<◌, ◌+◌, ◌*◌, ◌∙◌, ℕ, suc, List, Some, ap, ap₂, sym, subst, arith, length}
 use Rattle.std.specs.FinMap.{get}
-use Rattle.std.specs.Prelude.{IfErr, IfOk, OnErr, OnOk, nat_lt}
+use Rattle.std.specs.Prelude.{IfErr, IfOk, OnErr, OnOk}
 use Rattle.sdr_base.specs.declared.account.Amounts.{Amounts}
 use Rattle.sdr_draft.proofs.SumBounds.{object_charge-small}
 use Rattle.sdr_draft.specs.Allowed.{MayCharge, RefusesCharge}

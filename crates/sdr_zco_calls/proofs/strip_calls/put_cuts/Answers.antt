@@ -1,9 +1,7 @@
 use Rattle.std.proofs.Common.{◌≡◌, ◌∙◌, ap, arith, sym, subst, Some}
 use Rattle.std.specs.Prelude.{IfSome}
-use Rattle.sdr_model.specs.Cuts.{cut_all}
 use Rattle.sdr_model.specs.PartSteps.{part_end, stripped}
 use Rattle.sdr_model.specs.Zco.{as_object, object_at}
-use Rattle.sdr_model.specs.declared.things.Thing.TheVariants as things
 use Rattle.sdr_parts.specs.Bounds.{AreFewBytes, IsBounded}
 use Rattle.sdr_undo.specs.Owners.{MayPut}
 use Rattle.sdr_zco_calls.proofs.CutLemmas.{length-cut}
