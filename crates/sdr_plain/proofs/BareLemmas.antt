@@ -99,8 +99,8 @@ lasts_called old new call reply n s begun lasts =
     }
 
 -- where the worlds last for a call, one can be made
-pub lasts_may : (w : Worlds) → LastsBare w 1 → MayCall w.now
-lasts_may w lasts = record {
+pub lasts_may : (w : Worlds) (n : ℕ) → LastsBare w n → MayCall w.now
+lasts_may w n lasts = record {
   whole = lasts.now.valid.whole;
   bound = lasts.now.bound;
   few = few_more lasts.calls most_pieces w.now.things (omega (arith, lasts.within)) lasts.now.few;

@@ -4,6 +4,7 @@ use Rattle.std.proofs.lemmas.List.{length-map, take_all}
 use Rattle.std.proofs.lemmas.List.Filters.{length-filter_both}
 use Rattle.std.specs.Option.{option_map_or}
 use Rattle.sdr_base.specs.Media.{Told}
+use Rattle.sdr_model.specs.Few.{most_pieces}
 use Rattle.sdr_model.specs.World.{World, empty_world}
 use Rattle.sdr_model.specs.declared.event.Event.TheVariants as events
 use Rattle.sdr_base.specs.declared.refusal.Refusal.TheVariants as refusals
@@ -41,7 +42,7 @@ stands_for_itself w = record { before = refl; now = refl }
 pub record Answered (inside p : Plain) (new : Locked Worlds) (daemon : ℕ) (event : Event) (a : Came) : Type 0 where
   pub steps : (line : ℕ) → StepsAt (machine_of p) daemon line event a (machine_on new.roll new.base)
   pub daemons : length new.roll.daemons ≡ length p.roll.daemons
-  pub kept : IsKept (inside.events + 1) new.roll new.base
+  pub kept : inside.events + 1 ≤ most_pieces → IsKept (inside.events + 1) new.roll new.base
 
 -- What a lock answers on worlds with no heap.
 pub answered_so : (keeps : Bool) (inside p : Plain) (new : Locked Worlds) (daemon : ℕ) (event : Event) (a : Came) → inside ≡ p
@@ -68,7 +69,8 @@ answered_so keeps inside p new daemon event a same kept acts =
             step = subst (λ (n : Machine). MachineStep m (made_dry daemon line event a led.for.moves n) n) same (led.tells.step line);
           };
           daemons = holders.length;
-          kept = record {
+          kept = λ few. record {
+            few = few;
             drawn = omega (arith, is.drawn, kept.drawn);
             sound = well;
             first = holders.first kept.first;
@@ -239,11 +241,12 @@ settled_holders r id first = by (daemon_of r id) refl
     by (Some d) found = held d found d.holds refl
 
 -- what a lock with bytes shown is kept under
-pub settled_kept : (events : ℕ) (r r' : Roll) (w w' : Worlds) (id : ℕ) → r' ≡ roll_settled r id → KeepsGround bare_ground true w w' → IsKept events r w
-    → IsKept (events + 1) r' w'
-settled_kept events r r' w w' id roll ground kept =
+pub settled_kept : (events : ℕ) (r r' : Roll) (w w' : Worlds) (id : ℕ) → r' ≡ roll_settled r id → KeepsGround bare_ground true w w' → events + 1 ≤ most_pieces
+    → IsKept events r w → IsKept (events + 1) r' w'
+settled_kept events r r' w w' id roll ground few kept =
     let others : ((roll_settled r id).drawn ≡ r.drawn) × ((roll_settled r id).failed ≡ r.failed) = mapped (daemon_of r id) _ (λ d. mapped d.holds _ (λ h. (refl, refl))) in
     subst (λ (x : Roll). IsKept (events + 1) x w') (sym roll) (record {
+      few = few;
       drawn = omega (arith, others.0, kept.drawn);
       sound = others.1 ∙ kept.sound;
       first = (settled_holders r id kept.first).first kept.first;
@@ -261,7 +264,7 @@ newcomers_first before (id ∷ ids) = (λ holds. absurd (true≢false (sym holds
 
 -- before any event all is kept
 pub kept_first : (ids : List ℕ) → IsKept 0 (first_roll ids) (record { begun = empty_world; now = empty_world })
-kept_first ids = record { drawn = omega arith; sound = refl; first = newcomers_first [] ids; lasts = λ n within. lasts_empty n within }
+kept_first ids = record { few = omega arith; drawn = omega arith; sound = refl; first = newcomers_first [] ids; lasts = λ n within. lasts_empty n within }
 
 -- a list with an item is its first one and the others
 pub first_of : (ds : List ℕ) (d : ℕ) → 1 ≤ length ds → ds ≡ slice_index_or ds 0 d ∷ take (length ds - 1) (drop 1 ds)

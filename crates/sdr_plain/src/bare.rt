@@ -1,5 +1,6 @@
 // A world in memory as the ground of a lock.
 ghost use Rattle.std.specs.Prelude.{◌≡◌, IfOk, IfSome, None, Ok, true};
+ghost use Rattle.sdr_draft.specs.Calling.{MayCall};
 ghost use Rattle.sdr_model.specs.Accounts.{pending_among};
 ghost use Rattle.sdr_model.specs.Pieces.{AsksBytes};
 ghost use Rattle.sdr_model.specs.Reading.{reads_media};
@@ -82,6 +83,7 @@ impl Bare {
     /// The pieces of the bytes by which a call is answered, where it asks bytes of an object that is there, and
     /// nothing where it doesn't.
     pub fn pieces(&self, call: &Call) -> Result<Option<Items<Piece>>, NoMemory>
+        requires may { MayCall self.now.now }
         ensures some { IfOk result (λ asked. IfSome asked (HasPieces self.now.now call.now)) }
         ensures none { result ≡ Ok None → reads_media call.now ≡ true →
             ¬ AsksBytes self.now.now call.now }

@@ -9,10 +9,10 @@ shown_so given some inside old new is same begun now =
     (λ i. record { begun = begun i; now = now i }) ∙ sym (ap (λ (g : Option (List ℕ)). worlds_shown g inside) is) ∙ ap (worlds_shown given) same
 
 pub returns-in-Some-clause-shown : goal.returns-in-Some-clause-shown
-returns-in-Some-clause-shown c = brings_shown c.args.given _ _ (shown_so _ _ _ _ _ c.in-Some.is c.self.view_is c.show.ensures.begun c.show.ensures.shown)
+returns-in-Some-clause-shown c = brings_shown c.args.given _ _ (shown_so _ _ _ _ _ c.in-Some.is c.self.view_is c.show.ensures.keeps.begun c.show.ensures.shown)
 
 pub returns-in-Some-clause-keeps : goal.returns-in-Some-clause-keeps
-returns-in-Some-clause-keeps c = keeps_shown c.args.given _ _ (shown_so _ _ _ _ _ c.in-Some.is c.self.view_is c.show.ensures.begun c.show.ensures.shown)
+returns-in-Some-clause-keeps c = keeps_shown c.args.given _ _ (shown_so _ _ _ _ _ c.in-Some.is c.self.view_is c.show.ensures.keeps.begun c.show.ensures.shown)
 
 pub returns-in_default-clause-shown : goal.returns-in_default-clause-shown
 returns-in_default-clause-shown c = brings_shown c.args.given _ _ (sym (ap (λ (g : Option (List ℕ)). worlds_shown g c.args.self.now) c.in_default.is))

@@ -1,15 +1,25 @@
-use Rattle.std.proofs.Common.{◌≡◌, ◌∙◌, IfOk, IfSome, subst, sym, true}
+use Rattle.std.proofs.Common.{◌≡◌, ◌∙◌, IfOk, IfSome, arith, subst, sym, true}
 use Rattle.std.proofs.lemmas.Option.{IfSome_then}
 use Rattle.std.proofs.lemmas.Result.{IfOk-weaker}
 use Rattle.sdr_model.specs.Pieces.{AsksBytes}
 use Rattle.sdr_model.specs.Reading.{reads_media}
 use Rattle.sdr_model.specs.declared.call.Call.{Call}
 use Rattle.sdr_model.specs.declared.event.Event.TheVariants as events
+use Rattle.sdr_draft.specs.Calling.{MayCall}
+use Rattle.sdr_plain.proofs.BareLemmas.{lasts_may}
 use Rattle.sdr_plain.proofs.AskingLemmas.{asks_here, asks_nothing, is_served_by, same_call}
 use Rattle.sdr_plain.specs.Asking.{Asks, AsksNothing, HasPieces}
 use Rattle.sdr_plain.specs.Bare.{Worlds}
 use Rattle.sdr_plain.specs.Plain.{Plain, machine_of}
 use Rattle.sdr_plain.proofs.plain.Plain.call_pieces.Goals as goal
+
+pub pieces-requires : goal.pieces-requires
+pieces-requires c =
+    let kept = c.self.invariant in
+    record {
+      may = subst (λ (w : Worlds). MayCall w.now) (sym c.base.ensures)
+          (lasts_may c.self.inside.lock.base 0 (kept.lasts 0 (omega (arith, kept.few))));
+    }
 
 pub returns-clause-some : goal.returns-clause-some
 returns-clause-some c =

@@ -1,8 +1,12 @@
+use Rattle.std.proofs.Common.{ap, arith}
 use Rattle.sdr_plain.proofs.PlainLemmas.{answered_so, no_gap}
+use Rattle.sdr_plain.specs.Plain.{Plain}
 use Rattle.sdr_plain.proofs.plain.Plain.make.Goals as goal
 
 pub invariant_of-self-2 : goal.invariant_of-self-2
-invariant_of-self-2 c = (answered_so _ _ _ _ _ _ _ c.self.view_is c.self.invariant c.in_ok-came.ensures.step).kept
+invariant_of-self-2 c =
+    (answered_so _ _ _ _ _ _ _ c.self.view_is c.self.invariant c.in_ok-came.ensures.step).kept
+    (omega (arith, c.requires.events, ap (λ (p : Plain). p.events) c.self.view_is))
 
 pub returns-clause-step : goal.returns-clause-step
 returns-clause-step c = (answered_so _ _ _ _ _ _ _ c.self.view_is c.self.invariant c.in_ok-came.ensures.step).steps
