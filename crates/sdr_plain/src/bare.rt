@@ -58,7 +58,7 @@ impl HasGround for Bare {
 
     ghost crash_now = { λ t v image at left. absurd left };
 
-    ghost lasts_less = { λ t n lasts. record { calls = lasts.calls; after = lasts.after; within = one_less lasts.calls n most_pieces lasts.within } };
+    ghost lasts_less = { λ t n lasts. record { calls = lasts.calls; back = lasts.back; now = lasts.now; within = one_less lasts.calls n most_pieces lasts.within } };
 }
 
 impl Bare {
