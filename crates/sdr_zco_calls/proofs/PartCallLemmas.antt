@@ -68,9 +68,9 @@ module _ (w w' : World) (addr : ℕ) (z : ZcoObject) (there : object_at w addr �
         counted = omega (arith, ap (λ (v : World). v.taken) put);
       }) row
 
-  pub first-discarded : 0 < length z.headers → Puts (without_header z)
+  pub first_discarded : 0 < length z.headers → Puts (without_header z)
       → StepsDry w (calls.DiscardFirstHeader addr) (gave (first_header (object_at w addr))) w' replies.Done
-  first-discarded inside put =
+  first_discarded inside put =
       let call : Call = calls.DiscardFirstHeader addr in
       subst (λ t. StepsDry w call (gave (first_header t)) w' replies.Done) (sym there)
       (goes call z.headers 0 (without_header z)

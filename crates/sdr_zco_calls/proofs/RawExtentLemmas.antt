@@ -1,5 +1,5 @@
 -- Objects that get an extent of a raw object, which a new source takes over.
-use Rattle.std.proofs.Common.{◌≡◌, ◌+◌, ◌==◌, ◌++◌, ◌∷◌, [], ℕ, List, Option, None, Some, Bool, true, false, ◌||◌, ap, sym, ◌∙◌, refl, subst, cond, arith, length}
+use Rattle.std.proofs.Common.{◌≡◌, ◌+◌, ◌==◌, ◌++◌, [], ℕ, List, Option, None, Some, Bool, true, false, ◌||◌, ap, sym, ◌∙◌, refl, subst, cond, length}
 use Rattle.std.specs.BTreeMap.{is_at}
 use Rattle.std.specs.FinMap.{get}
 use Rattle.std.specs.Ordering.{nat_cmp}

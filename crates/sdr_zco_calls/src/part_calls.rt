@@ -31,7 +31,7 @@ fn put_and_serve(world: &mut Undoable, addr: Addr, object: ZcoObject)
 
 /// Takes the first header of an object off, which moves the others, and serves the queue of its account. That goes
 /// over all things; all else takes about the logarithm of the world.
-#[tactic(auto, using(sdr_model::proofs::DryLemmas::gives))]
+#[tactic(auto, using(crate::proofs::PartCallLemmas::first_discarded))]
 pub fn discard_first_header(world: &mut Undoable, addr: Addr) -> Result<Reply, NoMemory>
     requires may { MayCall world.old.now }
     ensures { Answers (Call.DiscardFirstHeader addr) world.old world.new result }
@@ -53,7 +53,6 @@ pub fn discard_first_header(world: &mut Undoable, addr: Addr) -> Result<Reply, N
 
 /// Takes the last trailer of an object off, and serves the queue of its account. That goes over all things; all else
 /// takes about the logarithm of the world.
-#[tactic(auto, using(sdr_model::proofs::DryLemmas::gives))]
 pub fn discard_last_trailer(world: &mut Undoable, addr: Addr) -> Result<Reply, NoMemory>
     requires may { MayCall world.old.now }
     ensures { Answers (Call.DiscardLastTrailer addr) world.old world.new result }

@@ -1,11 +1,11 @@
-use Rattle.std.proofs.Common.{◌≡◌, ◌∙◌, Ok, ap, ap₂, subst, sym}
+use Rattle.std.proofs.Common.{◌≡◌, ◌∙◌, ap, ap₂, subst, sym}
 use Rattle.std.specs.Prelude.{IfOk}
 use Rattle.sdr_base.specs.declared.kind.Space.TheVariants as spaces
 use Rattle.sdr_draft.specs.Allowed.{MayCharge}
 use Rattle.sdr_model.specs.Amounts.{in_space}
 use Rattle.sdr_model.specs.Charges.{object_bytes}
 use Rattle.sdr_model.specs.Charging.{with_used}
-use Rattle.sdr_model.specs.Dry.{StepsDry, dry_moves, next_addr, with_blocks}
+use Rattle.sdr_model.specs.Dry.{StepsDry, dry_moves, with_blocks}
 use Rattle.sdr_model.specs.ObjectSteps.{with_object}
 use Rattle.sdr_model.specs.Things.{object_need}
 use Rattle.sdr_model.specs.Zco.{empty_object}
