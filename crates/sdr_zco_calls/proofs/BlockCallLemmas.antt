@@ -1,5 +1,7 @@
 -- Calls that are charged and take several blocks.
-use Rattle.std.proofs.Common.{◌≡◌, ◌+◌, ◌++◌, [], ℕ, List, Option, None, Some, ap, sym, ◌∙◌, refl, subst, arith}
+use Rattle.std.proofs.Common.{◌≡◌, ◌<◌, ◌+◌, ◌++◌, [], ℕ, List, Option, None, Some, Ok, Err, ap, sym, ◌∙◌, refl, subst, arith}
+use Rattle.std.specs.FinMap.{get}
+use Rattle.std.specs.Prelude.{Result, IfErr, IfOk, OnErr, OnOk}
 use Rattle.sdr_base.specs.declared.account.Acct.{Acct}
 use Rattle.sdr_base.specs.declared.account.Amounts.{Amounts}
 use Rattle.sdr_base.specs.declared.kind.Space.{Space}
@@ -12,6 +14,7 @@ use Rattle.sdr_model.specs.Charging.{Charges, with_used}
 use Rattle.sdr_model.specs.Dry.{AreInOrder, StepsDry, addr_after, blocks_taken, next_addrs, with_blocks}
 use Rattle.sdr_model.specs.Rows.{ByRow}
 use Rattle.sdr_model.specs.Steps.{DoesWith, Outcome, taken_addresses}
+use Rattle.sdr_model.specs.Things.{Owners}
 use Rattle.sdr_model.specs.World.{World}
 use Rattle.sdr_model.specs.declared.accounts.Pending.{Pending}
 use Rattle.sdr_model.specs.declared.answer.Reply.{Reply}
@@ -30,10 +33,44 @@ pub taken-used : (w : World) (p : Option Pending) (amounts : Amounts) → (with_
 taken-used w None amounts = refl
 taken-used w (Some p) amounts = refl
 
--- they are counted
-pub taken-blocks : (w after : World) (p : Option Pending) (amounts : Amounts) (n : ℕ)
-    → after ≡ with_blocks (with_used w p amounts) n → after.taken ≡ w.taken + n
-taken-blocks w after p amounts n is = ap (λ (v : World). v.taken) (is ∙ blocks-used w p amounts n)
+-- what a charge for blocks came to in a world that is still the same, and what it left
+module _ (w wn wb : World) (acct : Acct) (number n : ℕ) (amounts : Amounts) (r : Result (Option Pending) Refusal)
+    (same : wn ≡ w) where
+  abbrev pub IsAllowed : Type 0
+  IsAllowed = IfOk r (MayCharge wn acct number amounts)
+
+  abbrev pub IsTaken : Type 0
+  IsTaken = IfOk r (λ p. wb ≡ with_blocks (with_used wn p amounts) n)
+
+  abbrev pub IsRefused : Type 0
+  IsRefused = IfErr r (RefusesCharge wn acct number amounts)
+
+  pub allowed-at : {p : Option Pending} → r ≡ Ok p → IsAllowed → MayCharge w acct number amounts p
+  allowed-at {p} is allowed =
+      subst (λ v. MayCharge v acct number amounts p) same (subst (λ r. IfOk r (MayCharge wn acct number amounts)) is allowed)
+
+  pub taken-at : {p : Option Pending} → r ≡ Ok p → IsTaken → wb ≡ with_blocks (with_used w p amounts) n
+  taken-at {p} is taken =
+      subst (λ r. IfOk r (λ p. wb ≡ with_blocks (with_used wn p amounts) n)) is taken
+      ∙ ap (λ v. with_blocks (with_used v p amounts) n) same
+
+  pub counted-at : {p : Option Pending} → r ≡ Ok p → IsTaken → wb.taken ≡ w.taken + n
+  counted-at {p} is taken = ap (λ (v : World). v.taken) (taken-at is taken ∙ blocks-used w p amounts n)
+
+  pub owned-at : (owners : Owners) (owner : ℕ) {p : Option Pending} → r ≡ Ok p
+      → OnOk r ((k : ℕ) → k < n → get owners (addr_after wn.taken k) ≡ Some owner)
+      → (k : ℕ) → k < n → get owners (addr_after w.taken k) ≡ Some owner
+  owned-at owners owner is owned =
+      subst (λ (v : World). (k : ℕ) → k < n → get owners (addr_after v.taken k) ≡ Some owner) same
+      (subst (λ r. OnOk r ((k : ℕ) → k < n → get owners (addr_after wn.taken k) ≡ Some owner)) is owned)
+
+  pub refused-at : {refusal : Refusal} → r ≡ Err refusal → IsRefused → RefusesCharge w acct number amounts refusal
+  refused-at {refusal} is refused =
+      subst (λ v. RefusesCharge v acct number amounts refusal) same
+      (subst (λ r. IfErr r (RefusesCharge wn acct number amounts)) is refused)
+
+  pub same-at : {refusal : Refusal} → r ≡ Err refusal → OnErr r (wb ≡ wn) → wb ≡ w
+  same-at is left = subst (λ r. OnErr r (wb ≡ wn)) is left ∙ same
 
 module _ (w w' : World) (call : Call) (acct : Acct) (number n : ℕ) (charge : Space → ℕ) (amounts : Amounts)
     (moves : (ℕ → ℕ) → List Move) (next : World → (ℕ → ℕ) → World) (reply : (ℕ → ℕ) → Reply)
