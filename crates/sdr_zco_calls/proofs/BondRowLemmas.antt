@@ -28,7 +28,8 @@ use Rattle.sdr_model.specs.declared.zco.ZcoObject.{ZcoObject}
 use Rattle.sdr_undo.proofs.TakenLemmas.{Agree, addr_after-next, bond-agree, bond-blocks, bond-in_order, bond-taken, bonded-agree, run}
 use Rattle.sdr_undo.specs.Owners.{OwnsInside}
 use Rattle.sdr_zco_calls.proofs.BondCallLemmas.{owned-bonded}
-use Rattle.sdr_zco_calls.proofs.BlockCallLemmas.{IsAllowed, IsRefused, IsTaken, allowed-at, blocks-used, charged-refused, charged-step, counted-at, owned-at, refused-at, same-at, taken-at, taken-used}
+use Rattle.sdr_zco_calls.proofs.BlockCallLemmas.{IsAllowed, IsRefused, IsTaken, allowed-at, blocks-step, blocks-used, counted-at, owned-at, refused-at, same-at, taken-at, taken-used}
+use Rattle.sdr_zco_calls.proofs.ObjectCallLemmas.{charged-refused}
 
 -- the world with the raw object of the first of these texts and its source
 abbrev with_first : World → (ℕ → ℕ) → ℕ → Capsule → World
@@ -132,8 +133,8 @@ module _ (w wn wb : World) (r : Result (Option Pending) Refusal) (same : wn ≡ 
   pub bond-refused : (refusal : Refusal) → r ≡ Err refusal → IsRefused w wn wb z.account number n amounts r same → OnErr r (wb ≡ wn)
       → StepsDry w call [] wb (replies.Refused refusal)
   bond-refused refusal err refused left =
-      charged-refused w wb call z.account number n (bond_charge cs) amounts (λ at. bond_moves at 0 cs) with_texts
-      (λ at. replies.Done) row is refusal (refused-at w wn wb z.account number n amounts r same err refused) (same-at w wn wb z.account number n amounts r same err left)
+      charged-refused w wb call z.account number (bond_charge cs) amounts
+      (λ o used. DoesWith w o (λ at. bond_moves at 0 cs) (with_texts used) (λ at. replies.Done)) row is refusal (refused-at w wn wb z.account number n amounts r same err refused) (same-at w wn wb z.account number n amounts r same err left)
 
   texts-agree : (used : World) (from to : ℕ → ℕ) → Agree 0 n from to → with_bonded used from 0 cs ≡ with_bonded used to 0 cs
   texts-agree used from to = with_bonded-agree from to 0 n cs used (omega (arith, count))
@@ -150,7 +151,7 @@ module _ (w wn wb : World) (r : Result (Option Pending) Refusal) (same : wn ≡ 
       let used : World = with_used w p amounts in
       let texts : List Capsule → World = with_bonded (with_blocks used n) (λ i. first + 8 * i) 0 in
       subst (λ o. StepsDry w call (bond_moves_of o at) w' replies.Done) there
-      (charged-step w w' call z.account number n (bond_charge cs) amounts (λ at. bond_moves at 0 cs) with_texts
+      (blocks-step w w' call z.account number n (bond_charge cs) amounts (λ at. bond_moves at 0 cs) with_texts
       (λ at. replies.Done) row is p (allowed-at w wn wb z.account number n amounts r same ok allowed)
       (bond-taken at 0 cs ∙ ap (run at 0) (sym count)) (bond-in_order w.taken 0 w.taken cs (omega arith))
       (bond-blocks at 0 cs ∙ sym count) (λ to. bond-agree at to 0 n cs (omega (arith, count))) (next-agree used at)

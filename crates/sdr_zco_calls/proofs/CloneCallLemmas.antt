@@ -38,8 +38,9 @@ use Rattle.sdr_model.proofs.FewLemmas.{length-placed, object_is}
 use Rattle.sdr_parts.proofs.CappedLemmas.{capped-small}
 use Rattle.sdr_parts.specs.Capped.{capped_by}
 use Rattle.sdr_undo.proofs.TakenLemmas.{Agree, addr_after-next, clone-agree, clone-blocks, clone-in_order, clone-taken, placed-agree, run}
-use Rattle.sdr_zco_calls.proofs.BlockCallLemmas.{IsAllowed, IsRefused, IsTaken, allowed-at, blocks-used, charged-refused, charged-step, counted-at, owned-at, refused-at, same-at, taken-at, taken-used}
+use Rattle.sdr_zco_calls.proofs.BlockCallLemmas.{IsAllowed, IsRefused, IsTaken, allowed-at, blocks-step, blocks-used, counted-at, owned-at, refused-at, same-at, taken-at, taken-used}
 use Rattle.sdr_zco_calls.proofs.CutLemmas.{cut_all-charge, placed-charge}
+use Rattle.sdr_zco_calls.proofs.ObjectCallLemmas.{charged-refused}
 use Rattle.sdr_zco_calls.proofs.InsideLemmas.{all_blocks}
 
 -- extents behind an address lie at the next ones
@@ -139,8 +140,8 @@ module _ (w wn wb : World) (r : Result (Option Pending) Refusal) (same : wn ≡ 
   pub clone-refused : (refusal : Refusal) → r ≡ Err refusal → IsRefused w wn wb z.account number n amounts r same → OnErr r (wb ≡ wn)
       → StepsDry w call [] wb (replies.Refused refusal)
   clone-refused refusal err refused left =
-      charged-refused w wb call z.account number n charge amounts (λ at. clone_moves at extents) with_clone
-      (λ at. replies.At (at 0)) row is refusal (refused-at w wn wb z.account number n amounts r same err refused) (same-at w wn wb z.account number n amounts r same err left)
+      charged-refused w wb call z.account number charge amounts
+      (λ o used. DoesWith w o (λ at. clone_moves at extents) (with_clone used) (λ at. replies.At (at 0))) row is refusal (refused-at w wn wb z.account number n amounts r same err refused) (same-at w wn wb z.account number n amounts r same err left)
 
   next-agree : (used : World) (at to : ℕ → ℕ) → Agree 0 n at to → with_clone used at ≡ with_clone used to
   next-agree used at to agree =
@@ -154,7 +155,7 @@ module _ (w wn wb : World) (r : Result (Option Pending) Refusal) (same : wn ≡ 
       let at : ℕ → ℕ = addr_after w.taken in
       subst (λ a. StepsDry w call (dry_moves w call (replies.At a)) w' (replies.At a)) (sym here)
       (subst (λ o. StepsDry w call (clone_moves_of o offset bytes at) w' (replies.At (at 0))) there
-      (charged-step w w' call z.account number n charge amounts (λ at. clone_moves at extents) with_clone
+      (blocks-step w w' call z.account number n charge amounts (λ at. clone_moves at extents) with_clone
       (λ at. replies.At (at 0)) row is p (allowed-at w wn wb z.account number n amounts r same ok allowed)
       (clone-taken at extents ∙ ap (run at 0) (sym count)) (clone-in_order w.taken extents) (clone-blocks at extents ∙ sym count)
       (λ to agree. clone-agree at to extents (λ i from below. agree i from (omega (arith, below, count))))
