@@ -1,9 +1,10 @@
 -- The row of the call that bonds an object.
-use Rattle.std.proofs.Common.{◌≡◌, ◌≤◌, ◌+◌, ◌*◌, ◌++◌, ◌∷◌, [], ℕ, List, Option, Some, ap, ap₂, sym, ◌∙◌, refl, subst, arith, length, length-append}
+use Rattle.std.proofs.Common.{◌≡◌, ◌≤◌, ◌<◌, ◌+◌, ◌*◌, ◌++◌, ◌∷◌, [], ℕ, List, Option, Some, Ok, Err, ap, ap₂, sym, ◌∙◌, refl, subst, arith, length, length-append}
+use Rattle.std.specs.FinMap.{get}
+use Rattle.std.specs.Prelude.{Result, OnErr, OnOk}
 use Rattle.sdr_base.specs.declared.account.Amounts.{Amounts}
 use Rattle.sdr_base.specs.declared.refusal.Refusal.{Refusal}
 use Rattle.sdr_model.specs.declared.accounts.Pending.{Pending}
-use Rattle.sdr_draft.specs.Allowed.{MayCharge, RefusesCharge}
 use Rattle.sdr_model.specs.Amounts.{amounts_by}
 use Rattle.sdr_model.specs.BondSteps.{bond_charge, bond_moves, bonded, capsules_of, with_bonded}
 use Rattle.sdr_model.specs.Charging.{Charges, with_used}
@@ -13,6 +14,7 @@ use Rattle.sdr_model.specs.RowMoves.{bond_moves_of}
 use Rattle.sdr_model.specs.Rows.{ByRow}
 use Rattle.sdr_model.specs.SourceSteps.{new_source}
 use Rattle.sdr_model.specs.Steps.{DoesWith, On, Outcome, with_thing}
+use Rattle.sdr_model.specs.Things.{Owners}
 use Rattle.sdr_model.specs.World.{World}
 use Rattle.sdr_model.specs.Zco.{object_at, whole_of}
 use Rattle.sdr_model.specs.declared.answer.Reply.TheVariants as replies
@@ -23,8 +25,11 @@ use Rattle.sdr_model.specs.declared.zco.Capsule.{Capsule}
 use Rattle.sdr_model.specs.declared.zco.Extent.{Extent}
 use Rattle.sdr_model.specs.declared.zco.Subject.TheVariants as subjects
 use Rattle.sdr_model.specs.declared.zco.ZcoObject.{ZcoObject}
-use Rattle.sdr_undo.proofs.TakenLemmas.{Agree, addr_after-next, bond-agree, bond-blocks, bond-in_order, bond-taken, bonded-agree}
-use Rattle.sdr_zco_calls.proofs.BlockCallLemmas.{blocks-used, charged-refused, charged-step, taken-used}
+use Rattle.sdr_undo.proofs.TakenLemmas.{Agree, addr_after-next, bond-agree, bond-blocks, bond-in_order, bond-taken, bonded-agree, run}
+use Rattle.sdr_undo.specs.Owners.{OwnsInside}
+use Rattle.sdr_zco_calls.proofs.BondCallLemmas.{owned-bonded}
+use Rattle.sdr_zco_calls.proofs.BlockCallLemmas.{IsAllowed, IsRefused, IsTaken, allowed-at, blocks-step, blocks-used, counted-at, owned-at, refused-at, same-at, taken-at, taken-used}
+use Rattle.sdr_zco_calls.proofs.ObjectCallLemmas.{charged-refused}
 
 -- the world with the raw object of the first of these texts and its source
 abbrev with_first : World → (ℕ → ℕ) → ℕ → Capsule → World
@@ -63,33 +68,36 @@ bonded_object-agree at to z agree =
     (bonded-agree at to 0 end z.headers (omega (arith, size)) (λ i from. agree i (omega arith)))
     (bonded-agree at to (3 * length z.headers) end z.trailers (omega (arith, size)) (λ i from. agree i (omega arith)))
 
--- where the first address is the next one they are the next ones
-behind : (taken next end : ℕ) → next ≡ next_addr taken → Agree 0 end (λ k. next + 8 * k) (addr_after taken)
-behind taken next end is i from inside =
-    (let same : next + 8 * i ≡ next_addr (taken + i) = omega (arith, is) in same) ∙ sym (addr_after-next taken i)
-
-pub bonded-next : (taken next : ℕ) (z : ZcoObject) → next ≡ next_addr taken
-    → bonded (λ k. next + 8 * k) z ≡ bonded (addr_after taken) z
-bonded-next taken next z is =
-    bonded_object-agree (λ k. next + 8 * k) (addr_after taken) z (behind taken next (3 * length (capsules_of z)) is)
-
-pub texts-next : (w : World) (taken next : ℕ) (cs : List Capsule) → next ≡ next_addr taken
-    → with_bonded w (λ k. next + 8 * k) 0 cs ≡ with_bonded w (addr_after taken) 0 cs
-texts-next w taken next cs is =
-    with_bonded-agree (λ k. next + 8 * k) (addr_after taken) 0 (3 * length cs) cs w (omega arith)
-    (behind taken next (3 * length cs) is)
-
--- the call that bonds an object that is there
-module _ (w w' : World) (k number : ℕ) (z : ZcoObject) (amounts : Amounts) (there : object_at w k ≡ Some z)
-    (is : amounts ≡ amounts_by (bond_charge (capsules_of z))) where
+-- The call that bonds an object that is there. The first block that it takes is the next.
+module _ (w wn wb : World) (r : Result (Option Pending) Refusal) (same : wn ≡ w) (k number first n : ℕ)
+    (z after : ZcoObject) (capsules : List Capsule) (amounts : Amounts)
+    (there : Some z ≡ object_at w k)
+    (here : first ≡ next_addr w.taken)
+    (copies : capsules ≡ capsules_of z)
+    (made_so : after ≡ bonded (λ i. first + 8 * i) z)
+    (size : n ≡ 3 * length capsules)
+    (charged : amounts ≡ amounts_by (bond_charge capsules)) where
   abbrev call : Call
   call = calls.Bond k number
 
-  abbrev size : ℕ
-  size = 3 * length (capsules_of z)
+  abbrev cs : List Capsule
+  cs = capsules_of z
+
+  abbrev at : ℕ → ℕ
+  at = addr_after w.taken
 
   abbrev with_texts : World → (ℕ → ℕ) → World
-  with_texts used at = with_object (with_bonded used at 0 (capsules_of z)) k (bonded at z)
+  with_texts used at = with_object (with_bonded used at 0 cs) k (bonded at z)
+
+  count : n ≡ 3 * length cs
+  count = size ∙ ap (λ l. 3 * length l) copies
+
+  behind : Agree 0 n (λ i. first + 8 * i) at
+  behind i from inside =
+      (let same : first + 8 * i ≡ next_addr (w.taken + i) = omega (arith, here) in same) ∙ sym (addr_after-next w.taken i)
+
+  is : amounts ≡ amounts_by (bond_charge cs)
+  is = charged ∙ ap (λ l. amounts_by (bond_charge l)) copies
 
   abbrev ChargesBond : Outcome → ZcoObject → Type 0
   ChargesBond o z =
@@ -99,32 +107,56 @@ module _ (w w' : World) (k number : ℕ) (z : ZcoObject) (amounts : Amounts) (th
       (λ at. replies.Done))
 
   row : (o : Outcome) → ChargesBond o z → ByRow w o call
-  row o charges = subst (λ t. On w o k t (ChargesBond o)) (sym there) charges
+  row o charges = subst (λ t. On w o k t (ChargesBond o)) there charges
 
-  pub bond-refused : (refusal : Refusal) → RefusesCharge w z.account number amounts refusal → w' ≡ w
-      → StepsDry w call [] w' (replies.Refused refusal)
-  bond-refused =
-      charged-refused w w' call z.account number size (bond_charge (capsules_of z)) amounts
-      (λ at. bond_moves at 0 (capsules_of z)) with_texts (λ at. replies.Done) row is
+  object : after ≡ bonded at z
+  object =
+      made_so ∙ bonded_object-agree (λ i. first + 8 * i) at z (λ i from below. behind i from (omega (arith, below, count)))
 
-  next-agree : (used : World) (at to : ℕ → ℕ) → Agree 0 size at to → with_texts used at ≡ with_texts used to
-  next-agree used at to agree =
-      ap₂ (λ v y. with_object v k y) (with_bonded-agree at to 0 size (capsules_of z) used (omega arith) agree)
-      (bonded_object-agree at to z agree)
+  -- it owns its blocks, where all that was noted before still is
+  pub bond-owned : (owners now : Owners) (next : ℕ) (p : Option Pending) → r ≡ Ok p → IsTaken w wn wb z.account number n amounts r same → next ≡ next_addr wb.taken
+      → ((other of : ℕ) → other < next_addr wn.taken → get owners other ≡ Some of → get now other ≡ Some of)
+      → OwnsInside owners (next_addr w.taken) k (things.Object z)
+      → OnOk r ((i : ℕ) → i < n → get now (addr_after wn.taken i) ≡ Some k)
+      → OwnsInside now next k (things.Object after)
+  bond-owned owners now next p ok taken here stay owns given =
+      let more : wb.taken ≡ w.taken + n = counted-at w wn wb z.account number n amounts r same ok taken in
+      let lower = ap (λ (v : World). v.taken) same in
+      subst (λ y. OwnsInside now next k (things.Object y)) (sym object)
+      (owned-bonded owners now (next_addr w.taken) next k at z (omega (arith, here, more))
+      (λ other of below. stay other of (omega (arith, below, lower))) owns
+      (λ i below. record {
+        noted = owned-at w wn wb z.account number n amounts r same now k ok given i (omega (arith, below, count));
+        below = omega (arith, addr_after-next w.taken i, below, count, here, more);
+      }))
 
-  pub bond-step : (p : Option Pending) → MayCharge w z.account number amounts p
-      → w' ≡ with_texts (with_blocks (with_used w p amounts) size) (addr_after w.taken)
+  pub bond-refused : (refusal : Refusal) → r ≡ Err refusal → IsRefused w wn wb z.account number n amounts r same → OnErr r (wb ≡ wn)
+      → StepsDry w call [] wb (replies.Refused refusal)
+  bond-refused refusal err refused left =
+      charged-refused w wb call z.account number (bond_charge cs) amounts
+      (λ o used. DoesWith w o (λ at. bond_moves at 0 cs) (with_texts used) (λ at. replies.Done)) row is refusal (refused-at w wn wb z.account number n amounts r same err refused) (same-at w wn wb z.account number n amounts r same err left)
+
+  texts-agree : (used : World) (from to : ℕ → ℕ) → Agree 0 n from to → with_bonded used from 0 cs ≡ with_bonded used to 0 cs
+  texts-agree used from to = with_bonded-agree from to 0 n cs used (omega (arith, count))
+
+  next-agree : (used : World) (from to : ℕ → ℕ) → Agree 0 n from to → with_texts used from ≡ with_texts used to
+  next-agree used from to agree =
+      ap₂ (λ v y. with_object v k y) (texts-agree used from to agree)
+      (bonded_object-agree from to z (λ i least below. agree i least (omega (arith, below, count))))
+
+  pub bond-step : (w' : World) (p : Option Pending) → r ≡ Ok p → IsAllowed w wn wb z.account number n amounts r same → IsTaken w wn wb z.account number n amounts r same
+      → w' ≡ with_object (with_bonded wb (λ i. first + 8 * i) 0 capsules) k after
       → StepsDry w call (dry_moves w call replies.Done) w' replies.Done
-  bond-step p may put =
-      let at : ℕ → ℕ = addr_after w.taken in
-      let cs : List Capsule = capsules_of z in
+  bond-step w' p ok allowed taken put =
       let used : World = with_used w p amounts in
-      let marks : List ℕ = w.marks ++ next_addrs w.taken size in
-      subst (λ m. StepsDry w call m w' replies.Done) (sym (ap (λ t. bond_moves_of t at) there))
-      (charged-step w w' call z.account number size (bond_charge cs) amounts (λ at. bond_moves at 0 cs) with_texts
-      (λ at. replies.Done) row is p may
-      (bond-taken at 0 cs) (bond-in_order w.taken 0 w.taken cs (omega arith)) (bond-blocks at 0 cs)
-      (λ to. bond-agree at to 0 size cs (omega arith)) (next-agree used at) (λ to agree. refl)
-      (bonded-taken at cs used 0 ∙ taken-used w p amounts)
-      (put ∙ ap (λ v. with_texts v at) (blocks-used w p amounts size)
-      ∙ ap (λ v. with_object v k (bonded at z)) (bonded-fields at cs marks [] (w.taken + size) used 0)))
+      let texts : List Capsule → World = with_bonded (with_blocks used n) (λ i. first + 8 * i) 0 in
+      subst (λ o. StepsDry w call (bond_moves_of o at) w' replies.Done) there
+      (blocks-step w w' call z.account number n (bond_charge cs) amounts (λ at. bond_moves at 0 cs) with_texts
+      (λ at. replies.Done) row is p (allowed-at w wn wb z.account number n amounts r same ok allowed)
+      (bond-taken at 0 cs ∙ ap (run at 0) (sym count)) (bond-in_order w.taken 0 w.taken cs (omega arith))
+      (bond-blocks at 0 cs ∙ sym count) (λ to. bond-agree at to 0 n cs (omega (arith, count))) (next-agree used at)
+      (λ to agree. refl) (bonded-taken at cs used 0 ∙ taken-used w p amounts)
+      (put ∙ ap (λ v. with_object (with_bonded v (λ i. first + 8 * i) 0 capsules) k after) (taken-at w wn wb z.account number n amounts r same ok taken)
+      ∙ ap₂ (λ v y. with_object v k y) (ap texts copies ∙ texts-agree (with_blocks used n) (λ i. first + 8 * i) at behind) object
+      ∙ ap (λ v. with_texts v at) (blocks-used w p amounts n)
+      ∙ ap (λ v. with_object v k (bonded at z)) (bonded-fields at cs (w.marks ++ next_addrs w.taken n) [] (w.taken + n) used 0)))
