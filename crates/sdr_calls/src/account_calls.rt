@@ -1,6 +1,7 @@
 // What calls on accounts and their tickets do to a world.
-ghost use Rattle.std.specs.Prelude.{◌≡◌, ◌<◌, ◌^◌};
+ghost use Rattle.std.specs.Prelude.{◌≡◌};
 ghost use Rattle.sdr_calls.specs.Answers.{Answers};
+ghost use Rattle.sdr_draft.specs.Calling.{MayCall};
 ghost use Rattle.sdr_model.specs.AccountSteps.{is_granted};
 ghost use Rattle.sdr_model.specs.Accounts.{pending_in};
 
@@ -21,9 +22,10 @@ pub struct Asking {
 }
 
 pub fn occupancy(world: &mut Undoable, acct: Acct, space: Space) -> Result<Reply, NoMemory>
+    requires may { MayCall world.old.now }
     ensures { Answers (Call.Occupancy acct space) world.old world.new result }
 {
-    let value = charging::occupancy(world, acct, space);
+    let value = amount(&world.occupied(acct), space);
     world.hide();
     Ok(Reply::Value { value })
 }
@@ -76,7 +78,7 @@ fn is_granted(world: &Undoable, acct: Acct, number: u64) -> bool
 }
 
 pub fn request(world: &mut Undoable, acct: Acct, asking: Asking) -> Result<Reply, NoMemory>
-    requires taken { world.old.now.taken < 2 ^ 60 }
+    requires may { MayCall world.old.now }
     ensures { let asked = asking.amounts in
         Answers (Call.Request acct asked.file asked.bulk asked.heap asking.coarse asking.fine) world.old world.new result }
 {
@@ -85,7 +87,7 @@ pub fn request(world: &mut Undoable, acct: Acct, asking: Asking) -> Result<Reply
         let asked = amount(&asking.amounts, space);
         return Ok(too_large(space, asked, amount(&maxima, space)));
     }
-    let number = charging::next_ticket(world);
+    let number = world.accounts().next;
     if number == MOST_AMOUNT {
         return Ok(bad_ticket(MOST_AMOUNT));
     }

@@ -1,9 +1,7 @@
 // What calls on raw objects do to a world.
-ghost use Rattle.std.specs.Option.{option_copied};
-ghost use Rattle.std.specs.Prelude.{◌≡◌, ◌<◌, ◌≤◌, ◌+◌, ◌^◌, IfSome, OnErr, OnOk, length, nat_lt};
+ghost use Rattle.std.specs.Prelude.{◌≡◌, ◌<◌, ◌+◌, ◌^◌, OnErr, OnOk, length, nat_lt};
 ghost use Rattle.sdr_calls.specs.Answers.{Answers, HasRoom, Overwrites};
-ghost use Rattle.sdr_model.specs.Dry.{next_addr};
-ghost use Rattle.sdr_model.specs.Limits.{longest_raw};
+ghost use Rattle.sdr_draft.specs.Calling.{IsBound, MayCall};
 ghost use Rattle.sdr_model.specs.World.{as_raw, misnamed, thing_at};
 ghost use Rattle.sdr_model.specs.Zco.{uses_of};
 
@@ -33,15 +31,6 @@ pub fn misnamed(world: &Undoable, addr: Addr) -> Reply
     })
 }
 
-/// The bytes of the raw object at an address.
-pub fn raw(world: &Undoable, addr: Addr) -> Option<&Bytes>
-    ensures value { option_copied result ≡ as_raw (thing_at world.now.now addr) }
-    ensures short { IfSome result (λ bytes. length bytes.now ≤ longest_raw) }
-    ensures below { IfSome result (λ bytes. addr < next_addr world.now.now.taken) }
-{
-    world.raw(addr)
-}
-
 pub fn malloc(alloc: Global, world: &mut Undoable, bytes: u64) -> Result<Reply, NoMemory>
     requires taken { world.old.now.taken < 2 ^ 60 }
     ensures { Answers (Call.Malloc bytes) world.old world.new result }
@@ -56,6 +45,7 @@ pub fn malloc(alloc: Global, world: &mut Undoable, bytes: u64) -> Result<Reply, 
 
 /// The refusal of a raw object that a source names.
 pub fn in_use(world: &Undoable, raw: Addr, source: Addr) -> Reply
+    requires bound { IsBound world.now.now }
     ensures { result ≡ Reply.Refused (Refusal.InUse raw (uses_of world.now.now source)) }
 {
     Reply::Refused(Refusal::InUse {
@@ -65,6 +55,7 @@ pub fn in_use(world: &Undoable, raw: Addr, source: Addr) -> Reply
 }
 
 pub fn free(world: &mut Undoable, addr: Addr) -> Result<Reply, NoMemory>
+    requires may { MayCall world.old.now }
     ensures { Answers (Call.Free addr) world.old world.new result }
 {
     match world.thing(addr) {
@@ -113,7 +104,7 @@ pub fn read(
 ) -> Result<Reply, NoMemory>
     ensures { Answers (Call.Read addr place count) world.old world.new result }
 {
-    let Some(bytes) = raw(world, addr) else {
+    let Some(bytes) = world.raw(addr) else {
         return Ok(misnamed(world, addr));
     };
     if count > LONGEST_READ {
@@ -155,7 +146,7 @@ fn overwrite(world: &mut Undoable, addr: Addr, place: usize, from: &[u8]) -> Res
 pub fn write(world: &mut Undoable, addr: Addr, place: u64, from: &Bytes) -> Result<Reply, NoMemory>
     ensures { Answers (Call.Write addr place from.now) world.old world.new result }
 {
-    let Some(bytes) = raw(world, addr) else {
+    let Some(bytes) = world.raw(addr) else {
         return Ok(misnamed(world, addr));
     };
     let length = from.len() as u64;
@@ -176,7 +167,7 @@ pub fn write(world: &mut Undoable, addr: Addr, place: u64, from: &Bytes) -> Resu
 pub fn stage(alloc: Global, world: &mut Undoable, addr: Addr, count: u64) -> Result<Reply, NoMemory>
     ensures { Answers (Call.Stage addr count) world.old world.new result }
 {
-    let Some(bytes) = raw(world, addr) else {
+    let Some(bytes) = world.raw(addr) else {
         return Ok(misnamed(world, addr));
     };
     if count > LONGEST_READ {

@@ -1,20 +1,18 @@
 // Charges, maxima and requests of a world in the making.
-ghost use Rattle.std.specs.Prelude.{◌≡◌, ◌≤◌, ◌<◌, ◌^◌, [], IfErr, IfOk, OnErr, OnOk, true};
-ghost use Rattle.sdr_base.specs.declared.kind.Space.{Space as GhostSpace};
-ghost use Rattle.sdr_model.specs.AccountSteps.{new_ticket, with_amount, with_maximum, with_request, without_ticket};
-ghost use Rattle.sdr_model.specs.Accounts.{IsInPlace, account_of, most_amount, with_account};
-ghost use Rattle.sdr_model.specs.Amounts.{amount};
-ghost use Rattle.sdr_model.specs.Charges.{occupancy};
+ghost use Rattle.std.specs.Prelude.{◌≡◌, ◌<◌, ◌^◌, [], IfErr, IfOk, IfSome, OnErr, OnOk, length, true};
+ghost use Rattle.sdr_model.specs.AccountSteps.{new_ticket, with_maximum, with_request, without_ticket};
+ghost use Rattle.sdr_model.specs.Accounts.{IsInPlace, account_of, most_amount, tickets_of, with_account};
 ghost use Rattle.sdr_model.specs.Charging.{grant_left, with_used};
 ghost use Rattle.sdr_model.specs.Dry.{with_taken, next_addr};
 ghost use Rattle.sdr_model.specs.Queue.{with_served};
-ghost use Rattle.sdr_draft.specs.Allowed.{HasRoomFor, MayCharge, MayTakeBack, RefusesCharge, with_back};
+ghost use Rattle.sdr_draft.specs.Allowed.{MayCharge, RefusesCharge, with_back};
+ghost use Rattle.sdr_draft.specs.Calling.{IsBound};
+ghost use Rattle.sdr_draft.specs.Keeps.{Keeps, StayTouched};
 
 use sdr_base::{Acct, Amounts, NoMemory, Refusal, Space};
 use sdr_draft::Undoable;
-use sdr_model::amounts::{NOTHING, amount, minus, with_amount};
+use sdr_model::amounts::{NOTHING, minus, with_amount};
 use sdr_model::{Pending, Ticket};
-use sdr_parts::queue::left;
 
 // What is left of the grant of a ticket, nothing where there is none.
 fn grant_left(granted: &Option<Pending>) -> Amounts
@@ -36,18 +34,19 @@ pub fn charge_account(
     number: u64,
     amounts: &Amounts,
 ) -> Result<Result<Option<Pending>, Refusal>, NoMemory>
+    requires bound { IsBound world.old.now }
     ensures allowed { IfOk result (λ r. IfOk r (MayCharge world.old.now acct number amounts.now)) }
     ensures charged { IfOk result (λ r. IfOk r (λ p.
         world.new ≡ record world.old { now = with_used world.old.now p amounts.now; saved = true })) }
-    ensures room { IfOk result (λ r. OnOk r (HasRoomFor world.new.now acct amounts.now)) }
+    ensures stands { IfOk result (λ r. IfOk r (λ p. IfSome p (λ p.
+        p.place < length (tickets_of world.new.now.accounts p.acct)))) }
     ensures back { IfOk result (λ r. IfOk r (λ p. with_back world.new.now p ≡ world.old.now)) }
-    ensures may_take_back { IfOk result (λ r. IfOk r (MayTakeBack world.new.now)) }
+    ensures touched { StayTouched world.old world.new }
     ensures refused { IfOk result (λ r. IfErr r (RefusesCharge world.old.now acct number
         amounts.now)) }
     ensures same { IfOk result (λ r. OnErr r (world.new ≡ world.old)) }
     ensures err { OnErr result (world.new ≡ world.old) }
 {
-    world.known();
     let granted = match world.grant_of(acct, number) {
         Ok(granted) => granted,
         Err(refusal) => return Ok(Err(refusal)),
@@ -63,24 +62,6 @@ pub fn charge_account(
     }
 }
 
-/// What is occupied of a space in an account. It is linear in the account's queue.
-pub fn occupancy(world: &Undoable, acct: Acct, space: Space) -> u64
-    ensures { result ≡ occupancy world.now.now acct space }
-{
-    amount(&world.occupied(acct), space)
-}
-
-// The maxima of an account with this one of a space.
-fn maxima_with(world: &Undoable, acct: Acct, space: Space, value: u64) -> Amounts
-    requires small { value ≤ most_amount }
-    ensures value { result ≡ with_amount (account_of world.now.now.accounts acct).maxima space
-        value }
-    ensures small { (other : GhostSpace) → amount result other ≤ most_amount }
-{
-    world.known();
-    with_amount(&world.accounts().account(acct).maxima, space, value)
-}
-
 /// Sets the maximum of a space in an account, and serves its queue. Want of memory leaves the world as
 /// before.
 pub fn set_maximum(
@@ -89,29 +70,19 @@ pub fn set_maximum(
     space: Space,
     value: u64,
 ) -> Result<(), NoMemory>
-    requires small { value ≤ most_amount }
     ensures ok { OnOk result (let accounts = world.old.now.accounts in world.new.now
         ≡ record (with_served (record world.old.now {
           accounts = with_account accounts acct (with_maximum (account_of accounts acct) space value);
         }) acct) { shown = [] }) }
-    ensures begun { world.new.begun ≡ world.old.begun }
+    ensures keeps { Keeps world.old world.new }
     ensures same { OnErr result (world.new.now ≡ world.old.now) }
 {
     world.save_accounts()?;
-    let maxima = maxima_with(world, acct, space, value);
+    let maxima = with_amount(&world.accounts().account(acct).maxima, space, value);
     world.put_maxima(acct, maxima);
     world.serve(acct);
     world.hide();
     Ok(())
-}
-
-/// The number of the next ticket.
-pub fn next_ticket(world: &Undoable) -> u64
-    ensures value { result ≡ world.now.now.accounts.next }
-    ensures small { result ≤ most_amount }
-{
-    world.known();
-    world.accounts().next
 }
 
 /// A new ticket asks an account for space, and its queue is served. The ticket has the next number and
@@ -127,7 +98,7 @@ pub fn request(
     requires number { world.old.now.accounts.next < most_amount }
     ensures ok { OnOk result (let addr = next_addr world.old.now.taken in world.new.now
         ≡ with_taken (with_request world.old.now acct (new_ticket world.old.now.accounts.next addr asked coarse fine)) addr) }
-    ensures begun { world.new.begun ≡ world.old.begun }
+    ensures keeps { Keeps world.old world.new }
     ensures same { OnErr result (world.new.now ≡ world.old.now) }
 {
     world.save_accounts()?;
@@ -145,7 +116,7 @@ pub fn request(
     match world.enter(acct, ticket) {
         Ok(()) => {
             world.serve(acct);
-            world.count();
+            world.count_blocks(1);
             Ok(())
         }
         Err(error) => {
@@ -160,7 +131,7 @@ pub fn request(
 pub fn shred(world: &mut Undoable, pending: &Pending) -> Result<(), NoMemory>
     requires stands { IsInPlace world.old.now.accounts pending.now }
     ensures ok { OnOk result (world.new.now ≡ record (without_ticket world.old.now pending.now) { shown = [] }) }
-    ensures begun { world.new.begun ≡ world.old.begun }
+    ensures keeps { Keeps world.old world.new }
     ensures same { OnErr result (world.new.now ≡ world.old.now) }
 {
     world.save_accounts()?;

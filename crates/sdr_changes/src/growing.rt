@@ -1,16 +1,70 @@
 // Components that are added to objects, charged and with their blocks.
-ghost use Rattle.std.specs.Prelude.{◌≡◌, ◌<◌, ◌+◌, ◌^◌, ℕ, None, Contains, IfErr, IfOk, IfSome, IsSome, OnErr, OnOk};
+ghost use Rattle.std.specs.Prelude.{◌≡◌, ◌<◌, ◌+◌, ◌^◌, IfErr, IfOk, IfSome, IsSome, OnErr, OnOk, []};
 ghost use Rattle.sdr_model.specs.Charging.{with_used};
 ghost use Rattle.sdr_model.specs.Dry.{addr_after, next_addr, with_blocks};
-ghost use Rattle.sdr_model.specs.Zco.{object_at, source_on};
-ghost use Rattle.sdr_parts.specs.Components.{Grows, KeepsLimits, block_of, component_charges, source_of};
-ghost use Rattle.sdr_draft.specs.Allowed.{HasRoomFor, MayCharge, RefusesCharge};
+ghost use Rattle.sdr_model.specs.Zco.{object_at};
+ghost use Rattle.sdr_parts.specs.Bounds.{IsBounded};
+ghost use Rattle.sdr_parts.specs.Components.{Grows, KeepsLimits, block_of, component_charges};
+ghost use Rattle.sdr_draft.specs.Allowed.{MayCharge, RefusesCharge};
+ghost use Rattle.sdr_draft.specs.Calling.{IsBound};
+ghost use Rattle.sdr_draft.specs.Keeps.{Keeps, StayTouched};
+ghost use Rattle.sdr_undo.specs.Owners.{IsOwned};
 
 use crate::charging::charge_account;
-use sdr_base::{Addr, NoMemory, Refusal};
+use sdr_base::{Addr, Amounts, NoMemory, Refusal};
 use sdr_draft::Undoable;
-use sdr_model::Pending;
-use sdr_parts::component::Component;
+use sdr_model::{Pending, Thing};
+use sdr_parts::charges::{bytes_charge, heap_charge, text_charge};
+use sdr_parts::component::{Component, add};
+
+// What a component charges.
+fn component_charges(world: &Undoable, component: &Component) -> Amounts
+    requires limits { KeepsLimits component.now }
+    ensures { result ≡ component_charges world.now.now component.now }
+{
+    match component {
+        Component::Extent(extent) => bytes_charge(world.space_of(extent.source), extent.length),
+        Component::Header(capsule) | Component::Trailer(capsule) => {
+            heap_charge(text_charge(capsule.text.as_slice().len() as u64))
+        }
+    }
+}
+
+// Adds a component to the object at an address, and counts so many blocks that were taken, of which it has one, with no
+// bytes shown. Want of memory leaves the world as before.
+fn put_component(
+    world: &mut Undoable,
+    addr: Addr,
+    component: Component,
+    count: u64,
+) -> Result<(), NoMemory>
+    requires taken { world.old.now.taken + count < 2 ^ 60 + 2 ^ 30 }
+    requires there { IsSome (object_at world.old.now addr) }
+    requires bounded { IfSome (object_at world.old.now addr) IsBounded }
+    requires limits { KeepsLimits component }
+    requires owned { IsOwned world.old.owners (next_addr (world.old.now.taken + count)) addr
+        (block_of component) }
+    ensures added { OnOk result (Grows (object_at world.old.now addr) addr component
+        (record world.old.now { shown = []; taken = world.old.now.taken + count }) world.new.now) }
+    ensures touched { StayTouched world.old world.new }
+    ensures keeps { Keeps world.old world.new }
+    ensures same { OnErr result (world.new.now ≡ world.old.now) }
+{
+    let Thing::Object(mut object) = world.take(addr)? else {
+        unreachable!()
+    };
+    match add(&mut object, component) {
+        Ok(()) => {
+            world.count_blocks(count);
+            world.put(addr, Thing::Object(object));
+            Ok(())
+        }
+        Err(error) => {
+            world.put(addr, Thing::Object(object));
+            Err(error)
+        }
+    }
+}
 
 // Takes the next blocks for the object at an address, so many and one more, and adds a component in the
 // last of them. Want of memory leaves the world as before.
@@ -22,25 +76,18 @@ fn take_component(
 ) -> Result<(), NoMemory>
     requires taken { world.old.now.taken + before + 1 < 2 ^ 60 + 2 ^ 30 }
     requires there { IsSome (object_at world.old.now addr) }
+    requires bounded { IfSome (object_at world.old.now addr) IsBounded }
     requires limits { KeepsLimits component }
-    requires below { IfSome (source_of component) (λ s.
-        s < next_addr (world.old.now.taken + (before + 1))) }
     requires block { block_of component ≡ addr_after world.old.now.taken before }
-    requires room { IfSome (object_at world.old.now addr) (λ z.
-        HasRoomFor world.old.now z.account (component_charges world.old.now component)) }
     ensures added { OnOk result (Grows (object_at world.old.now addr) addr component
         (with_blocks world.old.now (before + 1)) world.new.now) }
-    ensures unnamed { OnOk result ((raw : ℕ) →
-        source_on world.old.now raw ≡ None → source_on world.new.now raw ≡ None) }
-    ensures begun { world.new.begun ≡ world.old.begun }
-    ensures touched { OnOk result ((other : ℕ) →
-        Contains world.old.touched other → Contains world.new.touched other) }
-    ensures saved { world.new.saved ≡ world.old.saved }
+    ensures touched { StayTouched world.old world.new }
+    ensures keeps { Keeps world.old world.new }
     ensures same { OnErr result (world.new.now ≡ world.old.now) }
 {
     let marks = world.marks();
     world.reserve_blocks(addr, before + 1)?;
-    match world.push_component(addr, component, before + 1) {
+    match put_component(world, addr, component, before + 1) {
         Ok(()) => Ok(()),
         Err(error) => {
             world.unmark(marks);
@@ -60,10 +107,10 @@ pub fn add_component(
     before: u64,
 ) -> Result<Result<Option<Pending>, Refusal>, NoMemory>
     requires taken { world.old.now.taken + before + 1 < 2 ^ 60 + 2 ^ 30 }
+    requires bound { IsBound world.old.now }
     requires there { IsSome (object_at world.old.now addr) }
+    requires bounded { IfSome (object_at world.old.now addr) IsBounded }
     requires limits { KeepsLimits component }
-    requires below { IfSome (source_of component) (λ s.
-        s < next_addr (world.old.now.taken + (before + 1))) }
     requires block { block_of component ≡ addr_after world.old.now.taken before }
     ensures allowed { IfOk result (λ r. IfOk r (λ p. IfSome (object_at world.old.now addr) (λ z.
         MayCharge world.old.now z.account number
@@ -72,11 +119,8 @@ pub fn add_component(
         Grows (object_at world.old.now addr) addr component
         (with_blocks (with_used world.old.now p (component_charges world.old.now component))
         (before + 1)) world.new.now)) }
-    ensures unnamed { IfOk result (λ r. OnOk r ((raw : ℕ) →
-        source_on world.old.now raw ≡ None → source_on world.new.now raw ≡ None)) }
-    ensures begun { world.new.begun ≡ world.old.begun }
-    ensures touched { IfOk result (λ r. OnOk r ((other : ℕ) →
-        Contains world.old.touched other → Contains world.new.touched other)) }
+    ensures touched { StayTouched world.old world.new }
+    ensures keeps { Keeps world.old world.new }
     ensures refused { IfOk result (λ r. IfErr r (λ refusal.
         IfSome (object_at world.old.now addr) (λ z. RefusesCharge world.old.now z.account number
         (component_charges world.old.now component) refusal))) }
@@ -87,7 +131,7 @@ pub fn add_component(
         unreachable!()
     };
     let acct = object.account;
-    let charge = world.component_charges(&component);
+    let charge = component_charges(world, &component);
     let granted = match charge_account(world, acct, number, &charge)? {
         Ok(granted) => granted,
         Err(refusal) => return Ok(Err(refusal)),

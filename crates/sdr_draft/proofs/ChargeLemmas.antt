@@ -1,7 +1,6 @@
 -- What an account allows, and what a charge leaves.
-use Rattle.std.proofs.Common.{true≢false, position, ◌≡◌, ◌≤◌, ◌<◌, ◌+◌, ◌-◌, ◌==◌, ℕ, List, [], Bool, true, false, Option, None, Some, MatchBool, MatchOption, IfSome, ap, sym, ◌∙◌, subst, refl, arith, set, length, slice_get, length-set}
+use Rattle.std.proofs.Common.{true≢false, ◌≡◌, ◌==◌, ℕ, List, [], Bool, true, false, Option, None, Some, MatchBool, MatchOption, IfSome, ap, sym, ◌∙◌, subst, refl, set, slice_get}
 use Rattle.std.proofs.lemmas.List.{set-set, set-get_or}
-use Rattle.std.proofs.lemmas.List.Sums.{sum_by-set}
 use Rattle.std.proofs.lemmas.Option.{get_or_from_slice_get}
 use Rattle.std.specs.Option.{option_map}
 use Rattle.sdr_base.specs.declared.account.Acct.{Acct}
@@ -10,24 +9,19 @@ use Rattle.sdr_base.specs.declared.account.Amounts.{Amounts}
 use Rattle.sdr_base.specs.declared.kind.Space.{Space}
 use Rattle.sdr_base.specs.declared.refusal.Refusal.{Refusal}
 use Rattle.sdr_base.specs.declared.refusal.Refusal.TheVariants as refusals
-use Rattle.sdr_model.specs.Accounts.{IsInPlace, account_of, most_amount, pending_in, ticket_at, tickets_of, with_ticket, with_tickets}
+use Rattle.sdr_model.specs.Accounts.{IsInPlace, pending_in, tickets_of, with_ticket, with_tickets}
 use Rattle.sdr_model.specs.declared.accounts.Pending.{Pending}
-use Rattle.sdr_draft.specs.Allowed.{HasRoomFor, IsBound, IsGrantOf, MayCharge, MayTakeBack, RefusesCharge, refusal_by, refusal_of, space_refusal, with_back}
-use Rattle.sdr_model.specs.Amounts.{amount, amounts_by, first_above, minus, no_amounts}
-use Rattle.sdr_model.specs.Charges.{left_in, occupancies, occupancy, rooms}
+use Rattle.sdr_draft.specs.Allowed.{IsGrantOf, MayCharge, RefusesCharge, refusal_by, refusal_of, space_refusal, with_back}
+use Rattle.sdr_model.specs.Amounts.{amounts_by, first_above, minus}
+use Rattle.sdr_model.specs.Charges.{rooms}
 use Rattle.sdr_model.specs.Charging.{Charges, OnTicket, grant_left, no_space, with_used}
-use Rattle.sdr_parts.specs.Grants.{KeepGrants}
 use Rattle.sdr_model.specs.Queue.{barrier}
 use Rattle.sdr_model.specs.Steps.{Outcome, Refuses}
-use Rattle.sdr_model.specs.Things.{Things}
 use Rattle.sdr_model.specs.World.{World}
 use Rattle.sdr_model.specs.declared.accounts.Accounts.{Accounts}
 use Rattle.sdr_model.specs.declared.accounts.Ticket.{Ticket}
 use Rattle.sdr_model.specs.declared.answer.Reply.TheVariants as replies
-use Rattle.sdr_draft.proofs.AccountLemmas.{AreBound, bound_less}
-use Rattle.sdr_model.proofs.AmountLemmas.{amount-by, amount-minus, first_above-none, nothing_in}
 use Rattle.sdr_model.proofs.Cases.{on_false}
-use Rattle.sdr_parts.proofs.QueueLemmas.{keeps_of}
 
 pub tickets_of-with_tickets : (accounts : Accounts) (acct : Acct) (ts : List Ticket)
     → tickets_of (with_tickets accounts acct ts) acct ≡ ts
@@ -42,17 +36,6 @@ tickets_again accounts accts.Outbound ts us = refl
 tickets_same : (accounts : Accounts) (acct : Acct) → with_tickets accounts acct (tickets_of accounts acct) ≡ accounts
 tickets_same accounts accts.Inbound = refl
 tickets_same accounts accts.Outbound = refl
-
--- a ticket in the place of another leaves what is left of it in that of the other
-pub left_in-set : (space : Space) (ts : List Ticket) (place : ℕ) (old new' : Ticket) → place < length ts
-    → slice_get ts place ≡ Some old
-    → left_in space (set ts place new') + amount old.left space ≡ left_in space ts + amount new'.left space
-left_in-set space ts place old new' inside is =
-    omega (
-      arith,
-      sum_by-set (λ t. amount t.left space) ts place new' old inside,
-      ap (λ t. amount t.left space) (get_or_from_slice_get ts place old old is),
-    )
 
 -- a ticket that is put where it stood before
 pub set_back : (ts : List Ticket) (place : ℕ) (old between : Ticket) → slice_get ts place ≡ Some old
@@ -73,105 +56,12 @@ with_back-used w (Some p) amounts stands =
     ∙ ap (with_tickets w.accounts p.acct) (set_back ts p.place p.ticket used stands.is)
     ∙ tickets_same w.accounts p.acct)
 
--- a charge leaves no more occupied
-pub bound_used : (things : Things) (accounts : Accounts) (p : Pending) (amounts : Amounts)
-    → AreBound things accounts → IsInPlace accounts p
-    → AreBound things (with_ticket accounts p (record p.ticket { left = minus p.ticket.left amounts }))
-bound_used things accounts p amounts bound stands =
-    let used = record p.ticket { left = minus p.ticket.left amounts } in
-    bound_less things accounts p.acct _ bound (λ space.
-    omega (arith, left_in-set space (tickets_of accounts p.acct) p.place p.ticket used stands.there stands.is, amount-minus p.ticket.left amounts space))
-
--- what a charge used may be given back
-pub may_take_back : (w : World) (p : Option Pending) (amounts : Amounts) → IfSome p (IsInPlace w.accounts)
-    → IfSome p (λ p. p.ticket.granted ≡ true) → ((acct : Acct) (space : Space) → occupancy w acct space ≤ most_amount)
-    → MayTakeBack (with_used w p amounts) p
-may_take_back w None amounts stands granted bound = record { there = tt; granted = tt; bound = bound }
-may_take_back w (Some p) amounts stands granted bound =
-    let used = record p.ticket { left = minus p.ticket.left amounts } in
-    let ts = tickets_of w.accounts p.acct in
-    record {
-      there = subst (λ us. p.place < length us) (sym (tickets_of-with_tickets w.accounts p.acct (set ts p.place used)))
-          (subst (λ n. p.place < n) (sym (length-set ts p.place used)) stands.there);
-      granted = granted;
-      bound = λ acct space.
-          subst (λ v. occupancy v acct space ≤ most_amount) (sym (with_back-used w (Some p) amounts stands)) (bound acct space);
-    }
-
--- what is occupied where a grant covered so much
-pub occupancy-used : (w : World) (p : Pending) (amounts : Amounts) (space : Space) → IsInPlace w.accounts p
-    → occupancy (with_used w (Some p) amounts) p.acct space + amount p.ticket.left space
-    ≡ occupancy w p.acct space + (amount p.ticket.left space - amount amounts space)
-occupancy-used w p amounts space stands =
-    let used = record p.ticket { left = minus p.ticket.left amounts } in
-    let ts = tickets_of w.accounts p.acct in
-    omega (
-      arith,
-      left_in-set space ts p.place p.ticket used stands.there stands.is,
-      amount-minus p.ticket.left amounts space,
-      ap (left_in space) (tickets_of-with_tickets w.accounts p.acct (set ts p.place used)),
-    )
-
-of_place : (acct : Acct) (ticket : ℕ → Ticket) (place : Option ℕ) (p : Pending)
-    → option_map (λ place. record { acct = acct; place = place; ticket = ticket place }) place ≡ Some p → p.acct ≡ acct
-of_place acct ticket None p is = cc
-of_place acct ticket (Some place) p is = cc
-
--- a ticket in the queue of an account is the account's
-pub pending_acct : (accounts : Accounts) (acct : Acct) (number : ℕ) (p : Pending)
-    → pending_in accounts acct number ≡ Some p → p.acct ≡ acct
-pending_acct accounts acct number p is =
-    of_place acct (ticket_at (tickets_of accounts acct)) (position (λ t. t.number == number) (tickets_of accounts acct)) p is
-
--- where there is room for what no grant covers, there is room for all where the grant covered what it could
-pub room_used : (w : World) (acct : Acct) (number : ℕ) (p : Option Pending) (amounts : Amounts)
-    → IsGrantOf w.accounts acct number p
-    → IfSome p (IsInPlace w.accounts) → IsBound w → HasRoomFor w acct (minus amounts (grant_left p)) → HasRoomFor (with_used w p amounts) acct amounts
-room_used w acct number None amounts granted stands bound room space =
-    omega (arith, room space, amount-minus amounts no_amounts space, nothing_in space)
-room_used w acct number (Some p) amounts granted stands bound room space =
-    subst (λ a. occupancy (with_used w (Some p) amounts) a space + amount amounts space ≤ most_amount) (pending_acct w.accounts acct number p granted.1)
-    (let here : occupancy w p.acct space + amount (minus amounts p.ticket.left) space ≤ most_amount
-    = subst (λ a. occupancy w a space + amount (minus amounts p.ticket.left) space ≤ most_amount) (sym (pending_acct w.accounts acct number p granted.1)) (room space) in
-    omega (arith, here, amount-minus amounts p.ticket.left space, occupancy-used w p amounts space stands))
-
-no_refusal : (f : Option Space) (g : Space → Refusal) → option_map g f ≡ None → f ≡ None
-no_refusal None g is = refl
-no_refusal (Some space) g is = cc
-
-refusal_none : (b : Option Ticket) (f : Option Space) (g : Space → Refusal) → refusal_by b (option_map g f) ≡ None
-    → (b ≡ None) × (f ≡ None)
-refusal_none None f g is = (refl, no_refusal f g is)
-refusal_none (Some t) f g is = cc
-
--- where an account refuses nothing, there is room
-pub room_allowed : (w : World) (acct : Acct) (uncovered : Amounts) → KeepGrants w.accounts → IsBound w
-    → refusal_of w acct uncovered ≡ None
-    → HasRoomFor w acct uncovered
-room_allowed w acct uncovered keep bound is space =
-    let none = refusal_none (barrier uncovered (tickets_of w.accounts acct)) (first_above uncovered (rooms w acct)) (space_refusal w acct uncovered) is in
-    omega (
-      arith,
-      first_above-none uncovered (rooms w acct) space none.1,
-      amount-minus (account_of w.accounts acct).maxima (occupancies w acct) space,
-      amount-by (occupancy w acct) space,
-      bound acct space,
-      (keeps_of w.accounts acct keep).maxima space,
-    )
-
 on_true : (P Q : Type 0) (b : Bool) → b ≡ true → P → MatchBool b P Q
 on_true P Q true e p = p
 on_true P Q false e p = absurd (true≢false (sym e))
 
 on_some : {T : Type 0} (P : Type 0) (Q : T → Type 0) (o : Option T) (x : T) → o ≡ Some x → Q x → MatchOption o P Q
 on_some P Q o x is q = subst (λ o. MatchOption o P Q) (sym is) q
-
--- a ticket that a charge names is granted
-pub granted_of : (accounts : Accounts) (acct : Acct) (number : ℕ) (p : Option Pending)
-    → IsGrantOf accounts acct number p
-    → IfSome p (λ p. p.ticket.granted ≡ true)
-granted_of accounts acct number None granted = tt
-granted_of accounts acct number (Some p) granted = granted.2
 
 -- a charge goes on with the ticket that it names
 pub on_grant : (w : World) (o : Outcome) (acct : Acct) (number : ℕ) (p : Option Pending) (goes : Option Pending

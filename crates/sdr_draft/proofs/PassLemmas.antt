@@ -8,8 +8,7 @@ use Rattle.sdr_base.specs.declared.account.Acct.{Acct}
 use Rattle.sdr_base.specs.declared.account.Acct.TheVariants as accts
 use Rattle.sdr_base.specs.declared.kind.Space.{Space}
 use Rattle.sdr_draft.proofs.NamedLemmas.{first_source}
-use Rattle.sdr_draft.specs.Sound.{charge_of}
-use Rattle.sdr_draft.specs.Uses.{extents_in, names_at, naming_in}
+use Rattle.sdr_draft.specs.Uses.{charge_of, extents_in, names_at, naming_in}
 use Rattle.sdr_model.specs.Accounts.{is_same_account}
 use Rattle.sdr_model.specs.Charges.{thing_charge}
 use Rattle.sdr_model.specs.World.{World}

@@ -1,12 +1,12 @@
 -- What an account allows, and what is given back to it.
-use Rattle.std.specs.Prelude.{◌≡◌, ◌≤◌, ◌<◌, ◌+◌, ◌==◌, ℕ, [], true, false, length, Option, None, Some, IfSome}
+use Rattle.std.specs.Prelude.{◌≡◌, ◌==◌, ℕ, [], true, false, Option, None, Some}
 use Rattle.std.specs.Option.{option_map}
 use Rattle.sdr_base.specs.declared.account.Acct.{Acct}
 use Rattle.sdr_base.specs.declared.account.Amounts.{Amounts}
 use Rattle.sdr_base.specs.declared.kind.Space.{Space}
 use Rattle.sdr_base.specs.declared.refusal.Refusal.{Refusal}
 use Rattle.sdr_base.specs.declared.refusal.Refusal.TheVariants as refusals
-use Rattle.sdr_model.specs.Accounts.{account_of, most_amount, pending_in, tickets_of, with_ticket}
+use Rattle.sdr_model.specs.Accounts.{account_of, pending_in, tickets_of, with_ticket}
 use Rattle.sdr_model.specs.declared.accounts.Pending.{Pending}
 use Rattle.sdr_model.specs.Amounts.{amount, first_above, minus}
 use Rattle.sdr_model.specs.Charges.{occupancy, rooms}
@@ -53,18 +53,3 @@ RefusesCharge w acct number amounts refusal =
 abbrev pub with_back : World → Option Pending → World
 with_back w None = w
 with_back w (Some p) = record w { accounts = with_ticket w.accounts p p.ticket }
-
--- no more is occupied in either account than the greatest amount
-abbrev pub IsBound : World → Type 0
-IsBound w = (acct : Acct) (space : Space) → occupancy w acct space ≤ most_amount
-
--- What a charge used of a grant may be given back: the ticket has its place and is granted, and no more is occupied after it
--- than the greatest amount.
-pub record MayTakeBack (w : World) (p : Option Pending) : Type 0 where
-  pub there : IfSome p (λ p. p.place < length (tickets_of w.accounts p.acct))
-  pub granted : IfSome p (λ p. p.ticket.granted ≡ true)
-  pub bound : IsBound (with_back w p)
-
--- there is room for these amounts in an account
-abbrev pub HasRoomFor : World → Acct → Amounts → Type 0
-HasRoomFor w acct amounts = (space : Space) → occupancy w acct space + amount amounts space ≤ most_amount

@@ -1,6 +1,4 @@
 pub mod Allowed
-pub mod Drops
-pub mod Edits
-pub mod Sound
-pub mod Strips
+pub mod Calling
+pub mod Keeps
 pub mod Uses

@@ -2,25 +2,20 @@
 ghost use Rattle.std.specs.FinMap as map;
 ghost use Rattle.std.specs.List.{list_any};
 ghost use Rattle.std.specs.Option.{option_copied};
-ghost use Rattle.std.specs.Prelude.{◌≡◌, ◌<◌, ◌+◌, ◌^◌, ◌++◌, length, take, ◌∷◌, [], IfOk, IfSome, OnOk, OnErr, IsSome, None, Some, Contains, true, false};
+ghost use Rattle.std.specs.Prelude.{◌≡◌, ◌<◌, ◌+◌, ◌^◌, ◌++◌, ℕ, length, take, ◌∷◌, [], IfOk, IfSome, OnOk, OnErr, IsSome, None, Some, Contains, false};
 ghost use Rattle.sdr_model.specs.Dry.{with_taken, next_addr};
 ghost use Rattle.sdr_model.specs.Names.{name_of, without_name};
 ghost use Rattle.sdr_model.specs.Steps.{with_thing, without_thing};
 ghost use Rattle.sdr_model.specs.Things.{IsWithin, SpotIs, inner_among, inner_blocks};
 ghost use Rattle.sdr_model.specs.World.{at_rest, block_at, empty_world, is_marked, spot_of, thing_at};
 ghost use Rattle.sdr_model.specs.declared.things.Thing.{Thing};
-ghost use Rattle.sdr_draft.specs.Sound.{IsSound, is_plain};
+ghost use Rattle.sdr_draft.specs.Keeps.{Keeps, StayTouched};
 ghost use Rattle.sdr_undo.specs.Owners.{MayHave, MayPut};
 
 mod blocks;
-mod bonding;
 mod charges;
 mod charging;
-mod editing;
-mod growing;
-mod objects;
-mod sources;
-mod trimming;
+mod things;
 mod uses;
 
 use sdr_base::{Addr, Bytes, Items, NoMemory};
@@ -54,7 +49,7 @@ impl Model for Undoable {
     ghost use Rattle.std.specs.Prelude.{[]};
     ghost use Rattle.sdr_undo.specs.Draft as draft;
     ghost use Rattle.sdr_model.specs.Dry.{next_addr};
-    ghost use Rattle.sdr_draft.specs.Sound.{IsKept};
+    ghost use Rattle.sdr_undo.specs.Owners.{AllOwnInside};
 
     ghost Value = { draft.Draft };
 
@@ -68,7 +63,7 @@ impl Model for Undoable {
       saved = s.accounts.saved;
     } };
 
-    ghost invariant = { λ s. IsKept s.owners (next_addr s.taken) s.things s.accounts };
+    ghost invariant = { λ s. AllOwnInside s.owners (next_addr s.taken) s.things.begun s.things.now };
 }
 
 impl Undoable {
@@ -172,24 +167,10 @@ impl Undoable {
     /// Takes the marks behind the first so many off.
     pub fn unmark(&mut self, marks: usize)
         ensures unmarked { self.new.now ≡ record self.old.now { marks = take marks self.old.now.marks } }
-        ensures begun { self.new.begun ≡ self.old.begun }
-        ensures saved { self.new.saved ≡ self.old.saved }
-        ensures touched { self.new.touched ≡ self.old.touched }
+        ensures others { StayTouched self.old self.new }
+        ensures keeps { Keeps self.old self.new }
     {
         self.marks.truncate(marks);
-    }
-
-    /// Counts a block that was taken, with no bytes shown.
-    pub fn count(&mut self)
-        requires taken { self.old.now.taken < 2 ^ 60 }
-        ensures counted { self.new.now ≡ record self.old.now { shown = []; taken = self.old.now.taken + 1 } }
-        ensures begun { self.new.begun ≡ self.old.begun }
-        ensures saved { self.new.saved ≡ self.old.saved }
-        ensures touched { self.new.touched ≡ self.old.touched }
-        ensures owners { self.new.owners ≡ self.old.owners }
-    {
-        self.shown = Bytes::new(self.alloc);
-        self.taken += 1;
     }
 
     /// Takes the next address, and marks it.
@@ -198,9 +179,7 @@ impl Undoable {
         ensures addr { IfOk result (λ addr. addr ≡ next_addr self.old.now.taken) }
         ensures marked { IfOk result (λ addr.
             self.new.now ≡ record self.old.now { marks = self.old.now.marks ++ addr ∷ [] }) }
-        ensures begun { self.new.begun ≡ self.old.begun }
-        ensures saved { self.new.saved ≡ self.old.saved }
-        ensures touched { self.new.touched ≡ self.old.touched }
+        ensures keeps { Keeps self.old self.new }
         ensures owners { self.new.owners ≡ self.old.owners }
         ensures same { OnErr result (self.new.now ≡ self.old.now) }
     {
@@ -217,8 +196,7 @@ impl Undoable {
         ensures marked { IfOk result (λ addr.
             self.new.now ≡ record self.old.now { marks = self.old.now.marks ++ addr ∷ [] }) }
         ensures noted { IfOk result (λ addr. map.get self.new.owners addr ≡ Some owner) }
-        ensures begun { self.new.begun ≡ self.old.begun }
-        ensures saved { self.new.saved ≡ self.old.saved }
+        ensures keeps { Keeps self.old self.new }
         ensures same { OnErr result (self.new.now ≡ self.old.now) }
     {
         let addr = 8 * (self.taken + 1);
@@ -231,40 +209,52 @@ impl Undoable {
     pub fn make(&mut self, thing: Thing) -> Result<Addr, NoMemory>
         requires taken { self.old.now.taken < 2 ^ 60 }
         requires bare { inner_blocks thing ≡ [] }
-        requires plain { is_plain (Some thing) ≡ true }
-        requires sound { IsSound (next_addr self.old.now.taken) thing }
         ensures addr { IfOk result (λ addr. addr ≡ next_addr self.old.now.taken) }
         ensures made { IfOk result (λ addr.
             self.new.now ≡ with_taken (with_thing self.old.now addr thing) addr) }
-        ensures begun { self.new.begun ≡ self.old.begun }
-        ensures saved { self.new.saved ≡ self.old.saved }
+        ensures keeps { Keeps self.old self.new }
         ensures same { OnErr result (self.new.now ≡ self.old.now) }
     {
-        let marks = self.marks.len();
-        let addr = self.mark_next()?;
-        match self.things.replace(addr, Some(thing)) {
-            Ok(()) => {
-                self.shown = Bytes::new(self.alloc);
-                self.taken += 1;
-                Ok(addr)
-            }
-            Err(error) => {
-                self.marks.truncate(marks);
-                Err(error)
-            }
-        }
+        let addr = 8 * (self.taken + 1);
+        self.things.touch(addr)?;
+        self.marks.push(addr)?;
+        self.things.put(addr, Some(thing));
+        self.shown = Bytes::new(self.alloc);
+        self.taken += 1;
+        Ok(addr)
     }
 
-    /// Lets the thing at an address go. Want of memory leaves the world as before.
+    /// Takes note that the thing at an address may be changed. After it that needs no memory. Want of memory
+    /// leaves the world as before.
+    pub fn touch(&mut self, addr: Addr) -> Result<(), NoMemory>
+        ensures now { self.new.now ≡ self.old.now }
+        ensures owners { self.new.owners ≡ self.old.owners }
+        ensures touched { OnOk result (Contains self.new.touched addr) }
+        ensures others { StayTouched self.old self.new }
+        ensures keeps { Keeps self.old self.new }
+    {
+        self.things.touch(addr)
+    }
+
+    /// Lets the thing at an address that was touched go.
+    pub fn drop(&mut self, addr: Addr)
+        requires touched { Contains self.old.touched addr }
+        ensures dropped { self.new.now ≡ without_thing self.old.now addr }
+        ensures others { StayTouched self.old self.new }
+        ensures keeps { Keeps self.old self.new }
+    {
+        self.things.put(addr, None);
+    }
+
+    /// Lets the thing at an address go, with no bytes shown. Want of memory leaves the world as before.
     pub fn lose(&mut self, addr: Addr) -> Result<(), NoMemory>
-        requires plain { is_plain (thing_at self.old.now addr) ≡ true }
         ensures lost { OnOk result (self.new.now ≡ record (without_thing self.old.now addr) { shown = [] }) }
-        ensures begun { self.new.begun ≡ self.old.begun }
-        ensures saved { self.new.saved ≡ self.old.saved }
+        ensures keeps { Keeps self.old self.new }
         ensures same { OnErr result (self.new.now ≡ self.old.now) }
     {
-        self.things.replace(addr, None)?;
-        self.shown = Bytes::new(self.alloc);
+        self.touch(addr)?;
+        self.drop(addr);
+        self.hide();
         Ok(())
     }
 
@@ -272,18 +262,15 @@ impl Undoable {
     /// before.
     pub fn take(&mut self, addr: Addr) -> Result<Thing, NoMemory>
         requires some { IsSome (thing_at self.old.now addr) }
-        requires plain { is_plain (thing_at self.old.now addr) ≡ true }
         ensures taken { IfOk result (λ thing. thing_at self.old.now addr ≡ Some thing) }
         ensures again { OnOk result ((thing : Thing) →
             with_thing self.new.now addr thing ≡ with_thing self.old.now addr thing) }
         ensures back { IfOk result (λ thing. with_thing self.new.now addr thing ≡ self.old.now) }
         ensures may_put { IfOk result (λ thing. MayPut self.new addr thing) }
-        ensures plain { OnOk result (is_plain (thing_at self.new.now addr) ≡ true) }
-        ensures sound { IfOk result (λ thing. IsSound (next_addr self.new.now.taken) thing) }
         ensures touched { OnOk result (Contains self.new.touched addr) }
         ensures owners { self.new.owners ≡ self.old.owners }
-        ensures begun { self.new.begun ≡ self.old.begun }
-        ensures saved { self.new.saved ≡ self.old.saved }
+        ensures others { StayTouched self.old self.new }
+        ensures keeps { Keeps self.old self.new }
         ensures same { OnErr result (self.new.now ≡ self.old.now) }
     {
         self.things.take(addr)
@@ -293,14 +280,10 @@ impl Undoable {
     pub fn put(&mut self, addr: Addr, thing: Thing)
         requires touched { Contains self.old.touched addr }
         requires may_put { MayPut self.old addr thing }
-        requires plain { is_plain (Some thing) ≡ true }
-        requires was_plain { is_plain (thing_at self.old.now addr) ≡ true }
-        requires sound { IsSound (next_addr self.old.now.taken) thing }
         ensures put { self.new.now ≡ with_thing self.old.now addr thing }
-        ensures begun { self.new.begun ≡ self.old.begun }
-        ensures saved { self.new.saved ≡ self.old.saved }
         ensures owners { self.new.owners ≡ self.old.owners }
-        ensures touched { self.new.touched ≡ self.old.touched }
+        ensures others { StayTouched self.old self.new }
+        ensures keeps { Keeps self.old self.new }
     {
         self.things.put(addr, Some(thing));
     }
@@ -309,9 +292,7 @@ impl Undoable {
     pub fn hide(&mut self)
         ensures hidden { self.new.now ≡ record self.old.now { shown = [] } }
         ensures owners { self.new.owners ≡ self.old.owners }
-        ensures begun { self.new.begun ≡ self.old.begun }
-        ensures saved { self.new.saved ≡ self.old.saved }
-        ensures touched { self.new.touched ≡ self.old.touched }
+        ensures keeps { Keeps self.old self.new }
     {
         self.shown = Bytes::new(self.alloc);
     }
@@ -319,8 +300,7 @@ impl Undoable {
     /// Shows these bytes.
     pub fn show(&mut self, shown: Bytes)
         ensures shown { self.new.now ≡ record self.old.now { shown = shown } }
-        ensures begun { self.new.begun ≡ self.old.begun }
-        ensures saved { self.new.saved ≡ self.old.saved }
+        ensures keeps { Keeps self.old self.new }
     {
         self.shown = shown;
     }
@@ -329,8 +309,7 @@ impl Undoable {
     pub fn stage(&mut self, addr: Addr, shown: Bytes) -> Result<(), NoMemory>
         ensures staged { OnOk result
             (self.new.now ≡ record self.old.now { marks = self.old.now.marks ++ addr ∷ []; shown = shown }) }
-        ensures begun { self.new.begun ≡ self.old.begun }
-        ensures saved { self.new.saved ≡ self.old.saved }
+        ensures keeps { Keeps self.old self.new }
         ensures same { OnErr result (self.new.now ≡ self.old.now) }
     {
         self.marks.push(addr)?;
@@ -347,7 +326,7 @@ impl Undoable {
               names = self.old.now.names
                   ++ record { block = addr; name = name.now; kind = kind; object = object } ∷ [];
             }) addr) }
-        ensures begun { self.new.begun ≡ self.old.begun }
+        ensures keeps { Keeps self.old self.new }
         ensures same { OnErr result (self.new.now ≡ self.old.now) }
     {
         let marks = self.marks.len();
@@ -374,7 +353,7 @@ impl Undoable {
     pub fn unname(&mut self, name: &[u8]) -> Result<(), NoMemory>
         ensures unnamed { OnOk result (self.new.now
             ≡ record self.old.now { names = without_name self.old.now.names name.now; shown = [] }) }
-        ensures begun { self.new.begun ≡ self.old.begun }
+        ensures keeps { Keeps self.old self.new }
         ensures same { OnErr result (self.new.now ≡ self.old.now) }
     {
         self.catalogue.remove(name)?;

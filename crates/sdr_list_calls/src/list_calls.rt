@@ -145,7 +145,7 @@ pub fn put_element(
     match world.take(list)? {
         Thing::List(mut row) => match row.elements.insert(place, element) {
             Ok(()) => {
-                world.count();
+                world.count_blocks(1);
                 world.put(list, Thing::List(row));
                 Ok(())
             }

@@ -7,7 +7,7 @@ ghost use Rattle.sdr_model.specs.ListSteps.{compare_keys, ordered_place, sort_ke
 use crate::insert_calls::insert_at;
 use crate::list_calls::{element_addr, list};
 use sdr_base::{Addr, NoMemory};
-use sdr_calls::raw_calls::{misnamed, raw};
+use sdr_calls::raw_calls::misnamed;
 use sdr_draft::Undoable;
 use sdr_model::limits::LONGEST_SORT_KEY;
 use sdr_model::{Call, Keys, Reply, SdrList};
@@ -18,7 +18,7 @@ use std::cmp::Ordering;
 fn sort_key(world: &Undoable, datum: u64) -> &[u8]
     ensures { result.now ≡ sort_key world.now.now datum }
 {
-    match raw(world, datum) {
+    match world.raw(datum) {
         Some(bytes) => &bytes.as_slice()[..LONGEST_SORT_KEY.min(bytes.len())],
         None => &[],
     }

@@ -6,9 +6,8 @@ use Rattle.sdr_base.specs.declared.account.Amounts.{Amounts}
 use Rattle.sdr_base.specs.declared.kind.Space.{Space}
 use Rattle.sdr_base.specs.declared.kind.Space.TheVariants as spaces
 use Rattle.sdr_model.specs.Accounts.{most_amount}
-use Rattle.sdr_model.specs.Amounts.{amounts_by}
 use Rattle.sdr_model.specs.BondSteps.{bond_rise}
-use Rattle.sdr_parts.specs.Bounds.{IsBounded, IsModest}
+use Rattle.sdr_parts.specs.Capped.{capped, capped_by}
 use Rattle.sdr_model.specs.Charges.{bytes_charge, capsule_bytes, capsule_charge, extent_charge, object_charge, space_in}
 use Rattle.sdr_model.specs.World.{World}
 use Rattle.sdr_model.specs.Zco.{capsules_length, extents_length, source_at}
@@ -53,17 +52,6 @@ extents_length-charged w (e ∷ es) =
       sum_by-cons (extent_charge w spaces.Heap) e es,
     )
 
--- an object whose charges are small is bounded
-pub IsModest-bounded : (w : World) (next : ℕ) (z : ZcoObject) → IsModest next z
-    → ((space : Space) → object_charge w space z ≤ most_amount) → IsBounded z
-IsModest-bounded w next z modest charges = record {
-  headers = omega (arith, capsules_length-charged z.headers, charges spaces.Heap);
-  ends = modest.extents;
-  extents = omega (arith, extents_length-charged w z.extents, charges spaces.File, charges spaces.Bulk, charges spaces.Heap);
-  trailers = omega (arith, capsules_length-charged z.trailers, charges spaces.Heap);
-  part = modest.part;
-}
-
 -- as extents, headers or trailers charge at most three times as much more as they charge
 pub rise-most : (capsules : List Capsule)
     → sum_by (bond_rise spaces.Heap) capsules ≤ 3 * sum_by (capsule_charge spaces.Heap) capsules
@@ -89,15 +77,15 @@ no_bulk : (capsules : List Capsule) → sum_by (capsule_charge spaces.Bulk) caps
 no_bulk [] = refl
 no_bulk (c ∷ cs) = omega (arith, sum_by-cons (capsule_charge spaces.Bulk) c cs, no_bulk cs)
 
--- what an object charges, from what is in it
+-- what an object charges, from what is in it, as far as words hold it
 pub object_charge-parts : (w : World) (z : ZcoObject) (file bulk heap : ℕ)
-    → file ≡ sum_by (extent_charge w spaces.File) z.extents → bulk ≡ sum_by (extent_charge w spaces.Bulk) z.extents
-    → heap ≡ 72 + sum_by (extent_charge w spaces.Heap) z.extents + sum_by (capsule_charge spaces.Heap) z.headers
-    + sum_by (capsule_charge spaces.Heap) z.trailers
-    → amounts_of file bulk heap ≡ amounts_by (λ space. object_charge w space z)
+    → file ≡ capped (sum_by (extent_charge w spaces.File) z.extents) → bulk ≡ capped (sum_by (extent_charge w spaces.Bulk) z.extents)
+    → heap ≡ capped (72 + sum_by (extent_charge w spaces.Heap) z.extents + sum_by (capsule_charge spaces.Heap) z.headers
+    + sum_by (capsule_charge spaces.Heap) z.trailers)
+    → amounts_of file bulk heap ≡ capped_by (λ space. object_charge w space z)
 object_charge-parts w z file bulk heap f b h =
     ap (λ n. amounts_of n bulk heap)
-    (let same : file ≡ object_charge w spaces.File z = omega (arith, f, no_file z.headers, no_file z.trailers) in same)
-    ∙ ap (λ n. amounts_of (object_charge w spaces.File z) n heap)
-    (let same : bulk ≡ object_charge w spaces.Bulk z = omega (arith, b, no_bulk z.headers, no_bulk z.trailers) in same)
-    ∙ ap (amounts_of (object_charge w spaces.File z) (object_charge w spaces.Bulk z)) h
+    (let same : file ≡ capped (object_charge w spaces.File z) = omega (arith, f, no_file z.headers, no_file z.trailers) in same)
+    ∙ ap (λ n. amounts_of (capped (object_charge w spaces.File z)) n heap)
+    (let same : bulk ≡ capped (object_charge w spaces.Bulk z) = omega (arith, b, no_bulk z.headers, no_bulk z.trailers) in same)
+    ∙ ap (amounts_of (capped (object_charge w spaces.File z)) (capped (object_charge w spaces.Bulk z))) h

@@ -1,2 +1,2 @@
 pub mod BoundsLemmas
-pub mod QueueLemmas
+pub mod CappedLemmas

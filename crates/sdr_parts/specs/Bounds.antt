@@ -14,14 +14,6 @@ EndsInTime e = e.offset + e.length ≤ longest_source
 abbrev pub IsShort : Capsule → Type 0
 IsShort c = length c.text ≤ longest_capsule
 
--- What is in an object keeps to the limits, its sources lie below the next address, and its part inside its extents.
-pub record IsModest (next : ℕ) (z : ZcoObject) : Type 0 where
-  pub headers : All IsShort z.headers
-  pub extents : All EndsInTime z.extents
-  pub trailers : All IsShort z.trailers
-  pub sources : All (λ e. e.source < next) z.extents
-  pub part : z.part.offset + z.part.length ≤ extents_length z.extents
-
 -- these extents have few bytes together
 abbrev pub AreFewBytes : List Extent → Type 0
 AreFewBytes extents = extents_length extents ≤ 2 ^ 42

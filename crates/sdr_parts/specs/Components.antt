@@ -25,12 +25,6 @@ block_of (components.Extent e) = e.block
 block_of (components.Header c) = c.block
 block_of (components.Trailer c) = c.block
 
--- the source of an extent, none for a header or trailer
-abbrev pub source_of : Component → Option ℕ
-source_of (components.Extent e) = Some e.source
-source_of (components.Header c) = None
-source_of (components.Trailer c) = None
-
 -- what a component charges of a space
 abbrev pub component_charge : World → Space → Component → ℕ
 component_charge w space (components.Extent e) = extent_charge w space e
@@ -46,11 +40,6 @@ abbrev pub KeepsLimits : Component → Type 0
 KeepsLimits (components.Extent e) = EndsInTime e
 KeepsLimits (components.Header c) = IsShort c
 KeepsLimits (components.Trailer c) = IsShort c
-
--- the object is there, and has one more component
-abbrev pub AddsComponent : Option ZcoObject → ℕ → Component → Things → Things → Type 0
-AddsComponent None addr component old new = ⊥
-AddsComponent (Some z) addr component old new = new ≡ with_at old addr (Some (things.Object (with_component z component)))
 
 -- the object is there, and the world is this one with one more component in the object
 abbrev pub Grows : Option ZcoObject → ℕ → Component → World → World → Type 0

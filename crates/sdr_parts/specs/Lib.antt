@@ -1,5 +1,5 @@
 pub mod Bounds
+pub mod Capped
 pub mod Components
-pub mod Grants
+pub mod Rooms
 pub mod Sides
-pub mod Trims

@@ -2,16 +2,15 @@
 //! Nothing here keeps a world.
 //!
 //! 1. What is in an object is bounded, so that each sum over it fits a word.
-//! 2. An edit, a trim and a component say how an object is changed.
+//! 2. A sum that may be more than a word holds is capped at the greatest word.
 #![tactic(auto)]
 
+pub mod amounts;
 pub mod capsules;
 pub mod charges;
 pub mod component;
 pub mod cuts;
-pub mod edits;
 pub mod object;
 pub mod queue;
 
 pub use component::{Component, Side};
-pub use edits::{Edit, Stripping, Trim};

@@ -1,15 +1,15 @@
 // The queue of an account's tickets.
-ghost use Rattle.std.specs.Prelude.{◌≡◌, ◌≤◌, OnErr, OnOk, Some, None, length, if◌then◌else◌};
+ghost use Rattle.std.specs.Prelude.{◌≡◌, ◌≤◌, OnErr, OnOk, Some, None, length};
 ghost use Rattle.std.specs.List.{prefix_len};
-ghost use Rattle.sdr_base.specs.declared.kind.Space.{Space};
-ghost use Rattle.sdr_model.specs.Accounts.{most_amount};
-ghost use Rattle.sdr_model.specs.Amounts.{amounts_by, are_within, minus, plus};
 ghost use Rattle.sdr_model.specs.Charges.{left_in};
-ghost use Rattle.sdr_model.specs.Queue.{barrier, enqueued, front_waiting, granted, served, stands_before};
+ghost use Rattle.sdr_model.specs.Queue.{barrier, enqueued, front_waiting, granted, stands_before};
+ghost use Rattle.sdr_parts.specs.Capped.{capped_by};
+ghost use Rattle.sdr_parts.specs.Rooms.{served_in};
 
+use crate::amounts::capped_plus;
 use sdr_base::{Amounts, Items, NoMemory};
 use sdr_model::Ticket;
-use sdr_model::amounts::{NOTHING, are_within, is_nothing, minus, plus};
+use sdr_model::amounts::{NOTHING, are_within, is_nothing, minus};
 
 // Whether a ticket stands before another that comes to wait.
 fn stands_before(ticket: &Ticket, new: &Ticket) -> bool
@@ -43,14 +43,13 @@ pub fn enqueue(tickets: &mut Items<Ticket>, new: Ticket) -> Result<(), NoMemory>
     tickets.insert(place, new)
 }
 
-/// What is left of the grants of tickets.
+/// What is left of the grants of tickets, as far as words hold it.
 pub fn left(tickets: &[Ticket]) -> Amounts
-    requires small { (space : Space) → left_in space tickets.now ≤ most_amount }
-    ensures { result ≡ amounts_by (λ space. left_in space tickets.now) }
+    ensures { result ≡ capped_by (λ space. left_in space tickets.now) }
 {
     let mut left = NOTHING;
     for ticket in tickets {
-        left = plus(&left, &ticket.left);
+        left = capped_plus(&left, &ticket.left);
     }
     left
 }
@@ -66,32 +65,21 @@ fn granted(ticket: Ticket) -> Ticket
     }
 }
 
-// What is occupied with a grant of so much, where that is at most the room.
-fn occupied_with(occupied: Amounts, maxima: Amounts, asked: Amounts) -> Option<Amounts>
-    ensures { result ≡ (if are_within asked (minus maxima occupied) then Some (plus occupied asked)
-        else None) }
+/// Serves a queue in the room of its account: the first waiting ticket is granted while each amount that it asks is at most
+/// the room, which a grant lessens. It is linear in the queue.
+pub fn serve(tickets: &mut Items<Ticket>, room: Amounts)
+    ensures { tickets.new ≡ served_in room tickets.old }
 {
-    if !are_within(&asked, &minus(&maxima, &occupied)) {
-        return None;
-    }
-    Some(plus(&occupied, &asked))
-}
-
-/// Serves a queue: the first waiting ticket is granted while each amount that it asks is at most the room,
-/// and a grant is occupied from then on. It is linear in the queue.
-pub fn serve(tickets: &mut Items<Ticket>, maxima: &Amounts, occupied: &Amounts)
-    ensures { tickets.new ≡ served maxima.now occupied.now tickets.old }
-{
-    let mut occupied = *occupied;
+    let mut room = room;
     for place in 0..tickets.len() {
         let ticket = tickets.as_slice()[place];
         if ticket.granted {
             continue;
         }
-        let Some(with) = occupied_with(occupied, *maxima, ticket.asked) else {
+        if !are_within(&ticket.asked, &room) {
             return;
-        };
-        occupied = with;
+        }
+        room = minus(&room, &ticket.asked);
         tickets.set(place, granted(ticket));
     }
 }

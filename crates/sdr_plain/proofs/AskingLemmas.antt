@@ -1,6 +1,6 @@
 -- Calls that read media, as steps of the machine.
-use Rattle.std.proofs.Common.{◌≡◌, ◌⊎◌, ◌≤◌, ◌==◌, ◌&&◌, ℕ, List, [], Bool, true, false, not, if◌then◌else◌, unwrap_or, Result, Ok, Err, IfOk, IfSome, Option, None, Some, inl, inr, length, refl, sym, ap, ◌∙◌, subst, arith, MatchBool, MatchOption, true≢false}
-use Rattle.std.proofs.lemmas.Bool.{ltb-false}
+use Rattle.std.proofs.Common.{◌≡◌, ◌⊎◌, ◌≤◌, ◌==◌, ◌&&◌, ℕ, List, [], Bool, true, false, not, if◌then◌else◌, unwrap_or, Option, None, Some, inl, inr, length, refl, sym, ap, ◌∙◌, subst, arith, MatchBool, MatchOption, true≢false}
+use Rattle.std.proofs.lemmas.Bool.{and_parts, ltb-false, not-true}
 use Rattle.std.specs.List.{list_any}
 use Rattle.std.specs.Option.{option_map_or}
 use Rattle.std.specs.Prelude.{is_none, nat_lt}
@@ -54,11 +54,6 @@ media_reads (calls.ReceiveHeaders addr place count) reads = refl
 media_reads (calls.ReceiveSource addr place count) reads = refl
 media_reads (calls.ReceiveTrailers addr place count) reads = refl
 media_reads call reads = absurd (true≢false (sym reads))
-
--- whether the event is a call
-abbrev pub is_call : Event → Bool
-is_call (events.Say call) = true
-is_call event = false
 
 -- an answer that tells nothing of media: whatever they hold, it agrees with them
 abbrev pub TellsNothing : Answer → Type 0
@@ -128,18 +123,9 @@ misses w call replies.MediaFault gap asks = asks
 misses w call (replies.Refused (refusals.SourceShort have want)) gap asks = asks
 misses w call reply gap asks = absurd gap
 
-not_true : (b : Bool) → not b ≡ true → b ≡ false
-not_true false is = refl
-not_true true is = absurd (true≢false (sym is))
-
 none_true : {X : Type 0} (o : Option X) → is_none o ≡ true → o ≡ None
 none_true None is = refl
 none_true (Some x) is = absurd (true≢false (sym is))
-
-both_true : (a b : Bool) → a && b ≡ true → (a ≡ true) × (b ≡ true)
-both_true true true is = (refl, refl)
-both_true true false is = absurd (true≢false (sym is))
-both_true false b is = absurd (true≢false (sym is))
 
 -- a daemon whose calls are made is served
 pub is_served_by : (r : Roll) (id : ℕ) → makes_calls r id ≡ true → IsServed r id
@@ -149,15 +135,15 @@ is_served_by r id makes = by_daemon (daemon_of r id) refl makes
         → option_map_or (λ (h : Holding). is_served r h) o false ≡ true → IsServed r id
     by_holding d found left None holds is = absurd (true≢false (sym is))
     by_holding d found left (Some h) holds is =
-        let outer = both_true (not (h.nesting.depth == 0) && served_number r == h.number) (is_none h.nesting.doom) is in
-        let inner = both_true (not (h.nesting.depth == 0)) (served_number r == h.number) outer.0 in
+        let outer = and_parts (not (h.nesting.depth == 0) && served_number r == h.number) (is_none h.nesting.doom) is in
+        let inner = and_parts (not (h.nesting.depth == 0)) (served_number r == h.number) outer.0 in
         record {
           daemon = d;
           holding = h;
           found = found;
           stays = left;
           holds = holds;
-          inside = not_true (h.nesting.depth == 0) inner.0;
+          inside = not-true (h.nesting.depth == 0) inner.0;
           served = inner.1;
           undoomed = none_true h.nesting.doom outer.1;
         }
@@ -166,8 +152,8 @@ is_served_by r id makes = by_daemon (daemon_of r id) refl makes
         → option_map_or (λ (d : Daemon). not d.left && option_map_or (λ (h : Holding). is_served r h) d.holds false) o false ≡ true → IsServed r id
     by_daemon None found is = absurd (true≢false (sym is))
     by_daemon (Some d) found is =
-        let parts = both_true (not d.left) (option_map_or (λ (h : Holding). is_served r h) d.holds false) is in
-        by_holding d found (not_true d.left parts.0) d.holds refl parts.1
+        let parts = and_parts (not d.left) (option_map_or (λ (h : Holding). is_served r h) d.holds false) is in
+        by_holding d found (not-true d.left parts.0) d.holds refl parts.1
 
 -- the calls of a daemon that is served are made
 pub makes_served : (r : Roll) (id : ℕ) → IsServed r id → makes_calls r id ≡ true
@@ -310,15 +296,3 @@ module _ (r : Roll) (w : Worlds) (daemon : ℕ) (event : Event)
   asks_nothing = record {
     agrees = λ e m' told same said step. agrees_of e m' told same said (step_is of e m' step).kind;
   }
-
--- what follows of something that was found
-pub in_found : {X E : Type 0} {P Q : X → Type 0} (r : Result (Option X) E) → IfOk r (λ o. IfSome o P) → ((x : X) → P x → Q x)
-    → IfOk r (λ o. IfSome o Q)
-in_found (Ok (Some x)) h f = f x h
-in_found (Ok None) h f = tt
-in_found (Err e) h f = tt
-
--- an event that is none of the calls
-pub no_call : (event : Event) → ((call : Call) → event ≡ events.Say call → ⊥) → is_call event ≡ false
-no_call (events.Say call) none = absurd (none call refl)
-no_call event none = refl

@@ -1,3 +1,4 @@
 pub mod AskingLemmas
 pub mod BareLemmas
+pub mod BoundLaws
 pub mod PlainLemmas

@@ -1,9 +1,10 @@
 -- Events of a machine that stands on worlds with no heap.
-use Rattle.std.proofs.Common.{◌<◌, true, false, true≢false, ◌==◌, ◌++◌, Some, IsSome, is_some, filter, map, not, ◌-◌, ◌∷◌, [], drop, length, slice_index_or, take, ◌≡◌, ◌∙◌, ◌≤◌, ◌+◌, ℕ, List, Option, Bool, suc, None, refl, sym, ap, subst, arith}
+use Rattle.std.proofs.Common.{true, false, true≢false, ◌==◌, ◌++◌, Some, IsSome, is_some, filter, map, not, ◌-◌, ◌∷◌, [], drop, length, slice_index_or, take, ◌≡◌, ◌∙◌, ◌≤◌, ◌+◌, ℕ, List, Option, Bool, suc, None, refl, sym, ap, subst, arith}
 use Rattle.std.proofs.lemmas.List.{length-map, take_all}
 use Rattle.std.proofs.lemmas.List.Filters.{length-filter_both}
 use Rattle.std.specs.Option.{option_map_or}
 use Rattle.sdr_base.specs.Media.{Told}
+use Rattle.sdr_model.specs.Few.{most_pieces}
 use Rattle.sdr_model.specs.World.{World, empty_world}
 use Rattle.sdr_model.specs.declared.event.Event.TheVariants as events
 use Rattle.sdr_base.specs.declared.refusal.Refusal.TheVariants as refusals
@@ -37,32 +38,39 @@ use Rattle.sdr_plain.specs.Plain.{IsKept, Plain, machine_of}
 pub stands_for_itself : (w : Worlds) → StandsBare w (standing_bare w)
 stands_for_itself w = record { before = refl; now = refl }
 
--- an event was answered by a step, under which the lock is kept
-pub record Answered (r r' : Roll) (w w' : Worlds) (daemon : ℕ) (event : Event) (a : Came) : Type 0 where
-  pub steps : (line : ℕ) → StepsAt (machine_on r w) daemon line event a (machine_on r' w')
-  pub daemons : length r'.daemons ≡ length r.daemons
-  pub kept : (events : ℕ) → IsKept events r w → IsKept (events + 1) r' w'
+-- an event was answered by a step of a machine, which is kept
+pub record Answered (inside p : Plain) (new : Locked Worlds) (daemon : ℕ) (event : Event) (a : Came) : Type 0 where
+  pub steps : (line : ℕ) → StepsAt (machine_of p) daemon line event a (machine_on new.roll new.base)
+  pub daemons : length new.roll.daemons ≡ length p.roll.daemons
+  pub kept : inside.events + 1 ≤ most_pieces → IsKept (inside.events + 1) new.roll new.base
 
 -- What a lock answers on worlds with no heap.
-pub answered_so : (keeps : Bool) (r : Roll) (w : Worlds) (new : Locked Worlds) (daemon : ℕ) (event : Event) (a : Came) → r.failed ≡ None
-    → Acts bare_ground keeps MachineStep daemon event a (record { roll = r; base = w }) new → Answered r new.roll w new.base daemon event a
-answered_so keeps r w new daemon event a sound acts = from (acts.leads.each (standing_bare w) (λ _. stands_for_itself w))
+pub answered_so : (keeps : Bool) (inside p : Plain) (new : Locked Worlds) (daemon : ℕ) (event : Event) (a : Came) → inside ≡ p
+    → IsKept inside.events inside.roll inside.worlds
+    → Acts bare_ground keeps MachineStep daemon event a (record { roll = inside.roll; base = inside.worlds }) new → Answered inside p new daemon event a
+answered_so keeps inside p new daemon event a same kept acts =
+    subst (λ (q : Plain). Answered inside q new daemon event a) same (from (acts.leads.each (standing_bare inside.worlds) (λ _. stands_for_itself inside.worlds)))
   where
-    from : StoodFor StandsBare new (Makes bare_ground MachineStep (record { roll = r; base = w }) new daemon event a (standing_bare w)) → Answered r new.roll w new.base daemon event a
+    m : Machine
+    m = machine_of inside
+
+    from : StoodFor StandsBare new (Makes bare_ground MachineStep (record { roll = inside.roll; base = inside.worlds }) new daemon event a (standing_bare inside.worlds))
+        → Answered inside inside new daemon event a
     from led =
-        let step0 : MachineStep (machine_on r w) (made_by daemon event a 0 0 0 led.for) (machine_at new.roll led.for) = led.tells.step 0 in
-        let is = step_is (machine_on r w) _ (machine_at new.roll led.for) step0 in
-        let holders = keeps_holders (machine_on r w) _ (machine_at new.roll led.for) sound step0 in
-        let well : new.roll.failed ≡ None = is.sound (λ heap. heap) sound in
+        let step0 : MachineStep m (made_by daemon event a 0 0 0 led.for) (machine_at new.roll led.for) = led.tells.step 0 in
+        let is = step_is m _ (machine_at new.roll led.for) step0 in
+        let holders = keeps_holders m _ (machine_at new.roll led.for) kept.sound step0 in
+        let well : new.roll.failed ≡ None = is.sound (λ heap. heap) kept.sound in
         let stands = led.stood well in
         let same : machine_at new.roll led.for ≡ machine_on new.roll new.base = λ i. record { roll = new.roll; before = stands.before i; now = stands.now i } in
         record {
           steps = λ line. record {
             moves = led.for.moves;
-            step = subst (λ (n : Machine). MachineStep (machine_on r w) (made_dry daemon line event a led.for.moves n) n) same (led.tells.step line);
+            step = subst (λ (n : Machine). MachineStep m (made_dry daemon line event a led.for.moves n) n) same (led.tells.step line);
           };
           daemons = holders.length;
-          kept = λ events kept. record {
+          kept = λ few. record {
+            few = few;
             drawn = omega (arith, is.drawn, kept.drawn);
             sound = well;
             first = holders.first kept.first;
@@ -182,25 +190,22 @@ served_some r d served = found_some (holds_number (served_number r)) r.daemons d
     holds_is : (d : Daemon) → holds_number (served_number r) d ≡ true → IsSome d.holds
     holds_is d is = by d.holds (served_number r) is
 
+-- the daemon that the roll inside a machine serves
+pub served_so : (inside p : Plain) (r : Roll) (o : Option Daemon) → inside ≡ p → r ≡ inside.roll → o ≡ served_daemon r → served_daemon p.roll ≡ o
+served_so inside p r o same roll found = sym (found ∙ ap (λ (r : Roll). served_daemon r) roll ∙ ap (λ (q : Plain). served_daemon q.roll) same)
+
 -- the served daemon's leave gives up its number
-pub leave_gives_up : (leave : Leave) (d : Daemon) (count : ℕ) (r : Roll) (w : Worlds) (p p' : Plain) (a : Came)
-    → record { roll = r; worlds = w; events = count } ≡ p → IsKept count r w → served_daemon r ≡ Some d
+pub leave_gives_up : (leave : Leave) (d : Daemon) (inside p p' : Plain) (a : Came) → inside ≡ p → IsKept inside.events inside.roll inside.worlds → served_daemon p.roll ≡ Some d
     → StepsAt (machine_of p) d.id 0 (events.Leaves leave) a (machine_of p') → holders p.roll.daemons ≡ holders p'.roll.daemons + 1
-leave_gives_up leave d count r w p p' a is kept served steps =
-    subst (λ (x : Plain). holders x.roll.daemons ≡ holders p'.roll.daemons + 1) is
-    (leave_fewer (machine_on r w) (made_dry d.id 0 (events.Leaves leave) a steps.moves (machine_of p')) (machine_of p') leave d kept.sound (λ heap. heap) kept.first
-    served refl refl (subst (λ (x : Plain). MachineStep (machine_of x) (made_dry d.id 0 (events.Leaves leave) a steps.moves (machine_of p')) (machine_of p')) (sym is) steps.step))
+leave_gives_up leave d inside p p' a same kept served steps =
+    leave_fewer (machine_of p) (made_dry d.id 0 (events.Leaves leave) a steps.moves (machine_of p')) (machine_of p') leave d
+    (ap (λ (q : Plain). q.roll.failed) (sym same) ∙ kept.sound) (λ heap. heap) (subst (λ (q : Plain). HoldFirst [] q.roll.daemons) same kept.first) served refl refl steps.step
 
 -- where none holds a number, none does after a leave
 pub leaves_none : (leave : Leave) (daemon : ℕ) (a : Came) (p p' : Plain) → p.roll.failed ≡ None → hold_none p.roll.daemons ≡ true
     → StepsAt (machine_of p) daemon 0 (events.Leaves leave) a (machine_of p') → hold_none p'.roll.daemons ≡ true
 leaves_none leave daemon a p p' sound none steps =
     leave_none (machine_of p) (made_dry daemon 0 (events.Leaves leave) a steps.moves (machine_of p')) (machine_of p') leave sound none refl steps.step
-
--- a list without an item has none
-pub none_of : (ds : List ℕ) → length ds < 1 → ds ≡ []
-none_of [] below = refl
-none_of (x ∷ ds) below = absurd (omega (arith, below))
 
 -- where no count of media rises, no answer tells of a gap
 pub no_gap : (a : Answer) → HasGapCause a no_gaps no_gaps → is_gap a ≡ false
@@ -236,30 +241,22 @@ settled_holders r id first = by (daemon_of r id) refl
     by (Some d) found = held d found d.holds refl
 
 -- what a lock with bytes shown is kept under
-pub settled_kept : (events : ℕ) (r r' : Roll) (w w' : Worlds) (id : ℕ) → r' ≡ roll_settled r id → KeepsGround bare_ground true w w' → IsKept events r w
-    → IsKept (events + 1) r' w'
-settled_kept events r r' w w' id roll ground kept =
-    let others = others_settled r id in
+pub settled_kept : (events : ℕ) (r r' : Roll) (w w' : Worlds) (id : ℕ) → r' ≡ roll_settled r id → KeepsGround bare_ground true w w' → events + 1 ≤ most_pieces
+    → IsKept events r w → IsKept (events + 1) r' w'
+settled_kept events r r' w w' id roll ground few kept =
+    let others : ((roll_settled r id).drawn ≡ r.drawn) × ((roll_settled r id).failed ≡ r.failed) = mapped (daemon_of r id) _ (λ d. mapped d.holds _ (λ h. (refl, refl))) in
     subst (λ (x : Roll). IsKept (events + 1) x w') (sym roll) (record {
+      few = few;
       drawn = omega (arith, others.0, kept.drawn);
       sound = others.1 ∙ kept.sound;
       first = (settled_holders r id kept.first).first kept.first;
       lasts = λ n within. ground.lasts n (kept.lasts (suc n) (omega (arith, within)));
     })
   where
-    others_held : (r : Roll) (d : Daemon) (o : Option Holding)
-        → (let r' = option_map_or (λ (h : Holding). with_daemon r (at_nesting d h h.nesting)) o r in (r'.drawn ≡ r.drawn) × (r'.failed ≡ r.failed))
-    others_held r d None = (refl, refl)
-    others_held r d (Some h) = (refl, refl)
-
-    others_of : (r : Roll) (o : Option Daemon)
-        → (let r' = option_map_or (λ (d : Daemon). option_map_or (λ (h : Holding). with_daemon r (at_nesting d h h.nesting)) d.holds r) o r in
-        (r'.drawn ≡ r.drawn) × (r'.failed ≡ r.failed))
-    others_of r None = (refl, refl)
-    others_of r (Some d) = others_held r d d.holds
-
-    others_settled : (r : Roll) (id : ℕ) → ((roll_settled r id).drawn ≡ r.drawn) × ((roll_settled r id).failed ≡ r.failed)
-    others_settled r id = others_of r (daemon_of r id)
+    mapped : {X : Type 0} (o : Option X) (f : X → Roll) → ((x : X) → ((f x).drawn ≡ r.drawn) × ((f x).failed ≡ r.failed))
+        → (let x = option_map_or f o r in (x.drawn ≡ r.drawn) × (x.failed ≡ r.failed))
+    mapped None f all = (refl, refl)
+    mapped (Some x) f all = all x
 
 newcomers_first : (before ids : List ℕ) → HoldFirst before (map newcomer ids)
 newcomers_first before [] = tt
@@ -267,7 +264,7 @@ newcomers_first before (id ∷ ids) = (λ holds. absurd (true≢false (sym holds
 
 -- before any event all is kept
 pub kept_first : (ids : List ℕ) → IsKept 0 (first_roll ids) (record { begun = empty_world; now = empty_world })
-kept_first ids = record { drawn = omega arith; sound = refl; first = newcomers_first [] ids; lasts = λ n within. lasts_empty n within }
+kept_first ids = record { few = omega arith; drawn = omega arith; sound = refl; first = newcomers_first [] ids; lasts = λ n within. lasts_empty n within }
 
 -- a list with an item is its first one and the others
 pub first_of : (ds : List ℕ) (d : ℕ) → 1 ≤ length ds → ds ≡ slice_index_or ds 0 d ∷ take (length ds - 1) (drop 1 ds)

@@ -1,7 +1,9 @@
 -- A world in memory as the ground of a lock.
-use Rattle.std.specs.Prelude.{◌≡◌, ◌≤◌, ℕ, ◌+◌, ◌*◌, ◌^◌, []}
+use Rattle.std.specs.Prelude.{◌≡◌, ◌≤◌, ℕ, ◌+◌, ◌*◌, ◌^◌, List, [], Option, unwrap_or}
+use Rattle.sdr_draft.specs.Calling.{IsBound}
+use Rattle.sdr_laws.specs.ValidDry.{IsValidDry}
 use Rattle.sdr_model.specs.Few.{HasFewPieces, most_pieces}
-use Rattle.sdr_model.specs.World.{World}
+use Rattle.sdr_model.specs.World.{World, at_rest}
 use Rattle.sdr_lock.specs.Ground.{bare}
 use Rattle.sdr_lock.specs.Machine.{Machine}
 use Rattle.sdr_lock.specs.Roll.{Roll}
@@ -17,16 +19,32 @@ pub record StandsBare (w : Worlds) (v : Standing) : Type 0 where
   pub before : v.before ≡ bare w.begun
   pub now : v.now ≡ bare w.now
 
--- So many calls were made on the worlds: no object has more pieces, and each call took at most 2^24 blocks.
-pub record IsAfter (calls : ℕ) (w : Worlds) : Type 0 where
-  pub taken : w.now.taken ≤ 2 ^ 24 * calls
-  pub begun : HasFewPieces calls w.begun.things
-  pub now : HasFewPieces calls w.now.things
+-- the worlds after the transaction is kept
+abbrev pub worlds_kept : Worlds → Worlds
+worlds_kept w = let left = at_rest w.now in record { begun = left; now = left }
 
--- so many calls more can be made: with those that were, they are at most 2^22
+-- and after it is put back: its blocks stay counted
+abbrev pub worlds_back : Worlds → Worlds
+worlds_back w = let left = record w.begun { taken = w.now.taken } in record { begun = left; now = left }
+
+-- the worlds with these bytes shown
+abbrev pub worlds_shown : Option (List ℕ) → Worlds → Worlds
+worlds_shown given w = record w { now = record w.now { shown = unwrap_or given w.now.shown } }
+
+-- So many calls led to the world: each took at most 2^24 blocks and added one piece at most to an object. The world is whole,
+-- and no more is occupied in it than the greatest amount.
+pub record IsAfter (calls : ℕ) (w : World) : Type 0 where
+  pub taken : w.taken ≤ 2 ^ 24 * calls
+  pub few : HasFewPieces calls w.things
+  pub valid : IsValidDry w
+  pub bound : IsBound w
+
+-- So many calls more can be made: with those that led to the world now and to the one that putting back leaves, they are at
+-- most 2^22.
 pub record LastsBare (w : Worlds) (more : ℕ) : Type 0 where
   pub calls : ℕ
-  pub after : IsAfter calls w
+  pub back : IsAfter calls (worlds_back w).now
+  pub now : IsAfter calls w.now
   pub within : calls + more ≤ most_pieces
 
 -- what the worlds stand for, where the moves of a call are left open

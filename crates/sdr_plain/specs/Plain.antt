@@ -21,9 +21,10 @@ first_plain daemons = record { roll = first_roll daemons; worlds = record { begu
 abbrev pub machine_of : Plain → Machine
 machine_of p = machine_on p.roll p.worlds
 
--- After so many events no more numbers were drawn, the disk hasn't failed, each daemon that holds a number may, and as many
+-- After so many events, at most 2^22, no more numbers were drawn, the disk hasn't failed, each daemon that holds a number may, and as many
 -- calls as are left of 2^22 can be made.
 pub record IsKept (events : ℕ) (r : Roll) (w : Worlds) : Type 0 where
+  pub few : events ≤ most_pieces
   pub drawn : r.drawn ≤ events
   pub sound : r.failed ≡ None
   pub first : HoldFirst [] r.daemons

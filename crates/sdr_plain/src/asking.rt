@@ -1,5 +1,6 @@
 // What is asked of media before a call is answered.
 ghost use Rattle.std.specs.Prelude.{◌≡◌, true, IfOk, IfSome, None, Ok};
+ghost use Rattle.sdr_draft.specs.Calling.{MayCall};
 ghost use Rattle.sdr_plain.specs.Asking.{HasPieces};
 ghost use Rattle.sdr_model.specs.Pieces.{AsksBytes};
 ghost use Rattle.sdr_model.specs.Reading.{reads_media};
@@ -19,6 +20,7 @@ pub fn pieces_of(
     world: &Undoable,
     call: &Call,
 ) -> Result<Option<Items<Piece>>, NoMemory>
+    requires may { MayCall world.now.now }
     ensures some { IfOk result (λ asked. IfSome asked (HasPieces world.now.now call.now)) }
     ensures none { result ≡ Ok None → reads_media call.now ≡ true →
         ¬ AsksBytes world.now.now call.now }

@@ -1,5 +1,6 @@
 // A world in memory as the ground of a lock.
 ghost use Rattle.std.specs.Prelude.{◌≡◌, IfOk, IfSome, None, Ok, true};
+ghost use Rattle.sdr_draft.specs.Calling.{MayCall};
 ghost use Rattle.sdr_model.specs.Accounts.{pending_among};
 ghost use Rattle.sdr_model.specs.Pieces.{AsksBytes};
 ghost use Rattle.sdr_model.specs.Reading.{reads_media};
@@ -58,7 +59,7 @@ impl HasGround for Bare {
 
     ghost crash_now = { λ t v image at left. absurd left };
 
-    ghost lasts_less = { λ t n lasts. record { calls = lasts.calls; after = lasts.after; within = one_less lasts.calls n most_pieces lasts.within } };
+    ghost lasts_less = { λ t n lasts. record { calls = lasts.calls; back = lasts.back; now = lasts.now; within = one_less lasts.calls n most_pieces lasts.within } };
 }
 
 impl Bare {
@@ -82,6 +83,7 @@ impl Bare {
     /// The pieces of the bytes by which a call is answered, where it asks bytes of an object that is there, and
     /// nothing where it doesn't.
     pub fn pieces(&self, call: &Call) -> Result<Option<Items<Piece>>, NoMemory>
+        requires may { MayCall self.now.now }
         ensures some { IfOk result (λ asked. IfSome asked (HasPieces self.now.now call.now)) }
         ensures none { result ≡ Ok None → reads_media call.now ≡ true →
             ¬ AsksBytes self.now.now call.now }

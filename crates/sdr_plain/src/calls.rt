@@ -1,7 +1,6 @@
 // What a call does to a world.
-ghost use Rattle.std.specs.Prelude.{◌≡◌, ◌<◌, ◌^◌};
 ghost use Rattle.sdr_calls.specs.Answers.{Answers};
-ghost use Rattle.sdr_model.specs.Few.{HasFewPieces, most_pieces};
+ghost use Rattle.sdr_draft.specs.Calling.{MayCall};
 
 use sdr_base::{Amounts, NoMemory};
 use sdr_calls::account_calls::{Asking, awarded, maximum, occupancy, request, set_maximum, shred};
@@ -47,8 +46,7 @@ use std::alloc::Global;
 /// `obj_ref` and an append of a raw object look at each thing for a source, and `count` and `destroy_ref` at each
 /// extent. All others take about the logarithm of the world.
 pub fn apply(alloc: Global, world: &mut Undoable, call: &Call) -> Result<Reply, NoMemory>
-    requires taken { world.old.now.taken < 2 ^ 60 }
-    requires few { HasFewPieces most_pieces world.old.now.things }
+    requires may { MayCall world.old.now }
     ensures { Answers call.now world.old world.new result }
 {
     match call {

@@ -1,6 +1,7 @@
 // The machine on a plain world.
-ghost use Rattle.std.specs.Prelude.{ℕ, filter, map, not, true, false, ◌≡◌, ◌<◌, ◌≤◌, ◌+◌, ◌*◌, IfOk, IfSome, None, Ok, OnOk, OnErr, length};
+ghost use Rattle.std.specs.Prelude.{ℕ, true, false, ◌≡◌, ◌<◌, ◌≤◌, ◌+◌, ◌*◌, IfOk, IfSome, None, Ok, OnOk, OnErr, length};
 ghost use Rattle.sdr_lock.specs.Holders.{hold_none, holders};
+ghost use Rattle.sdr_lock.specs.Leaving as leaving;
 ghost use Rattle.sdr_lock.specs.Serving.{roll_settled};
 ghost use Rattle.sdr_plain.specs.Asking.{Asks, AsksNothing, StepsAt, bytes_of, is_gap, settled};
 ghost use Rattle.sdr_plain.specs.Leaves.{AllLeaveFrom, HoldersLeaveFrom, LeaveInTurnFrom};
@@ -8,7 +9,7 @@ ghost use Rattle.sdr_plain.specs.Plain.{first_plain, machine_of};
 
 use crate::Bare;
 use sdr_base::{Bytes, Items, NoMemory};
-use sdr_lock::{Came, Daemon, Lock};
+use sdr_lock::{Came, Lock, Roll};
 use sdr_model::{Answer, Call, Event, Leave, Piece, Reply};
 use std::alloc::Global;
 use std::marker::Model;
@@ -36,12 +37,11 @@ impl Model for Plain {
     ghost invariant = { λ s. plain.IsKept s.events s.lock.roll s.lock.base };
 }
 
-// Those of these daemons that haven't left.
-fn staying(alloc: Global, daemons: &[Daemon]) -> Result<Vec<u8>, NoMemory>
-    ensures { IfOk result (λ left. left.items
-        ≡ map (λ d. d.id) (filter (λ d. not d.left) daemons.now)) }
+// Those of the roll's daemons that haven't left.
+fn staying(alloc: Global, roll: &Roll) -> Result<Vec<u8>, NoMemory>
+    ensures { IfOk result (λ left. left.items ≡ leaving.staying roll.now) }
 {
-    daemons
+    roll.daemons()
         .iter()
         .copied()
         .filter(|daemon| !daemon.left)
@@ -188,7 +188,7 @@ impl Plain {
         ensures none { OnOk result (hold_none self.new.roll.daemons ≡ true) }
     {
         self.holders_leave(leave)?;
-        let staying = staying(self.alloc, self.lock.roll().daemons())?;
+        let staying = staying(self.alloc, self.lock.roll())?;
         self.leave_in_turn(&staying, leave)
     }
 }

@@ -93,7 +93,7 @@ fn put_entry(world: &mut Undoable, addr: Addr, entry: HashEntry) -> Result<(), N
     match world.take(addr)? {
         Thing::Hash(mut hash) => match hash.insert(entry) {
             Ok(()) => {
-                world.count();
+                world.count_blocks(1);
                 world.put(addr, Thing::Hash(hash));
                 Ok(())
             }

@@ -1,5 +1,5 @@
 -- The entries of an index map as the catalogue's list.
-use Rattle.std.proofs.Common.{◌≡◌, ◌==◌, ◌||◌, ◌++◌, ℕ, List, [], ◌∷◌, Bool, true, false, cond, Option, Some, None, Vec, nat_eq, ap, ap₂, sym, ◌∙◌, refl, map}
+use Rattle.std.proofs.Common.{◌≡◌, arith, ◌==◌, ◌++◌, ℕ, List, [], ◌∷◌, Bool, cond, Some, None, Vec, nat_eq, ap, sym, ◌∙◌, refl, map}
 use Rattle.std.proofs.lemmas.Bool.{eqb-true}
 use Rattle.std.proofs.lemmas.List.{map-append}
 use Rattle.indexmap.specs.IndexMap.{IndexMap, insert_entry, shift_remove_entry}
@@ -16,22 +16,16 @@ use Rattle.sdr_model.specs.Things.{block_among, name_block, name_need}
 use Rattle.sdr_model.specs.declared.name.Name.{Name}
 use Rattle.sdr_undo.specs.declared.names.Named.{Named}
 
-named_of-chosen : (b : Bool) (n : Name) (rest : Option Name) → option_map named_of (cond b (Some n) rest) ≡ cond b (Some (named_of n)) (option_map named_of rest)
-named_of-chosen true n rest = refl
-named_of-chosen false n rest = refl
-
 -- the catalogue has under a name what the map has under it
 pub named-lookup : (name : List ℕ) (es : List (Vec ℕ Global × Named))
     → option_map named_of (name_of (names_in es) name) ≡ lookup (λ k. pointwise nat_eq name k.items) es
 named-lookup name [] = refl
-named-lookup name (e ∷ es) =
-    named_of-chosen (pointwise nat_eq name e.0.items) _ (name_of (names_in es) name)
-    ∙ ap (λ r. cond (pointwise nat_eq name e.0.items) (Some e.1) r) (named-lookup name es)
+named-lookup name (e ∷ es) = grind (arith, named-lookup name es)
 
 -- a block of the catalogue is one of the map's values
 pub any_block : (addr : ℕ) (es : List (Vec ℕ Global × Named)) → list_any (λ n. n.block == addr) (names_in es) ≡ list_any (λ e. e.block == addr) (map (λ e. e.1) es)
 any_block addr [] = refl
-any_block addr (e ∷ es) = ap (λ b. (e.1.block == addr) || b) (any_block addr es)
+any_block addr (e ∷ es) = grind (arith, any_block addr es)
 
 -- a new name goes last
 pub names_in-insert : {S : Type 0} (m : IndexMap (Vec ℕ Global) Named S) (key : Vec ℕ Global) (entry : Named) → name_of (names_in m.entries) key.items ≡ None
@@ -45,21 +39,14 @@ names_in-insert m key entry absent =
 pub names_in-remove : (name : List ℕ) (es : List (Vec ℕ Global × Named))
     → names_in (shift_remove_entry (λ k. pointwise nat_eq name k.items) es) ≡ without_name (names_in es) name
 names_in-remove name [] = refl
-names_in-remove name (e ∷ es) =
-    chosen (pointwise nat_eq name e.0.items)
-    ∙ ap (λ rest. cond (pointwise nat_eq name e.0.items) (names_in es) (record { block = e.1.block; name = e.0.items; kind = e.1.kind; object = e.1.object } ∷ rest)) (names_in-remove name es)
-  where
-    chosen : (b : Bool) → names_in (cond b es (e ∷ shift_remove_entry (λ k. pointwise nat_eq name k.items) es))
-        ≡ cond b (names_in es) (record { block = e.1.block; name = e.0.items; kind = e.1.kind; object = e.1.object } ∷ names_in (shift_remove_entry (λ k. pointwise nat_eq name k.items) es))
-    chosen true = refl
-    chosen false = refl
+names_in-remove name (e ∷ es) = grind (arith, names_in-remove name es)
 
 -- what is a clone of each item is the same list, where a clone of an item is the same
-clones_same : {X : Type 0} (R : X → X → Type 0) → ((x y : X) → R x y → y ≡ x) → (xs ys : List X) → AllZip R xs ys → ys ≡ xs
+pub clones_same : {X : Type 0} (R : X → X → Type 0) → ((x y : X) → R x y → y ≡ x) → (xs ys : List X) → AllZip R xs ys → ys ≡ xs
 clones_same R same [] [] z = refl
 clones_same R same [] (y ∷ ys) z = absurd z
 clones_same R same (x ∷ xs) [] z = absurd z
-clones_same R same (x ∷ xs) (y ∷ ys) z = ap₂ (λ a rest. a ∷ rest) (same x y z.0) (clones_same R same xs ys z.1)
+clones_same R same (x ∷ xs) (y ∷ ys) z = grind (arith, same x y z.0, clones_same R same xs ys z.1)
 
 -- a clone of the map has the same catalogue
 pub names_in-clone : (C : Vec ℕ Global → Vec ℕ Global → Type 0) (D : Named → Named → Type 0)
@@ -68,35 +55,17 @@ pub names_in-clone : (C : Vec ℕ Global → Vec ℕ Global → Type 0) (D : Nam
 names_in-clone C D key entry [] [] z = refl
 names_in-clone C D key entry [] (f ∷ fs) z = absurd z
 names_in-clone C D key entry (e ∷ es) [] z = absurd z
-names_in-clone C D key entry (e ∷ es) (f ∷ fs) z =
-    ap₂ (λ n names. n ∷ names)
-    (ap₂ (λ name x. record { block = x.block; name = name; kind = x.kind; object = x.object }) (key e.0 f.0 z.0.0) (entry e.1 f.1 z.0.1))
-    (names_in-clone C D key entry es fs z.1)
-
--- bytes that are clones are the same
-pub bytes_same : (R : ℕ → ℕ → Type 0) → ((x y : ℕ) → R x y → y ≡ x) → (xs ys : List ℕ) → AllZip R xs ys → ys ≡ xs
-bytes_same = clones_same
+names_in-clone C D key entry (e ∷ es) (f ∷ fs) z = grind (arith, key e.0 f.0 z.0.0, entry e.1 f.1 z.0.1, names_in-clone C D key entry es fs z.1)
 
 -- the block of the catalogue at an address is an entry's, where one has it
 pub block_among-names : (addr : ℕ) (names : List Name)
     → block_among addr (map name_block names)
     ≡ cond (list_any (λ n. n.block == addr) names) (Some (record { addr = addr; kind = kinds.Name; bytes = name_need })) None
 block_among-names addr [] = refl
-block_among-names addr (n ∷ names) = by (n.block == addr) refl (block_among-names addr names)
-  where
-    by : (b : Bool) → (n.block == addr) ≡ b
-        → block_among addr (map name_block names) ≡ cond (list_any (λ n. n.block == addr) names) (Some (record { addr = addr; kind = kinds.Name; bytes = name_need })) None
-        → cond (n.block == addr) (Some (name_block n)) (block_among addr (map name_block names))
-        ≡ cond ((n.block == addr) || list_any (λ n. n.block == addr) names) (Some (record { addr = addr; kind = kinds.Name; bytes = name_need })) None
-    by true at rest =
-        let same : n.block ≡ addr = eqb-true n.block addr at in
-        rw at (ap (λ a. Some (record { addr = a; kind = kinds.Name; bytes = name_need })) same)
-    by false at rest = rw at rest
+block_among-names addr (n ∷ names) = grind (arith, eqb-true n.block addr, block_among-names addr names)
 
 -- the block of the map's catalogue at an address, where the test for it says so
 pub block_tested : (addr : ℕ) (es : List (Vec ℕ Global × Named)) (names : List Name) (b : Bool) → names_in es ≡ names
     → b ≡ list_any (λ e. e.block == addr) (map (λ e. e.1) es)
     → block_among addr (map name_block names) ≡ cond b (Some (record { addr = addr; kind = kinds.Name; bytes = name_need })) None
-block_tested addr es names b is tests =
-    ap (λ ns. block_among addr (map name_block ns)) (sym is) ∙ block_among-names addr (names_in es)
-    ∙ ap (λ t. cond t (Some (record { addr = addr; kind = kinds.Name; bytes = name_need })) None) (any_block addr es ∙ sym tests)
+block_tested addr es names b is tests = grind (arith, is, tests, block_among-names addr (names_in es), any_block addr es)

@@ -105,13 +105,9 @@ module _ (owners : Owners) (next more : ℕ) (higher : next ≤ more) where
 module _ (owners : Owners) (next block by : ℕ) (new : next ≤ block) where
   IsOwned-noted : (owner addr : ℕ) → IsOwned owners next owner addr → IsOwned (insert owners block by) next owner addr
   IsOwned-noted owner addr is = record {
-    noted = get-insert nat_cmp_total owners block by addr ∙ apart (is_at (nat_cmp addr) block) refl;
+    noted = grind (arith, get-insert nat_cmp_total owners block by addr, same_address addr block, is.noted, is.below);
     below = is.below;
   }
-    where
-      apart : (b : Bool) → is_at (nat_cmp addr) block ≡ b → cond b (Some by) (get owners addr) ≡ Some owner
-      apart false at = is.noted
-      apart true at = let same : addr ≡ block = same_address addr block at in absurd (omega (arith, is.below))
 
   OwnInside-noted : (things : Things) → OwnInside owners next things → OwnInside (insert owners block by) next things
   OwnInside-noted things own = record {
@@ -138,13 +134,8 @@ OwnInside-empty owners next = record {
 module _ (owners : Owners) (next : ℕ) (things : Things) (k : ℕ) (own : OwnInside owners next things) where
   pub OwnInside-remove : OwnInside owners next (remove things k)
   OwnInside-remove = record {
-    each = λ addr thing is. by addr thing (is_at (nat_cmp addr) k) (sym (get-remove nat_cmp_total things k addr) ∙ is);
+    each = λ addr thing is. own.each addr thing (grind (arith, get-remove nat_cmp_total things k addr));
   }
-    where
-      by : (addr : ℕ) (thing : Thing) (b : Bool) → cond b None (get things addr) ≡ Some thing
-          → OwnsInside owners next addr thing
-      by addr thing true is = let none : None ≡ Some thing = is in cc
-      by addr thing false is = own.each addr thing is
 
   pub OwnInside-insert : (new : Thing) → OwnsInside owners next k new → OwnInside owners next (insert things k new)
   OwnInside-insert new owns = record {
@@ -155,8 +146,7 @@ module _ (owners : Owners) (next : ℕ) (things : Things) (k : ℕ) (own : OwnIn
       by : (addr : ℕ) (thing : Thing) (b : Bool) → is_at (nat_cmp addr) k ≡ b
           → cond b (Some new) (get things addr) ≡ Some thing → OwnsInside owners next addr thing
       by addr thing true at is =
-          let there : k ≡ addr = sym (same_address addr k at) in
-          let same : new ≡ thing = ap (λ o. unwrap_or o new) is in subst₂ (OwnsInside owners next) there same owns
+          subst₂ (OwnsInside owners next) (sym (same_address addr k at)) (ap (λ o. unwrap_or o new) is) owns
       by addr thing false at is = own.each addr thing is
 
 -- so they do where one was taken out, or could not be

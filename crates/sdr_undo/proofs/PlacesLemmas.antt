@@ -1,16 +1,17 @@
 -- The things at the places, one after another.
-use Rattle.std.proofs.Common.{◌≡◌, ℕ, Bool, true, false, List, [], ◌∷◌, ◌&&◌, T, Option, Some, None, Ordering, Less, Equal, Greater, is_lt, ap, sym, ◌∙◌, refl}
+use Rattle.std.proofs.Common.{◌≡◌, ℕ, Bool, true, false, List, [], ◌∷◌, ◌&&◌, T, map, None, is_lt, arith, ap, subst, sym, ◌∙◌, refl}
 use Rattle.std.specs.Cmp.{nat_cmp_total}
-use Rattle.std.specs.FinMap.{empty, entries, entries-from_sorted, entries-insert, entries_sorted, from_sorted, get-empty, get-from_sorted, is_sorted, put}
-use Rattle.std.specs.FinMap.Entries.{below_all, by_order}
-use Rattle.std.specs.Option.{option_and_then}
+use Rattle.std.specs.FinMap.{empty, entries, entries-from_sorted, entries-insert, entries_sorted, from_entries, from_sorted, get-empty, get-from_sorted, is_sorted, put}
+use Rattle.std.specs.FinMap.Entries.{below_all}
+use Rattle.std.specs.List.Sorted.{IsStrictlySortedBy}
 use Rattle.std.specs.Ordering.{nat_cmp}
+use Rattle.sdr_model.proofs.EntryLemmas.{entries-from_entries}
+use Rattle.sdr_model.proofs.MapLemmas.{find-lookup}
 use Rattle.sdr_model.proofs.ThingsLemmas.{same_things, with_at-again}
-use Rattle.sdr_model.specs.Things.{with_at}
 use Rattle.sdr_model.specs.declared.things.Thing.{Thing}
 use Rattle.sdr_undo.proofs.SpotLemmas.{left_of, missing, right_of}
-use Rattle.sdr_undo.proofs.StoreLemmas.{get-things_among}
-use Rattle.sdr_undo.specs.Store.{Places, now_at, things_among, things_at, things_in}
+use Rattle.sdr_undo.proofs.StoreLemmas.{thing_at}
+use Rattle.sdr_undo.specs.Store.{now_at, things_at, things_in}
 use Rattle.sdr_undo.specs.declared.place.Place.{Place}
 
 both_of : (a b : Bool) → T a → T b → T (a && b)
@@ -20,22 +21,17 @@ both_of false b x y = absurd x
 -- an address below those of some places is below those of their things
 below_things : (k : ℕ) (ps : List (ℕ × Place)) → T (below_all nat_cmp k ps) → T (below_all nat_cmp k (things_in ps))
 below_things k [] below = tt
-below_things k ((a, place) ∷ ps) below = by (below_things k ps (right_of _ _ below)) place.thing
-  where
-    by : T (below_all nat_cmp k (things_in ps)) → (o : Option Thing)
-        → T (below_all nat_cmp k (things_in ((a, record place { thing = o }) ∷ ps)))
-    by rest None = rest
-    by rest (Some thing) = both_of (is_lt (nat_cmp k a)) _ (left_of _ _ below) rest
+below_things k ((a, place) ∷ ps) below =
+    let here : T (is_lt (nat_cmp k a)) = left_of _ _ below in
+    let rest : T (below_all nat_cmp k (things_in ps)) = below_things k ps (right_of (is_lt (nat_cmp k a)) (below_all nat_cmp k ps) below) in
+    grind arith
 
 -- what is put at an address below all others comes first
 put_first : (k : ℕ) (thing : Thing) (es : List (ℕ × Thing)) → T (below_all nat_cmp k es) → put nat_cmp k thing es ≡ (k, thing) ∷ es
 put_first k thing [] below = refl
-put_first k thing (e ∷ es) below = by (nat_cmp k e.0) refl (left_of _ _ below)
-  where
-    by : (o : Ordering) → nat_cmp k e.0 ≡ o → T (is_lt o) → put nat_cmp k thing (e ∷ es) ≡ (k, thing) ∷ e ∷ es
-    by Less is less = ap (λ o. by_order o ((k, thing) ∷ e ∷ es) ((e.0, thing) ∷ es) (e ∷ put nat_cmp k thing es)) is
-    by Equal is less = absurd less
-    by Greater is less = absurd less
+put_first k thing (e ∷ es) below =
+    let here : T (is_lt (nat_cmp k e.0)) = left_of _ _ below in
+    grind arith
 
 -- no things have no entries
 entries-empty : entries (empty {K = ℕ} {X = Thing} {R = nat_cmp}) ≡ []
@@ -43,22 +39,25 @@ entries-empty =
     ap entries (same_things empty (from_sorted []) (λ q. get-empty nat_cmp q ∙ sym (get-from_sorted nat_cmp [] q tt)))
     ∙ entries-from_sorted nat_cmp [] tt
 
-entries-things_among : (ps : List (ℕ × Place)) → T (is_sorted nat_cmp ps) → things_in ps ≡ entries (things_among now_at ps)
-entries-things_among [] sorted = sym entries-empty
-entries-things_among ((a, place) ∷ ps) sorted = by (entries-things_among ps (right_of _ _ sorted)) place.thing
-  where
-    by : things_in ps ≡ entries (things_among now_at ps) → (o : Option Thing)
-        → things_in ((a, record place { thing = o }) ∷ ps) ≡ entries (with_at (things_among now_at ps) a o)
-    by others None =
-        others
-        ∙ ap entries (sym (with_at-again (things_among now_at ps) a None
-        (get-things_among now_at a ps ∙ ap (option_and_then now_at) (missing a ps (left_of _ _ sorted)))))
-    by others (Some thing) =
-        sym (put_first a thing (things_in ps) (below_things a ps (left_of _ _ sorted)))
-        ∙ ap (put nat_cmp a thing) others
-        ∙ sym (entries-insert nat_cmp_total (things_among now_at ps) a thing)
-
 -- the things at all places, in order
-pub entries-things_at : (places : Places) → things_in (entries places) ≡ entries (things_at now_at places)
-unfolding things_at
-entries-things_at places = entries-things_among (entries places) (entries_sorted places)
+pub entries-things_at : (places : List (ℕ × Place)) → T (is_sorted nat_cmp places) → things_in places ≡ entries (things_at now_at places)
+entries-things_at [] sorted = sym entries-empty
+entries-things_at ((a, place) ∷ ps) sorted =
+    let below : T (below_all nat_cmp a ps) = left_of _ _ sorted in
+    let rise : T (is_sorted nat_cmp ps) = right_of (below_all nat_cmp a ps) (is_sorted nat_cmp ps) sorted in
+    let first = λ (thing : Thing). put_first a thing (things_in ps) (below_things a ps below) in
+    grind (
+      arith,
+      entries-things_at ps rise,
+      with_at-again (things_at now_at ps) a None,
+      thing_at now_at ps a,
+      find-lookup a ps,
+      missing a ps below,
+      first,
+      entries-insert nat_cmp_total (things_at now_at ps) a,
+    )
+
+-- the places of a map are in order
+pub sorted_places : (places : List (ℕ × Place)) → IsStrictlySortedBy nat_cmp (map (λ e. e.0) places) → T (is_sorted nat_cmp places)
+sorted_places places ordered =
+    subst (λ es. T (is_sorted nat_cmp es)) (entries-from_entries places ordered) (entries_sorted (from_entries {R = nat_cmp} places))

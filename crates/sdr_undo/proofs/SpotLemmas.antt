@@ -1,11 +1,10 @@
 -- What is inside a thing is found in its owner.
-use Rattle.std.proofs.Common.{◌≡◌, ◌==◌, ℕ, Bool, true, false, List, [], ◌∷◌, ◌&&◌, T, cond, map, get_or, Option, Some, None, ap, sym, ◌∙◌, refl, subst, Ordering, Less, Equal, Greater, is_lt, is_eq, unwrap_or, position, true≢false}
+use Rattle.std.proofs.Common.{◌≡◌, ◌==◌, arith, ℕ, Bool, true, false, List, [], ◌∷◌, ◌&&◌, T, map, get_or, Option, Some, None, ap, sym, ◌∙◌, refl, subst, is_lt, unwrap_or, position}
 use Rattle.std.proofs.lemmas.Bool.{eqb-true}
 use Rattle.std.proofs.lemmas.List.Elements.{All-get_or, All-head, All-tail}
 use Rattle.std.proofs.lemmas.List.Quantifiers.{position-Some}
 use Rattle.std.specs.FinMap.{get, entries, entries_sorted, find, is_sorted, get-entries}
 use Rattle.std.specs.FinMap.Entries.{below_all}
-use Rattle.std.specs.BTreeMap.{is_at}
 use Rattle.std.specs.List.{All}
 use Rattle.std.specs.Option.{option_and_then, option_map, option_or}
 use Rattle.std.specs.Ordering.{nat_cmp}
@@ -29,37 +28,26 @@ pub right_of : (a b : Bool) → T (a && b) → T b
 right_of true b h = h
 right_of false b h = absurd h
 
-apart : (r : Ordering) → T (is_lt r) → is_eq r ≡ false
-apart Less h = refl
-apart Equal h = absurd h
-apart Greater h = refl
-
 -- an address below the others isn't among them
 pub missing : {X : Type 0} (k : ℕ) (es : List (ℕ × X)) → T (below_all nat_cmp k es) → find nat_cmp k es ≡ None
 missing k [] below = refl
 missing k (e ∷ es) below =
-    ap (λ b. cond b (Some e.1) (find nat_cmp k es)) (apart (nat_cmp k e.0) (left_of _ _ below))
-    ∙ missing k es (right_of _ _ below)
+    let here : T (is_lt (nat_cmp k e.0)) = left_of _ _ below in
+    grind (arith, missing k es (right_of (is_lt (nat_cmp k e.0)) (below_all nat_cmp k es) below))
 
 -- the first of some things is at its address
 pub first_there : (e : ℕ × Thing) (es : List (ℕ × Thing)) → find nat_cmp e.0 (e ∷ es) ≡ Some e.1
-first_there e es = ap (λ b. cond b (Some e.1) (find nat_cmp e.0 es)) (at_itself e.0)
+first_there e es = grind (arith, at_itself e.0)
 
 -- and so are the others
 pub rest_there : (e : ℕ × Thing) (es : List (ℕ × Thing)) (k : ℕ) (thing : Thing) → T (is_sorted nat_cmp (e ∷ es))
     → find nat_cmp k es ≡ Some thing → find nat_cmp k (e ∷ es) ≡ Some thing
-rest_there e es k thing sorted is = by (is_at (nat_cmp k) e.0) refl
-  where
-    by : (b : Bool) → is_at (nat_cmp k) e.0 ≡ b → cond b (Some e.1) (find nat_cmp k es) ≡ Some thing
-    by false at = is
-    by true at =
-        let gone : find nat_cmp k es ≡ None =
-        ap (λ q. find nat_cmp q es) (same_address k e.0 at) ∙ missing e.0 es (left_of _ _ sorted) in
-        let none : None ≡ Some thing = sym gone ∙ is in cc
+rest_there e es k thing sorted is =
+    let below : T (below_all nat_cmp e.0 es) = left_of _ _ sorted in
+    grind (arith, missing e.0 es below, same_address k e.0)
 
 or_none : {X : Type 0} (o : Option X) → option_or o None ≡ o
-or_none None = refl
-or_none (Some x) = refl
+or_none o = grind arith
 
 -- what is looked for in things, each at an address
 module _ {X : Type 0} (at : ℕ → Thing → Option X) where
@@ -73,8 +61,9 @@ module _ {X : Type 0} (at : ℕ → Thing → Option X) where
       → ((k : ℕ) (thing : Thing) → find nat_cmp k es ≡ Some thing → at k thing ≡ None) → first_at es ≡ None
   first_at-none [] sorted none = refl
   first_at-none (e ∷ es) sorted none =
-      ap (λ o. option_or o (first_at es)) (none e.0 e.1 (first_there e es))
-      ∙ first_at-none es (right_of _ _ sorted) (λ k thing is. none k thing (rest_there e es k thing sorted is))
+      let rest = first_at-none es (right_of (below_all nat_cmp e.0 es) (is_sorted nat_cmp es) sorted)
+      (λ k thing is. none k thing (rest_there e es k thing sorted is)) in
+      grind (arith, none e.0 e.1 (first_there e es))
 
   -- where only the thing at one address can have it, it is looked for there
   first_at-only : (owner : ℕ) (es : List (ℕ × Thing)) → T (is_sorted nat_cmp es)
@@ -83,25 +72,12 @@ module _ {X : Type 0} (at : ℕ → Thing → Option X) where
   first_at-only owner [] sorted others = refl
   first_at-only owner (e ∷ es) sorted others =
       let later = λ (k : ℕ) (thing : Thing) (is : find nat_cmp k es ≡ Some thing). rest_there e es k thing sorted is in
-      by (first_at-only owner es (right_of _ _ sorted) (λ k thing is. others k thing (later k thing is)))
-      (is_at (nat_cmp owner) e.0) refl
-    where
-      by : first_at es ≡ option_and_then (at owner) (find nat_cmp owner es) → (b : Bool) → is_at (nat_cmp owner) e.0 ≡ b
-          → first_at (e ∷ es) ≡ option_and_then (at owner) (cond b (Some e.1) (find nat_cmp owner es))
-      by rest true here =
-          let same : owner ≡ e.0 = same_address owner e.0 here in
-          let gone : find nat_cmp owner es ≡ None =
-          ap (λ q. find nat_cmp q es) same ∙ missing e.0 es (left_of _ _ sorted) in
-          ap (option_or (at e.0 e.1))
-          (first_at-none es (right_of _ _ sorted) (λ k thing is.
-          others k thing (rest_there e es k thing sorted is)
-          (λ it. let none : None ≡ Some thing = sym gone ∙ ap (λ q. find nat_cmp q es) it ∙ is in cc)))
-          ∙ or_none (at e.0 e.1) ∙ ap (λ q. at q e.1) (sym same)
-      by rest false away =
-          ap (λ o. option_or o (first_at es))
-          (others e.0 e.1 (first_there e es)
-          (λ it. true≢false (sym (at_itself e.0) ∙ ap (λ q. is_at (nat_cmp q) e.0) (sym it) ∙ away)))
-          ∙ rest
+      let below : T (below_all nat_cmp e.0 es) = left_of _ _ sorted in
+      let rise : T (is_sorted nat_cmp es) = right_of (below_all nat_cmp e.0 es) (is_sorted nat_cmp es) sorted in
+      let alone = λ (here : owner ≡ e.0). first_at-none es rise (λ k thing is.
+      others k thing (later k thing is) (λ it. absurd (grind (arith, missing e.0 es below)))) in
+      let rest = first_at-only owner es rise (λ k thing is. others k thing (later k thing is)) in
+      grind (arith, rest, alone, others e.0 e.1 (first_there e es), missing e.0 es below, same_address owner e.0, at_itself e.0, or_none (at e.0 e.1))
 
   -- where only the noted owner can have it, it is looked for in that
   first_at-noted : (owner : Option ℕ) (m : Things)
@@ -149,14 +125,9 @@ module _ (owners : Owners) (next owner addr : ℕ) where
     block_among-not_noted : (blocks : List Block) → All (Owns owners next owner) blocks → block_among addr blocks ≡ None
     block_among-not_noted [] all = refl
     block_among-not_noted (b ∷ bs) all =
-        by (block_among-not_noted bs (All-tail (Owns owners next owner) b bs all)) (b.addr == addr) refl
-      where
-        by : block_among addr bs ≡ None → (t : Bool) → (b.addr == addr) ≡ t
-            → cond t (Some b) (block_among addr bs) ≡ None
-        by rest true is =
-            let here = All-head (Owns owners next owner) b bs all in
-            absurd (not_noted (ap (get owners) (sym (eqb-true b.addr addr is)) ∙ here.noted))
-        by rest false is = rest
+        let here = All-head (Owns owners next owner) b bs all in
+        let rest = block_among-not_noted bs (All-tail (Owns owners next owner) b bs all) in
+        grind (arith, eqb-true b.addr addr, here.noted)
 
     place_among-not_noted : (elements : List Element) → All (Owns owners next owner) (map element_block elements)
         → position (λ e. e.block == addr) elements ≡ None
@@ -178,7 +149,7 @@ inner_at addr = option_and_then (λ thing. block_among addr (inner_blocks thing)
 inner_among-first_at : (addr : ℕ) (es : List (ℕ × Thing))
     → inner_among addr es ≡ first_at (λ k thing. block_among addr (inner_blocks thing)) es
 inner_among-first_at addr [] = refl
-inner_among-first_at addr (e ∷ es) = ap (option_or (block_among addr (inner_blocks e.1))) (inner_among-first_at addr es)
+inner_among-first_at addr (e ∷ es) = grind (arith, inner_among-first_at addr es)
 
 -- the spot of an element in the thing at an address, if there is one
 abbrev pub spot_in : ℕ → ℕ → Option Thing → Option Spot
@@ -187,8 +158,7 @@ spot_in element owner = option_and_then (λ thing. spot_in_thing element owner (
 spot_among-first_at : (element : ℕ) (es : List (ℕ × Thing))
     → spot_among element es ≡ first_at (λ k thing. spot_in_thing element k (Some thing)) es
 spot_among-first_at element [] = refl
-spot_among-first_at element (e ∷ es) =
-    ap (option_or (spot_in_thing element e.0 (Some e.1))) (spot_among-first_at element es)
+spot_among-first_at element (e ∷ es) = grind (arith, spot_among-first_at element es)
 
 -- where the things own what is inside them
 module _ (owners : Owners) (next addr : ℕ) (m : Things) (own : OwnInside owners next m) where

@@ -3,13 +3,12 @@ use Rattle.std.proofs.Common.{◌≡◌, ◌≤◌, ◌<◌, ◌+◌, ◌*◌, �
 use Rattle.std.proofs.lemmas.List.{length-map}
 use Rattle.std.specs.Prelude.{slice_index}
 use Rattle.sdr_base.specs.declared.moves.Move.{Move}
-use Rattle.sdr_base.specs.declared.moves.Move.TheVariants.{Took}
 use Rattle.sdr_model.specs.BondSteps.{bond_moves, bonded_extents}
 use Rattle.sdr_model.specs.Cuts.{placed}
 use Rattle.sdr_model.specs.Dry.{AreInOrder, addr_after, blocks_taken, next_addr, next_addrs}
 use Rattle.sdr_model.specs.PartSteps.{clone_moves}
 use Rattle.sdr_model.specs.Steps.{DoesWith, taken_addresses, taken_at, takes_from}
-use Rattle.sdr_model.specs.Things.{extent_need, object_need}
+use Rattle.sdr_model.specs.Things.{extent_need}
 use Rattle.sdr_model.specs.World.{World}
 use Rattle.sdr_model.specs.declared.answer.Reply.{Reply}
 use Rattle.sdr_model.specs.declared.zco.Capsule.{Capsule}
@@ -27,7 +26,7 @@ Agree k end at to = (i : ℕ) → k ≤ i → i < end → at i ≡ to i
 -- the i-th of them
 run-at : (at : ℕ → ℕ) (k n i j : ℕ) → i < n → j ≡ k + i → slice_index (run at k n) i ≡ at j
 run-at at k zero i j inside is = absurd (omega (arith, inside))
-run-at at k (suc n) zero j inside is = ap at (omega (arith, is))
+run-at at k (suc n) zero j inside is = grind arith
 run-at at k (suc n) (suc i) j inside is = run-at at (suc k) n i j (omega (arith, inside)) (omega (arith, is))
 
 -- the rule by which the taken addresses are read agrees with the one by which they were given
@@ -38,10 +37,8 @@ Agree-taken at moves n is = λ i from inside.
 
 -- the address after so many more blocks
 pub addr_after-next : (taken more : ℕ) → addr_after taken more ≡ next_addr (taken + more)
-addr_after-next taken zero = ap next_addr (let same : taken ≡ taken + 0 = omega arith in same)
-addr_after-next taken (suc more) =
-    addr_after-next (taken + 1) more
-    ∙ ap next_addr (let same : taken + 1 + more ≡ taken + suc more = omega arith in same)
+addr_after-next taken zero = grind arith
+addr_after-next taken (suc more) = grind (arith, addr_after-next (taken + 1) more)
 
 -- What a call does that takes so many blocks, where the moves, the world after it and the reply depend on these alone.
 pub does-with : (w after : World) (n : ℕ) (at : ℕ → ℕ) (moves : (ℕ → ℕ) → List Move) (next : (ℕ → ℕ) → World)
@@ -68,8 +65,7 @@ takes-agree : (at to : ℕ → ℕ) (k end : ℕ) (needs : List ℕ) → k + len
     → takes_from at k needs ≡ takes_from to k needs
 takes-agree at to k end [] most agree = refl
 takes-agree at to k end (need ∷ needs) most agree =
-    ap₂ (λ addr (l : List Move). Took need addr ∷ l) (agree k (omega arith) (omega (arith, most)))
-    (takes-agree at to (suc k) end needs (omega (arith, most)) (λ i from. agree i (omega (arith, from))))
+    grind (arith, agree k, takes-agree at to (suc k) end needs (omega (arith, most)) (λ i from. agree i (omega (arith, from))))
 
 pub in_order-takes : (taken k now : ℕ) (needs : List ℕ) → now ≡ taken + k
     → AreInOrder now (takes_from (addr_after taken) k needs)
@@ -88,8 +84,7 @@ pub placed-agree : (at to : ℕ → ℕ) (k end : ℕ) (extents : List Extent) �
     → placed at k extents ≡ placed to k extents
 placed-agree at to k end [] most agree = refl
 placed-agree at to k end (e ∷ es) most agree =
-    ap₂ (λ block (l : List Extent). record e { block = block } ∷ l) (agree k (omega arith) (omega (arith, most)))
-    (placed-agree at to (suc k) end es (omega (arith, most)) (λ i from. agree i (omega (arith, from))))
+    grind (arith, agree k, placed-agree at to (suc k) end es (omega (arith, most)) (λ i from. agree i (omega (arith, from))))
 
 -- the moves of a clone
 pub clone-taken : (at : ℕ → ℕ) (extents : List Extent)
@@ -102,10 +97,9 @@ clone-taken at extents =
 pub clone-agree : (at to : ℕ → ℕ) (extents : List Extent) → Agree 0 (suc (length extents)) at to
     → clone_moves at extents ≡ clone_moves to extents
 clone-agree at to extents agree =
-    ap₂ (λ addr (l : List Move). Took object_need addr ∷ l) (agree 0 (omega arith) (omega arith))
-    (takes-agree at to 1 (suc (length extents)) (map (λ e. extent_need) extents)
-    (omega (arith, length-map extents (λ (e : Extent). extent_need)))
-    (λ i from. agree i (omega arith)))
+    let rest = takes-agree at to 1 (suc (length extents)) (map (λ e. extent_need) extents)
+    (omega (arith, length-map extents (λ (e : Extent). extent_need))) (λ i from. agree i (omega arith)) in
+    grind (arith, agree 0)
 
 pub clone-in_order : (taken : ℕ) (extents : List Extent) → AreInOrder taken (clone_moves (addr_after taken) extents)
 clone-in_order taken extents =
@@ -118,29 +112,20 @@ clone-blocks at extents =
 -- three addresses, and then others
 run-three : (at : ℕ → ℕ) (k m n : ℕ) → n ≡ suc (suc (suc m)) → at k ∷ at (k + 1) ∷ at (k + 2) ∷ run at (k + 3) m ≡ run at k n
 run-three at k m n is =
-    ap (λ a. at k ∷ at a ∷ at (k + 2) ∷ run at (k + 3) m) (let same : k + 1 ≡ suc k = omega arith in same)
-    ∙ ap (λ a. at k ∷ at (suc k) ∷ at a ∷ run at (k + 3) m) (let same : k + 2 ≡ suc (suc k) = omega arith in same)
-    ∙ ap (λ a. at k ∷ at (suc k) ∷ at (suc (suc k)) ∷ run at a m) (let same : k + 3 ≡ suc (suc (suc k)) = omega arith in same)
-    ∙ ap (run at k) (sym is)
+    grind arith
 
 -- the moves of a bond
 pub bond-taken : (at : ℕ → ℕ) (k : ℕ) (capsules : List Capsule)
     → taken_addresses (bond_moves at k capsules) ≡ run at k (3 * length capsules)
 bond-taken at k [] = refl
-bond-taken at k (c ∷ cs) =
-    ap (λ (l : List ℕ). at k ∷ at (k + 1) ∷ at (k + 2) ∷ l) (bond-taken at (k + 3) cs)
-    ∙ run-three at k (3 * length cs) (3 * suc (length cs)) (omega arith)
+bond-taken at k (c ∷ cs) = grind (arith, bond-taken at (k + 3) cs, run-three at k (3 * length cs) (3 * suc (length cs)))
 
 pub bond-agree : (at to : ℕ → ℕ) (k end : ℕ) (capsules : List Capsule) → k + 3 * length capsules ≤ end → Agree k end at to
     → bond_moves at k capsules ≡ bond_moves to k capsules
 bond-agree at to k end [] most agree = refl
 bond-agree at to k end (c ∷ cs) most agree =
-    let raw : at k ≡ to k = agree k (omega arith) (omega (arith, most)) in
-    let source : at (k + 1) ≡ to (k + 1) = agree (k + 1) (omega arith) (omega (arith, most)) in
-    let extent : at (k + 2) ≡ to (k + 2) = agree (k + 2) (omega arith) (omega (arith, most)) in
-    let rest : bond_moves at (k + 3) cs ≡ bond_moves to (k + 3) cs =
-    bond-agree at to (k + 3) end cs (omega (arith, most)) (λ i from. agree i (omega (arith, from))) in
-    cc
+    let rest = bond-agree at to (k + 3) end cs (omega (arith, most)) (λ i from. agree i (omega (arith, from))) in
+    grind (arith, agree k, agree (k + 1), agree (k + 2))
 
 pub bond-in_order : (taken k now : ℕ) (capsules : List Capsule) → now ≡ taken + k
     → AreInOrder now (bond_moves (addr_after taken) k capsules)
@@ -166,25 +151,16 @@ pub bonded-agree : (at to : ℕ → ℕ) (k end : ℕ) (capsules : List Capsule)
     → bonded_extents at k capsules ≡ bonded_extents to k capsules
 bonded-agree at to k end [] most agree = refl
 bonded-agree at to k end (c ∷ cs) most agree =
-    let source : at (k + 1) ≡ to (k + 1) = agree (k + 1) (omega arith) (omega (arith, most)) in
-    let extent : at (k + 2) ≡ to (k + 2) = agree (k + 2) (omega arith) (omega (arith, most)) in
-    let rest : bonded_extents at (k + 3) cs ≡ bonded_extents to (k + 3) cs =
-    bonded-agree at to (k + 3) end cs (omega (arith, most)) (λ i from. agree i (omega (arith, from))) in
-    cc
+    let rest = bonded-agree at to (k + 3) end cs (omega (arith, most)) (λ i from. agree i (omega (arith, from))) in
+    grind (arith, agree (k + 1), agree (k + 2))
 
 -- the addresses of the next blocks, by the rule for addresses
 pub run-next : (taken k now n : ℕ) → now ≡ taken + k → run (addr_after taken) k n ≡ next_addrs now n
 run-next taken k now zero is = refl
 run-next taken k now (suc n) is =
-    ap₂ (λ addr (l : List ℕ). addr ∷ l) (addr_after-next taken k ∙ ap next_addr (sym is))
-    (run-next taken (suc k) (now + 1) n (omega (arith, is)))
+    grind (arith, addr_after-next taken k, run-next taken (suc k) (now + 1) n (omega (arith, is)))
 
 -- one more address
 pub next_addrs-more : (taken n : ℕ) → next_addrs taken (n + 1) ≡ next_addrs taken n ++ next_addr (taken + n) ∷ []
-next_addrs-more taken zero =
-    ap (λ addr. addr ∷ []) (ap next_addr (let same : taken ≡ taken + 0 = omega arith in same))
-next_addrs-more taken (suc n) =
-    ap (next_addrs taken) (let same : suc n + 1 ≡ suc (n + 1) = omega arith in same)
-    ∙ ap (λ (l : List ℕ). next_addr taken ∷ l)
-    (next_addrs-more (taken + 1) n
-    ∙ ap (λ t. next_addrs (taken + 1) n ++ next_addr t ∷ []) (let same : taken + 1 + n ≡ taken + suc n = omega arith in same))
+next_addrs-more taken zero = grind arith
+next_addrs-more taken (suc n) = grind (arith, next_addrs-more (taken + 1) n)

@@ -1,10 +1,8 @@
 // The accounts of a world in the making, which can be put back to what they were at the begin.
 ghost use Rattle.std.specs.Prelude.{◌≡◌, ◌≤◌, ◌<◌, ◌+◌, OnErr, OnOk, true, false, length, remove};
-ghost use Rattle.sdr_base.specs.declared.kind.Space.{Space};
 ghost use Rattle.sdr_model.specs.Accounts.{account_of, fresh_accounts, most_amount, tickets_of, with_account, with_ticket, with_tickets};
-ghost use Rattle.sdr_model.specs.Amounts.{amount};
-ghost use Rattle.sdr_parts.specs.Grants.{KeepGrants, WaitsEmpty};
-ghost use Rattle.sdr_model.specs.Queue.{enqueued, served};
+ghost use Rattle.sdr_model.specs.Queue.{enqueued};
+ghost use Rattle.sdr_parts.specs.Rooms.{served_in};
 
 use sdr_base::{Acct, Amounts, NoMemory};
 use sdr_model::{Accounts, Pending, Ticket};
@@ -24,7 +22,6 @@ pub struct Ledger {
 
 impl Model for Ledger {
     ghost use Rattle.std.specs.Prelude.{is_some, unwrap_or};
-    ghost use Rattle.sdr_parts.specs.Grants as grants;
     ghost use Rattle.sdr_undo.specs.Ledger as ledger;
 
     ghost Value = { ledger.Ledger };
@@ -32,14 +29,11 @@ impl Model for Ledger {
     ghost coded = { ledger.coded_ledger };
 
     ghost view = { λ s. record { begun = unwrap_or s.before s.current; now = s.current; saved = is_some s.before } };
-
-    ghost invariant = { λ s. grants.KeepGrants (unwrap_or s.before s.current) × grants.KeepGrants s.current };
 }
 
 impl Ledger {
     /// Accounts without tickets, whose heap space has this maximum. It takes no memory.
     pub fn new(alloc: Global, heap: u64) -> Ledger
-        requires small { heap ≤ most_amount }
         ensures { let fresh = fresh_accounts heap in result ≡ record { begun = fresh; now = fresh; saved = false } }
     {
         Ledger {
@@ -51,8 +45,7 @@ impl Ledger {
 
     /// The accounts now.
     pub fn now(&self) -> &Accounts
-        ensures value { result.now ≡ self.now.now }
-        ensures keep { KeepGrants self.now.now }
+        ensures { result.now ≡ self.now.now }
     {
         &self.current
     }
@@ -78,16 +71,15 @@ impl Ledger {
         Ok(())
     }
 
-    /// Serves the queue of an account where so much is occupied.
-    pub fn serve(&mut self, acct: Acct, occupied: &Amounts)
+    /// Serves the queue of an account in this room.
+    pub fn serve(&mut self, acct: Acct, room: Amounts)
         requires saved { self.old.saved ≡ true }
         ensures { self.new ≡ record self.old {
-          now = with_tickets self.old.now acct
-              (served (account_of self.old.now acct).maxima occupied.now (tickets_of self.old.now acct));
+          now = with_tickets self.old.now acct (served_in room (tickets_of self.old.now acct));
         } }
     {
         let mut account = self.current.take(self.alloc, acct);
-        serve(&mut account.tickets, &account.maxima, occupied);
+        serve(&mut account.tickets, room);
         self.current.put(acct, account);
     }
 
@@ -95,7 +87,6 @@ impl Ledger {
     pub fn put_ticket(&mut self, pending: &Pending, ticket: Ticket)
         requires saved { self.old.saved ≡ true }
         requires there { pending.now.place < length (tickets_of self.old.now pending.now.acct) }
-        requires waits_empty { WaitsEmpty ticket }
         ensures { self.new ≡ record self.old { now = with_ticket self.old.now pending.now ticket } }
     {
         let mut account = self.current.take(self.alloc, pending.acct);
@@ -120,7 +111,6 @@ impl Ledger {
     /// A new ticket, of the next number, enters the queue of an account. Want of memory leaves all as before.
     pub fn enqueue(&mut self, acct: Acct, ticket: Ticket) -> Result<(), NoMemory>
         requires saved { self.old.saved ≡ true }
-        requires waits_empty { WaitsEmpty ticket }
         requires number { ticket.number < most_amount }
         ensures ok { OnOk result (self.new ≡ record self.old {
           now = record (with_tickets self.old.now acct (enqueued (tickets_of self.old.now acct) ticket)) { next = ticket.number + 1 };
@@ -138,7 +128,6 @@ impl Ledger {
     /// Sets the maxima of an account.
     pub fn set_maxima(&mut self, acct: Acct, maxima: Amounts)
         requires saved { self.old.saved ≡ true }
-        requires small { (space : Space) → amount maxima space ≤ most_amount }
         ensures { self.new ≡ record self.old {
           now = with_account self.old.now acct (record (account_of self.old.now acct) { maxima = maxima });
         } }

@@ -10,7 +10,6 @@ mod ledger;
 mod names;
 mod owners;
 mod place;
-mod places;
 mod store;
 
 pub use catalogue::Catalogue;

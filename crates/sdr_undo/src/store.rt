@@ -1,25 +1,25 @@
 // The things of a world in the making, which can be put back to what they were at the begin.
-ghost use Rattle.std.specs.Prelude.{◌≡◌, ℕ, IfOk, OnOk, OnErr, IsSome, Some, None, Contains, [], true};
+ghost use Rattle.std.specs.Prelude.{◌≡◌, ℕ, All, IfOk, OnOk, OnErr, IsSome, Some, None, Contains, []};
 ghost use Rattle.std.specs.FinMap as map;
 ghost use Rattle.std.specs.Option.{option_copied};
 ghost use Rattle.sdr_model.specs.Things.{with_at};
-ghost use Rattle.sdr_undo.specs.Store.{things_in, with_place};
+ghost use Rattle.sdr_undo.specs.Store.{things_in, things_of};
 
-use crate::place::Place;
-use crate::places::Places;
+use crate::place::{Place, Stays, is_saved, save, settle, swap};
 use sdr_base::{Addr, NoMemory};
 use sdr_model::Thing;
 use std::alloc::Global;
+use std::collections::BTreeMap;
 use std::collections::btree_map::Iter;
 use std::marker::Model;
 
 /// The things of a world by their addresses, now and at the begin of the open transaction. A thing is
-/// copied once in a transaction, when it is first changed in place.
+/// copied once in a transaction, when its address is first touched.
 #[derive(Drop)]
 pub struct Store {
     alloc: Global,
-    places: Places,
-    /// The addresses of all places that were touched since the begin, once.
+    places: BTreeMap<u64, Place>,
+    /// The addresses that were touched since the begin.
     touched: Vec<Addr>,
 }
 
@@ -31,22 +31,21 @@ impl Model for Store {
     ghost coded = { store.coded_store };
 
     ghost view = { λ s. record {
-      begun = store.things_at store.begun_at s.places;
-      now = store.things_at store.now_at s.places;
+      begun = store.things_at store.begun_at s.places.entries;
+      now = store.things_at store.now_at s.places.entries;
       touched = s.touched.items;
     } };
 
-    ghost invariant = { λ s. store.AreTouched s.places s.touched.items };
+    ghost invariant = { λ s. store.AreTouched s.places.entries s.touched.items };
 }
 
-// Makes a place for an address where there is none.
-fn make_place(places: &mut Places, addr: Addr) -> Result<(), NoMemory>
-    ensures made { OnOk result (places.new ≡ with_place places.old addr) }
-    ensures same { OnErr result (places.new ≡ places.old) }
+// A copy of what is at an address.
+fn copied(alloc: Global, thing: Option<&Thing>) -> Result<Option<Thing>, NoMemory>
+    ensures { IfOk result (λ copy. copy ≡ option_copied thing.entry) }
 {
-    match places.get(addr) {
-        Some(_) => Ok(()),
-        None => places.insert(addr, Place::empty()),
+    match thing {
+        Some(thing) => Ok(Some(thing.copied(alloc)?)),
+        None => Ok(None),
     }
 }
 
@@ -57,19 +56,17 @@ impl Store {
     {
         Store {
             alloc,
-            places: Places::new(alloc),
+            places: BTreeMap::new(alloc),
             touched: Vec::new(alloc),
         }
     }
 
     /// The thing at an address.
+    #[tactic(auto, using(crate::proofs::StoreLemmas::thing_at))]
     pub fn get(&self, addr: Addr) -> Option<&Thing>
         ensures { option_copied result ≡ map.get self.now.now addr }
     {
-        match self.places.get(addr) {
-            Some(place) => place.current(),
-            None => None,
-        }
+        self.places.get(&addr)?.current()
     }
 
     /// The places of the things, by rising address.
@@ -79,18 +76,8 @@ impl Store {
         self.places.iter()
     }
 
-    // Whether an address was touched.
-    fn is_listed(&self, addr: Addr) -> bool
-        ensures { result ≡ true → Contains self.now.touched addr }
-    {
-        match self.places.get(addr) {
-            Some(place) => place.is_listed(),
-            None => false,
-        }
-    }
-
-    /// Takes note that an address is touched, and makes a place for it where there is none. Where it was
-    /// touched before, this takes no memory.
+    /// Takes note that an address is touched, and copies what is there. Where it was touched before, this takes
+    /// no memory.
     pub fn touch(&mut self, addr: Addr) -> Result<(), NoMemory>
         ensures begun { self.new.begun ≡ self.old.begun }
         ensures now { self.new.now ≡ self.old.now }
@@ -98,15 +85,40 @@ impl Store {
         ensures others { (other : ℕ) → Contains self.old.touched other →
             Contains self.new.touched other }
     {
-        if self.is_listed(addr) {
+        if is_saved(&self.places, addr) {
             return Ok(());
         }
-        make_place(&mut self.places, addr)?;
-        self.touched.push(addr)?;
-        let mut place = self.places.lift(addr);
-        place.list();
-        self.places.set(addr, place);
+        let begun = copied(self.alloc, self.get(addr))?;
+        self.touched.reserve(1)?;
+        save(&mut self.places, addr, begun)?;
+        self.touched.push_reserved(addr);
         Ok(())
+    }
+
+    /// Takes note that these addresses are touched, as `touch` does.
+    pub fn touch_all(&mut self, addrs: &[Addr]) -> Result<(), NoMemory>
+        ensures begun { self.new.begun ≡ self.old.begun }
+        ensures now { self.new.now ≡ self.old.now }
+        ensures touched { OnOk result (All (Contains self.new.touched) addrs.now) }
+        ensures others { (other : ℕ) → Contains self.old.touched other →
+            Contains self.new.touched other }
+    {
+        for addr in addrs {
+            self.touch(*addr)?;
+        }
+        Ok(())
+    }
+
+    // Puts a thing, or nothing, at an address that was touched, and hands out what was there.
+    #[tactic(auto, using(crate::proofs::StoreLemmas::thing_at))]
+    fn swap(&mut self, addr: Addr, thing: Option<Thing>) -> Option<Thing>
+        requires touched { Contains self.old.touched addr }
+        ensures was { result ≡ map.get self.old.now addr }
+        ensures now { self.new.now ≡ with_at self.old.now addr thing }
+        ensures begun { self.new.begun ≡ self.old.begun }
+        ensures touched { self.new.touched ≡ self.old.touched }
+    {
+        swap(&mut self.places, addr, thing)
     }
 
     /// Puts a thing, or nothing, at an address that was touched.
@@ -116,9 +128,7 @@ impl Store {
         ensures begun { self.new.begun ≡ self.old.begun }
         ensures touched { self.new.touched ≡ self.old.touched }
     {
-        let mut place = self.places.lift(addr);
-        place.put(thing);
-        self.places.set(addr, place);
+        self.swap(addr, thing);
     }
 
     /// Puts a thing at an address, or lets the one there go. Want of memory leaves all as before.
@@ -144,31 +154,32 @@ impl Store {
         ensures same { OnErr result (self.new.now ≡ self.old.now) }
     {
         self.touch(addr)?;
-        let mut place = self.places.lift(addr);
-        let taken = place.take(self.alloc);
-        self.places.set(addr, place);
-        taken
+        match self.swap(addr, None) {
+            Some(thing) => Ok(thing),
+            None => unreachable!(),
+        }
+    }
+
+    // Lets the things of one of both times stay.
+    fn settle(&mut self, stays: Stays)
+        ensures { let things = things_of stays self.old in self.new ≡ record { begun = things; now = things; touched = [] } }
+    {
+        while let Some(addr) = self.touched.pop() {
+            settle(&mut self.places, addr, stays);
+        }
     }
 
     /// Takes the things now as those to begin from.
     pub fn keep(&mut self)
         ensures { self.new ≡ record { begun = self.old.now; now = self.old.now; touched = [] } }
     {
-        while let Some(addr) = self.touched.pop() {
-            let mut place = self.places.lift(addr);
-            place.keep();
-            self.places.set(addr, place);
-        }
+        self.settle(Stays::Now);
     }
 
     /// Puts the things back to what they were at the begin.
     pub fn put_back(&mut self)
         ensures { self.new ≡ record { begun = self.old.begun; now = self.old.begun; touched = [] } }
     {
-        while let Some(addr) = self.touched.pop() {
-            let mut place = self.places.lift(addr);
-            place.put_back();
-            self.places.set(addr, place);
-        }
+        self.settle(Stays::Begun);
     }
 }

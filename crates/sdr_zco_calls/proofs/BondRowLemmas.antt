@@ -1,18 +1,20 @@
 -- The row of the call that bonds an object.
-use Rattle.std.proofs.Common.{◌≡◌, ◌≤◌, ◌+◌, ◌*◌, ◌++◌, ◌∷◌, [], ℕ, List, Option, None, Some, ap, ap₂, sym, ◌∙◌, refl, subst, arith, length, length-append}
+use Rattle.std.proofs.Common.{◌≡◌, ◌≤◌, ◌<◌, ◌+◌, ◌*◌, ◌++◌, ◌∷◌, [], ℕ, List, Option, Some, Ok, Err, ap, ap₂, sym, ◌∙◌, refl, subst, arith, length, length-append}
+use Rattle.std.specs.FinMap.{get}
+use Rattle.std.specs.Prelude.{Result, OnErr, OnOk}
 use Rattle.sdr_base.specs.declared.account.Amounts.{Amounts}
 use Rattle.sdr_base.specs.declared.refusal.Refusal.{Refusal}
 use Rattle.sdr_model.specs.declared.accounts.Pending.{Pending}
-use Rattle.sdr_draft.specs.Allowed.{MayCharge, RefusesCharge}
 use Rattle.sdr_model.specs.Amounts.{amounts_by}
 use Rattle.sdr_model.specs.BondSteps.{bond_charge, bond_moves, bonded, capsules_of, with_bonded}
 use Rattle.sdr_model.specs.Charging.{Charges, with_used}
-use Rattle.sdr_model.specs.Dry.{StepsDry, addr_after, dry_moves, next_addr, next_addrs}
+use Rattle.sdr_model.specs.Dry.{StepsDry, addr_after, dry_moves, next_addr, next_addrs, with_blocks}
 use Rattle.sdr_model.specs.ObjectSteps.{with_object}
 use Rattle.sdr_model.specs.RowMoves.{bond_moves_of}
 use Rattle.sdr_model.specs.Rows.{ByRow}
 use Rattle.sdr_model.specs.SourceSteps.{new_source}
 use Rattle.sdr_model.specs.Steps.{DoesWith, On, Outcome, with_thing}
+use Rattle.sdr_model.specs.Things.{Owners}
 use Rattle.sdr_model.specs.World.{World}
 use Rattle.sdr_model.specs.Zco.{object_at, whole_of}
 use Rattle.sdr_model.specs.declared.answer.Reply.TheVariants as replies
@@ -23,23 +25,27 @@ use Rattle.sdr_model.specs.declared.zco.Capsule.{Capsule}
 use Rattle.sdr_model.specs.declared.zco.Extent.{Extent}
 use Rattle.sdr_model.specs.declared.zco.Subject.TheVariants as subjects
 use Rattle.sdr_model.specs.declared.zco.ZcoObject.{ZcoObject}
-use Rattle.sdr_draft.proofs.BondLemmas.{bonded-fields, texts_put, with_first}
-use Rattle.sdr_zco_calls.proofs.BondCallLemmas.{with_marks}
-use Rattle.sdr_draft.proofs.ChargeLemmas.{charge_allowed, charge_refused}
-use Rattle.sdr_undo.proofs.TakenLemmas.{Agree, addr_after-next, bond-agree, bond-blocks, bond-in_order, bond-taken, bonded-agree, does-with, run, run-next}
+use Rattle.sdr_undo.proofs.TakenLemmas.{Agree, addr_after-next, bond-agree, bond-blocks, bond-in_order, bond-taken, bonded-agree, run}
+use Rattle.sdr_undo.specs.Owners.{OwnsInside}
+use Rattle.sdr_zco_calls.proofs.BondCallLemmas.{owned-bonded}
+use Rattle.sdr_zco_calls.proofs.BlockCallLemmas.{IsAllowed, IsRefused, IsTaken, allowed-at, blocks-step, blocks-used, counted-at, owned-at, refused-at, same-at, taken-at, taken-used}
+use Rattle.sdr_zco_calls.proofs.ObjectCallLemmas.{charged-refused}
 
--- what bonding an object that is there comes to
-abbrev pub ChargesBond : World → Outcome → ℕ → ℕ → ZcoObject → Type 0
-ChargesBond w o k number z =
-    Charges w o z.account number (bond_charge (capsules_of z)) (λ used.
-    DoesWith w o (λ at. bond_moves at 0 (capsules_of z))
-    (λ at. with_object (with_bonded used at 0 (capsules_of z)) k (bonded at z))
-    (λ at. replies.Done))
+-- the world with the raw object of the first of these texts and its source
+abbrev with_first : World → (ℕ → ℕ) → ℕ → Capsule → World
+with_first w at k c =
+    with_thing (with_thing w (at k) (things.Raw c.text)) (at (k + 1)) (things.Source (new_source (subjects.Heap (at k)) (length c.text)))
 
--- the row of the call
-bond-row : (w : World) (o : Outcome) (k number : ℕ) (z : ZcoObject) → object_at w k ≡ Some z → ChargesBond w o k number z
-    → ByRow w o (calls.Bond k number)
-bond-row w o k number z there charges = subst (λ t. On w o k t (ChargesBond w o k number)) (sym there) charges
+-- other fields of a world than its things stay
+bonded-fields : (at : ℕ → ℕ) (cs : List Capsule) (marks shown : List ℕ) (taken : ℕ) (w : World) (k : ℕ)
+    → with_bonded (record w { marks = marks; shown = shown; taken = taken }) at k cs
+    ≡ record (with_bonded w at k cs) { marks = marks; shown = shown; taken = taken }
+bonded-fields at [] marks shown taken w k = refl
+bonded-fields at (c ∷ cs) marks shown taken w k = bonded-fields at cs marks shown taken (with_first w at k c) (k + 3)
+
+pub bonded-taken : (at : ℕ → ℕ) (cs : List Capsule) (w : World) (k : ℕ) → (with_bonded w at k cs).taken ≡ w.taken
+bonded-taken at [] w k = refl
+bonded-taken at (c ∷ cs) w k = bonded-taken at cs (with_first w at k c) (k + 3)
 
 -- the raw objects and sources that are put depend on the addresses alone
 with_bonded-agree : (at to : ℕ → ℕ) (k end : ℕ) (cs : List Capsule) (w : World) → k + 3 * length cs ≤ end → Agree k end at to
@@ -62,96 +68,95 @@ bonded_object-agree at to z agree =
     (bonded-agree at to 0 end z.headers (omega (arith, size)) (λ i from. agree i (omega arith)))
     (bonded-agree at to (3 * length z.headers) end z.trailers (omega (arith, size)) (λ i from. agree i (omega arith)))
 
--- where its first block is at the next address it lies at the next ones
-pub bonded-next : (taken next : ℕ) (z : ZcoObject) → next ≡ next_addr taken
-    → bonded (λ k. next + 8 * k) z ≡ bonded (addr_after taken) z
-bonded-next taken next z is =
-    bonded_object-agree (λ k. next + 8 * k) (addr_after taken) z (λ i from inside.
-    (let same : next + 8 * i ≡ next_addr (taken + i) = omega (arith, is) in same) ∙ sym (addr_after-next taken i))
+-- The call that bonds an object that is there. The first block that it takes is the next.
+module _ (w wn wb : World) (r : Result (Option Pending) Refusal) (same : wn ≡ w) (k number first n : ℕ)
+    (z after : ZcoObject) (capsules : List Capsule) (amounts : Amounts)
+    (there : Some z ≡ object_at w k)
+    (here : first ≡ next_addr w.taken)
+    (copies : capsules ≡ capsules_of z)
+    (made_so : after ≡ bonded (λ i. first + 8 * i) z)
+    (size : n ≡ 3 * length capsules)
+    (charged : amounts ≡ amounts_by (bond_charge capsules)) where
+  abbrev call : Call
+  call = calls.Bond k number
 
--- and the world with it
-next-agree : (at to : ℕ → ℕ) (used : World) (k : ℕ) (z : ZcoObject) → Agree 0 (3 * length (capsules_of z)) at to
-    → with_object (with_bonded used at 0 (capsules_of z)) k (bonded at z)
-    ≡ with_object (with_bonded used to 0 (capsules_of z)) k (bonded to z)
-next-agree at to used k z agree =
-    ap₂ (λ v y. with_object v k y)
-    (with_bonded-agree at to 0 (3 * length (capsules_of z)) (capsules_of z) used (omega arith) agree)
-    (bonded_object-agree at to z agree)
+  abbrev cs : List Capsule
+  cs = capsules_of z
 
--- the raw objects and sources in the world after a charge
-pub texts_put-marks : (w : World) (p : Option Pending) (amounts : Amounts) (n : ℕ) (cs : List Capsule)
-    → texts_put (with_marks w p amounts n) cs
-    ≡ record (with_bonded (with_used w p amounts) (addr_after w.taken) 0 cs) {
-      marks = w.marks ++ next_addrs w.taken n;
-      shown = [];
-      taken = w.taken + 3 * length cs;
-    }
-texts_put-marks w None amounts n cs =
-    ap (λ (v : World). record v { shown = []; taken = w.taken + 3 * length cs })
-    (bonded-fields (addr_after w.taken) cs (w.marks ++ next_addrs w.taken n) [] w.taken w 0)
-texts_put-marks w (Some p) amounts n cs =
-    ap (λ (v : World). record v { shown = []; taken = w.taken + 3 * length cs })
-    (bonded-fields (addr_after w.taken) cs (w.marks ++ next_addrs w.taken n) [] w.taken (with_used w (Some p) amounts) 0)
+  abbrev at : ℕ → ℕ
+  at = addr_after w.taken
 
--- they leave how many blocks were taken
-bonded-taken : (w : World) (p : Option Pending) (amounts : Amounts) (at : ℕ → ℕ) (cs : List Capsule)
-    → (with_bonded (with_used w p amounts) at 0 cs).taken ≡ w.taken
-bonded-taken w None amounts at cs = ap (λ (v : World). v.taken) (bonded-fields at cs w.marks w.shown w.taken w 0)
-bonded-taken w (Some p) amounts at cs =
-    ap (λ (v : World). v.taken) (bonded-fields at cs w.marks w.shown w.taken (with_used w (Some p) amounts) 0)
+  abbrev with_texts : World → (ℕ → ℕ) → World
+  with_texts used at = with_object (with_bonded used at 0 cs) k (bonded at z)
 
--- the object is bonded
-pub bond-step : (w w' : World) (k number : ℕ) (z : ZcoObject) (amounts : Amounts) (p : Option Pending) → object_at w k ≡ Some z
-    → amounts ≡ amounts_by (bond_charge (capsules_of z)) → MayCharge w z.account number amounts p
-    → w' ≡ with_object (texts_put (with_marks w p amounts (3 * length (capsules_of z))) (capsules_of z)) k
-    (bonded (addr_after w.taken) z)
-    → let call = calls.Bond k number in StepsDry w call (dry_moves w call replies.Done) w' replies.Done
-bond-step w w' k number z amounts p there is may put =
-    let call : Call = calls.Bond k number in
-    let cs : List Capsule = capsules_of z in
-    let n : ℕ = 3 * length cs in
-    let at : ℕ → ℕ = addr_after w.taken in
-    let used : World = with_used w p amounts in
-    let next : (ℕ → ℕ) → World = λ at. with_object (with_bonded used at 0 cs) k (bonded at z) in
-    let marks : List ℕ = w.marks ++ next_addrs w.taken n in
-    let after : World = record w' { taken = w.taken } in
-    let o : Outcome = record { moves = bond_moves at 0 cs; after = after; reply = replies.Done } in
-    let moves : dry_moves w call replies.Done ≡ bond_moves at 0 cs = ap (λ t. bond_moves_of t at) there in
-    let all : w' ≡ record (next at) { marks = marks; shown = []; taken = w.taken + n } =
-    put ∙ ap (λ v. with_object v k (bonded at z)) (texts_put-marks w p amounts n cs) in
-    let left : after ≡ record (next at) { marks = w.marks ++ run at 0 n; shown = [] } =
-    ap (λ (v : World). record v { taken = w.taken }) all
-    ∙ ap (λ (t : ℕ). let r : World = record (next at) { marks = marks; shown = []; taken = t } in r)
-    (sym (bonded-taken w p amounts at cs))
-    ∙ ap (λ (l : List ℕ). record (next at) { marks = w.marks ++ l; shown = [] }) (sym (run-next w.taken 0 w.taken n (omega arith))) in
-    subst (λ m. StepsDry w call m w' replies.Done) (sym moves)
-    (record {
-      step = bond-row w o k number z there
-          (charge_allowed w o z.account number (bond_charge cs) amounts p
-          (λ used. DoesWith w o (λ at. bond_moves at 0 cs) (λ at. with_object (with_bonded used at 0 cs) k (bonded at z))
-          (λ at. replies.Done)) is may
-          (does-with w after n at (λ at. bond_moves at 0 cs) next (λ at. replies.Done) (bond-taken at 0 cs)
-          (λ to agree. bond-agree at to 0 n cs (omega arith) agree)
-          (λ to agree. next-agree at to used k z agree)
-          (λ to agree. refl)
-          left));
-      in_order = bond-in_order w.taken 0 w.taken cs (omega arith);
-      counted = ap (λ (v : World). v.taken) all ∙ ap (λ m. w.taken + m) (sym (bond-blocks at 0 cs));
-    })
+  count : n ≡ 3 * length cs
+  count = size ∙ ap (λ l. 3 * length l) copies
 
--- the account refuses it
-pub bond-refused : (w w' : World) (k number : ℕ) (z : ZcoObject) (amounts : Amounts) (refusal : Refusal) → object_at w k ≡ Some z
-    → amounts ≡ amounts_by (bond_charge (capsules_of z)) → RefusesCharge w z.account number amounts refusal → w' ≡ w
-    → StepsDry w (calls.Bond k number) [] w' (replies.Refused refusal)
-bond-refused w w' k number z amounts refusal there is refuses same =
-    let o : Outcome = record { moves = []; after = w; reply = replies.Refused refusal } in
-    let cs : List Capsule = capsules_of z in
-    subst (λ v. StepsDry w (calls.Bond k number) [] v (replies.Refused refusal)) (sym same)
-    (record {
-      step = bond-row w o k number z there
-          (charge_refused w o z.account number (bond_charge cs) amounts refusal
-          (λ used. DoesWith w o (λ at. bond_moves at 0 cs) (λ at. with_object (with_bonded used at 0 cs) k (bonded at z))
-          (λ at. replies.Done)) is refuses (refl, refl, refl));
-      in_order = tt;
-      counted = omega arith;
-    })
+  behind : Agree 0 n (λ i. first + 8 * i) at
+  behind i from inside =
+      (let same : first + 8 * i ≡ next_addr (w.taken + i) = omega (arith, here) in same) ∙ sym (addr_after-next w.taken i)
+
+  is : amounts ≡ amounts_by (bond_charge cs)
+  is = charged ∙ ap (λ l. amounts_by (bond_charge l)) copies
+
+  abbrev ChargesBond : Outcome → ZcoObject → Type 0
+  ChargesBond o z =
+      Charges w o z.account number (bond_charge (capsules_of z)) (λ used.
+      DoesWith w o (λ at. bond_moves at 0 (capsules_of z))
+      (λ at. with_object (with_bonded used at 0 (capsules_of z)) k (bonded at z))
+      (λ at. replies.Done))
+
+  row : (o : Outcome) → ChargesBond o z → ByRow w o call
+  row o charges = subst (λ t. On w o k t (ChargesBond o)) there charges
+
+  object : after ≡ bonded at z
+  object =
+      made_so ∙ bonded_object-agree (λ i. first + 8 * i) at z (λ i from below. behind i from (omega (arith, below, count)))
+
+  -- it owns its blocks, where all that was noted before still is
+  pub bond-owned : (owners now : Owners) (next : ℕ) (p : Option Pending) → r ≡ Ok p → IsTaken w wn wb z.account number n amounts r same → next ≡ next_addr wb.taken
+      → ((other of : ℕ) → other < next_addr wn.taken → get owners other ≡ Some of → get now other ≡ Some of)
+      → OwnsInside owners (next_addr w.taken) k (things.Object z)
+      → OnOk r ((i : ℕ) → i < n → get now (addr_after wn.taken i) ≡ Some k)
+      → OwnsInside now next k (things.Object after)
+  bond-owned owners now next p ok taken here stay owns given =
+      let more : wb.taken ≡ w.taken + n = counted-at w wn wb z.account number n amounts r same ok taken in
+      let lower = ap (λ (v : World). v.taken) same in
+      subst (λ y. OwnsInside now next k (things.Object y)) (sym object)
+      (owned-bonded owners now (next_addr w.taken) next k at z (omega (arith, here, more))
+      (λ other of below. stay other of (omega (arith, below, lower))) owns
+      (λ i below. record {
+        noted = owned-at w wn wb z.account number n amounts r same now k ok given i (omega (arith, below, count));
+        below = omega (arith, addr_after-next w.taken i, below, count, here, more);
+      }))
+
+  pub bond-refused : (refusal : Refusal) → r ≡ Err refusal → IsRefused w wn wb z.account number n amounts r same → OnErr r (wb ≡ wn)
+      → StepsDry w call [] wb (replies.Refused refusal)
+  bond-refused refusal err refused left =
+      charged-refused w wb call z.account number (bond_charge cs) amounts
+      (λ o used. DoesWith w o (λ at. bond_moves at 0 cs) (with_texts used) (λ at. replies.Done)) row is refusal (refused-at w wn wb z.account number n amounts r same err refused) (same-at w wn wb z.account number n amounts r same err left)
+
+  texts-agree : (used : World) (from to : ℕ → ℕ) → Agree 0 n from to → with_bonded used from 0 cs ≡ with_bonded used to 0 cs
+  texts-agree used from to = with_bonded-agree from to 0 n cs used (omega (arith, count))
+
+  next-agree : (used : World) (from to : ℕ → ℕ) → Agree 0 n from to → with_texts used from ≡ with_texts used to
+  next-agree used from to agree =
+      ap₂ (λ v y. with_object v k y) (texts-agree used from to agree)
+      (bonded_object-agree from to z (λ i least below. agree i least (omega (arith, below, count))))
+
+  pub bond-step : (w' : World) (p : Option Pending) → r ≡ Ok p → IsAllowed w wn wb z.account number n amounts r same → IsTaken w wn wb z.account number n amounts r same
+      → w' ≡ with_object (with_bonded wb (λ i. first + 8 * i) 0 capsules) k after
+      → StepsDry w call (dry_moves w call replies.Done) w' replies.Done
+  bond-step w' p ok allowed taken put =
+      let used : World = with_used w p amounts in
+      let texts : List Capsule → World = with_bonded (with_blocks used n) (λ i. first + 8 * i) 0 in
+      subst (λ o. StepsDry w call (bond_moves_of o at) w' replies.Done) there
+      (blocks-step w w' call z.account number n (bond_charge cs) amounts (λ at. bond_moves at 0 cs) with_texts
+      (λ at. replies.Done) row is p (allowed-at w wn wb z.account number n amounts r same ok allowed)
+      (bond-taken at 0 cs ∙ ap (run at 0) (sym count)) (bond-in_order w.taken 0 w.taken cs (omega arith))
+      (bond-blocks at 0 cs ∙ sym count) (λ to. bond-agree at to 0 n cs (omega (arith, count))) (next-agree used at)
+      (λ to agree. refl) (bonded-taken at cs used 0 ∙ taken-used w p amounts)
+      (put ∙ ap (λ v. with_object (with_bonded v (λ i. first + 8 * i) 0 capsules) k after) (taken-at w wn wb z.account number n amounts r same ok taken)
+      ∙ ap₂ (λ v y. with_object v k y) (ap texts copies ∙ texts-agree (with_blocks used n) (λ i. first + 8 * i) at behind) object
+      ∙ ap (λ v. with_texts v at) (blocks-used w p amounts n)
+      ∙ ap (λ v. with_object v k (bonded at z)) (bonded-fields at cs (w.marks ++ next_addrs w.taken n) [] (w.taken + n) used 0)))

@@ -1,8 +1,14 @@
+pub mod BlockCallLemmas
 pub mod BondCallLemmas
 pub mod BondRowLemmas
+pub mod CapsuleLemmas
 pub mod CloneCallLemmas
-pub mod CloneLemmas
+pub mod CutLemmas
 pub mod DiscardLemmas
+pub mod ExtentLemmas
 pub mod GatherLemmas
 pub mod GoneLemmas
+pub mod InsideLemmas
+pub mod ObjectCallLemmas
+pub mod PartCallLemmas
 pub mod RawExtentLemmas

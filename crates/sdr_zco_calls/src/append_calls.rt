@@ -1,15 +1,16 @@
 // What the call that adds an extent does to a world.
-ghost use Rattle.std.specs.Prelude.{◌≡◌, ◌<◌, ◌^◌, ◌||◌, ◌+◌, ◌==◌, IsSome, None, nat_lt};
+ghost use Rattle.std.specs.Prelude.{◌≡◌, ◌||◌, ◌+◌, ◌==◌, IsSome, None, nat_lt};
 ghost use Rattle.sdr_calls.specs.Answers.{Answers};
+ghost use Rattle.sdr_draft.specs.Calling.{MayCall};
 ghost use Rattle.sdr_model.specs.Zco.{object_at, source_at};
 ghost use Rattle.sdr_parts.specs.declared.component.Component.TheVariants as components;
 
 use crate::object_calls::object;
 use sdr_base::{Addr, NoMemory, Refusal};
-use sdr_calls::raw_calls::{in_use, misnamed, raw};
+use sdr_calls::raw_calls::{exceeds, in_use, misnamed};
 use sdr_changes::growing::add_component;
 use sdr_draft::Undoable;
-use sdr_model::{Call, Extent, Reply};
+use sdr_model::{Call, Extent, Reply, Subject, Thing, ZcoSource};
 use sdr_parts::component::Component;
 
 /// An append that is asked.
@@ -42,35 +43,29 @@ impl Append {
             length: self.bytes,
         })
     }
+
+    // The refusal of a range that isn't within the bytes that are there.
+    fn bad_range(&self, have: u64) -> Reply
+        ensures { result ≡ Reply.Refused (Refusal.BadRange self.now.offset self.now.bytes have) }
+    {
+        Reply::Refused(Refusal::BadRange {
+            offset: self.offset,
+            length: self.bytes,
+            have,
+        })
+    }
 }
 
 // Whether a range has no byte, or isn't within the bytes that are there.
 pub fn is_outside(offset: u64, bytes: u64, have: u64) -> bool
     ensures { result ≡ (bytes == 0 || nat_lt have (offset + bytes)) }
 {
-    if bytes == 0 {
-        return true;
-    }
-    match offset.checked_add(bytes) {
-        Some(end) => have < end,
-        None => true,
-    }
-}
-
-// The refusal of a range that isn't within the bytes that are there.
-fn bad_range(asked: &Append, have: u64) -> Reply
-    ensures { result ≡ Reply.Refused (Refusal.BadRange asked.now.offset asked.now.bytes have) }
-{
-    Reply::Refused(Refusal::BadRange {
-        offset: asked.offset,
-        length: asked.bytes,
-        have,
-    })
+    bytes == 0 || exceeds(offset, bytes, have)
 }
 
 // Appends a part of a source that is there to an object that is there, which isn't copied.
 fn append_source(world: &mut Undoable, asked: &Append) -> Result<Reply, NoMemory>
-    requires taken { world.old.now.taken < 2 ^ 60 }
+    requires may { MayCall world.old.now }
     requires object { IsSome (object_at world.old.now asked.now.object) }
     requires source { IsSome (source_at world.old.now asked.now.named) }
     ensures { Answers (Call.AppendExtent asked.now.object asked.now.ticket asked.now.named
@@ -84,49 +79,55 @@ fn append_source(world: &mut Undoable, asked: &Append) -> Result<Reply, NoMemory
         return Ok(Reply::Refused(Refusal::NotFound));
     }
     if is_outside(asked.offset, asked.bytes, source.length) {
-        return Ok(bad_range(asked, source.length));
+        return Ok(asked.bad_range(source.length));
     }
     let extent = asked.extent(world.next(), asked.named);
-    let _granted = match add_component(world, asked.object, asked.ticket, extent, 0)? {
-        Ok(granted) => granted,
-        Err(refusal) => return Ok(Reply::Refused(refusal)),
-    };
-    Ok(Reply::Done)
+    match add_component(world, asked.object, asked.ticket, extent, 0)? {
+        Ok(_) => Ok(Reply::Done),
+        Err(refusal) => Ok(Reply::Refused(refusal)),
+    }
 }
 
 // Appends a part of a raw object, which a new source takes over, to an object that is there, which isn't copied.
 fn append_raw(world: &mut Undoable, asked: &Append) -> Result<Reply, NoMemory>
-    requires taken { world.old.now.taken < 2 ^ 60 }
+    requires may { MayCall world.old.now }
     requires object { IsSome (object_at world.old.now asked.now.object) }
     requires no_source { source_at world.old.now asked.now.named ≡ None }
     ensures { Answers (Call.AppendExtent asked.now.object asked.now.ticket asked.now.named
         asked.now.offset asked.now.bytes)
         world.old world.new result }
 {
-    let Some(bytes) = raw(world, asked.named) else {
+    let Some(bytes) = world.raw(asked.named) else {
         return Ok(misnamed(world, asked.named));
     };
-    let have = bytes.len() as u64;
+    let length = bytes.len() as u64;
     if let Some(source) = world.source_on(asked.named) {
         return Ok(in_use(world, asked.named, source));
     }
-    if is_outside(asked.offset, asked.bytes, have) {
-        return Ok(bad_range(asked, have));
+    if is_outside(asked.offset, asked.bytes, length) {
+        return Ok(asked.bad_range(length));
     }
     let source = world.next();
     world.touch(source)?;
     let extent = asked.extent(source + 8, source);
-    let _granted = match add_component(world, asked.object, asked.ticket, extent, 1)? {
-        Ok(granted) => granted,
-        Err(refusal) => return Ok(Reply::Refused(refusal)),
+    let taking = ZcoSource {
+        subject: Subject::Heap(asked.named),
+        length,
+        flagged: false,
     };
-    world.take_over(source, asked.named, have);
-    Ok(Reply::Done)
+    match add_component(world, asked.object, asked.ticket, extent, 1)? {
+        Ok(_) => {
+            world.put(source, Thing::Source(taking));
+            Ok(Reply::Done)
+        }
+        Err(refusal) => Ok(Reply::Refused(refusal)),
+    }
 }
 
-/// Appends a part of a source, or of a raw object, to an object. It is linear in the object's extents.
+/// Appends a part of a source, or of a raw object, to an object. It is linear in the object's extents, and goes over all
+/// things.
 pub fn append_extent(world: &mut Undoable, asked: &Append) -> Result<Reply, NoMemory>
-    requires taken { world.old.now.taken < 2 ^ 60 }
+    requires may { MayCall world.old.now }
     ensures { Answers (Call.AppendExtent asked.now.object asked.now.ticket asked.now.named
         asked.now.offset asked.now.bytes)
         world.old world.new result }

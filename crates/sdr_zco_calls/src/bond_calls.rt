@@ -1,18 +1,20 @@
 // Objects whose headers and trailers become extents.
 ghost use Rattle.std.specs.Prelude.{◌≡◌, ◌≤◌, ◌<◌, ◌+◌, ◌*◌, ◌^◌, ◌++◌, [], ℕ, IfOk, OnOk, length, sum_by};
 ghost use Rattle.sdr_calls.specs.Answers.{Answers};
+ghost use Rattle.sdr_draft.specs.Calling.{MayCall};
 ghost use Rattle.sdr_model.specs.Amounts.{amounts_by};
 ghost use Rattle.sdr_model.specs.BondSteps.{bond_charge, bonded, bonded_extents, capsules_of};
 ghost use Rattle.sdr_model.specs.Charges.{capsule_charge};
-ghost use Rattle.sdr_model.specs.Few.{HasFewPieces, most_pieces, pieces};
+ghost use Rattle.sdr_model.specs.Few.{pieces};
 ghost use Rattle.sdr_model.specs.ObjectSteps.{wire_length};
 
 use crate::object_calls::object;
 use sdr_base::{Addr, Amounts, Items, NoMemory, Space};
 use sdr_calls::raw_calls::misnamed;
-use sdr_changes::bonding::{charge_marks, put_texts};
+use sdr_changes::bonding::put_texts;
+use sdr_changes::taking::charge_blocks;
 use sdr_draft::Undoable;
-use sdr_model::{Call, Capsule, Extent, Reply, ZcoObject};
+use sdr_model::{Call, Capsule, Extent, Reply, Thing, ZcoObject};
 use sdr_parts::charges::{heap_charge, rise};
 use sdr_parts::object::object_of;
 use std::alloc::Global;
@@ -100,8 +102,7 @@ fn bond_charge(capsules: &[Capsule]) -> Amounts
 /// its own. The part is then the whole. It is linear in the object, and takes the logarithm of the world for
 /// each header and trailer.
 pub fn bond(alloc: Global, world: &mut Undoable, addr: Addr, number: u64) -> Result<Reply, NoMemory>
-    requires taken { world.old.now.taken < 2 ^ 60 }
-    requires few { HasFewPieces most_pieces world.old.now.things }
+    requires may { MayCall world.old.now }
     ensures { Answers (Call.Bond addr number) world.old world.new result }
 {
     let Some(object) = object(world, addr) else {
@@ -115,11 +116,11 @@ pub fn bond(alloc: Global, world: &mut Undoable, addr: Addr, number: u64) -> Res
     let charge = bond_charge(capsules.as_slice());
     world.touch(addr)?;
     world.touch_next(blocks)?;
-    let _granted = match charge_marks(world, acct, number, &charge, addr, blocks)? {
+    let _granted = match charge_blocks(world, acct, number, &charge, addr, blocks)? {
         Ok(granted) => granted,
         Err(refusal) => return Ok(Reply::Refused(refusal)),
     };
-    put_texts(world, capsules);
-    world.change_object(addr, changed);
+    put_texts(world, first, capsules);
+    world.put(addr, Thing::Object(changed));
     Ok(Reply::Done)
 }

@@ -1,6 +1,7 @@
 // What calls that add headers and trailers do to a world.
-ghost use Rattle.std.specs.Prelude.{◌≡◌, ◌<◌, ◌^◌};
+ghost use Rattle.std.specs.Prelude.{◌≡◌};
 ghost use Rattle.sdr_calls.specs.Answers.{Answers};
+ghost use Rattle.sdr_draft.specs.Calling.{MayCall};
 ghost use Rattle.sdr_parts.specs.Sides.{capsule_call};
 
 use crate::object_calls::object;
@@ -22,7 +23,7 @@ fn add_capsule(
     number: u64,
     text: &Bytes,
 ) -> Result<Reply, NoMemory>
-    requires taken { world.old.now.taken < 2 ^ 60 }
+    requires may { MayCall world.old.now }
     ensures { Answers (capsule_call side addr number text.now) world.old world.new result }
 {
     if object(world, addr).is_none() {
@@ -35,11 +36,10 @@ fn add_capsule(
     let text = Bytes::copied(alloc, text.as_slice())?;
     let block = world.next();
     let capsule = side.component(Capsule { block, text });
-    let _granted = match add_component(world, addr, number, capsule, 0)? {
-        Ok(granted) => granted,
-        Err(refusal) => return Ok(Reply::Refused(refusal)),
-    };
-    Ok(Reply::Done)
+    match add_component(world, addr, number, capsule, 0)? {
+        Ok(_) => Ok(Reply::Done),
+        Err(refusal) => Ok(Reply::Refused(refusal)),
+    }
 }
 
 pub fn prepend_header(
@@ -49,7 +49,7 @@ pub fn prepend_header(
     number: u64,
     text: &Bytes,
 ) -> Result<Reply, NoMemory>
-    requires taken { world.old.now.taken < 2 ^ 60 }
+    requires may { MayCall world.old.now }
     ensures { Answers (Call.PrependHeader addr number text.now) world.old world.new result }
 {
     add_capsule(alloc, world, Side::Front, addr, number, text)
@@ -62,7 +62,7 @@ pub fn append_trailer(
     number: u64,
     text: &Bytes,
 ) -> Result<Reply, NoMemory>
-    requires taken { world.old.now.taken < 2 ^ 60 }
+    requires may { MayCall world.old.now }
     ensures { Answers (Call.AppendTrailer addr number text.now) world.old world.new result }
 {
     add_capsule(alloc, world, Side::Back, addr, number, text)

@@ -1,8 +1,8 @@
 // What the call that clones a part of an object does to a world.
 ghost use Rattle.std.specs.Prelude.{◌≡◌, ◌≤◌, ◌<◌, ◌+◌, ◌*◌, ◌^◌, ℕ, length, IfOk};
 ghost use Rattle.sdr_calls.specs.Answers.{Answers};
+ghost use Rattle.sdr_draft.specs.Calling.{MayCall};
 ghost use Rattle.sdr_model.specs.Cuts.{placed};
-ghost use Rattle.sdr_model.specs.Few.{HasFewPieces, most_pieces};
 ghost use Rattle.sdr_model.specs.PartSteps.{asked_extents, object_of};
 ghost use Rattle.sdr_parts.specs.Bounds.{IsBounded};
 
@@ -12,7 +12,7 @@ use sdr_base::{Addr, Items, NoMemory, Refusal};
 use sdr_calls::raw_calls::misnamed;
 use sdr_changes::taking::charge_blocks;
 use sdr_draft::Undoable;
-use sdr_model::{Call, Extent, Reply, ZcoObject};
+use sdr_model::{Call, Extent, Reply, Thing, ZcoObject};
 use sdr_parts::object::{asked_extents, object_of};
 use std::alloc::Global;
 
@@ -66,8 +66,7 @@ pub fn clone_part(
     offset: u64,
     bytes: u64,
 ) -> Result<Reply, NoMemory>
-    requires taken { world.old.now.taken < 2 ^ 60 }
-    requires few { HasFewPieces most_pieces world.old.now.things }
+    requires may { MayCall world.old.now }
     ensures { Answers (Call.ClonePart addr number offset bytes) world.old world.new result }
 {
     let Some(object) = object(world, addr) else {
@@ -92,6 +91,6 @@ pub fn clone_part(
         Ok(granted) => granted,
         Err(refusal) => return Ok(Reply::Refused(refusal)),
     };
-    world.add_object(made, clone);
+    world.put(made, Thing::Object(clone));
     Ok(Reply::At { addr: made })
 }

@@ -2,6 +2,7 @@
 ghost use Rattle.std.specs.BTreeMap.{get};
 ghost use Rattle.std.specs.Ordering.{nat_cmp};
 ghost use Rattle.std.specs.Prelude.{◌≡◌, ◌≤◌, ◌<◌, ◌+◌, ◌^◌, ◌++◌, ◌==◌, ℕ, unwrap_or, [], All, Some, IfOk, OnOk, if◌then◌else◌};
+ghost use Rattle.sdr_draft.specs.Calling.{IsBound};
 ghost use Rattle.sdr_model.specs.Gone.{gone_things, source_blocks};
 ghost use Rattle.sdr_model.specs.Zco.{naming, source_at, uses_of};
 
@@ -78,6 +79,7 @@ fn count_uses(
     world: &Undoable,
     extents: &[Extent],
 ) -> Result<BTreeMap<Addr, u64>, NoMemory>
+    requires bound { IsBound world.now.now }
     ensures { IfOk result (λ uses. All (λ e. get nat_cmp uses e.source ≡ Some (uses_of world.now.now
         e.source)) extents.now) }
 {
@@ -104,6 +106,7 @@ pub fn gone_things(
     world: &Undoable,
     extents: &[Extent],
 ) -> Result<Items<Addr>, NoMemory>
+    requires bound { IsBound world.now.now }
     requires used { (source : ℕ) → naming source extents.now ≤ uses_of world.now.now source }
     ensures { IfOk result (λ gone. gone ≡ gone_things world.now.now extents.now extents.now) }
 {

@@ -1,40 +1,39 @@
 // What calls that take parts of objects off do to a world.
-ghost use Rattle.std.specs.Prelude.{◌≡◌, [], IfOk, IfSome, OnErr, OnOk};
+ghost use Rattle.std.specs.Prelude.{◌≡◌, [], Contains, true};
 ghost use Rattle.sdr_calls.specs.Answers.{Answers};
+ghost use Rattle.sdr_draft.specs.Calling.{MayCall};
+ghost use Rattle.sdr_draft.specs.Keeps.{Keeps};
 ghost use Rattle.sdr_model.specs.ObjectSteps.{with_object};
 ghost use Rattle.sdr_model.specs.Queue.{with_served};
-ghost use Rattle.sdr_model.specs.Zco.{object_at};
-ghost use Rattle.sdr_parts.specs.Trims.{MayTrim, trimmed};
-ghost use Rattle.sdr_draft.specs.Sound.{IsAccountOf};
+ghost use Rattle.sdr_model.specs.declared.things.Thing.{Thing as GhostThing};
+ghost use Rattle.sdr_undo.specs.Owners.{MayPut};
 
 use crate::object_calls::object;
-use sdr_base::{Acct, Addr, NoMemory, Refusal};
+use sdr_base::{Addr, NoMemory, Refusal};
 use sdr_calls::raw_calls::misnamed;
 use sdr_draft::Undoable;
-use sdr_model::{Call, Reply};
-use sdr_parts::Trim;
+use sdr_model::{Call, Reply, Thing, ZcoObject};
 
-// Trims an object of an account, and serves the queue of the account.
-fn put_trimmed(world: &mut Undoable, addr: Addr, acct: Acct, trim: Trim) -> Result<Reply, NoMemory>
-    requires may { MayTrim trim (object_at world.old.now addr) }
-    requires account { IsAccountOf (object_at world.old.now addr) acct }
-    ensures reply { IfOk result (λ reply. reply ≡ Reply.Done) }
-    ensures put { OnOk result (IfSome (object_at world.old.now addr) (λ z. world.new.now
-        ≡ record (with_served (with_object world.old.now addr (trimmed trim z)) z.account) { shown = [] })) }
-    ensures begun { world.new.begun ≡ world.old.begun }
-    ensures same { OnErr result (world.new.now ≡ world.old.now) }
+// Puts an object at an address that was touched, and serves the queue of its account.
+fn put_and_serve(world: &mut Undoable, addr: Addr, object: ZcoObject)
+    requires touched { Contains world.old.touched addr }
+    requires saved { world.old.saved ≡ true }
+    requires may_put { MayPut world.old addr (GhostThing.Object object) }
+    ensures put { world.new.now
+        ≡ record (with_served (with_object world.old.now addr object) object.account) { shown = [] } }
+    ensures keeps { Keeps world.old world.new }
 {
-    world.save_accounts()?;
-    world.trim_object(addr, trim)?;
+    let acct = object.account;
+    world.put(addr, Thing::Object(object));
     world.serve(acct);
     world.hide();
-    Ok(Reply::Done)
 }
 
-/// Takes the first header of an object off, which moves the others. All else takes about the logarithm of the
-/// world.
-#[tactic(auto, using(sdr_model::proofs::DryLemmas::gives))]
+/// Takes the first header of an object off, which moves the others, and serves the queue of its account. That goes
+/// over all things; all else takes about the logarithm of the world.
+#[tactic(auto, using(crate::proofs::PartCallLemmas::first_discarded))]
 pub fn discard_first_header(world: &mut Undoable, addr: Addr) -> Result<Reply, NoMemory>
+    requires may { MayCall world.old.now }
     ensures { Answers (Call.DiscardFirstHeader addr) world.old world.new result }
 {
     let Some(object) = object(world, addr) else {
@@ -43,21 +42,33 @@ pub fn discard_first_header(world: &mut Undoable, addr: Addr) -> Result<Reply, N
     if object.headers.len() == 0 {
         return Ok(Reply::Refused(Refusal::NoCapsule));
     }
-    let acct = object.account;
-    put_trimmed(world, addr, acct, Trim::FirstHeader)
+    world.save_accounts()?;
+    let Thing::Object(mut object) = world.take(addr)? else {
+        unreachable!()
+    };
+    object.headers.remove(0);
+    put_and_serve(world, addr, object);
+    Ok(Reply::Done)
 }
 
-/// Takes the last trailer of an object off. It takes about the logarithm of the world.
-#[tactic(auto, using(sdr_model::proofs::DryLemmas::gives))]
+/// Takes the last trailer of an object off, and serves the queue of its account. That goes over all things; all else
+/// takes about the logarithm of the world.
 pub fn discard_last_trailer(world: &mut Undoable, addr: Addr) -> Result<Reply, NoMemory>
+    requires may { MayCall world.old.now }
     ensures { Answers (Call.DiscardLastTrailer addr) world.old world.new result }
 {
     let Some(object) = object(world, addr) else {
         return Ok(misnamed(world, addr));
     };
-    if object.trailers.len() == 0 {
+    let trailers = object.trailers.len();
+    if trailers == 0 {
         return Ok(Reply::Refused(Refusal::NoCapsule));
     }
-    let acct = object.account;
-    put_trimmed(world, addr, acct, Trim::LastTrailer)
+    world.save_accounts()?;
+    let Thing::Object(mut object) = world.take(addr)? else {
+        unreachable!()
+    };
+    object.trailers.truncate(trailers - 1);
+    put_and_serve(world, addr, object);
+    Ok(Reply::Done)
 }

@@ -1,62 +1,35 @@
 // What calls on sources do to a world.
-ghost use Rattle.std.specs.Prelude.{◌≡◌, ◌≤◌, ◌<◌, ◌^◌, ◌++◌, ◌∷◌, [], ℕ, IfOk, IfSome, IsSome, Contains, OnErr, OnOk, None, true};
+ghost use Rattle.std.specs.Prelude.{◌≡◌, ◌<◌, ◌^◌, [], IfOk, IfSome, IsSome, OnErr, OnOk};
 ghost use Rattle.sdr_calls.specs.Answers.{Answers};
+ghost use Rattle.sdr_draft.specs.Calling.{MayCall};
+ghost use Rattle.sdr_draft.specs.Keeps.{Keeps};
 ghost use Rattle.sdr_model.specs.Dry.{with_taken, next_addr};
-ghost use Rattle.sdr_model.specs.Limits.{longest_source};
-ghost use Rattle.sdr_model.specs.SourceSteps.{new_source};
-ghost use Rattle.sdr_model.specs.Steps.{with_thing, without_thing};
-ghost use Rattle.sdr_model.specs.World.{thing_at};
-ghost use Rattle.sdr_model.specs.Zco.{raw_of, source_at, source_on, uses_of};
+ghost use Rattle.sdr_model.specs.SourceSteps.{flagged, new_source};
+ghost use Rattle.sdr_model.specs.Steps.{with_thing};
+ghost use Rattle.sdr_model.specs.Zco.{source_at};
 ghost use Rattle.sdr_model.specs.declared.things.Thing.TheVariants as things;
-ghost use Rattle.sdr_draft.specs.Sound.{is_plain};
 
 use sdr_base::{Addr, Bytes, Kind, NoMemory, Refusal};
-use sdr_calls::raw_calls::{bad_length, in_use, misnamed, raw};
+use sdr_calls::raw_calls::{bad_length, in_use, misnamed};
 use sdr_draft::Undoable;
 use sdr_model::limits::{LONGEST_PATH, LONGEST_SOURCE};
-use sdr_model::{Call, Reply, Subject, ZcoSource};
+use sdr_model::{Call, Reply, Subject, Thing, ZcoSource};
 use std::alloc::Global;
 
-// Makes a source that isn't flagged, at the next address.
-fn make_source(world: &mut Undoable, subject: Subject, length: u64) -> Result<Addr, NoMemory>
-    requires taken { world.old.now.taken < 2 ^ 60 }
-    requires length { length ≤ longest_source }
-    requires there { IfSome (raw_of subject) (λ raw.
-        (raw < next_addr world.old.now.taken) × (is_plain (thing_at world.old.now raw) ≡ true)) }
-    ensures addr { IfOk result (λ addr. addr ≡ next_addr world.old.now.taken) }
-    ensures made { IfOk result (λ addr. world.new.now
-        ≡ with_taken (with_thing world.old.now addr (things.Source (new_source subject length))) addr) }
-    ensures begun { world.new.begun ≡ world.old.begun }
-    ensures same { OnErr result (world.new.now ≡ world.old.now) }
-{
-    let addr = world.next();
-    world.touch(addr)?;
-    world.mark_next()?;
-    world.count();
-    world.put_source(
-        addr,
-        ZcoSource {
-            subject,
-            length,
-            flagged: false,
-        },
-    );
-    Ok(addr)
-}
-
-// The answer to a call that makes a source.
+// Makes a source that isn't flagged, and answers its address.
 fn made(world: &mut Undoable, subject: Subject, length: u64) -> Result<Reply, NoMemory>
     requires taken { world.old.now.taken < 2 ^ 60 }
-    requires length { length ≤ longest_source }
-    requires there { IfSome (raw_of subject) (λ raw.
-        (raw < next_addr world.old.now.taken) × (is_plain (thing_at world.old.now raw) ≡ true)) }
     ensures reply { IfOk result (λ reply. reply ≡ Reply.At (next_addr world.old.now.taken)) }
     ensures made { OnOk result (let addr = next_addr world.old.now.taken in world.new.now
         ≡ with_taken (with_thing world.old.now addr (things.Source (new_source subject length))) addr) }
-    ensures begun { world.new.begun ≡ world.old.begun }
+    ensures keeps { Keeps world.old world.new }
     ensures same { OnErr result (world.new.now ≡ world.old.now) }
 {
-    let addr = make_source(world, subject, length)?;
+    let addr = world.make(Thing::Source(ZcoSource {
+        subject,
+        length,
+        flagged: false,
+    }))?;
     Ok(Reply::At { addr })
 }
 
@@ -66,7 +39,7 @@ pub fn file_ref(
     path: &Bytes,
     length: u64,
 ) -> Result<Reply, NoMemory>
-    requires taken { world.old.now.taken < 2 ^ 60 }
+    requires may { MayCall world.old.now }
     ensures { Answers (Call.FileRef path.now length) world.old world.new result }
 {
     let bytes = path.len() as u64;
@@ -81,7 +54,7 @@ pub fn file_ref(
 }
 
 pub fn bulk_ref(world: &mut Undoable, item: u64, length: u64) -> Result<Reply, NoMemory>
-    requires taken { world.old.now.taken < 2 ^ 60 }
+    requires may { MayCall world.old.now }
     ensures { Answers (Call.BulkRef item length) world.old world.new result }
 {
     if length > LONGEST_SOURCE {
@@ -90,11 +63,12 @@ pub fn bulk_ref(world: &mut Undoable, item: u64, length: u64) -> Result<Reply, N
     made(world, Subject::Bulk(item), length)
 }
 
+/// Makes a source of a raw object. It goes over all things.
 pub fn obj_ref(world: &mut Undoable, addr: Addr) -> Result<Reply, NoMemory>
-    requires taken { world.old.now.taken < 2 ^ 60 }
+    requires may { MayCall world.old.now }
     ensures { Answers (Call.ObjRef addr) world.old world.new result }
 {
-    let Some(bytes) = raw(world, addr) else {
+    let Some(bytes) = world.raw(addr) else {
         return Ok(misnamed(world, addr));
     };
     let length = bytes.len() as u64;
@@ -104,22 +78,26 @@ pub fn obj_ref(world: &mut Undoable, addr: Addr) -> Result<Reply, NoMemory>
     made(world, Subject::Obj(addr), length)
 }
 
-// Lets a source go that no extent names.
-fn lose_source(world: &mut Undoable, addr: Addr) -> Result<Reply, NoMemory>
+// Flags the source at an address.
+fn flag(world: &mut Undoable, addr: Addr) -> Result<(), NoMemory>
     requires there { IsSome (source_at world.old.now addr) }
-    requires unused { uses_of world.old.now addr ≡ 0 }
-    ensures reply { IfOk result (λ reply. reply ≡ Reply.Done) }
-    ensures lost { OnOk result (world.new.now ≡ record (without_thing world.old.now addr) { shown = [] }) }
-    ensures begun { world.new.begun ≡ world.old.begun }
+    ensures flagged { OnOk result (IfSome (source_at world.old.now addr) (λ s. world.new.now
+        ≡ record (with_thing world.old.now addr (things.Source (flagged s))) { shown = [] })) }
+    ensures keeps { Keeps world.old world.new }
     ensures same { OnErr result (world.new.now ≡ world.old.now) }
 {
-    world.touch(addr)?;
-    world.drop_source(addr);
+    let Thing::Source(mut source) = world.take(addr)? else {
+        unreachable!()
+    };
+    source.flagged = true;
+    world.put(addr, Thing::Source(source));
     world.hide();
-    Ok(Reply::Done)
+    Ok(())
 }
 
+/// Lets a source go that no extent names, and flags it where one does. It goes over all things and extents.
 pub fn destroy_ref(world: &mut Undoable, addr: Addr) -> Result<Reply, NoMemory>
+    requires may { MayCall world.old.now }
     ensures { Answers (Call.DestroyRef addr) world.old world.new result }
 {
     let Some(source) = world.source(addr) else {
@@ -133,13 +111,16 @@ pub fn destroy_ref(world: &mut Undoable, addr: Addr) -> Result<Reply, NoMemory>
         return Ok(Reply::Refused(Refusal::NotFound));
     }
     if world.uses(addr) == 0 {
-        return lose_source(world, addr);
+        world.lose(addr)?;
+    } else {
+        flag(world, addr)?;
     }
-    world.flag_source(addr)?;
     Ok(Reply::Done)
 }
 
+/// The extents that name a source. It goes over all things and extents.
 pub fn count(world: &mut Undoable, addr: Addr) -> Result<Reply, NoMemory>
+    requires may { MayCall world.old.now }
     ensures { Answers (Call.Count addr) world.old world.new result }
 {
     if world.source(addr).is_none() {

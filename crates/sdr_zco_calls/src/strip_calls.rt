@@ -1,76 +1,63 @@
 // What a call that strips an object does to a world.
-ghost use Rattle.std.specs.Prelude.{◌≡◌, IfOk, IfSome, OnErr, OnOk};
+ghost use Rattle.std.specs.Prelude.{◌≡◌, IfSome, IsSome, OnErr, OnOk};
 ghost use Rattle.sdr_calls.specs.Answers.{Answers};
+ghost use Rattle.sdr_draft.specs.Calling.{MayCall};
+ghost use Rattle.sdr_draft.specs.Keeps.{Keeps, StayTouched};
+ghost use Rattle.sdr_model.specs.ObjectSteps.{with_object};
+ghost use Rattle.sdr_model.specs.PartSteps.{stripped};
 ghost use Rattle.sdr_model.specs.Zco.{object_at};
 ghost use Rattle.sdr_parts.specs.Bounds.{IsBounded};
-ghost use Rattle.sdr_draft.specs.Strips.{IsStripped, Strips, StripsThere};
 
 use crate::gone::gone_things;
 use crate::object_calls::object;
-use sdr_base::{Addr, NoMemory};
+use sdr_base::{Addr, Items, NoMemory};
 use sdr_calls::raw_calls::misnamed;
 use sdr_changes::dropping::{drop_all, touch_all};
 use sdr_draft::Undoable;
-use sdr_model::{Call, Reply, ZcoObject};
+use sdr_model::{Call, Extent, Reply, Thing};
 use sdr_parts::cuts::{cut_all, whole_of};
 use sdr_parts::object::{outside_part, part_end};
-use sdr_parts::{Edit, Stripping};
 use std::alloc::Global;
 
-// How an object is cut to its part, which is then the whole.
-fn cut_to_part(alloc: Global, object: &ZcoObject) -> Result<Stripping, NoMemory>
-    requires bounded { IsBounded object.now }
-    ensures { IfOk result (Strips object.now) }
-{
-    let (from, to) = (object.part.offset, part_end(object));
-    let cuts = cut_all(alloc, from, to, object.extents.as_slice())?;
-    let part = whole_of(cuts.as_slice());
-    Ok(Stripping {
-        account: object.account,
-        edit: Edit::Extents(cuts, part),
-        lost: outside_part(object, alloc)?,
-    })
-}
-
-// Cuts the object at an address to its part, lets what goes with the extents outside it go, and serves the
-// queue of its account.
-fn put_stripped(
-    alloc: Global,
-    world: &mut Undoable,
-    addr: Addr,
-    so: Stripping,
-) -> Result<Reply, NoMemory>
-    requires strips { StripsThere so (object_at world.old.now addr) }
-    ensures reply { IfOk result (λ reply. reply ≡ Reply.Done) }
-    ensures put { OnOk result
-        (IfSome (object_at world.old.now addr) (IsStripped world.old.now world.new.now addr)) }
-    ensures begun { world.new.begun ≡ world.old.begun }
+// Puts the extents of the object at an address, cut to its part, in their place. The part is then the whole.
+fn put_cuts(world: &mut Undoable, addr: Addr, cuts: Items<Extent>) -> Result<(), NoMemory>
+    requires there { IsSome (object_at world.old.now addr) }
+    requires bounded { IfSome (object_at world.old.now addr) IsBounded }
+    requires cuts { IfSome (object_at world.old.now addr) (λ z. cuts ≡ (stripped z).extents) }
+    ensures put { OnOk result (IfSome (object_at world.old.now addr) (λ z.
+        world.new.now ≡ with_object world.old.now addr (stripped z))) }
+    ensures others { StayTouched world.old world.new }
+    ensures keeps { Keeps world.old world.new }
     ensures same { OnErr result (world.new.now ≡ world.old.now) }
 {
-    let Stripping {
-        account,
-        edit,
-        lost,
-    } = so;
-    world.known_object(addr);
-    let gone = gone_things(alloc, world, lost.as_slice())?;
-    touch_all(world, gone.as_slice())?;
-    world.save_accounts()?;
-    world.edit_object(addr, edit)?;
-    drop_all(world, gone.as_slice());
-    world.serve(account);
-    world.hide();
-    Ok(Reply::Done)
+    let Thing::Object(mut object) = world.take(addr)? else {
+        unreachable!()
+    };
+    object.part = whole_of(cuts.as_slice());
+    object.extents = cuts;
+    world.put(addr, Thing::Object(object));
+    Ok(())
 }
 
 /// Cuts an object to its part, and lets each source go that goes with its last extent. It looks at each
 /// extent of the object, and at all others where it loses any.
 pub fn strip(alloc: Global, world: &mut Undoable, addr: Addr) -> Result<Reply, NoMemory>
+    requires may { MayCall world.old.now }
     ensures { Answers (Call.Strip addr) world.old world.new result }
 {
     let Some(object) = object(world, addr) else {
         return Ok(misnamed(world, addr));
     };
-    let so = cut_to_part(alloc, object)?;
-    put_stripped(alloc, world, addr, so)
+    let account = object.account;
+    let (from, to) = (object.part.offset, part_end(object));
+    let cuts = cut_all(alloc, from, to, object.extents.as_slice())?;
+    let lost = outside_part(object, alloc)?;
+    let gone = gone_things(alloc, world, lost.as_slice())?;
+    touch_all(world, gone.as_slice())?;
+    world.save_accounts()?;
+    put_cuts(world, addr, cuts)?;
+    drop_all(world, gone.as_slice());
+    world.serve(account);
+    world.hide();
+    Ok(Reply::Done)
 }

@@ -8,7 +8,6 @@ ghost use Rattle.sdr_parts.specs.Bounds.{IsBounded, EndsInTime};
 ghost use Rattle.sdr_zco_calls.specs.Gathers.{Gathers};
 
 use sdr_base::{Addr, Bytes, Items, NoMemory};
-use sdr_calls::raw_calls::raw as raw_at;
 use sdr_draft::Undoable;
 use sdr_model::{Call, Capsule, Extent, Part, Piece, Subject, Thing, ZcoObject};
 use sdr_parts::object::part_end;
@@ -119,7 +118,7 @@ impl Gathering {
             (raw_piece extent.now.offset extent.now.length (as_raw (thing_at world.now.now raw)) ∷ [])
             self.old self.new) }
     {
-        let Some(bytes) = raw_at(world, raw) else {
+        let Some(bytes) = world.raw(raw) else {
             return self.add_missing(extent);
         };
         let behind = &bytes.as_slice()[bytes.len().min(extent.offset as usize)..];

@@ -1,6 +1,7 @@
 // What calls that ask bytes of objects do to a world.
 ghost use Rattle.std.specs.Prelude.{◌≡◌, ◌++◌, true, IfOk, OnOk};
 ghost use Rattle.sdr_calls.specs.Answers.{Answers};
+ghost use Rattle.sdr_draft.specs.Calling.{MayCall};
 ghost use Rattle.sdr_model.specs.Pieces.{AsksBytes, asked_addr, asked_count, filled, piece_told, pieces_asked, pieces_told};
 ghost use Rattle.sdr_model.specs.Reading.{reads_media};
 
@@ -32,7 +33,8 @@ pub fn asked(call: &Call) -> (Addr, u64)
 /// asks any byte. Known bytes are copied, and no others. It is linear in what is in the object and in the
 /// bytes that are copied.
 pub fn parts(alloc: Global, world: &Undoable, call: &Call) -> Result<Items<Piece>, NoMemory>
-    requires { AsksBytes world.now.now call.now }
+    requires may { MayCall world.now.now }
+    requires asks { AsksBytes world.now.now call.now }
     ensures { IfOk result (λ pieces. pieces ≡ pieces_asked world.now.now call.now) }
 {
     match object(world, asked(call).0) {
@@ -67,6 +69,7 @@ fn filled(alloc: Global, pieces: &[Piece]) -> Result<Bytes, NoMemory>
 
 /// Shows the bytes that a call asks of an object, with zeros in the place of those that media would tell.
 pub fn give(alloc: Global, world: &mut Undoable, call: &Call) -> Result<Reply, NoMemory>
+    requires may { MayCall world.old.now }
     requires reads { reads_media call.now ≡ true }
     ensures { Answers call.now world.old world.new result }
 {

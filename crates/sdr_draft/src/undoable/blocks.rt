@@ -1,12 +1,31 @@
 // The blocks that a call takes in a world in the making.
 ghost use Rattle.std.specs.FinMap as map;
-ghost use Rattle.std.specs.Prelude.{◌≡◌, ◌≤◌, ◌<◌, ◌+◌, ◌^◌, ◌++◌, ◌∷◌, [], ℕ, length, take, Some, OnErr, OnOk};
+ghost use Rattle.std.specs.Prelude.{◌≡◌, ◌≤◌, ◌<◌, ◌+◌, ◌^◌, ◌++◌, ◌∷◌, [], ℕ, length, take, Contains, Some, OnErr, OnOk};
 ghost use Rattle.sdr_model.specs.Dry.{addr_after, next_addr, next_addrs};
+ghost use Rattle.sdr_draft.specs.Keeps.{Keeps, StayTouched};
 
 use crate::Undoable;
 use sdr_base::{Addr, Bytes, NoMemory};
 
 impl Undoable {
+    /// Takes note that things may be put at the next so many addresses. After it that needs no memory. Want
+    /// of memory leaves the world as before.
+    pub fn touch_next(&mut self, count: u64) -> Result<(), NoMemory>
+        requires taken { self.old.now.taken + count < 2 ^ 60 + 2 ^ 30 }
+        ensures now { self.new.now ≡ self.old.now }
+        ensures touched { OnOk result ((k : ℕ) → k < count →
+            Contains self.new.touched (addr_after self.old.now.taken k)) }
+        ensures owners { self.new.owners ≡ self.old.owners }
+        ensures others { StayTouched self.old self.new }
+        ensures keeps { Keeps self.old self.new }
+    {
+        let first = 8 * (self.taken + 1);
+        for k in 0..count {
+            self.touch(first + 8 * k)?;
+        }
+        Ok(())
+    }
+
     // Marks an address where no block was taken yet, for a block inside the thing at another.
     fn mark_at(&mut self, owner: Addr, addr: Addr) -> Result<(), NoMemory>
         requires new { next_addr self.old.now.taken ≤ addr }
@@ -15,9 +34,8 @@ impl Undoable {
         ensures owner { OnOk result (map.get self.new.owners addr ≡ Some owner) }
         ensures others { (other of : ℕ) → other < addr → map.get self.old.owners other ≡ Some of
             → map.get self.new.owners other ≡ Some of }
-        ensures begun { self.new.begun ≡ self.old.begun }
-        ensures touched { self.new.touched ≡ self.old.touched }
-        ensures saved { self.new.saved ≡ self.old.saved }
+        ensures touched { StayTouched self.old self.new }
+        ensures keeps { Keeps self.old self.new }
         ensures same { OnErr result (self.new.now ≡ self.old.now) }
     {
         self.owners.insert(addr, owner)?;
@@ -36,9 +54,8 @@ impl Undoable {
             → map.get self.new.owners (addr_after self.old.now.taken k) ≡ Some owner) }
         ensures others { (other of : ℕ) → other < next_addr self.old.now.taken
             → map.get self.old.owners other ≡ Some of → map.get self.new.owners other ≡ Some of }
-        ensures begun { self.new.begun ≡ self.old.begun }
-        ensures touched { self.new.touched ≡ self.old.touched }
-        ensures saved { self.new.saved ≡ self.old.saved }
+        ensures touched { StayTouched self.old self.new }
+        ensures keeps { Keeps self.old self.new }
         ensures some { OnErr result (self.new.now ≡ record self.old.now { marks = self.new.now.marks }) }
         ensures front { take (length self.old.now.marks) self.new.now.marks ≡ self.old.now.marks }
     {
@@ -60,9 +77,8 @@ impl Undoable {
             → map.get self.new.owners (addr_after self.old.now.taken k) ≡ Some owner) }
         ensures others { (other of : ℕ) → other < next_addr self.old.now.taken
             → map.get self.old.owners other ≡ Some of → map.get self.new.owners other ≡ Some of }
-        ensures begun { self.new.begun ≡ self.old.begun }
-        ensures touched { self.new.touched ≡ self.old.touched }
-        ensures saved { self.new.saved ≡ self.old.saved }
+        ensures touched { StayTouched self.old self.new }
+        ensures keeps { Keeps self.old self.new }
         ensures same { OnErr result (self.new.now ≡ self.old.now) }
     {
         let marks = self.marks.len();
@@ -80,9 +96,8 @@ impl Undoable {
         requires taken { self.old.now.taken + count < 2 ^ 60 + 2 ^ 30 }
         ensures counted { self.new.now
             ≡ record self.old.now { shown = []; taken = self.old.now.taken + count } }
-        ensures begun { self.new.begun ≡ self.old.begun }
-        ensures touched { self.new.touched ≡ self.old.touched }
-        ensures saved { self.new.saved ≡ self.old.saved }
+        ensures others { StayTouched self.old self.new }
+        ensures keeps { Keeps self.old self.new }
         ensures owners { self.new.owners ≡ self.old.owners }
     {
         self.shown = Bytes::new(self.alloc);

@@ -1,20 +1,19 @@
 // What objects charge in a world in the making.
-ghost use Rattle.std.specs.Prelude.{◌≡◌, ◌≤◌, ◌+◌, ◌^◌, sum_by};
-ghost use Rattle.sdr_base.specs.declared.kind.Space.{Space as GhostSpace};
+ghost use Rattle.std.specs.Prelude.{◌≡◌, sum_by};
 ghost use Rattle.std.specs.Option.{option_copied};
-ghost use Rattle.sdr_draft.specs.Sound.{charge_of, charged};
+ghost use Rattle.sdr_draft.specs.Uses.{charge_of, charged};
 ghost use Rattle.sdr_model.specs.Accounts.{is_same_account};
-ghost use Rattle.sdr_model.specs.Accounts.{most_amount};
-ghost use Rattle.sdr_model.specs.Amounts.{amounts_by};
-ghost use Rattle.sdr_model.specs.Charges.{extent_charge, object_charge, occupancy, space_in, thing_charge};
+ghost use Rattle.sdr_model.specs.Charges.{extent_charge, object_charge, occupancy, rooms, space_in};
 ghost use Rattle.sdr_model.specs.Zco.{source_at};
-ghost use Rattle.sdr_model.specs.declared.things.Thing.{Thing};
+ghost use Rattle.sdr_parts.specs.Capped.{capped_by};
 
 use crate::Undoable;
 use sdr_base::{Acct, Addr, Amounts, Space};
-use sdr_model::amounts::{NOTHING, plus};
+use sdr_model::amounts::NOTHING;
 use sdr_model::{Extent, Thing, ZcoObject};
+use sdr_parts::amounts::{capped_plus, room_beside};
 use sdr_parts::charges::{bytes_charge, capsules_charge};
+use sdr_parts::queue::left;
 
 // Whether an object is of an account.
 fn is_of(acct: Acct, object: &ZcoObject) -> bool
@@ -45,12 +44,10 @@ impl Undoable {
         self.space_of(source)
     }
 
-    /// What these extents charge. It is linear in them, and in the logarithm of the world for each that has another
-    /// source than the one before it.
+    /// What these extents charge, as far as words hold it. It is linear in them, and in the logarithm of the world for each
+    /// that has another source than the one before it.
     pub fn extents_charge(&self, extents: &[Extent]) -> Amounts
-        requires small { (space : GhostSpace) → sum_by (extent_charge self.now.now space)
-            extents.now ≤ 2 ^ 41 }
-        ensures { result ≡ amounts_by (λ space. sum_by (extent_charge self.now.now space)
+        ensures { result ≡ capped_by (λ space. sum_by (extent_charge self.now.now space)
             extents.now) }
     {
         let mut known = 0;
@@ -59,63 +56,61 @@ impl Undoable {
         for extent in extents {
             space = self.space_beside(known, space, extent.source);
             known = extent.source;
-            charge = plus(&charge, &bytes_charge(space, extent.length));
+            charge = capped_plus(&charge, &bytes_charge(space, extent.length));
         }
         charge
     }
 
-    /// What an object charges. It is linear in it, as `extents_charge` is in its extents.
+    /// What an object charges, as far as words hold it. It is linear in it, as `extents_charge` is in its extents.
     pub fn object_charge(&self, object: &ZcoObject) -> Amounts
-        requires small { (space : GhostSpace) → object_charge self.now.now space object.now ≤ 2 ^
-            41 }
-        ensures { result ≡ amounts_by (λ space. object_charge self.now.now space object.now) }
+        ensures { result ≡ capped_by (λ space. object_charge self.now.now space object.now) }
     {
-        let mut charge = self.extents_charge(object.extents.as_slice());
-        charge.heap += 72
-            + capsules_charge(object.headers.as_slice())
-            + capsules_charge(object.trailers.as_slice());
-        charge
+        let charge = self.extents_charge(object.extents.as_slice());
+        let heap = charge
+            .heap
+            .saturating_add(72)
+            .saturating_add(capsules_charge(object.headers.as_slice()))
+            .saturating_add(capsules_charge(object.trailers.as_slice()));
+        Amounts { heap, ..charge }
     }
 
-    // What an object charges an account.
-    fn charge_in(&self, acct: Acct, object: &ZcoObject) -> Amounts
-        requires small { (space : GhostSpace) →
-            thing_charge self.now.now acct space (Thing.Object object.now) ≤ 2 ^ 41 }
-        ensures { result ≡ amounts_by (λ space.
-            thing_charge self.now.now acct space (Thing.Object object.now)) }
-    {
-        if is_of(acct, object) {
-            return self.object_charge(object);
-        }
-        NOTHING
-    }
-
-    // What a thing charges an account, where there is one.
+    // What a thing charges an account, where there is one, as far as words hold it.
     fn thing_charge(&self, acct: Acct, thing: Option<&Thing>) -> Amounts
-        requires small { (space : GhostSpace) → charge_of self.now.now acct space (option_copied
-            thing) ≤ 2 ^ 41 }
-        ensures { result ≡ amounts_by (λ space. charge_of self.now.now acct space (option_copied
+        ensures { result ≡ capped_by (λ space. charge_of self.now.now acct space (option_copied
             thing.entry)) }
     {
-        let Some(thing) = thing else {
-            return NOTHING;
-        };
         match thing {
-            Thing::Object(object) => self.charge_in(acct, object),
+            Some(Thing::Object(object)) if is_of(acct, object) => self.object_charge(object),
             _ => NOTHING,
         }
     }
 
-    /// What objects charge an account. With what is left of its tickets that is what is occupied, which is
-    /// small. It goes over all things, and is linear in those and in what is in objects.
+    /// What objects charge an account, as far as words hold it. With what is left of its tickets that is what is occupied.
+    /// It goes over all things, and is linear in those and in what is in objects.
     pub fn charged(&self, acct: Acct) -> Amounts
-        ensures value { result ≡ amounts_by (charged self.now.now acct) }
-        ensures small { (space : GhostSpace) → occupancy self.now.now acct space ≤ most_amount }
+        ensures { result ≡ capped_by (charged self.now.now acct) }
     {
         let mut charge = NOTHING;
         for (_, place) in self.things.places() {
-            charge = plus(&charge, &self.thing_charge(acct, place.current()));
+            charge = capped_plus(&charge, &self.thing_charge(acct, place.current()));
         }
         charge
+    }
+
+    /// What is occupied in an account, as far as words hold it. It is linear in the account's queue, and goes over all things
+    /// as `charged` does.
+    pub fn occupied(&self, acct: Acct) -> Amounts
+        ensures { result ≡ capped_by (occupancy self.now.now acct) }
+    {
+        let account = self.accounts.now().account(acct);
+        capped_plus(&self.charged(acct), &left(account.tickets.as_slice()))
+    }
+
+    /// The room of an account: what of its maxima isn't occupied. It goes over all things as `occupied` does.
+    pub fn room(&self, acct: Acct) -> Amounts
+        ensures { result ≡ rooms self.now.now acct }
+    {
+        let account = self.accounts.now().account(acct);
+        room_beside(&account.maxima, &self.occupied(acct))
     }
 }

@@ -1,20 +1,17 @@
 // What a world in the making charges its accounts, and grants.
-ghost use Rattle.std.specs.Prelude.{◌≡◌, ◌≤◌, ◌<◌, ◌+◌, IfErr, IfOk, IfSome, OnErr, OnOk, remove, true};
+ghost use Rattle.std.specs.Prelude.{◌≡◌, ◌<◌, ◌+◌, IfErr, IfOk, IfSome, OnErr, OnOk, length, remove, true};
 ghost use Rattle.sdr_base.specs.declared.account.Amounts.{Amounts as GhostAmounts};
-ghost use Rattle.sdr_base.specs.declared.kind.Space.{Space as GhostSpace};
 ghost use Rattle.sdr_model.specs.Accounts.{IsInPlace, account_of, most_amount, tickets_of, with_account, with_tickets};
-ghost use Rattle.sdr_model.specs.Amounts.{amount, no_amounts};
-ghost use Rattle.sdr_model.specs.Charges.{occupancies};
 ghost use Rattle.sdr_model.specs.Charging.{with_used};
 ghost use Rattle.sdr_model.specs.Queue.{enqueued, with_served};
-ghost use Rattle.sdr_parts.specs.Grants.{KeepGrants};
-ghost use Rattle.sdr_draft.specs.Allowed.{IsBound, IsGrantOf, MayTakeBack, RefusesCharge, refusal_of, with_back};
+ghost use Rattle.sdr_draft.specs.Allowed.{IsGrantOf, RefusesCharge, refusal_of, with_back};
+ghost use Rattle.sdr_draft.specs.Calling.{IsBound};
 
 use crate::Undoable;
 use sdr_base::{Acct, Amounts, NoMemory, Refusal};
-use sdr_model::amounts::{amount, first_above, minus, plus};
+use sdr_model::amounts::{amount, first_above, minus};
 use sdr_model::{Accounts, Pending, Ticket};
-use sdr_parts::queue::{barrier, left};
+use sdr_parts::queue::barrier;
 
 impl Undoable {
     /// The accounts now.
@@ -22,16 +19,6 @@ impl Undoable {
         ensures { result.now ≡ self.now.now.accounts }
     {
         self.accounts.now()
-    }
-
-    /// What is occupied in an account. It is linear in the account's queue, and goes over all things as `charged` does.
-    pub fn occupied(&self, acct: Acct) -> Amounts
-        ensures value { result ≡ occupancies self.now.now acct }
-        ensures small { (space : GhostSpace) → amount result space ≤ most_amount }
-        ensures keep { KeepGrants self.now.now.accounts }
-    {
-        let account = self.accounts.now().account(acct);
-        plus(&self.charged(acct), &left(account.tickets.as_slice()))
     }
 
     /// Copies the accounts, so that they may be changed. Want of memory leaves the world as before.
@@ -42,13 +29,13 @@ impl Undoable {
         self.accounts.save()
     }
 
-    /// Serves the queue of an account. It is linear in the queue.
+    /// Serves the queue of an account. It is linear in the queue, and goes over all things as `occupied` does.
     pub fn serve(&mut self, acct: Acct)
         requires saved { self.old.saved ≡ true }
         ensures { self.new ≡ record self.old { now = with_served self.old.now acct } }
     {
-        let occupied = self.occupied(acct);
-        self.accounts.serve(acct, &occupied);
+        let room = self.room(acct);
+        self.accounts.serve(acct, room);
     }
 
     /// The ticket that a charge names: it is the account's, and granted. 0 names none.
@@ -70,16 +57,9 @@ impl Undoable {
         Ok(Some(pending))
     }
 
-    /// What is always known of the accounts: no more is occupied than the greatest amount.
-    pub fn known(&self)
-        ensures keep { KeepGrants self.now.now.accounts }
-        ensures bound { IsBound self.now.now }
-    {
-        let _ = self.accounts.now();
-    }
-
     /// Why an account refuses amounts that no grant covers.
     pub fn refusal(&self, acct: Acct, uncovered: &Amounts) -> Option<Refusal>
+        requires bound { IsBound self.now.now }
         ensures { result ≡ refusal_of self.now.now acct uncovered.now }
     {
         let account = self.accounts.now().account(acct);
@@ -87,8 +67,8 @@ impl Undoable {
             let ticket = ticket.number;
             return Some(Refusal::Queue { ticket });
         }
+        let space = first_above(uncovered, &self.room(acct))?;
         let occupied = self.occupied(acct);
-        let space = first_above(uncovered, &minus(&account.maxima, &occupied))?;
         Some(Refusal::NoSpace {
             space,
             occupied: amount(&occupied, space),
@@ -101,7 +81,6 @@ impl Undoable {
     pub fn use_grant(&mut self, granted: Option<Pending>, amounts: &Amounts)
         requires saved { self.old.saved ≡ true }
         requires stands { IfSome granted (IsInPlace self.old.now.accounts) }
-        requires granted { IfSome granted (λ p. p.ticket.granted ≡ true) }
         ensures { self.new ≡ record self.old { now = with_used self.old.now granted amounts.now } }
     {
         if let Some(pending) = granted {
@@ -117,7 +96,7 @@ impl Undoable {
     /// Gives back to the grant of a ticket what a charge used of it, where the call came to nothing.
     pub fn take_back(&mut self, granted: Option<Pending>)
         requires saved { self.old.saved ≡ true }
-        requires may { MayTakeBack self.old.now granted }
+        requires stands { IfSome granted (λ p. p.place < length (tickets_of self.old.now.accounts p.acct)) }
         ensures { self.new ≡ record self.old { now = with_back self.old.now granted } }
     {
         if let Some(pending) = granted {
@@ -128,7 +107,6 @@ impl Undoable {
     /// Sets the maxima of an account.
     pub fn put_maxima(&mut self, acct: Acct, maxima: Amounts)
         requires saved { self.old.saved ≡ true }
-        requires small { (space : GhostSpace) → amount maxima space ≤ most_amount }
         ensures { let accounts = self.old.now.accounts in self.new ≡ record self.old {
           now = record self.old.now {
             accounts = with_account accounts acct (record (account_of accounts acct) { maxima = maxima });
@@ -141,7 +119,6 @@ impl Undoable {
     /// A new ticket enters the queue of an account. Want of memory leaves the world as before.
     pub fn enter(&mut self, acct: Acct, ticket: Ticket) -> Result<(), NoMemory>
         requires saved { self.old.saved ≡ true }
-        requires empty { ticket.left ≡ no_amounts }
         requires number { ticket.number < most_amount }
         ensures entered { OnOk result (let accounts = self.old.now.accounts in self.new ≡ record self.old {
           now = record self.old.now {

@@ -3,6 +3,7 @@ ghost use Rattle.std.specs.BTreeMap.{get};
 ghost use Rattle.std.specs.Option.{option_copied, option_map};
 ghost use Rattle.std.specs.Ordering.{nat_cmp};
 ghost use Rattle.std.specs.Prelude.{◌≡◌, ◌==◌, ◌≤◌, ◌<◌, ◌+◌, ◌^◌, ℕ, if◌then◌else◌, length, unwrap_or};
+ghost use Rattle.sdr_draft.specs.Calling.{IsBound};
 ghost use Rattle.sdr_draft.specs.Uses.{extents_in, names_at};
 ghost use Rattle.sdr_model.specs.Zco.{naming, source_on, uses_of};
 
@@ -81,8 +82,8 @@ impl Undoable {
 
     /// How many extents name the source at an address. It goes over all things and extents.
     pub fn uses(&self, source: Addr) -> u64
-        ensures value { result ≡ uses_of self.now.now source }
-        ensures small { result ≤ 2 ^ 41 }
+        requires bound { IsBound self.now.now }
+        ensures { result ≡ uses_of self.now.now source }
     {
         let mut uses = 0;
         for (_, place) in self.things.places() {
@@ -94,6 +95,7 @@ impl Undoable {
     /// Adds to each source that is counted how many extents name it. It goes over all things and extents, times
     /// the logarithm of what is counted.
     pub fn add_uses(&self, counts: &mut BTreeMap<Addr, u64>)
+        requires bound { IsBound self.now.now }
         requires few { (source : ℕ) → unwrap_or (get nat_cmp counts.old source) 0 ≤ 2 ^ 41 }
         ensures { (source : ℕ) → get nat_cmp counts.new source
             ≡ option_map (λ n. n + uses_of self.now.now source) (get nat_cmp counts.old source) }

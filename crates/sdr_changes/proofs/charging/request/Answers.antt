@@ -23,7 +23,7 @@ returns-in-Ok-clause-ok c =
     counted (with_served (entered (new_ticket number block c.args.asked c.args.coarse c.args.fine)
     (record old { marks = old.marks ++ block ∷ [] })) acct) in
     let saved = ap (λ (d : Draft). d.now) c.in_ok-save_accounts.ensures.saved in
-    c.count.ensures.counted
+    c.count_blocks.ensures.counted
     ∙ ap (λ (d : Draft). counted d.now) c.serve.ensures
     ∙ ap (λ (d : Draft). counted (with_served d.now acct)) c.in-Ok.ensures.entered
     ∙ ap (λ w. counted (with_served (entered ticket w) acct)) c.in_ok-block.ensures.marked

@@ -3,6 +3,7 @@ use Rattle.std.proofs.lemmas.List.{take_all, take_more}
 use Rattle.std.proofs.lemmas.List.Elements.{All-append, All-cons, All-nil, All-weaker}
 use Rattle.std.specs.List.{All}
 use Rattle.std.specs.Prelude.{Contains}
+use Rattle.sdr_draft.proofs.KeepsLemmas.{keeps_on}
 use Rattle.sdr_changes.proofs.dropping.touch_all.Goals as goal
 
 pub loop-addr-preserved : goal.loop-addr-preserved
@@ -11,14 +12,14 @@ loop-addr-preserved c =
     let i = c.loop-addr.addr-index in
     let a = get_or all i 0 in
     let P = Contains c.touch.new.self.touched in
-    let before = All-weaker (Contains c.loop-addr.world.touched) P c.in_ok-touch.ensures.others (take i all) c.loop-addr.invariant.touched in
+    let before = All-weaker (Contains c.loop-addr.world.touched) P c.touch.ensures.others (take i all) c.loop-addr.invariant.touched in
     record {
       now = c.touch.ensures.now ∙ c.loop-addr.invariant.now;
-      begun = c.touch.ensures.begun ∙ c.loop-addr.invariant.begun;
       owners = c.touch.ensures.owners ∙ c.loop-addr.invariant.owners;
       touched = subst (All P) (sym (take_more all i 0 c.loop-addr-test.true))
           (All-append P (take i all) (a ∷ []) before (All-cons P a [] c.in_ok-touch.ensures.touched (All-nil P)));
-      others = λ other was. c.in_ok-touch.ensures.others other (c.loop-addr.invariant.others other was);
+      others = λ other was. c.touch.ensures.others other (c.loop-addr.invariant.others other was);
+      keeps = keeps_on c.loop-addr.invariant.keeps c.touch.ensures.keeps;
     }
 
 pub returns-clause-touched : goal.returns-clause-touched

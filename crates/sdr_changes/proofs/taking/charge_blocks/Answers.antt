@@ -1,13 +1,9 @@
-use Rattle.std.proofs.Common.{◌+◌, ◌∙◌, [], ap, subst, sym}
-use Rattle.std.specs.Prelude.{OnOk}
-use Rattle.sdr_draft.specs.Allowed.{HasRoomFor}
-use Rattle.sdr_model.specs.World.{World}
+use Rattle.std.proofs.Common.{subst, sym}
+use Rattle.std.specs.Prelude.{Contains}
+use Rattle.sdr_undo.specs.Draft.{Draft}
 use Rattle.sdr_changes.proofs.taking.charge_blocks.Goals as goal
 
-pub returns-in-Ok-reserve_blocks-clause-room : goal.returns-in-Ok-reserve_blocks-clause-room
-returns-in-Ok-reserve_blocks-clause-room c =
-    subst (λ w. HasRoomFor w c.args.acct c.args.amounts.now)
-    (sym (c.count_blocks.ensures.counted
-    ∙ ap (λ (w : World). record w { shown = []; taken = w.taken + c.args.count }) c.in-Ok-reserve_blocks.ensures.marked))
-    (subst (λ r. OnOk r (HasRoomFor c.charge_account.new.world.now c.args.acct c.args.amounts.now)) c.in-Ok.is
-    c.in_ok-granted.ensures.room)
+pub returns-in-Err-reserve_blocks-clause-touched : goal.returns-in-Err-reserve_blocks-clause-touched
+returns-in-Err-reserve_blocks-clause-touched c addr has =
+    subst (λ (d : Draft). Contains d.touched addr) (sym c.take_back.ensures)
+    (c.reserve_blocks.ensures.touched addr (c.charge_account.ensures.touched addr has))

@@ -3,7 +3,7 @@ use Rattle.std.proofs.lemmas.List.{drop_more}
 use Rattle.sdr_model.specs.BondSteps.{bonded_extents}
 use Rattle.sdr_model.specs.declared.zco.Capsule.{Capsule}
 use Rattle.sdr_model.specs.declared.zco.Extent.{Extent}
-use Rattle.sdr_draft.proofs.BondLemmas.{extents-shift}
+use Rattle.sdr_zco_calls.proofs.BondCallLemmas.{extents-shift}
 use Rattle.sdr_zco_calls.proofs.bond_calls.add_bonded.Goals as goal
 
 pub loop-capsule-preserved : goal.loop-capsule-preserved

@@ -4,7 +4,7 @@ use Rattle.sdr_parts.specs.Bounds.{AreFewBytes}
 use Rattle.sdr_model.specs.PartSteps.{object_of}
 use Rattle.sdr_model.specs.declared.zco.Capsule.{Capsule}
 use Rattle.sdr_model.specs.declared.zco.Extent.{Extent}
-use Rattle.sdr_draft.proofs.BondLemmas.{extents-shift, extents_length-bond}
+use Rattle.sdr_zco_calls.proofs.BondCallLemmas.{extents-shift, extents_length-bond}
 use Rattle.sdr_zco_calls.proofs.bond_calls.bonded.Goals as goal
 
 pub object_of-requires : goal.object_of-requires

@@ -2,9 +2,8 @@ use Rattle.std.proofs.Common.{◌+◌, ◌*◌, ◌∙◌, ℕ, List, ap, arith,
 use Rattle.sdr_model.specs.Zco.{extents_length}
 use Rattle.sdr_model.specs.declared.zco.Extent.{Extent}
 use Rattle.sdr_model.specs.declared.zco.ZcoObject.{ZcoObject}
-use Rattle.sdr_zco_calls.proofs.CloneLemmas.{placed-length}
+use Rattle.sdr_zco_calls.proofs.CutLemmas.{length-cut, placed-length}
 use Rattle.sdr_model.proofs.FewLemmas.{length-cut_all}
-use Rattle.sdr_draft.proofs.StripLemmas.{length-cut}
 use Rattle.sdr_zco_calls.proofs.clone_calls.cloned.Goals as goal
 
 pub placed_behind-requires : goal.placed_behind-requires

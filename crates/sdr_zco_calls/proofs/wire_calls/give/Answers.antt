@@ -22,6 +22,6 @@ returns c =
       step = subst (λ n. StepsDry w call (dry_moves w call (replies.Bytes n)) c.show.new.self.now (replies.Bytes n))
           (sym c.len-count.ensures)
           (gives-step w c.show.new.self.now call z c.in_ok-shown.shown c.requires.reads there page bytes c.show.ensures.shown);
-      begun = c.show.ensures.begun;
+      begun = c.show.ensures.keeps.begun;
       same = tt;
     }

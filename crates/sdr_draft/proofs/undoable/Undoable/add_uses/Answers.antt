@@ -1,11 +1,11 @@
-use Rattle.std.proofs.Common.{◌≤◌, ◌+◌, ◌^◌, ℕ, arith, ap, subst, sym, ◌∙◌}
+use Rattle.std.proofs.Common.{◌+◌, ℕ, arith, ap, sym, ◌∙◌}
 use Rattle.std.specs.BTreeMap.{get}
 use Rattle.std.specs.Option.{option_map}
 use Rattle.std.specs.Ordering.{nat_cmp}
 use Rattle.std.specs.Prelude.{sum_by}
 use Rattle.sdr_model.specs.Zco.{naming, uses_of}
 use Rattle.sdr_undo.specs.Store.{things_in}
-use Rattle.sdr_draft.specs.Sound.{world_of}
+use Rattle.sdr_draft.specs.contracts.undoable.Undoable.{the_view}
 use Rattle.sdr_draft.specs.Uses.{extents_in, naming_in}
 use Rattle.sdr_draft.proofs.PassLemmas.{added-most, added-twice, naming-pass, naming-world}
 use Rattle.sdr_draft.proofs.SumBounds.{uses-small}
@@ -16,7 +16,7 @@ loop-place-init c =
     let inside = c.self.inside in
     let all = λ (source : ℕ). ap (λ l. sum_by (naming_in source) (things_in l)) c.into_iter-place-iterator.ensures.into_iter_gives
     ∙ ap (sum_by (naming_in source)) c.places-place-items.ensures
-    ∙ naming-world (world_of inside.things.now inside.accounts.now) source ∙ ap (λ d. uses_of d.now source) c.self.view_is in
+    ∙ naming-world (the_view inside).now source ∙ ap (λ d. uses_of d.now source) c.self.view_is in
     record {
       rest = λ source. omega (arith, all source);
       counts = λ source. ap (λ k. option_map (λ n. n + k) (get nat_cmp c.args.counts.now source)) (all source);
@@ -24,13 +24,11 @@ loop-place-init c =
 
 pub add_naming-requires : goal.add_naming-requires
 add_naming-requires c =
-    let inside = c.self.inside in
     record {
       few = λ source.
           omega (
             arith,
-            subst (λ d. uses_of d.now source ≤ 2 ^ 41) c.self.view_is
-                (uses-small _ (world_of inside.things.now inside.accounts.now) c.self.invariant.sound.now source),
+            uses-small c.args.self.now.now c.requires.bound source,
             c.requires.few source,
             added-most (get nat_cmp c.loop-place.counts source) (get nat_cmp c.args.counts.now source) _ _
                 (c.loop-place.invariant.counts source),

@@ -3,12 +3,14 @@ use Rattle.std.specs.Prelude.{sum_by}
 use Rattle.sdr_base.specs.declared.kind.Space.{Space}
 use Rattle.sdr_model.specs.Amounts.{amount}
 use Rattle.sdr_model.specs.Charges.{thing_charge}
+use Rattle.sdr_parts.specs.Capped.{capped}
 use Rattle.sdr_undo.specs.Store.{things_in}
-use Rattle.sdr_draft.specs.Sound.{charged}
+use Rattle.sdr_draft.specs.Uses.{charged}
 use Rattle.sdr_draft.proofs.undoable.Undoable.charged.Given as goal
 
 abbrev pub invariant-loop-place : goal.invariant-loop-place
 invariant-loop-place l = record {
-  sum : (space : Space) → amount l.charge space + sum_by (λ e. thing_charge l.self.now l.acct space e.1) (things_in l.place-iterator)
-      ≡ charged l.self.now l.acct space;
+  held : (space : Space) → amount l.charge space ≡ capped (amount l.charge space);
+  sum : (space : Space) → capped (amount l.charge space + sum_by (λ e. thing_charge l.self.now l.acct space e.1) (things_in l.place-iterator))
+      ≡ capped (charged l.self.now l.acct space);
 }

@@ -10,7 +10,7 @@ returns-in_err-owner c =
     c.from_residual.ensures
     ∙ ap (option_and_then (λ owner. inner_at c.args.addr (get c.self.inside.things.now owner)))
     (sym c.in_err-owner.was ∙ c.get.ensures)
-    ∙ sym (inner_among-owner _ _ c.args.addr _ c.self.invariant.own.now)
+    ∙ sym (inner_among-owner _ _ c.args.addr _ c.self.invariant.now)
     ∙ ap (λ d. inner_among c.args.addr (entries d.now.things)) c.self.view_is
 
 pub returns-in_err-thing : goal.returns-in_err-thing
@@ -19,7 +19,7 @@ returns-in_err-thing c =
     ∙ ap (inner_at c.args.addr) (sym (ap option_copied c.in_err-thing.was) ∙ c.get-2.ensures)
     ∙ ap (option_and_then (λ owner. inner_at c.args.addr (get c.self.inside.things.now owner)))
     (sym c.in_ok-owner.was ∙ c.get.ensures)
-    ∙ sym (inner_among-owner _ _ c.args.addr _ c.self.invariant.own.now)
+    ∙ sym (inner_among-owner _ _ c.args.addr _ c.self.invariant.now)
     ∙ ap (λ d. inner_among c.args.addr (entries d.now.things)) c.self.view_is
 
 pub returns : goal.returns
@@ -28,5 +28,5 @@ returns c =
     ∙ ap (inner_at c.args.addr) (sym (ap option_copied c.in_ok-thing.was) ∙ c.get-2.ensures)
     ∙ ap (option_and_then (λ owner. inner_at c.args.addr (get c.self.inside.things.now owner)))
     (sym c.in_ok-owner.was ∙ c.get.ensures)
-    ∙ sym (inner_among-owner _ _ c.args.addr _ c.self.invariant.own.now)
+    ∙ sym (inner_among-owner _ _ c.args.addr _ c.self.invariant.now)
     ∙ ap (λ d. inner_among c.args.addr (entries d.now.things)) c.self.view_is

@@ -8,18 +8,14 @@ use Rattle.sdr_model.proofs.ThingsLemmas.{at_itself}
 use Rattle.sdr_draft.proofs.undoable.Undoable.mark_at.Goals as goal
 
 pub invariant_of-self-in_err-push : goal.invariant_of-self-in_err-push
-invariant_of-self-in_err-push c = record {
-  own = AllOwnInside-noted _ _ _ _ (omega (arith, c.requires.new, ap (λ (d : Draft). d.now.taken) c.self.view_is)) _ _ _
-      c.in_ok-insert.ensures.ok c.self.invariant.own;
-  sound = c.self.invariant.sound;
-}
+invariant_of-self-in_err-push c =
+    AllOwnInside-noted _ _ _ _ (omega (arith, c.requires.new, ap (λ (d : Draft). d.now.taken) c.self.view_is)) _ _ _
+    c.in_ok-insert.ensures.ok c.self.invariant
 
 pub invariant_of-self-2 : goal.invariant_of-self-2
-invariant_of-self-2 c = record {
-  own = AllOwnInside-noted _ _ _ _ (omega (arith, c.requires.new, ap (λ (d : Draft). d.now.taken) c.self.view_is)) _ _ _
-      c.in_ok-insert.ensures.ok c.self.invariant.own;
-  sound = c.self.invariant.sound;
-}
+invariant_of-self-2 c =
+    AllOwnInside-noted _ _ _ _ (omega (arith, c.requires.new, ap (λ (d : Draft). d.now.taken) c.self.view_is)) _ _ _
+    c.in_ok-insert.ensures.ok c.self.invariant
 
 pub returns-clause-owner : goal.returns-clause-owner
 returns-clause-owner c =

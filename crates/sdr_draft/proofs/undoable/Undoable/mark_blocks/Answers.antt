@@ -4,6 +4,7 @@ use Rattle.sdr_undo.specs.Draft.{Draft}
 use Rattle.sdr_model.specs.Dry.{addr_after, next_addr, next_addrs}
 use Rattle.sdr_model.specs.World.{World}
 use Rattle.sdr_undo.proofs.TakenLemmas.{addr_after-next, next_addrs-more}
+use Rattle.sdr_draft.proofs.KeepsLemmas.{keeps_on}
 use Rattle.sdr_draft.proofs.undoable.Undoable.mark_blocks.Goals as goal
 
 pub loop-k-preserved : goal.loop-k-preserved
@@ -27,8 +28,7 @@ loop-k-preserved c =
           (ap (get c.mark_at.new.self.owners) (addr_after-next taken k ∙ sym here) ∙ c.in_ok-mark_at.ensures.owner);
       others = λ other of lower is. c.in_ok-mark_at.ensures.others other of (omega (arith, here, lower))
           (c.loop-k.invariant.others other of lower is);
-      begun = c.mark_at.ensures.begun ∙ c.loop-k.invariant.begun;
-      touched = c.mark_at.ensures.touched ∙ c.loop-k.invariant.touched;
-      saved = c.mark_at.ensures.saved ∙ c.loop-k.invariant.saved;
+      touched = λ other has. c.mark_at.ensures.touched other (c.loop-k.invariant.touched other has);
+      keeps = keeps_on c.loop-k.invariant.keeps c.mark_at.ensures.keeps;
       first = c.loop-k.invariant.first;
     }

@@ -1,6 +1,7 @@
 use Rattle.std.proofs.Common.{◌≡◌, ◌<◌, ◌++◌, ℕ, Some}
 use Rattle.std.specs.FinMap.{get}
 use Rattle.sdr_model.specs.Dry.{addr_after, next_addr, next_addrs}
+use Rattle.sdr_draft.specs.Keeps.{Keeps, StayTouched}
 use Rattle.sdr_draft.proofs.undoable.Undoable.mark_blocks.Given as goal
 
 abbrev pub invariant-loop-k : goal.invariant-loop-k
@@ -11,8 +12,7 @@ invariant-loop-k l = record {
   owned : (k : ℕ) → k < l.k → get l.self.owners (addr_after l.initial.self.now.taken k) ≡ Some l.owner;
   others : (other of : ℕ) → other < next_addr l.initial.self.now.taken → get l.initial.self.owners other ≡ Some of
       → get l.self.owners other ≡ Some of;
-  begun : l.self.begun ≡ l.initial.self.begun;
-  touched : l.self.touched ≡ l.initial.self.touched;
-  saved : l.self.saved ≡ l.initial.self.saved;
+  touched : StayTouched l.initial.self l.self;
+  keeps : Keeps l.initial.self l.self;
   first : l.first ≡ next_addr l.initial.self.now.taken;
 }

@@ -4,6 +4,7 @@ use Rattle.sdr_base.specs.declared.account.Amounts.{Amounts}
 use Rattle.sdr_base.specs.declared.kind.Space.TheVariants as spaces
 use Rattle.sdr_model.specs.Charges.{capsule_charge, extent_charge}
 use Rattle.sdr_parts.proofs.BoundsLemmas.{object_charge-parts}
+use Rattle.sdr_parts.specs.Capped.{capped}
 use Rattle.sdr_draft.proofs.undoable.Undoable.object_charge.Goals as goal
 
 pub returns : goal.returns
@@ -11,10 +12,10 @@ returns c =
     let w = c.args.self.now.now in
     let z = c.args.object.now in
     let extents = c.extents_charge-charge.ensures in
-    let headers = c.capsules_charge.ensures ∙ ap (sum_by (capsule_charge spaces.Heap)) c.as_slice-2.ensures in
-    let trailers = c.capsules_charge-2.ensures ∙ ap (sum_by (capsule_charge spaces.Heap)) c.as_slice-3.ensures in
+    let headers = c.capsules_charge.ensures ∙ ap (λ cs. capped (sum_by (capsule_charge spaces.Heap) cs)) c.as_slice-2.ensures in
+    let trailers = c.capsules_charge-2.ensures ∙ ap (λ cs. capped (sum_by (capsule_charge spaces.Heap) cs)) c.as_slice-3.ensures in
     object_charge-parts w z _ _ _
-    (ap (λ (a : Amounts). a.file) extents ∙ ap (sum_by (extent_charge w spaces.File)) c.as_slice.ensures)
-    (ap (λ (a : Amounts). a.bulk) extents ∙ ap (sum_by (extent_charge w spaces.Bulk)) c.as_slice.ensures)
-    (let heap = ap (λ (a : Amounts). a.heap) extents ∙ ap (sum_by (extent_charge w spaces.Heap)) c.as_slice.ensures in
-    omega (arith, heap, headers, trailers))
+    (ap (λ (a : Amounts). a.file) extents ∙ ap (λ es. capped (sum_by (extent_charge w spaces.File) es)) c.as_slice.ensures)
+    (ap (λ (a : Amounts). a.bulk) extents ∙ ap (λ es. capped (sum_by (extent_charge w spaces.Bulk) es)) c.as_slice.ensures)
+    (let heap = ap (λ (a : Amounts). a.heap) extents ∙ ap (λ es. capped (sum_by (extent_charge w spaces.Heap) es)) c.as_slice.ensures in
+    omega (arith, heap, headers, trailers, c.saturating_add.ensures, c.saturating_add-2.ensures, c.saturating_add-heap.ensures))

@@ -1,27 +1,23 @@
-use Rattle.std.proofs.Common.{ap, subst, sym, ◌∙◌}
-use Rattle.sdr_base.specs.declared.account.Amounts.{Amounts}
-use Rattle.sdr_model.specs.Amounts.{amount}
-use Rattle.sdr_model.specs.Charges.{occupancies, occupancy}
+use Rattle.std.proofs.Common.{ap, sym, ◌∙◌}
+use Rattle.sdr_model.specs.Accounts.{account_of, tickets_of, with_tickets}
+use Rattle.sdr_model.specs.Charges.{occupancies, rooms}
+use Rattle.sdr_model.specs.Queue.{with_served}
+use Rattle.sdr_parts.proofs.CappedLemmas.{served-room}
+use Rattle.sdr_parts.specs.Rooms.{served_in}
 use Rattle.sdr_undo.specs.Draft.{Draft}
-use Rattle.sdr_parts.specs.Grants.{KeepGrants}
 use Rattle.sdr_undo.specs.Ledger.{Ledger}
-use Rattle.sdr_draft.specs.Sound.{world_of}
-use Rattle.sdr_draft.proofs.AccountLemmas.{AreBound, bound_served}
-use Rattle.sdr_model.proofs.AmountLemmas.{amount-by}
-use Rattle.sdr_draft.proofs.SoundLemmas.{IsKept-accounts}
+use Rattle.sdr_draft.specs.contracts.undoable.Undoable.{the_view}
 use Rattle.sdr_draft.proofs.undoable.Undoable.serve.Goals as goal
 
-pub invariant_of-self : goal.invariant_of-self
-invariant_of-self c =
+pub returns : goal.returns
+returns c =
+    let acct = c.args.acct in
     let inside = c.self.inside in
-    let w = world_of inside.things.now inside.accounts.now in
-    let occupied = c.occupied-occupied in
-    IsKept-accounts inside.owners _ inside.things inside.accounts c.serve.new.self
-    (ap (λ (l : Ledger). l.begun) c.serve.ensures)
-    (subst (AreBound inside.things.now) (sym (ap (λ (l : Ledger). l.now) c.serve.ensures))
-    (bound_served inside.things.now inside.accounts.now c.args.acct occupied.result c.self.invariant.sound.now.bound
-    (subst (λ (d : Draft). KeepGrants d.now.accounts) (sym c.self.view_is) occupied.ensures.keep)
-    (λ space. ap (λ (a : Amounts). amount a space)
-    (occupied.ensures.value ∙ ap (λ (d : Draft). occupancies d.now c.args.acct) (sym c.self.view_is))
-    ∙ amount-by (occupancy w c.args.acct) space)))
-    c.self.invariant
+    let w = (the_view inside).now in
+    let tickets = tickets_of w.accounts acct in
+    let served = ap (λ room. served_in room tickets)
+    (c.room-room.ensures ∙ ap (λ (d : Draft). rooms d.now acct) (sym c.self.view_is))
+    ∙ sym (served-room (account_of w.accounts acct).maxima (occupancies w acct) tickets) in
+    ap (λ (l : Ledger). the_view (record inside { accounts = l }))
+    (c.serve.ensures ∙ ap (λ ts. record inside.accounts { now = with_tickets w.accounts acct ts }) served)
+    ∙ ap (λ (d : Draft). record d { now = with_served d.now acct }) c.self.view_is

@@ -12,7 +12,7 @@ returns-in_err-owner-clause-is c =
     subst₂ SpotIs (sym c.from_residual.ensures)
     (ap (option_and_then (λ owner. spot_in c.args.element owner (get c.self.inside.things.now owner)))
     (sym c.in_err-owner.was ∙ c.get.ensures)
-    ∙ sym (spot_among-owner _ _ c.args.element _ c.self.invariant.own.now)
+    ∙ sym (spot_among-owner _ _ c.args.element _ c.self.invariant.now)
     ∙ ap (λ d. spot_among c.args.element (entries d.now.things)) c.self.view_is)
     refl
 
@@ -22,7 +22,7 @@ returns-in_err-thing-clause-is c =
     (ap (spot_in c.args.element c.in_ok-owner.owner) (sym (ap option_copied c.in_err-thing.was) ∙ c.get-2.ensures)
     ∙ ap (option_and_then (λ owner. spot_in c.args.element owner (get c.self.inside.things.now owner)))
     (sym c.in_ok-owner.was ∙ c.get.ensures)
-    ∙ sym (spot_among-owner _ _ c.args.element _ c.self.invariant.own.now)
+    ∙ sym (spot_among-owner _ _ c.args.element _ c.self.invariant.now)
     ∙ ap (λ d. spot_among c.args.element (entries d.now.things)) c.self.view_is)
     refl
 
@@ -32,7 +32,7 @@ returns-clause-is c =
     (ap (spot_in c.args.element c.in_ok-owner.owner) (sym (ap option_copied c.in_ok-thing.was) ∙ c.get-2.ensures)
     ∙ ap (option_and_then (λ owner. spot_in c.args.element owner (get c.self.inside.things.now owner)))
     (sym c.in_ok-owner.was ∙ c.get.ensures)
-    ∙ sym (spot_among-owner _ _ c.args.element _ c.self.invariant.own.now)
+    ∙ sym (spot_among-owner _ _ c.args.element _ c.self.invariant.now)
     ∙ ap (λ d. spot_among c.args.element (entries d.now.things)) c.self.view_is)
     c.spot.ensures.is
 
@@ -41,4 +41,4 @@ returns-clause-may_have c =
     let there = sym c.get-2.ensures ∙ ap option_copied c.in_ok-thing.was in
     subst (λ d. IfSome c.spot.result (λ s. MayHave d s.list c.args.element)) c.self.view_is
     (spot_found _ _ c.in_ok-owner.owner c.args.element c.in_ok-thing.thing.now c.spot.result
-    (c.self.invariant.own.now.each c.in_ok-owner.owner c.in_ok-thing.thing.now there) c.spot.ensures.is)
+    (c.self.invariant.now.each c.in_ok-owner.owner c.in_ok-thing.thing.now there) c.spot.ensures.is)

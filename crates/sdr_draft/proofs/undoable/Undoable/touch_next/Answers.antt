@@ -3,6 +3,7 @@ use Rattle.std.specs.Prelude.{Contains}
 use Rattle.sdr_undo.specs.Draft.{Draft}
 use Rattle.sdr_model.specs.Dry.{addr_after, next_addr}
 use Rattle.sdr_undo.proofs.TakenLemmas.{addr_after-next}
+use Rattle.sdr_draft.proofs.KeepsLemmas.{keeps_on}
 use Rattle.sdr_draft.proofs.undoable.Undoable.touch_next.Goals as goal
 
 pub loop-k-preserved : goal.loop-k-preserved
@@ -15,11 +16,10 @@ loop-k-preserved c =
     (let same : addr ≡ next_addr (taken + k) = omega (arith, ap (λ (d : Draft). d.now.taken) c.self.view_is) in same) ∙ sym (addr_after-next taken k) in
     record {
       now = c.touch.ensures.now ∙ was.now;
-      begun = c.touch.ensures.begun ∙ was.begun;
       owners = c.touch.ensures.owners ∙ was.owners;
-      touched = below_more _ _ (λ j lower. c.in_ok-touch.ensures.others (addr_after taken j) (was.touched j lower))
+      touched = below_more _ _ (λ j lower. c.touch.ensures.others (addr_after taken j) (was.touched j lower))
           (subst (Contains c.touch.new.self.touched) here c.in_ok-touch.ensures.touched);
-      others = λ other has. c.in_ok-touch.ensures.others other (was.others other has);
-      saved = c.touch.ensures.saved ∙ was.saved;
+      others = λ other has. c.touch.ensures.others other (was.others other has);
+      keeps = keeps_on was.keeps c.touch.ensures.keeps;
       first = was.first;
     }

@@ -1,15 +1,15 @@
 use Rattle.std.proofs.Common.{◌≡◌, ◌<◌, ℕ}
 use Rattle.std.specs.Prelude.{Contains}
 use Rattle.sdr_model.specs.Dry.{addr_after, next_addr}
+use Rattle.sdr_draft.specs.Keeps.{Keeps, StayTouched}
 use Rattle.sdr_draft.proofs.undoable.Undoable.touch_next.Given as goal
 
 abbrev pub invariant-loop-k : goal.invariant-loop-k
 invariant-loop-k l = record {
   now : l.self.now ≡ l.initial.self.now;
-  begun : l.self.begun ≡ l.initial.self.begun;
   owners : l.self.owners ≡ l.initial.self.owners;
   touched : (k : ℕ) → k < l.k → Contains l.self.touched (addr_after l.initial.self.now.taken k);
-  others : (other : ℕ) → Contains l.initial.self.touched other → Contains l.self.touched other;
-  saved : l.self.saved ≡ l.initial.self.saved;
+  others : StayTouched l.initial.self l.self;
+  keeps : Keeps l.initial.self l.self;
   first : l.first ≡ next_addr l.initial.self.now.taken;
 }

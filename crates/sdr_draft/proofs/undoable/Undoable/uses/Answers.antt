@@ -1,8 +1,8 @@
-use Rattle.std.proofs.Common.{◌≤◌, ◌^◌, arith, ap, subst, ◌∙◌}
+use Rattle.std.proofs.Common.{arith, ap, ◌∙◌}
 use Rattle.std.specs.Prelude.{sum_by}
 use Rattle.sdr_model.specs.Zco.{naming, uses_of}
 use Rattle.sdr_undo.specs.Store.{things_in}
-use Rattle.sdr_draft.specs.Sound.{world_of}
+use Rattle.sdr_draft.specs.contracts.undoable.Undoable.{the_view}
 use Rattle.sdr_draft.specs.Uses.{extents_in, naming_in}
 use Rattle.sdr_draft.proofs.PassLemmas.{naming-pass, naming-world}
 use Rattle.sdr_draft.proofs.SumBounds.{uses-small}
@@ -14,17 +14,15 @@ loop-place-init c =
     let inside = c.self.inside in
     let all = ap (λ l. sum_by (naming_in source) (things_in l)) c.into_iter-place-iterator.ensures.into_iter_gives
     ∙ ap (sum_by (naming_in source)) c.places-place-items.ensures
-    ∙ naming-world (world_of inside.things.now inside.accounts.now) source ∙ ap (λ d. uses_of d.now source) c.self.view_is in
+    ∙ naming-world (the_view inside).now source ∙ ap (λ d. uses_of d.now source) c.self.view_is in
     record { sum = omega (arith, all) }
 
 pub overflow_add-uses : goal.overflow_add-uses
 overflow_add-uses c =
     let source = c.args.source in
-    let inside = c.self.inside in
     omega (
       arith,
-      subst (λ d. uses_of d.now source ≤ 2 ^ 41) c.self.view_is
-          (uses-small _ (world_of inside.things.now inside.accounts.now) c.self.invariant.sound.now source),
+      uses-small c.args.self.now.now c.requires.bound source,
       c.naming-uses.ensures.value ∙ ap (naming source) (c.extents_of.ensures ∙ ap extents_in c.current.ensures),
       naming-pass (c.in-Some.field-0-0.now, c.in-Some.place.now) c.next.new.self c.loop-place.place-iterator
           c.in-Some.ensures.steps source,
@@ -43,14 +41,3 @@ loop-place-preserved c =
         c.loop-place.invariant.sum,
       );
     }
-
-pub returns-clause-small : goal.returns-clause-small
-returns-clause-small c =
-    let source = c.args.source in
-    let inside = c.self.inside in
-    omega (
-      arith,
-      subst (λ d. uses_of d.now source ≤ 2 ^ 41) c.self.view_is
-          (uses-small _ (world_of inside.things.now inside.accounts.now) c.self.invariant.sound.now source),
-      c.loop-place.invariant.sum,
-    )

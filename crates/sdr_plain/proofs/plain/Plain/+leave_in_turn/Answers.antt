@@ -1,13 +1,14 @@
-use Rattle.std.proofs.Common.{ℕ, List, subst, sym}
+use Rattle.std.proofs.Common.{ℕ, List, arith, subst, sym}
+use Rattle.std.proofs.lemmas.List.{nil_from_length}
 use Rattle.std.proofs.lemmas.Result.{on_ok_weaker}
-use Rattle.sdr_plain.proofs.PlainLemmas.{first_of, leaves_none, none_of, turn_more, turn_none}
+use Rattle.sdr_plain.proofs.PlainLemmas.{first_of, leaves_none, turn_more, turn_none}
 use Rattle.sdr_plain.specs.Leaves.{LeaveInTurnFrom}
 use Rattle.sdr_plain.specs.Plain.{machine_of}
 use Rattle.sdr_plain.proofs.plain.Plain.+leave_in_turn.Goals as goal
 
 pub returns-in-empty-clause-left : goal.returns-in-empty-clause-left
 returns-in-empty-clause-left t c =
-    subst (λ (ds : List ℕ). LeaveInTurnFrom c.args.leave ds (machine_of c.args.self.now) (machine_of c.args.self.now)) (sym (none_of c.args.daemons.now c.in-empty.len_below))
+    subst (λ (ds : List ℕ). LeaveInTurnFrom c.args.leave ds (machine_of c.args.self.now) (machine_of c.args.self.now)) (sym (nil_from_length c.args.daemons.now (omega (arith, c.in-empty.len_below))))
     (turn_none c.args.leave (machine_of c.args.self.now))
 
 pub returns-in_ok-make-in-len1-up-clause-left : goal.returns-in_ok-make-in-len1-up-clause-left

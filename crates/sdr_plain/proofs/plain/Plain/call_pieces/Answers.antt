@@ -1,13 +1,25 @@
-use Rattle.std.proofs.Common.{◌≡◌, ◌∙◌, IfOk, IfSome, subst, sym, true}
+use Rattle.std.proofs.Common.{◌≡◌, ◌∙◌, IfOk, IfSome, arith, subst, sym, true}
+use Rattle.std.proofs.lemmas.Option.{IfSome_then}
+use Rattle.std.proofs.lemmas.Result.{IfOk-weaker}
 use Rattle.sdr_model.specs.Pieces.{AsksBytes}
 use Rattle.sdr_model.specs.Reading.{reads_media}
 use Rattle.sdr_model.specs.declared.call.Call.{Call}
 use Rattle.sdr_model.specs.declared.event.Event.TheVariants as events
-use Rattle.sdr_plain.proofs.AskingLemmas.{asks_here, asks_nothing, in_found, is_served_by, same_call}
+use Rattle.sdr_draft.specs.Calling.{MayCall}
+use Rattle.sdr_plain.proofs.BareLemmas.{lasts_may}
+use Rattle.sdr_plain.proofs.AskingLemmas.{asks_here, asks_nothing, is_served_by, same_call}
 use Rattle.sdr_plain.specs.Asking.{Asks, AsksNothing, HasPieces}
 use Rattle.sdr_plain.specs.Bare.{Worlds}
 use Rattle.sdr_plain.specs.Plain.{Plain, machine_of}
 use Rattle.sdr_plain.proofs.plain.Plain.call_pieces.Goals as goal
+
+pub pieces-requires : goal.pieces-requires
+pieces-requires c =
+    let kept = c.self.invariant in
+    record {
+      may = subst (λ (w : Worlds). MayCall w.now) (sym c.base.ensures)
+          (lasts_may c.self.inside.lock.base 0 (kept.lasts 0 (omega (arith, kept.few))));
+    }
 
 pub returns-clause-some : goal.returns-clause-some
 returns-clause-some c =
@@ -15,9 +27,9 @@ returns-clause-some c =
     let call = c.args.call.now in
     let makes = sym c.makes_calls.ensures ∙ c.if-not-makes_calls.false in
     subst (λ (p : Plain). IfOk c.pieces.result (λ asked. IfSome asked (Asks (machine_of p) c.args.daemon (events.Say call)))) c.self.view_is
-    (in_found c.pieces.result c.pieces.ensures.some
+    (IfOk-weaker c.pieces.result _ _ (λ asked h. IfSome_then asked h
     (λ pieces has. asks_here lock.roll lock.base c.args.daemon call pieces (is_served_by lock.roll c.args.daemon makes) c.self.invariant.sound
-    (subst (λ (w : Worlds). HasPieces w.now call pieces) c.base.ensures has)))
+    (subst (λ (w : Worlds). HasPieces w.now call pieces) c.base.ensures has))) c.pieces.ensures.some)
 
 pub returns-clause-none : goal.returns-clause-none
 returns-clause-none c = λ is.

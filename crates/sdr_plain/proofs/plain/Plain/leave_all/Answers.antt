@@ -1,9 +1,8 @@
-use Rattle.std.proofs.Common.{ℕ, List, ◌≡◌, ◌∙◌, ap, arith, filter, length, map, not, subst}
+use Rattle.std.proofs.Common.{ℕ, List, ◌≡◌, ◌∙◌, ap, arith, length, subst}
 use Rattle.std.proofs.lemmas.Result.{on_ok_weaker}
 use Rattle.sdr_lock.proofs.HolderLemmas.{holders_few}
 use Rattle.sdr_lock.specs.Leaving.{staying}
 use Rattle.sdr_lock.specs.Roll.{Roll}
-use Rattle.sdr_lock.specs.declared.daemon.Daemon.{Daemon}
 use Rattle.sdr_plain.proofs.PlainLemmas.{all_leave, staying_few}
 use Rattle.sdr_plain.specs.Leaves.{LeaveInTurnFrom}
 use Rattle.sdr_plain.specs.Plain.{Plain, machine_of}
@@ -16,9 +15,7 @@ pub leave_in_turn-requires : goal.leave_in_turn-requires
 leave_in_turn-requires c =
     let between : Plain = c.holders_leave.new.self in
     let items : c.deref.result.now ≡ staying between.roll =
-    c.deref.ensures.value ∙ c.in_ok-staying.ensures
-    ∙ ap (λ (ds : List Daemon). map (λ (d : Daemon). d.id) (filter (λ (d : Daemon). not d.left) ds))
-    (c.daemons.ensures ∙ ap (λ (r : Roll). r.daemons) (c.roll.ensures ∙ ap (λ (p : Plain). p.roll) c.self.view_is)) in
+    c.deref.ensures.value ∙ c.in_ok-staying.ensures ∙ ap (λ (r : Roll). staying r) (c.roll.ensures ∙ ap (λ (p : Plain). p.roll) c.self.view_is) in
     record {
       events = omega (
         arith,
@@ -35,9 +32,7 @@ pub returns-clause-left : goal.returns-clause-left
 returns-clause-left c =
     let between : Plain = c.holders_leave.new.self in
     let items : c.deref.result.now ≡ staying between.roll =
-    c.deref.ensures.value ∙ c.in_ok-staying.ensures
-    ∙ ap (λ (ds : List Daemon). map (λ (d : Daemon). d.id) (filter (λ (d : Daemon). not d.left) ds))
-    (c.daemons.ensures ∙ ap (λ (r : Roll). r.daemons) (c.roll.ensures ∙ ap (λ (p : Plain). p.roll) c.self.view_is)) in
+    c.deref.ensures.value ∙ c.in_ok-staying.ensures ∙ ap (λ (r : Roll). staying r) (c.roll.ensures ∙ ap (λ (p : Plain). p.roll) c.self.view_is) in
     on_ok_weaker c.leave_in_turn.result
     (λ others. all_leave c.args.leave (machine_of c.args.self.now) (machine_of between) (machine_of c.leave_in_turn.new.self) c.in_ok-holders_leave.ensures.left
     (subst (λ (ds : List ℕ). LeaveInTurnFrom c.args.leave ds (machine_of between) (machine_of c.leave_in_turn.new.self)) items others))

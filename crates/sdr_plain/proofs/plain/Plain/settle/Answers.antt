@@ -1,4 +1,4 @@
-use Rattle.std.proofs.Common.{◌∙◌, ap, length}
+use Rattle.std.proofs.Common.{◌∙◌, ap, arith, length}
 use Rattle.sdr_plain.proofs.PlainLemmas.{settled_holders, settled_kept, settled_so}
 use Rattle.sdr_lock.specs.Roll.{Roll}
 use Rattle.sdr_plain.specs.Asking.{settled}
@@ -13,7 +13,7 @@ returns-clause-machine c =
 pub invariant_of-self : goal.invariant_of-self
 invariant_of-self c =
     settled_kept c.self.inside.events c.self.inside.lock.roll c.settle.new.self.roll c.self.inside.lock.base c.settle.new.self.base c.args.daemon
-    c.settle.ensures.roll c.settle.ensures.keeps c.self.invariant
+    c.settle.ensures.roll c.settle.ensures.keeps (omega (arith, c.requires.events, ap (λ (p : Plain). p.events) c.self.view_is)) c.self.invariant
 
 pub returns-clause-daemons : goal.returns-clause-daemons
 returns-clause-daemons c =

@@ -1,0 +1,177 @@
+-- Objects that get one more component.
+use Rattle.std.proofs.Common.{◌≡◌, ◌≤◌, ◌++◌, ◌∷◌, ◌∙◌, [], ℕ, List, length, map, Option, Some, None, Ok, Err, ap, append_assoc, refl, subst, sym}
+use Rattle.std.proofs.lemmas.List.{map-append}
+use Rattle.std.proofs.lemmas.List.Elements.{All-append, All-cons, All-head, All-nil, All-tail}
+use Rattle.std.specs.List.{All}
+use Rattle.std.specs.Prelude.{Result, IfErr, IfOk, IfSome}
+use Rattle.sdr_base.specs.declared.account.Amounts.{Amounts}
+use Rattle.sdr_base.specs.declared.kind.Space.TheVariants as spaces
+use Rattle.sdr_base.specs.declared.refusal.Refusal.{Refusal}
+use Rattle.sdr_draft.specs.Allowed.{MayCharge, RefusesCharge}
+use Rattle.sdr_model.specs.Amounts.{amounts_by, in_space}
+use Rattle.sdr_model.specs.Charges.{capsule_bytes}
+use Rattle.sdr_model.specs.Charging.{with_used}
+use Rattle.sdr_model.specs.Dry.{with_blocks}
+use Rattle.sdr_model.specs.ObjectSteps.{with_object}
+use Rattle.sdr_model.specs.Things.{Owners, capsule_block, extent_block, inner_blocks}
+use Rattle.sdr_model.specs.World.{World}
+use Rattle.sdr_model.specs.Zco.{object_at}
+use Rattle.sdr_model.specs.declared.accounts.Pending.{Pending}
+use Rattle.sdr_model.specs.declared.things.Block.{Block}
+use Rattle.sdr_model.specs.declared.things.Thing.TheVariants as things
+use Rattle.sdr_model.specs.declared.zco.Capsule.{Capsule}
+use Rattle.sdr_model.specs.declared.zco.ZcoObject.{ZcoObject}
+use Rattle.sdr_parts.specs.Bounds.{IsShort}
+use Rattle.sdr_parts.specs.Components.{Grows, KeepsLimits, block_of, component_charges, with_component}
+use Rattle.sdr_parts.specs.Sides.{component_on, with_capsule}
+use Rattle.sdr_parts.specs.declared.component.Component.{Component}
+use Rattle.sdr_parts.specs.declared.component.Component.TheVariants as components
+use Rattle.sdr_parts.specs.declared.component.Side.{Side}
+use Rattle.sdr_parts.specs.declared.component.Side.TheVariants as sides
+use Rattle.sdr_undo.proofs.OwnersLemmas.{OwnsInside-raised}
+use Rattle.sdr_undo.specs.Owners.{IsOwned, Owns, OwnsInside}
+
+-- what holds of all items of two lists holds of those of each
+pub All-front : {X : Type 0} (P : X → Type 0) (xs ys : List X) → All P (xs ++ ys) → All P xs
+All-front P [] ys all = All-nil P
+All-front P (x ∷ xs) ys all =
+    All-cons P x xs (All-head P x (xs ++ ys) all) (All-front P xs ys (All-tail P x (xs ++ ys) all))
+
+pub All-back : {X : Type 0} (P : X → Type 0) (xs ys : List X) → All P (xs ++ ys) → All P ys
+All-back P [] ys all = all
+All-back P (x ∷ xs) ys all = All-back P xs ys (All-tail P x (xs ++ ys) all)
+
+-- an object owns its new component too
+pub owned-component : (owners : Owners) (next more k : ℕ) (z : ZcoObject) (component : Component) → next ≤ more
+    → OwnsInside owners next k (things.Object z) → IsOwned owners more k (block_of component)
+    → OwnsInside owners more k (things.Object (with_component z component))
+owned-component owners next more k z component higher owns here = record { below = raised.below; inside = by component here }
+  where
+    raised : OwnsInside owners more k (things.Object z)
+    raised = OwnsInside-raised owners next more higher k (things.Object z) owns
+
+    P : Block → Type 0
+    P = Owns owners more k
+
+    headers : List Block
+    headers = map capsule_block z.headers
+
+    extents : List Block
+    extents = map extent_block z.extents
+
+    trailers : List Block
+    trailers = map capsule_block z.trailers
+
+    by : (component : Component) → IsOwned owners more k (block_of component)
+        → All P (inner_blocks (things.Object (with_component z component)))
+    by (components.Header c) here = All-cons P (capsule_block c) (inner_blocks (things.Object z)) here raised.inside
+    by (components.Trailer c) here =
+        subst (All P)
+        (append_assoc (headers ++ extents) trailers (capsule_block c ∷ [])
+        ∙ ap (λ (l : List Block). (headers ++ extents) ++ l) (sym (map-append capsule_block z.trailers (c ∷ []))))
+        (All-append P (inner_blocks (things.Object z)) (capsule_block c ∷ []) raised.inside
+        (All-cons P (capsule_block c) [] here (All-nil P)))
+    by (components.Extent e) here =
+        let front = All-front P (headers ++ extents) trailers raised.inside in
+        All-append P (headers ++ map extent_block (z.extents ++ e ∷ [])) trailers
+        (All-append P headers (map extent_block (z.extents ++ e ∷ [])) (All-front P headers extents front)
+        (subst (All P) (sym (map-append extent_block z.extents (e ∷ [])))
+        (All-append P extents (extent_block e ∷ []) (All-back P headers extents front)
+        (All-cons P (extent_block e) [] here (All-nil P)))))
+        (All-back P (headers ++ extents) trailers raised.inside)
+
+-- a header or trailer as a component
+module _ (side : Side) (c : Capsule) where
+  pub block-on : block_of (component_on side c) ≡ c.block
+  block-on = by side
+    where
+      by : (side : Side) → block_of (component_on side c) ≡ c.block
+      by sides.Front = refl
+      by sides.Back = refl
+
+  pub limits-on : IsShort c → KeepsLimits (component_on side c)
+  limits-on short = by side
+    where
+      by : (side : Side) → KeepsLimits (component_on side c)
+      by sides.Front = short
+      by sides.Back = short
+
+  pub charges-on : (w : World) → component_charges w (component_on side c)
+      ≡ amounts_by (in_space spaces.Heap (capsule_bytes (length c.text)))
+  charges-on w = by side
+    where
+      by : (side : Side) → component_charges w (component_on side c)
+          ≡ amounts_by (in_space spaces.Heap (capsule_bytes (length c.text)))
+      by sides.Front = refl
+      by sides.Back = refl
+
+  pub object-on : (z : ZcoObject) → with_component z (component_on side c) ≡ with_capsule side z c
+  object-on z = by side
+    where
+      by : (side : Side) → with_component z (component_on side c) ≡ with_capsule side z c
+      by sides.Front = refl
+      by sides.Back = refl
+
+-- a grant that is used leaves objects, what a component charges, and what was taken
+module _ (w used : World) (p : Option Pending) (amounts : Amounts) (is : used ≡ with_used w p amounts) where
+  pub object_at-used : (k : ℕ) → object_at used k ≡ object_at w k
+  object_at-used k = ap (λ v. object_at v k) is ∙ by p
+    where
+      by : (p : Option Pending) → object_at (with_used w p amounts) k ≡ object_at w k
+      by None = refl
+      by (Some p) = refl
+
+  pub charges-used : (component : Component) → component_charges used component ≡ component_charges w component
+  charges-used component = ap (λ v. component_charges v component) is ∙ by p
+    where
+      by : (p : Option Pending) → component_charges (with_used w p amounts) component ≡ component_charges w component
+      by None = refl
+      by (Some p) = of component
+        where
+          of : (component : Component) → component_charges (with_used w (Some p) amounts) component ≡ component_charges w component
+          of (components.Extent e) = refl
+          of (components.Header c) = refl
+          of (components.Trailer c) = refl
+
+  pub taken-used : used.taken ≡ w.taken
+  taken-used = ap (λ (v : World). v.taken) is ∙ by p
+    where
+      by : (p : Option Pending) → (with_used w p amounts).taken ≡ w.taken
+      by None = refl
+      by (Some p) = refl
+
+-- what is told of a call that adds a component, where only notes were taken before it
+module _ (w wt : World) (k number count : ℕ) (z : ZcoObject) (component made : Component)
+    (same : wt ≡ w) (there : object_at w k ≡ Some z) (is : component ≡ made) where
+  -- the account refuses it
+  pub refused_at : (r : Result (Option Pending) Refusal) (refusal : Refusal) → r ≡ Err refusal
+      → IfErr r (λ refusal. IfSome (object_at wt k) (λ z. RefusesCharge wt z.account number (component_charges wt component) refusal))
+      → RefusesCharge w z.account number (component_charges w made) refusal
+  refused_at r refusal err refused =
+      subst (λ o. IfSome o (λ z. RefusesCharge w z.account number (component_charges w made) refusal)) there
+      (subst (λ v. IfSome (object_at v k) (λ z. RefusesCharge v z.account number (component_charges v made) refusal)) same
+      (subst (λ m. IfSome (object_at wt k) (λ z. RefusesCharge wt z.account number (component_charges wt m) refusal)) is
+      (subst (λ r. IfErr r (λ refusal. IfSome (object_at wt k) (λ z. RefusesCharge wt z.account number (component_charges wt component) refusal)))
+      err refused)))
+
+  -- it may be charged
+  pub allowed_at : (r : Result (Option Pending) Refusal) (p : Option Pending) → r ≡ Ok p
+      → IfOk r (λ p. IfSome (object_at wt k) (λ z. MayCharge wt z.account number (component_charges wt component) p))
+      → MayCharge w z.account number (component_charges w made) p
+  allowed_at r p ok allowed =
+      subst (λ o. IfSome o (λ z. MayCharge w z.account number (component_charges w made) p)) there
+      (subst (λ v. IfSome (object_at v k) (λ z. MayCharge v z.account number (component_charges v made) p)) same
+      (subst (λ m. IfSome (object_at wt k) (λ z. MayCharge wt z.account number (component_charges wt m) p)) is
+      (subst (λ r. IfOk r (λ p. IfSome (object_at wt k) (λ z. MayCharge wt z.account number (component_charges wt component) p)))
+      ok allowed)))
+
+  -- the object has it
+  pub grown_at : (w' : World) (r : Result (Option Pending) Refusal) (p : Option Pending) → r ≡ Ok p
+      → IfOk r (λ p. Grows (object_at wt k) k component (with_blocks (with_used wt p (component_charges wt component)) count) w')
+      → w' ≡ with_object (with_blocks (with_used w p (component_charges w made)) count) k (with_component z made)
+  grown_at w' r p ok grows =
+      subst (λ o. Grows o k made (with_blocks (with_used w p (component_charges w made)) count) w') there
+      (subst (λ v. Grows (object_at v k) k made (with_blocks (with_used v p (component_charges v made)) count) w') same
+      (subst (λ m. Grows (object_at wt k) k m (with_blocks (with_used wt p (component_charges wt m)) count) w') is
+      (subst (λ r. IfOk r (λ p. Grows (object_at wt k) k component (with_blocks (with_used wt p (component_charges wt component)) count) w'))
+      ok grows)))

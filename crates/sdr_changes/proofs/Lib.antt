@@ -1,0 +1,2 @@
+pub mod BondedLemmas
+pub mod ComponentLemmas

@@ -1,6 +1,0 @@
-use Rattle.std.proofs.Common.{arith}
-use Rattle.sdr_draft.proofs.SoundLemmas.{IsKept-raised}
-use Rattle.sdr_draft.proofs.undoable.Undoable.name.Goals as goal
-
-pub invariant_of-self : goal.invariant_of-self
-invariant_of-self c = IsKept-raised _ _ _ _ _ (omega arith) c.self-2.invariant
