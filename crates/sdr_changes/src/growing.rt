@@ -97,8 +97,8 @@ fn take_component(
 }
 
 /// Charges the account of the object at an address by a ticket, 0 for none, for a component, takes the
-/// next blocks, so many and one more, and adds the component in the last of them. The object isn't
-/// copied. Where this is refused or finds no memory, the world is as before.
+/// next blocks, so many and one more, and adds the component in the last of them. Where this is
+/// refused or finds no memory, the world is as before.
 pub fn add_component(
     world: &mut Undoable,
     addr: Addr,

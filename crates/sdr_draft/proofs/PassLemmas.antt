@@ -20,17 +20,6 @@ use Rattle.sdr_undo.specs.declared.place.Place.{Place}
 
 -- the things of some places are that of the first, if it has one, and those of the others
 module _ (e : ℕ × Place) (ps ps' : List (ℕ × Place)) (is : ps' ≡ e ∷ ps) where
-  pub charges-pass : (w : World) (acct : Acct) (space : Space) (so_far whole : ℕ)
-      → so_far + sum_by (λ e. thing_charge w acct space e.1) (things_in ps') ≡ whole
-      → so_far + charge_of w acct space e.1.thing + sum_by (λ e. thing_charge w acct space e.1) (things_in ps) ≡ whole
-  charges-pass w acct space so_far whole sum =
-      omega (arith, sum, ap (λ l. sum_by (λ e. thing_charge w acct space e.1) (things_in l)) is, by e.1.thing)
-    where
-      by : (o : Option Thing) → sum_by (λ e. thing_charge w acct space e.1) (option_to_list (option_map (λ t. (e.0, t)) o) ++ things_in ps)
-          ≡ charge_of w acct space o + sum_by (λ e. thing_charge w acct space e.1) (things_in ps)
-      by None = omega arith
-      by (Some t) = sum_by-cons (λ e. thing_charge w acct space e.1) (e.0, t) (things_in ps)
-
   pub naming-pass : (source : ℕ) → sum_by (naming_in source) (things_in ps')
       ≡ naming source (extents_in e.1.thing) + sum_by (naming_in source) (things_in ps)
   naming-pass source = ap (λ l. sum_by (naming_in source) (things_in l)) is ∙ by e.1.thing
@@ -39,20 +28,6 @@ module _ (e : ℕ × Place) (ps ps' : List (ℕ × Place)) (is : ps' ≡ e ∷ p
           ≡ naming source (extents_in o) + sum_by (naming_in source) (things_in ps)
       by None = omega arith
       by (Some t) = sum_by-cons (naming_in source) (e.0, t) (things_in ps)
-
-  pub first-pass : (raw : ℕ) → first_source raw (things_in ps')
-      ≡ cond (names_at raw e.1.thing) (Some e.0) (first_source raw (things_in ps))
-  first-pass raw = ap (λ l. first_source raw (things_in l)) is ∙ by e.1.thing
-    where
-      by : (o : Option Thing) → first_source raw (option_to_list (option_map (λ t. (e.0, t)) o) ++ things_in ps)
-          ≡ cond (names_at raw o) (Some e.0) (first_source raw (things_in ps))
-      by None = refl
-      by (Some t) = of (names_raw raw t)
-        where
-          of : (b : Bool) → option_map (λ (e : ℕ × Thing). e.0) (cond b (Some (e.0, t)) (find_first (λ e. names_raw raw e.1) (things_in ps)))
-              ≡ cond b (Some e.0) (first_source raw (things_in ps))
-          of true = refl
-          of false = refl
 
 -- all extents that name a source are those of both accounts
 pub naming-uses : (source : ℕ) (es : List (ℕ × Thing)) → sum_by (naming_in source) es

@@ -25,7 +25,7 @@ use std::alloc::Global;
 use std::marker::Model;
 
 /// A world, which can be put back to what it was at the begin of the open transaction. Contracts see the
-/// world at the begin, the world now, the addresses of the things that were changed since, and whose the
+/// world at the begin, the world now, the addresses that were touched since, and whose the
 /// blocks inside things are.
 #[derive(Drop)]
 pub struct Undoable {

@@ -10,17 +10,6 @@ use Rattle.sdr_model.proofs.AmountLemmas.{same_amounts}
 use Rattle.sdr_parts.specs.Capped.{capped_by}
 use Rattle.sdr_parts.specs.Rooms.{served_in}
 
--- what a word holds of a sum is made of what it holds of both parts
-pub capped-plus : (of more : Space → ℕ)
-    → capped_by (λ space. amount (capped_by of) space + amount (capped_by more) space) ≡ capped_by (λ space. of space + more space)
-capped-plus of more = same_amounts _ _ by
-  where
-    by : (space : Space) → amount (capped_by (λ s. amount (capped_by of) s + amount (capped_by more) s)) space
-        ≡ amount (capped_by (λ s. of s + more s)) space
-    by spaces.File = omega arith
-    by spaces.Bulk = omega arith
-    by spaces.Heap = omega arith
-
 -- a word holds all of what is small
 pub capped-small : (of : Space → ℕ) → ((space : Space) → of space ≤ 9223372036854775808) → capped_by of ≡ amounts_by of
 capped-small of small = same_amounts _ _ by

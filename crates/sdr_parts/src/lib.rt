@@ -1,7 +1,7 @@
 //! Parts of a world as functions over plain data: queues of tickets, and what is in objects, with what it charges.
 //! Nothing here keeps a world.
 //!
-//! 1. What is in an object is bounded, so that each sum over it fits a word.
+//! 1. Where what is in an object is bounded, each sum over it fits a word.
 //! 2. A sum that may be more than a word holds is capped at the greatest word.
 #![tactic(auto)]
 

@@ -28,13 +28,12 @@ use Rattle.sdr_model.specs.declared.answer.Reply.TheVariants as replies
 use Rattle.sdr_model.specs.declared.call.Call.{Call}
 use Rattle.sdr_model.specs.declared.things.Thing.{Thing}
 use Rattle.sdr_lock.specs.Core.{first_core}
-use Rattle.sdr_lock.specs.Crash.{LeavesBefore, LeavesEither}
 use Rattle.sdr_lock.specs.Gaps.{Gaps, HasGapCause, no_gaps}
 use Rattle.sdr_lock.specs.Ground.{bare, MayMissMedia, State, Steps, kept, put_back}
 use Rattle.sdr_lock.specs.Standing.{Standing}
 use Rattle.sdr_lock.specs.Serving.{Brings, Calls, Keeps, KeepsGround, PutsBack, Shows, ShowsBytes, shown_in, with_given}
 use Rattle.sdr_lock.specs.declared.has_ground.HasGround.{Ghosts}
-use Rattle.sdr_lock.proofs.GroundLemmas.{gaps_same, leaves_either, one_less}
+use Rattle.sdr_lock.proofs.GroundLemmas.{gaps_same, one_less}
 use Rattle.sdr_plain.proofs.BoundLaws.{bound_kept_dry}
 use Rattle.sdr_plain.specs.Bare.{IsAfter, LastsBare, StandsBare, Worlds, worlds_back, worlds_kept, worlds_shown}
 
@@ -71,10 +70,6 @@ lasts_kept : (old : Worlds) (n : ℕ) → LastsBare old n → LastsBare (worlds_
 lasts_kept old n lasts =
     let left = after_same lasts.calls lasts.calls old.now [] [] old.now.taken (omega arith) (omega arith) lasts.now.taken lasts.now in
     record { calls = lasts.calls; back = left; now = left; within = lasts.within }
-
--- and what was put back
-lasts_put_back : (old : Worlds) (n : ℕ) → LastsBare old n → LastsBare (worlds_back old) n
-lasts_put_back old n lasts = record { calls = lasts.calls; back = lasts.back; now = lasts.back; within = lasts.within }
 
 -- one call takes few blocks, adds one piece at most to an object, and leaves the world whole and bound
 lasts_called : (old new : Worlds) (call : Call) (reply : Reply) (n : ℕ) → StepsDry old.now call (dry_moves old.now call reply) new.now reply
@@ -131,15 +126,6 @@ lasts_empty n within = record { calls = 0; back = empty; now = empty; within = w
       valid = (dry_worlds_are_valid None [] [] (first_core [] (bare empty_world)) refl).0;
       bound = empty_bound;
     }
-
--- with no disk a crash leaves nothing
-pub leaves_nothing : (old new : Worlds) → LeavesBefore bare_ground old new
-leaves_nothing old new = record {
-  each = λ v at. record { later = omega arith; each = λ m image ge le l. absurd l; past = λ m image le l. absurd l };
-}
-
-pub leaves_either_nothing : (old new : Worlds) → LeavesEither bare_ground old new
-leaves_either_nothing old new = leaves_either bare_ground (leaves_nothing old new)
 
 -- the states before and now are one that was left
 brings_left : {P : Standing → Standing → Type 0} (old new : Worlds) (left : World) (next : Standing → State) → new ≡ record { begun = left; now = left }
@@ -242,17 +228,8 @@ keeps_so : (spent : Bool) (old left new : Worlds) → new ≡ left → ((n : ℕ
 keeps_so spent old left new is lasts =
     record { later = omega arith; gaps = gaps_same no_gaps; media = refl; lasts = λ n as_long. subst (λ w. LastsBare w n) (sym is) (lasts n as_long) }
 
-pub keeps_unmade : (old new : Worlds) → new ≡ old → KeepsGround bare_ground true old new
-keeps_unmade old new is = keeps_so true old old new is (bare_ground.lasts_less old)
-
 pub keeps_kept : (old new : Worlds) → new ≡ worlds_kept old → KeepsGround bare_ground false old new
 keeps_kept old new is = keeps_so false old (worlds_kept old) new is (lasts_kept old)
-
-pub keeps_put_back : (old new : Worlds) → new ≡ worlds_back old → KeepsGround bare_ground false old new
-keeps_put_back old new is = keeps_so false old (worlds_back old) new is (lasts_put_back old)
-
-pub keeps_looked : (old : Worlds) → KeepsGround bare_ground false old old
-keeps_looked old = keeps_so false old old old refl (λ n lasts. lasts)
 
 pub keeps_shown : (given : Option (List ℕ)) (old new : Worlds) → new ≡ worlds_shown given old → KeepsGround bare_ground true old new
 keeps_shown given old new is = keeps_so true old (worlds_shown given old) new is (lasts_shown given old)

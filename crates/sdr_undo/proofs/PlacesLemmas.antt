@@ -14,10 +14,6 @@ use Rattle.sdr_undo.proofs.StoreLemmas.{thing_at}
 use Rattle.sdr_undo.specs.Store.{now_at, things_at, things_in}
 use Rattle.sdr_undo.specs.declared.place.Place.{Place}
 
-both_of : (a b : Bool) → T a → T b → T (a && b)
-both_of true b x y = y
-both_of false b x y = absurd x
-
 -- an address below those of some places is below those of their things
 below_things : (k : ℕ) (ps : List (ℕ × Place)) → T (below_all nat_cmp k ps) → T (below_all nat_cmp k (things_in ps))
 below_things k [] below = tt

@@ -5,8 +5,8 @@ use Rattle.std.specs.Coded.{Coded, code_by, coded×, coded_ℕ, coded_bool, code
 use Rattle.std.specs.FinMap as finite
 use Rattle.std.specs.Prelude.{ℕ, Bool, List, refl}
 
--- the world at the begin of the open transaction, the world now, where things were changed since, which thing each block
--- inside one belongs to, and whether the accounts were copied, so that they may be changed
+-- the world at the begin of the open transaction, the world now, the addresses that were touched since, which thing each
+-- block inside one belongs to, and whether the accounts were copied, so that they may be changed
 pub record Draft : Type 0 where
   pub begun : World
   pub now : World

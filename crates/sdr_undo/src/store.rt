@@ -1,5 +1,5 @@
 // The things of a world in the making, which can be put back to what they were at the begin.
-ghost use Rattle.std.specs.Prelude.{◌≡◌, ℕ, All, IfOk, OnOk, OnErr, IsSome, Some, None, Contains, []};
+ghost use Rattle.std.specs.Prelude.{◌≡◌, ℕ, IfOk, OnOk, OnErr, IsSome, Some, None, Contains, []};
 ghost use Rattle.std.specs.FinMap as map;
 ghost use Rattle.std.specs.Option.{option_copied};
 ghost use Rattle.sdr_model.specs.Things.{with_at};
@@ -95,20 +95,6 @@ impl Store {
         Ok(())
     }
 
-    /// Takes note that these addresses are touched, as `touch` does.
-    pub fn touch_all(&mut self, addrs: &[Addr]) -> Result<(), NoMemory>
-        ensures begun { self.new.begun ≡ self.old.begun }
-        ensures now { self.new.now ≡ self.old.now }
-        ensures touched { OnOk result (All (Contains self.new.touched) addrs.now) }
-        ensures others { (other : ℕ) → Contains self.old.touched other →
-            Contains self.new.touched other }
-    {
-        for addr in addrs {
-            self.touch(*addr)?;
-        }
-        Ok(())
-    }
-
     // Puts a thing, or nothing, at an address that was touched, and hands out what was there.
     #[tactic(auto, using(crate::proofs::StoreLemmas::thing_at))]
     fn swap(&mut self, addr: Addr, thing: Option<Thing>) -> Option<Thing>
@@ -129,17 +115,6 @@ impl Store {
         ensures touched { self.new.touched ≡ self.old.touched }
     {
         self.swap(addr, thing);
-    }
-
-    /// Puts a thing at an address, or lets the one there go. Want of memory leaves all as before.
-    pub fn replace(&mut self, addr: Addr, thing: Option<Thing>) -> Result<(), NoMemory>
-        ensures now { OnOk result (self.new.now ≡ with_at self.old.now addr thing) }
-        ensures begun { self.new.begun ≡ self.old.begun }
-        ensures same { OnErr result (self.new.now ≡ self.old.now) }
-    {
-        self.touch(addr)?;
-        self.put(addr, thing);
-        Ok(())
     }
 
     /// Takes out the thing at an address, to be changed and put back. Want of memory leaves all as before.

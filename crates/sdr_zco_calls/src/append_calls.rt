@@ -63,7 +63,7 @@ pub fn is_outside(offset: u64, bytes: u64, have: u64) -> bool
     bytes == 0 || exceeds(offset, bytes, have)
 }
 
-// Appends a part of a source that is there to an object that is there, which isn't copied.
+// Appends a part of a source that is there to an object that is there.
 fn append_source(world: &mut Undoable, asked: &Append) -> Result<Reply, NoMemory>
     requires may { MayCall world.old.now }
     requires object { IsSome (object_at world.old.now asked.now.object) }
@@ -88,7 +88,7 @@ fn append_source(world: &mut Undoable, asked: &Append) -> Result<Reply, NoMemory
     }
 }
 
-// Appends a part of a raw object, which a new source takes over, to an object that is there, which isn't copied.
+// Appends a part of a raw object, which a new source takes over, to an object that is there.
 fn append_raw(world: &mut Undoable, asked: &Append) -> Result<Reply, NoMemory>
     requires may { MayCall world.old.now }
     requires object { IsSome (object_at world.old.now asked.now.object) }
@@ -124,8 +124,8 @@ fn append_raw(world: &mut Undoable, asked: &Append) -> Result<Reply, NoMemory>
     }
 }
 
-/// Appends a part of a source, or of a raw object, to an object. It is linear in the object's extents, and goes over all
-/// things.
+/// Appends a part of a source, or of a raw object, to an object. It is linear in what is in the object, and goes over
+/// all things.
 pub fn append_extent(world: &mut Undoable, asked: &Append) -> Result<Reply, NoMemory>
     requires may { MayCall world.old.now }
     ensures { Answers (Call.AppendExtent asked.now.object asked.now.ticket asked.now.named

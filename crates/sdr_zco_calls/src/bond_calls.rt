@@ -99,8 +99,8 @@ fn bond_charge(capsules: &[Capsule]) -> Amounts
 }
 
 /// Makes an extent of each header and trailer of an object: its text becomes a raw object with a source of
-/// its own. The part is then the whole. It is linear in the object, and takes the logarithm of the world for
-/// each header and trailer.
+/// its own. The part is then the whole. It is linear in the object, takes the logarithm of the world for
+/// each header and trailer, and goes over all things for the charge.
 pub fn bond(alloc: Global, world: &mut Undoable, addr: Addr, number: u64) -> Result<Reply, NoMemory>
     requires may { MayCall world.old.now }
     ensures { Answers (Call.Bond addr number) world.old world.new result }

@@ -14,7 +14,7 @@ use sdr_model::{Call, Capsule, Reply};
 use sdr_parts::Side;
 use std::alloc::Global;
 
-// Adds a header or trailer of this text to an object, which isn't copied.
+// Adds a header or trailer of this text to an object.
 fn add_capsule(
     alloc: Global,
     world: &mut Undoable,

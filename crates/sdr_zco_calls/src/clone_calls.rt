@@ -57,7 +57,8 @@ fn cloned(
 }
 
 /// Makes an object of a part of another's part, in the same account. It has extents of the same sources, and
-/// no header or trailer. No byte is copied. It is linear in the object, times the logarithm of the world.
+/// no header or trailer. No byte is copied. It is linear in the object, times the
+/// logarithm of the world, and goes over all things for the charge.
 pub fn clone_part(
     alloc: Global,
     world: &mut Undoable,

@@ -39,8 +39,8 @@ fn put_cuts(world: &mut Undoable, addr: Addr, cuts: Items<Extent>) -> Result<(),
     Ok(())
 }
 
-/// Cuts an object to its part, and lets each source go that goes with its last extent. It looks at each
-/// extent of the object, and at all others where it loses any.
+/// Cuts an object to its part, and lets each source go that goes with its last extent. It goes over
+/// all things and extents, once more where the object loses any.
 pub fn strip(alloc: Global, world: &mut Undoable, addr: Addr) -> Result<Reply, NoMemory>
     requires may { MayCall world.old.now }
     ensures { Answers (Call.Strip addr) world.old world.new result }
