@@ -1,15 +1,11 @@
 -- Objects that get one more component.
-use Rattle.std.proofs.Common.{◌≡◌, ◌≤◌, ◌++◌, ◌∷◌, ◌∙◌, [], ℕ, List, length, map, Option, Some, None, Ok, Err, ap, append_assoc, refl, subst, sym}
+use Rattle.std.proofs.Common.{◌≡◌, ◌≤◌, ◌++◌, ◌∷◌, ◌∙◌, [], ℕ, List, map, Option, Some, Ok, Err, ap, append_assoc, subst, sym}
 use Rattle.std.proofs.lemmas.List.{map-append}
 use Rattle.std.proofs.lemmas.List.Elements.{All-append, All-cons, All-head, All-nil, All-tail}
 use Rattle.std.specs.List.{All}
 use Rattle.std.specs.Prelude.{Result, IfErr, IfOk, IfSome}
-use Rattle.sdr_base.specs.declared.account.Amounts.{Amounts}
-use Rattle.sdr_base.specs.declared.kind.Space.TheVariants as spaces
 use Rattle.sdr_base.specs.declared.refusal.Refusal.{Refusal}
 use Rattle.sdr_draft.specs.Allowed.{MayCharge, RefusesCharge}
-use Rattle.sdr_model.specs.Amounts.{amounts_by, in_space}
-use Rattle.sdr_model.specs.Charges.{capsule_bytes}
 use Rattle.sdr_model.specs.Charging.{with_used}
 use Rattle.sdr_model.specs.Dry.{with_blocks}
 use Rattle.sdr_model.specs.ObjectSteps.{with_object}
@@ -19,15 +15,10 @@ use Rattle.sdr_model.specs.Zco.{object_at}
 use Rattle.sdr_model.specs.declared.accounts.Pending.{Pending}
 use Rattle.sdr_model.specs.declared.things.Block.{Block}
 use Rattle.sdr_model.specs.declared.things.Thing.TheVariants as things
-use Rattle.sdr_model.specs.declared.zco.Capsule.{Capsule}
 use Rattle.sdr_model.specs.declared.zco.ZcoObject.{ZcoObject}
-use Rattle.sdr_parts.specs.Bounds.{IsShort}
-use Rattle.sdr_parts.specs.Components.{Grows, KeepsLimits, block_of, component_charges, with_component}
-use Rattle.sdr_parts.specs.Sides.{component_on, with_capsule}
+use Rattle.sdr_parts.specs.Components.{Grows, block_of, component_charges, with_component}
 use Rattle.sdr_parts.specs.declared.component.Component.{Component}
 use Rattle.sdr_parts.specs.declared.component.Component.TheVariants as components
-use Rattle.sdr_parts.specs.declared.component.Side.{Side}
-use Rattle.sdr_parts.specs.declared.component.Side.TheVariants as sides
 use Rattle.sdr_undo.proofs.OwnersLemmas.{OwnsInside-raised}
 use Rattle.sdr_undo.specs.Owners.{IsOwned, Owns, OwnsInside}
 

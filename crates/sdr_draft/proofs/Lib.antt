@@ -3,4 +3,5 @@ pub mod ChargeLemmas
 pub mod KeepsLemmas
 pub mod NamedLemmas
 pub mod PassLemmas
+pub mod RunLemmas
 pub mod SumBounds

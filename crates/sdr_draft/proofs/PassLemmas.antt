@@ -1,18 +1,15 @@
 -- Passes over the places of a world in the making.
-use Rattle.std.proofs.Common.{◌≡◌, ◌≤◌, ◌+◌, ℕ, Bool, true, false, List, [], ◌∷◌, ◌++◌, cond, Option, Some, None, ap, ◌∙◌, refl, arith, unwrap_or}
+use Rattle.std.proofs.Common.{◌≡◌, ◌≤◌, ◌+◌, ℕ, List, [], ◌∷◌, ◌++◌, cond, Option, Some, None, ap, ◌∙◌, refl, arith, unwrap_or}
 use Rattle.std.proofs.lemmas.List.Sums.{sum_by-cons}
 use Rattle.std.specs.FinMap.{entries}
-use Rattle.std.specs.List.{find as find_first, sum_by}
+use Rattle.std.specs.List.{sum_by}
 use Rattle.std.specs.Option.{option_map, option_to_list}
 use Rattle.sdr_base.specs.declared.account.Acct.{Acct}
 use Rattle.sdr_base.specs.declared.account.Acct.TheVariants as accts
-use Rattle.sdr_base.specs.declared.kind.Space.{Space}
-use Rattle.sdr_draft.proofs.NamedLemmas.{first_source}
-use Rattle.sdr_draft.specs.Uses.{charge_of, extents_in, names_at, naming_in}
+use Rattle.sdr_draft.specs.Uses.{extents_in, naming_in}
 use Rattle.sdr_model.specs.Accounts.{is_same_account}
-use Rattle.sdr_model.specs.Charges.{thing_charge}
 use Rattle.sdr_model.specs.World.{World}
-use Rattle.sdr_model.specs.Zco.{naming, names_raw, uses_in, uses_of}
+use Rattle.sdr_model.specs.Zco.{naming, uses_in, uses_of}
 use Rattle.sdr_model.specs.declared.things.Thing.{Thing}
 use Rattle.sdr_model.specs.declared.things.Thing.TheVariants as things
 use Rattle.sdr_undo.specs.Store.{things_in}

@@ -5,7 +5,6 @@ use Rattle.std.specs.List.{sum_by}
 use Rattle.sdr_base.specs.declared.account.Amounts.{Amounts}
 use Rattle.sdr_base.specs.declared.kind.Space.{Space}
 use Rattle.sdr_base.specs.declared.kind.Space.TheVariants as spaces
-use Rattle.sdr_model.specs.Accounts.{most_amount}
 use Rattle.sdr_model.specs.BondSteps.{bond_rise}
 use Rattle.sdr_parts.specs.Capped.{capped, capped_by}
 use Rattle.sdr_model.specs.Charges.{bytes_charge, capsule_bytes, capsule_charge, extent_charge, object_charge, space_in}

@@ -4,7 +4,7 @@ use Rattle.sdr_model.specs.Zco.{capsules_length, extents_length}
 use Rattle.sdr_model.specs.declared.zco.Capsule.{Capsule}
 use Rattle.sdr_model.specs.declared.zco.Extent.{Extent}
 use Rattle.sdr_model.specs.declared.zco.ZcoObject.{ZcoObject}
-use Rattle.std.specs.Prelude.{◌≤◌, ◌^◌, ◌+◌, List, ◌<◌, ℕ, length, All}
+use Rattle.std.specs.Prelude.{◌≤◌, ◌^◌, ◌+◌, List, length, All}
 
 -- the extent ends where the longest source ends, or before
 abbrev pub EndsInTime : Extent → Type 0

@@ -5,12 +5,10 @@ use Rattle.sdr_base.specs.declared.kind.Space.{Space}
 use Rattle.sdr_model.specs.Amounts.{amounts_by}
 use Rattle.sdr_model.specs.Charges.{capsule_charge, extent_charge}
 use Rattle.sdr_model.specs.ObjectSteps.{with_extent, with_header, with_object, with_trailer}
-use Rattle.sdr_model.specs.Things.{with_at, Things}
 use Rattle.sdr_parts.specs.Bounds.{EndsInTime, IsShort}
 use Rattle.sdr_model.specs.World.{World}
 use Rattle.sdr_parts.specs.declared.component.Component.{Component}
 use Rattle.sdr_parts.specs.declared.component.Component.TheVariants as components
-use Rattle.sdr_model.specs.declared.things.Thing.TheVariants as things
 use Rattle.sdr_model.specs.declared.zco.ZcoObject.{ZcoObject}
 
 -- the object with one more component

@@ -1,5 +1,5 @@
 -- The things at the places, one after another.
-use Rattle.std.proofs.Common.{◌≡◌, ℕ, Bool, true, false, List, [], ◌∷◌, ◌&&◌, T, map, None, is_lt, arith, ap, subst, sym, ◌∙◌, refl}
+use Rattle.std.proofs.Common.{◌≡◌, ℕ, List, [], ◌∷◌, T, map, None, is_lt, arith, ap, subst, sym, ◌∙◌, refl}
 use Rattle.std.specs.Cmp.{nat_cmp_total}
 use Rattle.std.specs.FinMap.{empty, entries, entries-from_sorted, entries-insert, entries_sorted, from_entries, from_sorted, get-empty, get-from_sorted, is_sorted, put}
 use Rattle.std.specs.FinMap.Entries.{below_all}

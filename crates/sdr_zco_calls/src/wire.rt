@@ -148,6 +148,9 @@ impl Gathering {
             self.new) }
     {
         for extent in extents {
+            if self.count == 0 {
+                return Ok(());
+            }
             self.add_extent(world, extent)?;
         }
         Ok(())

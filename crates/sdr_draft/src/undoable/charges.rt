@@ -1,18 +1,19 @@
 // What objects charge in a world in the making.
-ghost use Rattle.std.specs.Prelude.{◌≡◌, sum_by};
+ghost use Rattle.std.specs.Prelude.{◌≡◌, ◌+◌, sum_by};
 ghost use Rattle.std.specs.Option.{option_copied};
 ghost use Rattle.sdr_draft.specs.Uses.{charge_of, charged};
 ghost use Rattle.sdr_model.specs.Accounts.{is_same_account};
+ghost use Rattle.sdr_model.specs.Amounts.{amount, in_space};
 ghost use Rattle.sdr_model.specs.Charges.{extent_charge, object_charge, occupancy, rooms, space_in};
 ghost use Rattle.sdr_model.specs.Zco.{source_at};
 ghost use Rattle.sdr_parts.specs.Capped.{capped_by};
 
 use crate::Undoable;
 use sdr_base::{Acct, Addr, Amounts, Space};
-use sdr_model::amounts::NOTHING;
+use sdr_model::amounts::{NOTHING, with_amount};
 use sdr_model::{Extent, Thing, ZcoObject};
 use sdr_parts::amounts::{capped_plus, room_beside};
-use sdr_parts::charges::{bytes_charge, capsules_charge};
+use sdr_parts::charges::capsules_charge;
 use sdr_parts::queue::left;
 
 // Whether an object is of an account.
@@ -33,15 +34,12 @@ impl Undoable {
         }
     }
 
-    // The space that the bytes of a source are in, where that of another is known.
-    fn space_beside(&self, known: Addr, space: Space, source: Addr) -> Space
-        requires { space ≡ space_in (source_at self.now.now known) }
-        ensures { result ≡ space_in (source_at self.now.now source) }
+    // An amount with so many bytes of a source more, as far as words hold it.
+    fn with_bytes(&self, charge: &Amounts, source: Addr, bytes: u64) -> Amounts
+        ensures { result ≡ capped_by (λ space. amount charge.now space
+            + in_space (space_in (source_at self.now.now source)) bytes space) }
     {
-        if source == known {
-            return space;
-        }
-        self.space_of(source)
+        capped_plus(charge, &with_amount(&NOTHING, self.space_of(source), bytes))
     }
 
     /// What these extents charge, as far as words hold it. It is linear in them, and in the logarithm of the world for each
@@ -50,15 +48,22 @@ impl Undoable {
         ensures { result ≡ capped_by (λ space. sum_by (extent_charge self.now.now space)
             extents.now) }
     {
-        let mut known = 0;
-        let mut space = self.space_of(known);
+        let Some(first) = extents.first() else {
+            return NOTHING;
+        };
         let mut charge = NOTHING;
+        let mut source = first.source;
+        let mut bytes: u64 = 0;
         for extent in extents {
-            space = self.space_beside(known, space, extent.source);
-            known = extent.source;
-            charge = capped_plus(&charge, &bytes_charge(space, extent.length));
+            if extent.source != source {
+                charge = self.with_bytes(&charge, source, bytes);
+                source = extent.source;
+                bytes = 0;
+            }
+            bytes = bytes.saturating_add(extent.length);
+            charge.heap = charge.heap.saturating_add(32);
         }
-        charge
+        self.with_bytes(&charge, source, bytes)
     }
 
     /// What an object charges, as far as words hold it. It is linear in it, as `extents_charge` is in its extents.
