@@ -1,5 +1,5 @@
 -- What an account allows, and what a charge leaves.
-use Rattle.std.proofs.Common.{true≢false, ◌≡◌, ◌==◌, ℕ, List, [], Bool, true, false, Option, None, Some, MatchBool, MatchOption, IfSome, ap, sym, ◌∙◌, subst, refl, set, slice_get}
+use Rattle.std.proofs.Common.{true≢false, ◌≡◌, ◌==◌, ℕ, List, [], Bool, true, false, Option, None, Some, MatchBool, MatchOption, IfSome, ap, sym, ◌∙◌, subst, refl, set, slice_get, arith}
 use Rattle.std.proofs.lemmas.List.{set-set, set-get_or}
 use Rattle.std.proofs.lemmas.Option.{get_or_from_slice_get}
 use Rattle.std.specs.Option.{option_map}
@@ -9,11 +9,16 @@ use Rattle.sdr_base.specs.declared.account.Amounts.{Amounts}
 use Rattle.sdr_base.specs.declared.kind.Space.{Space}
 use Rattle.sdr_base.specs.declared.refusal.Refusal.{Refusal}
 use Rattle.sdr_base.specs.declared.refusal.Refusal.TheVariants as refusals
-use Rattle.sdr_model.specs.Accounts.{IsInPlace, pending_in, tickets_of, with_ticket, with_tickets}
+use Rattle.sdr_model.specs.Accounts.{IsInPlace, account_of, pending_in, tickets_of, with_ticket, with_tickets}
 use Rattle.sdr_model.specs.declared.accounts.Pending.{Pending}
-use Rattle.sdr_draft.specs.Allowed.{IsGrantOf, MayCharge, RefusesCharge, refusal_by, refusal_of, space_refusal, with_back}
-use Rattle.sdr_model.specs.Amounts.{amounts_by, first_above, minus}
-use Rattle.sdr_model.specs.Charges.{rooms}
+use Rattle.sdr_draft.specs.Allowed.{IsGrantOf, MayCharge, RefusesCharge, refusal_of, with_back}
+use Rattle.sdr_draft.specs.Calling.{IsBound}
+use Rattle.sdr_parts.specs.Capped.{capped_by}
+use Rattle.sdr_parts.specs.Refusals.{refusal_by, refusal_in, space_refusal}
+use Rattle.sdr_parts.proofs.CappedLemmas.{capped-small}
+use Rattle.sdr_model.proofs.AmountLemmas.{amount-by}
+use Rattle.sdr_model.specs.Amounts.{amount, amounts_by, first_above, minus}
+use Rattle.sdr_model.specs.Charges.{occupancies, occupancy, rooms}
 use Rattle.sdr_model.specs.Charging.{Charges, OnTicket, grant_left, no_space, with_used}
 use Rattle.sdr_model.specs.Queue.{barrier}
 use Rattle.sdr_model.specs.Steps.{Outcome, Refuses}
@@ -42,6 +47,21 @@ pub set_back : (ts : List Ticket) (place : ℕ) (old between : Ticket) → slice
     → set (set ts place between) place old ≡ ts
 set_back ts place old between is =
     set-set ts place between old ∙ ap (set ts place) (sym (get_or_from_slice_get ts place old old is)) ∙ set-get_or ts place old
+
+-- why an account refuses, said of the world, of which a word holds what is occupied
+module _ (w : World) (acct : Acct) (uncovered : Amounts) where
+  room_wanting : (f : Option Space) → option_map (space_refusal (account_of w.accounts acct).maxima (occupancies w acct) uncovered) f
+      ≡ option_map (no_space w acct uncovered) f
+  room_wanting None = refl
+  room_wanting (Some space) =
+      ap (λ n. Some (refusals.NoSpace space n (amount uncovered space) (amount (account_of w.accounts acct).maxima space))) (amount-by (occupancy w acct) space)
+
+  pub refusal-world : (occupied : Amounts) → occupied ≡ capped_by (occupancy w acct) → IsBound w
+      → refusal_in (account_of w.accounts acct) occupied uncovered ≡ refusal_of w acct uncovered
+  refusal-world occupied is bound =
+      ap (λ o. refusal_in (account_of w.accounts acct) o uncovered)
+      (is ∙ capped-small (occupancy w acct) (λ space. omega (arith, bound acct space)))
+      ∙ ap (refusal_by (barrier uncovered (tickets_of w.accounts acct))) (room_wanting (first_above uncovered (rooms w acct)))
 
 -- what a charge used is given back
 pub with_back-used : (w : World) (p : Option Pending) (amounts : Amounts) → IfSome p (IsInPlace w.accounts)
@@ -91,7 +111,7 @@ charge_allowed w o acct number charge amounts p goes is may g =
     may.ticket
     (not_refused w o (barrier (minus (amounts_by charge) (grant_left p)) (tickets_of w.accounts acct))
     (first_above (minus (amounts_by charge) (grant_left p)) (rooms w acct))
-    (space_refusal w acct (minus (amounts_by charge) (grant_left p))) (goes (with_used w p (amounts_by charge)))
+    (no_space w acct (minus (amounts_by charge) (grant_left p))) (goes (with_used w p (amounts_by charge)))
     (subst (λ a. refusal_of w acct (minus a (grant_left p)) ≡ None) is may.allowed)
     (subst (λ a. goes (with_used w p a)) is g))
 
@@ -115,7 +135,7 @@ charge_refused_by w acct number amounts p refusal granted is =
     (λ space. Refuses w o (no_space w acct (minus amounts (grant_left p)) space))) (λ t. Refuses w o (refusals.Queue t.number)))
     granted
     (refused_by w refusal (barrier (minus amounts (grant_left p)) (tickets_of w.accounts acct))
-    (first_above (minus amounts (grant_left p)) (rooms w acct)) (space_refusal w acct (minus amounts (grant_left p))) ⊥ is)
+    (first_above (minus amounts (grant_left p)) (rooms w acct)) (no_space w acct (minus amounts (grant_left p))) ⊥ is)
 
 map_bool : {P Q P' Q' : Type 0} (b : Bool) → (P → P') → (Q → Q') → MatchBool b P Q → MatchBool b P' Q'
 map_bool true f g h = f h
@@ -151,5 +171,5 @@ charge_refused w o acct number charge amounts refusal goes is refuses h =
     covered p =
         let uncovered = minus (amounts_by charge) (grant_left p) in
         map_option (barrier uncovered (tickets_of w.accounts acct))
-        (map_option (first_above uncovered (rooms w acct)) (λ x. absurd x) (λ space. same (space_refusal w acct uncovered space)))
+        (map_option (first_above uncovered (rooms w acct)) (λ x. absurd x) (λ space. same (no_space w acct uncovered space)))
         (λ t. same (refusals.Queue t.number))

@@ -3,19 +3,17 @@ use Rattle.std.specs.Prelude.{◌≡◌, ◌==◌, ℕ, [], true, false, Option,
 use Rattle.std.specs.Option.{option_map}
 use Rattle.sdr_base.specs.declared.account.Acct.{Acct}
 use Rattle.sdr_base.specs.declared.account.Amounts.{Amounts}
-use Rattle.sdr_base.specs.declared.kind.Space.{Space}
 use Rattle.sdr_base.specs.declared.refusal.Refusal.{Refusal}
-use Rattle.sdr_base.specs.declared.refusal.Refusal.TheVariants as refusals
-use Rattle.sdr_model.specs.Accounts.{account_of, pending_in, tickets_of, with_ticket}
+use Rattle.sdr_model.specs.Accounts.{pending_in, tickets_of, with_ticket}
 use Rattle.sdr_model.specs.declared.accounts.Pending.{Pending}
 use Rattle.sdr_model.specs.Amounts.{amount, first_above, minus}
-use Rattle.sdr_model.specs.Charges.{occupancy, rooms}
-use Rattle.sdr_model.specs.Charging.{Charges, grant_left}
+use Rattle.sdr_model.specs.Charges.{rooms}
+use Rattle.sdr_model.specs.Charging.{Charges, grant_left, no_space}
 use Rattle.sdr_model.specs.Queue.{barrier}
 use Rattle.sdr_model.specs.World.{World}
 use Rattle.sdr_model.specs.declared.accounts.Accounts.{Accounts}
-use Rattle.sdr_model.specs.declared.accounts.Ticket.{Ticket}
 use Rattle.sdr_model.specs.declared.answer.Reply.TheVariants as replies
+use Rattle.sdr_parts.specs.Refusals.{refusal_by}
 
 -- the ticket that a charge names is there, and granted; the number 0 names none
 abbrev pub IsGrantOf : Accounts → Acct → ℕ → Option Pending → Type 0
@@ -23,21 +21,11 @@ IsGrantOf accounts acct number None = number ≡ 0
 IsGrantOf accounts acct number (Some p) =
     ((number == 0) ≡ false) × (pending_in accounts acct number ≡ Some p) × (p.ticket.granted ≡ true)
 
--- why a ticket before a charge, or else what there is no room for, refuses it
-abbrev pub refusal_by : Option Ticket → Option Refusal → Option Refusal
-refusal_by (Some t) other = Some (refusals.Queue t.number)
-refusal_by None other = other
-
--- the refusal of amounts above the room of an account
-abbrev pub space_refusal : World → Acct → Amounts → Space → Refusal
-space_refusal w acct uncovered space =
-    refusals.NoSpace space (occupancy w acct space) (amount uncovered space) (amount (account_of w.accounts acct).maxima space)
-
 -- why an account refuses amounts that no grant covers, where it does
 abbrev pub refusal_of : World → Acct → Amounts → Option Refusal
 refusal_of w acct uncovered =
     refusal_by (barrier uncovered (tickets_of w.accounts acct))
-    (option_map (space_refusal w acct uncovered) (first_above uncovered (rooms w acct)))
+    (option_map (no_space w acct uncovered) (first_above uncovered (rooms w acct)))
 
 -- an account may be charged these amounts, of which the grant of a ticket covers what it can
 pub record MayCharge (w : World) (acct : Acct) (number : ℕ) (amounts : Amounts) (p : Option Pending) : Type 0 where

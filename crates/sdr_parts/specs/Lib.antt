@@ -1,5 +1,6 @@
 pub mod Bounds
 pub mod Capped
 pub mod Components
+pub mod Refusals
 pub mod Rooms
 pub mod Sides

@@ -10,7 +10,9 @@ pub mod capsules;
 pub mod charges;
 pub mod component;
 pub mod cuts;
+pub mod naming;
 pub mod object;
 pub mod queue;
+pub mod refusing;
 
 pub use component::{Component, Side};

@@ -88,8 +88,8 @@ impl Store {
         if is_saved(&self.places, addr) {
             return Ok(());
         }
-        let begun = copied(self.alloc, self.get(addr))?;
         self.touched.reserve(1)?;
+        let begun = copied(self.alloc, self.get(addr))?;
         save(&mut self.places, addr, begun)?;
         self.touched.push_reserved(addr);
         Ok(())

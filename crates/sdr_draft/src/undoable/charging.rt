@@ -9,9 +9,9 @@ ghost use Rattle.sdr_draft.specs.Calling.{IsBound};
 
 use crate::Undoable;
 use sdr_base::{Acct, Amounts, NoMemory, Refusal};
-use sdr_model::amounts::{amount, first_above, minus};
+use sdr_model::amounts::minus;
 use sdr_model::{Accounts, Pending, Ticket};
-use sdr_parts::queue::barrier;
+use sdr_parts::refusing::refusal;
 
 impl Undoable {
     /// The accounts now.
@@ -63,18 +63,7 @@ impl Undoable {
         ensures { result ≡ refusal_of self.now.now acct uncovered.now }
     {
         let account = self.accounts.now().account(acct);
-        if let Some(ticket) = barrier(uncovered, account.tickets.as_slice()) {
-            let ticket = ticket.number;
-            return Some(Refusal::Queue { ticket });
-        }
-        let space = first_above(uncovered, &self.room(acct))?;
-        let occupied = self.occupied(acct);
-        Some(Refusal::NoSpace {
-            space,
-            occupied: amount(&occupied, space),
-            asked: amount(uncovered, space),
-            most: amount(&account.maxima, space),
-        })
+        refusal(account, &self.occupied(acct), uncovered)
     }
 
     /// The grant of a ticket covers of these amounts what it can.

@@ -1,12 +1,11 @@
 use Rattle.std.proofs.Common.{◌∷◌, [], ◌++◌, ap, sym, ◌∙◌, refl, subst}
-use Rattle.std.specs.FinMap.{get}
 use Rattle.sdr_undo.specs.Store.{AreTouched, begun_at, now_at, place_at, saving}
 use Rattle.sdr_undo.specs.declared.place.Stays.TheVariants as stays
 use Rattle.sdr_undo.proofs.StoreLemmas.{thing_at, things_at-kept, touched-push, unsaved}
 use Rattle.sdr_undo.proofs.store.Store.touch.Goals as goal
 
-pub invariant_of-self-2 : goal.invariant_of-self-2
-invariant_of-self-2 c =
+pub invariant_of-self-3 : goal.invariant_of-self-3
+invariant_of-self-3 c =
     subst (AreTouched c.save.new.places.entries)
     (ap (λ xs. xs ++ c.args.addr ∷ []) (sym c.in_ok-reserve.ensures.items) ∙ sym c.push_reserved.ensures.items)
     (touched-push _ _ c.args.addr (saving c.in_ok-begun.begun) c.in_ok-save.ensures.saved c.self.inside.touched.items refl c.self.invariant)
@@ -14,8 +13,8 @@ invariant_of-self-2 c =
 pub returns-clause-begun : goal.returns-clause-begun
 returns-clause-begun c =
     things_at-kept _ _ c.args.addr (saving c.in_ok-begun.begun) c.in_ok-save.ensures.saved begun_at
-    (c.in_ok-begun.ensures ∙ c.get.ensures ∙ ap (λ s. get s.now c.args.addr) (sym c.self.view_is)
-    ∙ thing_at now_at c.self.inside.places.entries c.args.addr ∙ sym (unsaved stays.Begun (place_at c.self.inside.places.entries c.args.addr) (sym c.is_saved.ensures ∙ c.if-is_saved.false)))
+    (c.in_ok-begun.ensures ∙ c.get.ensures ∙ thing_at now_at c.self.inside.places.entries c.args.addr
+    ∙ sym (unsaved stays.Begun (place_at c.self.inside.places.entries c.args.addr) (sym c.is_saved.ensures ∙ c.if-is_saved.false)))
     ∙ ap (λ s. s.begun) c.self.view_is
 
 pub returns-clause-now : goal.returns-clause-now

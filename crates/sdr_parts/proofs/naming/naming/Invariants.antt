@@ -1,6 +1,6 @@
 use Rattle.std.proofs.Common.{◌≡◌, ◌≤◌, take}
 use Rattle.sdr_model.specs.Zco.{naming}
-use Rattle.sdr_draft.proofs.undoable.uses.naming.Given as goal
+use Rattle.sdr_parts.proofs.naming.naming.Given as goal
 
 abbrev pub invariant-loop-extent : goal.invariant-loop-extent
 invariant-loop-extent l = record {

@@ -3,7 +3,7 @@ use Rattle.std.specs.BTreeMap.{get}
 use Rattle.std.specs.Option.{option_map}
 use Rattle.std.specs.Ordering.{nat_cmp}
 use Rattle.sdr_model.specs.Zco.{naming}
-use Rattle.sdr_draft.proofs.undoable.uses.add_naming.Given as goal
+use Rattle.sdr_parts.proofs.naming.add_naming.Given as goal
 
 abbrev pub invariant-loop-extent : goal.invariant-loop-extent
 invariant-loop-extent l = record {
