@@ -214,7 +214,8 @@ module _ (bytes : List ℕ) (P : Pools) (keeps : KeepsHeap bytes P) where
       let few : leader_kind from bytes ≤ 13 = by_use x.used (leader_kind from bytes) kind.0 (λ e. (kind.1 e).1) in
       let used = used_is x.used (leader_kind from bytes) kind.0 (λ e. (kind.1 e).0) in
       let same : x ≡ large_at bytes from = (λ i. record { addr = at i; words = sym words i; used = used i }) in (
-        and_from _ _ (and_from _ _ (le-leb _ _ few) (le-leb _ _ (omega (arith, words, rises, size)))) (sym (ap (has_ends bytes) same) ∙ ends x f x.used refl),
+        and_from _ _ (and_from _ _ (and_from _ _ (le-leb _ _ few) (le-leb _ _ (omega (arith, words, least)))) (le-leb _ _ (omega (arith, words, rises, size))))
+            (sym (ap (has_ends bytes) same) ∙ ends x f x.used refl),
         same,
         large_follow (from + extent_of x.words) blocks more (All-tail LargeFacts x blocks all),
       )

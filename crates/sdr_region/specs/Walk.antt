@@ -41,11 +41,13 @@ has_ends bytes block =
     number_at (block.addr + WORD * block.words + WORD) bytes == last_word block.used block.words
     && (not block.used || number_at (block.addr - WORD) bytes == 0 && number_at (block.addr + WORD * block.words) bytes == 0)
 
--- whether a large block may begin at a place: its kind has a number, it ends with the region or before, and both its ends agree
+-- whether a large block may begin at a place: its kind has a number, it has 1 word or more, it ends with the region or before, and
+-- both its ends agree
 abbrev pub is_large_at : List ℕ → ℕ → Bool
 is_large_at bytes place =
-    nat_le (leader_kind place bytes) last_kind
-    && nat_le (place + extent_of (leader_words place bytes)) (length bytes)
+    let words = leader_words place bytes in
+    nat_le (leader_kind place bytes) last_kind && nat_le 1 words
+    && nat_le (place + extent_of words) (length bytes)
     && has_ends bytes (large_at bytes place)
 
 -- small blocks follow one another from a place to another, as their leaders tell

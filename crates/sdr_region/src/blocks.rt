@@ -131,7 +131,10 @@ fn is_large<C: Cells>(c: &mut C, place: u64, label: &Label, end: u64) -> Result<
     ensures cause { HasReason (C.transaction c.old) (C.transaction c.new) result }
     ensures quiet { C.quiet c.old c.new }
 {
-    if label.kind > LAST_KIND || place + WORD * (LARGE_FRAME + label.words) > end {
+    if label.kind > LAST_KIND
+        || label.words == 0
+        || place + WORD * (LARGE_FRAME + label.words) > end
+    {
         return Ok(false);
     }
     has_ends(c, place, label)
@@ -197,10 +200,11 @@ fn walk_large<C: Cells>(
 }
 
 /// Checks the blocks of both pools, and tells of each word of the region what begins with it; before, nothing may be told. Small
-/// blocks follow one another from the first block place to `low`, and large ones from `high` to the end, whose two ends agree;
-/// each has the words that its length needs, and a small one in use no more; a free one has length 0; no two free large ones touch,
-/// and the one at `high` isn't free. These are asked in this order, each of all blocks by rising address, and what is wrong first is
-/// told by the place at which the block begins. It is linear in the blocks, reads alone, and takes no memory.
+/// blocks follow one another from the first block place to `low`, and large ones from `high` to the end, each of 1 word or more, and
+/// both ends of a large one agree; each has the words that its length needs, and a small one in use no more; a free one has length
+/// 0; no two free large ones touch, and the one at `high` isn't free. These are asked in this order, each of all blocks by rising
+/// address, and what is wrong first is told by the place at which the block begins. It is linear in the blocks, reads alone, and
+/// takes no memory.
 pub fn check_blocks<C: Cells>(
     c: &mut C,
     edges: &Edges,

@@ -69,7 +69,7 @@ fn control_words_are_checked_first(rt: HostRuntime) {
     );
 }
 
-const BLOCK: [Row; 29] = [
+const BLOCK: [Row; 30] = [
     // A kind above 13; no words; 65 words; one more word, so that the next leader stands in a link.
     (&[(1088, 0x0e00_0002_0000_0010)], 1088),
     (&[(1088, 0x0100_0000_0000_0010)], 1088),
@@ -81,10 +81,11 @@ const BLOCK: [Row; 29] = [
     // Small blocks don't come up to the unassigned space, or it begins inside of one.
     (&[(16, 1224)], 1216),
     (&[(16, 1208)], 1176),
-    // A large block of kind 14; one that ends behind the region; one of no words.
+    // A large block of kind 14; one that ends behind the region; one of no words, in use and free.
     (&[(1704, 0x0e00_0001_0000_0008)], 1704),
     (&[(2008, 0x0100_0002_0000_0008)], 2008),
     (&[(2008, 0x0100_0000_0000_0008)], 2008),
+    (&[(1744, 0)], 1744),
     // Large blocks begin elsewhere.
     (&[(24, 1712)], 1712),
     // The ends of a large block have other words, or another use; its last word has other bits.
@@ -261,4 +262,35 @@ fn large_blocks_are_told_by_their_begin_and_by_their_address(rt: HostRuntime) {
         None
     );
     assert_eq!(rt; audited(rt.alloc(), 1024, &FRESH, &WORD_MORE), Some(Ok(())));
+}
+
+// A heap of 64 lines with one large block in use, a raw object of 520 bytes from 3,536 to the end. It holds zeros and a small number.
+const ONE_LARGE: [Word; 11] = [
+    (24, 3536),
+    (760, 0x100_0000_0000),
+    (768, 0x100_0000_0000),
+    (776, 2048),
+    (824, 0x100_0000_0000),
+    (832, 0x100_0000_0000),
+    (840, 2048),
+    (1072, 0x20),
+    (3536, 0x0100_0042_0000_0210),
+    (3600, 3),
+    (4088, 0x0100_0042_0000_0000),
+];
+
+// Zeros where a large block should begin, behind its leader and before it; its leader and the small number in each other's place.
+const NO_LEADER: [Row; 3] = [
+    (&[(24, 3544)], 3544),
+    (&[(24, 2536)], 2536),
+    (&[(3536, 3), (3600, 0x0100_0042_0000_0210)], 3536),
+];
+
+#[test]
+fn a_large_block_of_no_words_is_told_at_its_own_begin(rt: HostRuntime) {
+    assert_eq!(rt; audited(rt.alloc(), 64, &ONE_LARGE, &[]), Some(Ok(())));
+    assert_eq!(rt;
+        wrong_row(rt.alloc(), 64, &ONE_LARGE, Why::Block, &NO_LEADER),
+        None
+    );
 }
