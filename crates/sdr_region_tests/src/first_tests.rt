@@ -265,7 +265,7 @@ fn large_blocks_are_told_by_their_begin_and_by_their_address(rt: HostRuntime) {
 }
 
 // A heap of 64 lines with one large block in use, a raw object of 520 bytes from 3,536 to the end. It holds zeros and a small number.
-const ONE_LARGE: [Word; 11] = [
+const ONE_LARGE: [Word; 12] = [
     (24, 3536),
     (760, 0x100_0000_0000),
     (768, 0x100_0000_0000),
@@ -273,6 +273,7 @@ const ONE_LARGE: [Word; 11] = [
     (824, 0x100_0000_0000),
     (832, 0x100_0000_0000),
     (840, 2048),
+    (864, 1),
     (1072, 0x20),
     (3536, 0x0100_0042_0000_0210),
     (3600, 3),
