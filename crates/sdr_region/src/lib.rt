@@ -11,6 +11,14 @@
 //! They are taken in this order, each on a region that passed those before. A region that passes all isn't wrong by any
 //! (`sound_regions_are_not_wrong`), and keeps a heap (`sound_regions_keep_heaps`); and where bytes keep one whose control words and
 //! contents are right, they pass (`kept_heaps_are_sound`).
+//!
+//! Proved: each of five steps answers Ok exactly where the bytes are right, and else the first wrong place and
+//! which check that was (`right`, `damaged`); it only reads. A region that passes keeps a heap with just the
+//! blocks that were found (`sound_regions_keep_heaps`). A heap with right control words and contents passes
+//! (`kept_heaps_are_sound`).
+//!
+//! Only tested: that an audit finds memory; what is wrong first for each rule, and for each byte of a small heap
+//! that is changed (`sdr_region_tests`).
 #![tactic(auto)]
 
 mod bits;
