@@ -16,8 +16,8 @@ import page
 
 # the floor that stands beside the house
 TESTS = "Tests"
-# how wide the picture is, its titles, and its left wing
-WIDTH, TITLE, WING = 116, 16, 20
+# how wide the picture is, its titles, and its left column
+WIDTH, TITLE, COLUMN = 116, 16, 20
 
 
 def beside(title, names, width, room):
@@ -26,35 +26,35 @@ def beside(title, names, width, room):
     return [f"{title if k == 0 else '':<{width}}{line}" for k, line in enumerate(lines)]
 
 
-def wings(floors):
-    """The floors of two wings, side by side. A floor `WING: NAME` is one of that wing's; a wing of one floor has no name for it."""
+def columns(floors):
+    """The floors of two columns. A floor `COLUMN: NAME` is one of that column; a column of one floor has no name for it."""
     left, right = [], []
     for title, _, rows in floors:
-        wing, _, name = title.partition(": ")
+        column, _, name = title.partition(": ")
         names = [crate for crate, _ in rows]
         if name:
-            right = right or [wing]
-            right += beside(f"  {name}", names, WING, WIDTH - WING - 2)
+            right = right or [column]
+            right += beside(f"  {name}", names, COLUMN, WIDTH - COLUMN - 2)
         else:
-            left = [wing, *(f"  {crate}" for crate in reversed(names))]
+            left = [column, *(f"  {crate}" for crate in reversed(names))]
     size = max(len(left), len(right))
     left += [""] * (size - len(left))
     right += [""] * (size - len(right))
-    return [f"{a:<{WING}}| {b}".rstrip() for a, b in zip(left, right)]
+    return [f"{a:<{COLUMN}}| {b}".rstrip() for a, b in zip(left, right)]
 
 
 def picture(floors):
-    """The floors from the top, each with its crates; the wings side by side in the middle."""
+    """The floors from the top, each with its crates; two columns in the middle."""
     down = floors[::-1]
-    winged = [k for k, (title, _, _) in enumerate(down) if ": " in title]
-    # the floor above these is the other wing
-    first = winged[0] - 1
+    right = [k for k, (title, _, _) in enumerate(down) if ": " in title]
+    # the floor above these is the other column
+    first = right[0] - 1
     out = []
     for title, _, rows in down[:first]:
         out += beside(title, [crate for crate, _ in rows], TITLE, WIDTH)
-    rule = "-" * WING + "+" + "-" * (WIDTH - WING - 1)
-    out += [rule, *wings(down[first:winged[-1] + 1]), rule]
-    for title, _, rows in down[winged[-1] + 1:]:
+    rule = "-" * COLUMN + "+" + "-" * (WIDTH - COLUMN - 1)
+    out += [rule, *columns(down[first:right[-1] + 1]), rule]
+    for title, _, rows in down[right[-1] + 1:]:
         out += beside(title, [crate for crate, _ in rows], TITLE, WIDTH)
     return out
 
@@ -80,7 +80,8 @@ def proofs(now):
         proved = paragraph(crate, "Proved:")
         if not proved:
             sys.exit(f"docs/crates.py: the head of {crate} has no paragraph `Proved:`")
-        rows.append(f"| `{crate}` | {proved} | {paragraph(crate, 'Only tested:') or '–'} |")
+        tested = paragraph(crate, "Only tested:") or "–"
+        rows.append(f"| `{crate}` | {proved[0].upper() + proved[1:]} | {tested[0].upper() + tested[1:]} |")
     return page.filled(now, "crate by crate", "\n".join(rows))
 
 

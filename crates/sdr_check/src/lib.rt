@@ -10,11 +10,11 @@
 //! world stands for one in which something is wrong.
 //!
 //! Proved: `check` answers Ok only where the region is right, and then it stands for the world that it tells
-//! (`right`, `stands`, `census`). `Damaged` tells the first wrong place and its check, and then the region stands
-//! for no whole world (`damaged`, `none`). `read_survey` gives the world too. All of them only read (`reads`).
+//! (`right`, `stands`). `Damaged` tells the first wrong place and its check, and then the region stands for no
+//! whole world (`damaged`, `none`). It only reads (`reads`).
 //!
-//! Only tested: that they find memory, a census, and each check's place (`sdr_owner_tests`); replays behind one
-//! another on one file (`tests/again`).
+//! Only tested: a census, and each check's place (`sdr_owner_tests`); replays behind one another on one file
+//! (`tests/again`).
 #![tactic(auto)]
 
 mod census;

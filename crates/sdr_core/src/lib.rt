@@ -12,10 +12,10 @@
 //!    that are done among them (`KeepsSafe`). An entry in which the disk failed is never done, and where it failed as its
 //!    transaction was kept, the state with that transaction whole may be left.
 //!
-//! Proved: the type of `Core` keeps that its journal is that of a run of the machine (`KeepsRun`), so it is
-//! legal; and that at each moment a crash leaves the state after some first entries, all done ones among them
-//! (`KeepsSafe`). Each event is a step of that run (`Makes`). Out of memory leaves lock and journal as they were
-//! (`err`). `finish` tells all of this (`IsRunOf`).
+//! Proved: the type of `Core` keeps that its journal is that of a run of the machine (`KeepsRun`), and that at
+//! each moment a crash leaves the state after some first entries, all done ones among them (`KeepsSafe`). Each
+//! event is a step of that run (`Makes`). Out of memory leaves all as it was (`err`). `finish` tells this
+//! (`IsRunOf`).
 #![tactic(auto)]
 
 mod copying;

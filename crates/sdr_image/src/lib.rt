@@ -19,11 +19,11 @@
 //!    disk neither. The disk has to be opened again.
 //!
 //! Proved: a commit is whole or nothing: a crash at any moment leaves the bytes at its begin or at its end, after
-//! `Ok` those at its end (`any_moment`, `saved`). `cancel` gives back the bytes at begin. `LogFull` comes exactly
-//! where the touched lines exceed the room, `NotFormatted` exactly where the disk gives no heap.
+//! `Ok` those at its end (`any_moment`, `saved`). `LogFull` comes exactly where the touched lines exceed the
+//! room, `NotFormatted` exactly where the disk gives no heap.
 //!
-//! Only tested: what opening makes of the image of each moment of a commit; a fault at each of its calls; the
-//! calls of `format` on a real file (once, with `strace`).
+//! Only tested: what opening makes of each image of a crash in a commit; a fault at each of its calls; the calls
+//! of `format` on a real file (once).
 #![tactic(auto)]
 
 mod changing;

@@ -9,8 +9,7 @@
 //!
 //! Proved: each call changes the list's blocks as its row says, and no other block, with exactly the row's moves
 //! (`inserted`, `deleted`, `destroyed`, `set`). Ordered insertion and search go by the comparison, for every
-//! collation; a list in order stays so (`ordered`). At most 35 lines are touched, in a destruction 24 for each
-//! block.
+//! collation (`ordered`). At most 35 lines are touched, in a destruction 24 for each block.
 //!
 //! Only tested: lists in order by bytes and by length (`tests/cases`); the orders on keys (`sdr_list_tests`).
 #![tactic(auto)]

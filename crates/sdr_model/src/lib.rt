@@ -6,8 +6,7 @@
 //! 3. A world is whole where it is valid, its sources and extents fit each other, and its queues keep their laws.
 //! 4. The same definitions are cited by the machine in memory and by that over a heap.
 //!
-//! Proved: definitions of the world and of one step of a call (`Step`, `ByRow`), of valid and whole worlds. Code
-//! that only reads plain data: blocks by address (`block`), the place of a key (`place_of`, `first_of`). The
+//! Proved: definitions of the world and of one step of a call (`Step`, `ByRow`), of valid and whole worlds. The
 //! pieces of a transmit, joined, are the bytes that it asks for (`pieces_told-part`, `asked-row`).
 //!
 //! Only tested: each call's answers (`tests/cases`).

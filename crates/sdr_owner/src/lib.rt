@@ -15,9 +15,8 @@
 //! Small heaps with one thing wrong in each: `small_heaps_are_wrong_so`.
 //!
 //! Proved: `check_owners` answers Ok exactly where all chains and the five rules are right (`owned`), and else
-//! the first wrong place (`wrong`), whatever the bytes, and takes no memory. There is one first wrong place
-//! (`one_place_is_wrong_first`). Right chains are rows of linked blocks, and such rows are right chains
-//! (`chains_are_linked_rows`, `linked_rows_make_chains`).
+//! the first wrong place (`wrong`), whatever the bytes, and takes no memory. Right chains are rows of linked
+//! blocks, and such rows are right chains (`chains_are_linked_rows`, `linked_rows_make_chains`).
 //!
 //! Only tested: which places its rules give, in numbers (`sdr_owner_tests`).
 #![tactic(auto)]

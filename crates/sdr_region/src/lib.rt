@@ -13,12 +13,11 @@
 //! contents are right, they pass (`kept_heaps_are_sound`).
 //!
 //! Proved: each of five steps answers Ok exactly where the bytes are right, and else the first wrong place and
-//! which check that was (`right`, `damaged`); it only reads. A region that passes keeps a heap with just the
-//! blocks that were found (`sound_regions_keep_heaps`). A heap with right control words and contents passes
-//! (`kept_heaps_are_sound`).
+//! its check (`right`, `damaged`). A region that passes keeps a heap (`sound_regions_keep_heaps`), and a heap
+//! with right control words and contents passes (`kept_heaps_are_sound`).
 //!
-//! Only tested: that an audit finds memory; what is wrong first for each rule, and for each byte of a small heap
-//! that is changed (`sdr_region_tests`).
+//! Only tested: what is wrong first for each rule, and for each changed byte of a small heap
+//! (`sdr_region_tests`).
 #![tactic(auto)]
 
 mod bits;

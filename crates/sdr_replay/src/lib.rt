@@ -11,9 +11,9 @@
 //!    of these rose by. The media come back with the disk.
 //!
 //! Proved: `replay`: the printed answers and the journal are those of one run of the script on the heap that was
-//! opened (`ReplaysOn`). On a disk that tells its bytes, a crash at any moment of the call leaves one that opens
-//! to the state after some first entries, all done ones among them (`any_moment`, `LeavesJournal`). `Err` tells
-//! why nothing ran (`IsNotRun`). That no entry begins before the call is not proved.
+//! opened (`ReplaysOn`). A crash at any moment of the call leaves a disk that opens to the state after some first
+//! entries, all done ones among them (`any_moment`, `LeavesJournal`). That no entry begins before the call is not
+//! proved.
 #![tactic(auto)]
 
 mod handed;

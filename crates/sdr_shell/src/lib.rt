@@ -11,8 +11,8 @@
 //! Proved: `top` and `still` have one contract, `AnswersWords`. The page on the headline says in plain words what
 //! it is.
 //!
-//! Only tested: replays on disks in memory that fail at each call in turn; what each image of a crash in an end
-//! is put back to; recoveries that are stopped at any call (`sdr_script_tests`).
+//! Only tested: disks in memory that fail at each call in turn; each image of a crash in an end; recoveries that
+//! are stopped at any call (`sdr_script_tests`).
 #![tactic(auto)]
 
 mod commands;

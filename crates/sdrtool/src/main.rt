@@ -12,8 +12,8 @@
 //! Proved: `main` calls `top` as its contract wants. `--help` and `--version` are printed whole, or the output
 //! failed (`done`, `cause`).
 //!
-//! Only tested: `format` on real files; all of `tests/cases`; a closed pipe; little memory; power loss after each
-//! write of a replay (`tests/crash`); a fault at each call on media (`tests/faults`).
+//! Only tested: the program on files (`tests/run`), power loss after each write of a replay (`tests/crash`), a
+//! fault at each call on media (`tests/faults`).
 #![tactic(auto)]
 
 ghost use Rattle.std.specs.Prelude.{◌≡◌, Some};

@@ -12,8 +12,8 @@
 //!    its last extent goes before that, and before it the raw object that it has taken over.
 //!
 //! Proved: objects are made, filled, measured and destroyed as their rows say (`made`, `added`, `appended`,
-//! `discarded`, `told`, `destroyed`). A charge is checked before any change. All else stays, with the row's moves
-//! and bounded lines (`works`). What is occupied stays the sum of charges and grants (`OccupancyLaws`, lemmas).
+//! `discarded`, `told`, `destroyed`). All else stays, with the row's moves and bounded lines (`works`). What is
+//! occupied stays the sum of charges and grants (`OccupancyLaws`, lemmas).
 //!
 //! Only tested: each call's answers (`tests/cases`).
 #![tactic(auto)]

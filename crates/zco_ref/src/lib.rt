@@ -9,8 +9,7 @@
 //!
 //! Proved: sources are made, counted, attached, detached and destroyed as their rows say (`made`, `given`,
 //! `attached`, `detached`, `destroyed`). All other blocks stay. A source goes with its last extent, behind the
-//! raw object that it has taken over. Refusals come in their order, `InUse` with the sum of both counts
-//! (`refused`).
+//! raw object that it has taken over. Refusals come in their order (`refused`).
 #![tactic(auto)]
 
 mod counting;

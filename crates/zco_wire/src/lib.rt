@@ -7,13 +7,11 @@
 //! 3. Where media have fewer bytes than they are asked for, or fail, the call says so, and the heap
 //!    and the reader are as before. A reader moves only past bytes that were given.
 //!
-//! Proved: `transmit` gives the bytes of headers, extents and trailers from a place on, the `receive_` calls
-//! those before, in and behind the part. Bytes that lie with media are what these tell (`given`). `SourceShort`
-//! and `MediaFault` come only where such bytes are asked and the media's count rose (`stops`). The heap stays
-//! (`looks`).
+//! Proved: `transmit` and the `receive_` calls give just the bytes of their stretch of the object, those of media
+//! as media tell them (`given`). `SourceShort` and `MediaFault` come only where such bytes are asked and the
+//! media's count rose (`stops`). The heap stays (`looks`).
 //!
-//! Only tested: each call's answers (`tests/cases`); that media are asked once for each extent of which bytes are
-//! asked (`tests/faults`).
+//! Only tested: each call's answers (`tests/cases`); that media are asked once for each extent (`tests/faults`).
 #![tactic(auto)]
 
 mod cursor;
