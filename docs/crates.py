@@ -70,8 +70,8 @@ def architecture(now):
 
 
 def paragraph(crate, label):
-    """What stands behind the label in the head of the crate's root file."""
-    return next((part[len(label):].strip() for part in page.head(crate) if part.startswith(label)), None)
+    """What stands behind the label in the head of the crate's root file, in each paragraph that begins with it."""
+    return " ".join(part[len(label):].strip() for part in page.head(crate) if part.startswith(label))
 
 
 def proofs(now):
