@@ -6,6 +6,10 @@
 //! 2. It touches no more lines than its transaction may by what it has asked.
 //! 3. What a call is on, and how many lines it may touch, stands here for the crate above too, which answers `free` and the calls
 //!    on tables, hashes and the catalogue.
+//!
+//! Proved: each call on raw objects (but `free`), strings and lists is a step of the machine on the world that
+//! the blocks stand for (`comes`), within its lines (`works`). Searches and ordered insertions go by the order
+//! that the call names.
 #![tactic(auto)]
 
 mod kinds;

@@ -17,6 +17,10 @@
 //!    (`transactions_begin_and_end`).
 //! 7. A small world, byte by byte (`bundle_is_kept_so`), and where the control words stand
 //!    (`control_words_stand_so`).
+//!
+//! Proved: laws: as a thing, a name or a ticket comes, changes or goes, the heap stands for the changed world
+//! (`a_thing_comes`, `a_thing_changes`, `a_thing_goes`, `a_part_changes`). The blocks in use are just the world's
+//! (`no_block_leaks`). A fresh heap stands for a whole world without things (`fresh_heap_stands`).
 #![tactic(auto)]
 
 mod blocks;

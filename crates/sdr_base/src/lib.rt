@@ -6,6 +6,12 @@
 //!    rose in that call.
 //! 3. Want of memory (`NoMemory`) is the one answer that no clause ties to a cause.
 //! 4. A heap stands on `Cells`: its bytes, read and written in a transaction that can be cancelled.
+//!
+//! Proved: `write_all` writes all, or a part from the front if the sink failed (`ok`, `err`, `cause`). Numbers,
+//! leaders and start bits in a heap region are read and written as defined; a refused write changes nothing
+//! (`same`). Blocks that tile a heap are at most one for 16 bytes (`Tiles-few`).
+//!
+//! Only tested: that these calls succeed with ample memory.
 #![tactic(auto)]
 
 mod account;

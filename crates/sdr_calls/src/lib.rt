@@ -1,5 +1,10 @@
 //! What calls on raw objects, strings, the catalogue and accounts do to a world in memory. Each call's contract is its
 //! step of the world.
+//!
+//! Proved: each call on raw objects, strings, names and accounts is its step of the world (`Answers`,
+//! `StepsDry`); out of memory leaves the world as it was.
+//!
+//! Only tested: each call's answers (`tests/cases`).
 #![tactic(auto)]
 
 pub mod account_calls;

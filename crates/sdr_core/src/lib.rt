@@ -11,6 +11,11 @@
 //! 5. The type also keeps what a crash leaves: at each moment since the first the state after some first entries, all
 //!    that are done among them (`KeepsSafe`). An entry in which the disk failed is never done, and where it failed as its
 //!    transaction was kept, the state with that transaction whole may be left.
+//!
+//! Proved: the type of `Core` keeps that its journal is that of a run of the machine (`KeepsRun`), and that at
+//! each moment a crash leaves the state after some first entries, all done ones among them (`KeepsSafe`). Each
+//! event is a step of that run (`Makes`). Out of memory leaves all as it was (`err`). `finish` tells this
+//! (`IsRunOf`).
 #![tactic(auto)]
 
 mod copying;

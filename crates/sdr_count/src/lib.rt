@@ -14,6 +14,12 @@
 //! (`chains_are_members` in `sdr_keys`). `check_copy` checks a region's owners, and takes these steps;
 //! it tells the first place that is wrong. A region that passes isn't wrong anywhere (`right_regions_are_not_wrong`), and another is
 //! wrong first at one place alone (`one_place_is_wrong_first`). A small bundle, counted: `a_bundle_is_counted`.
+//!
+//! Proved: `check_counts` and `check_queues` answer Ok only where counts, rules, occupancies and queues are right
+//! (`counted`, `lawful`), and else the first wrong place (`wrong`). A region that passes isn't wrong anywhere,
+//! and another is wrong first at one place, by one check (`one_place_is_wrong_first`).
+//!
+//! Only tested: that it finds memory, and which places it gives, in numbers (`sdr_owner_tests`).
 #![tactic(auto)]
 
 mod audit;

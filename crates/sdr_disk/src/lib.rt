@@ -9,6 +9,12 @@
 //! 5. A crash leaves the bytes as read, but for the ranges written since the last sync that
 //!    succeeded: these may hold any bytes, whether their writes succeeded or not.
 //! 6. No call changes what a crash may leave at a moment up to the one at which it began.
+//!
+//! Proved: the trait `Disk` says what each call does to the bytes and the moment, and which images a crash may
+//! leave at each moment (`moments`, `past`, `durable`). `MemoryDisk` keeps to it, and fails exactly at listed
+//! calls, at the last moment, or out of memory.
+//!
+//! Only tested: the images of each moment of a short row of calls, with each tear, against literals.
 #![tactic(auto)]
 
 mod change;

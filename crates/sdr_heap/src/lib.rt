@@ -12,6 +12,12 @@
 //!
 //! Where a call answers anything but `Ok` or `NoBlock`, the bytes may keep no heap: the transaction
 //! has to be cancelled.
+//!
+//! Proved: a take gives a marked block of zero bytes by the rules of both pools, and `NoBlock` exactly where
+//! these give none. A give, a write and a control word change only what they name. After each call the blocks
+//! tile the heap (`works`). Only `new` takes memory.
+//!
+//! Only tested: the addresses of rows of calls on a heap over an `Image`, against literals.
 #![tactic(auto)]
 
 mod blocks;

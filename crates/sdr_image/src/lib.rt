@@ -17,6 +17,13 @@
 //!    the disk rest without the premise.
 //! 6. Once a call has answered `DiskFault`, each later call answers `Failed` and changes nothing, the
 //!    disk neither. The disk has to be opened again.
+//!
+//! Proved: a commit is whole or nothing: a crash at any moment leaves the bytes at its begin or at its end, after
+//! `Ok` those at its end (`any_moment`, `saved`). `LogFull` comes exactly where the touched lines exceed the
+//! room, `NotFormatted` exactly where the disk gives no heap.
+//!
+//! Only tested: what opening makes of each image of a crash in a commit; a fault at each of its calls; the calls
+//! of `format` on a real file (once).
 #![tactic(auto)]
 
 mod changing;

@@ -6,6 +6,8 @@
 //!    row that got something else. A test wants that there is none.
 //! 3. Here stands what no clause says: that calls succeed with ample memory, which device calls are
 //!    made in which order, and what opening makes of the image of a crash at each moment.
+//!
+//! Proved: nothing; these are tests.
 #![tactic(auto)]
 
 #[cfg(test)]

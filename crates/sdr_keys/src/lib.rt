@@ -8,6 +8,12 @@
 //! 3. No entry of the catalogue, in its order, has the name of an earlier one.
 //!
 //! `wrong_key` tells the first place that is wrong, and tells none just where all are right (`keyed_regions_are_not_wrong`).
+//!
+//! Proved: `wrong_key` is the first wrong list, hash or name of the definition, and none exactly where all are
+//! right (`keyed_regions_are_not_wrong`). Where chains are right, their links lead to just their blocks
+//! (`chains_are_members`).
+//!
+//! Only tested: which places it gives, in numbers (`sdr_owner_tests`).
 #![tactic(auto)]
 
 mod chain;

@@ -26,6 +26,11 @@
 //!
 //! `example_meets_the_laws`, `small_world_meets_the_laws` and `fresh_world_meets_the_laws` show worlds and
 //! steps that meet what the laws ask for.
+//!
+//! Proved: laws of every step: a whole world stays whole (`whole_kept`); an extent's source is never gone
+//! (`sources_kept`); queues keep their order (`queues_kept`); blocks change just by the moves (`blocks_move`); a
+//! refused call and a media fault leave the world (`refused_leaves`); a clone takes no payload
+//! (`clone_takes_no_payload`).
 #![tactic(auto)]
 
 mod blocks;

@@ -6,6 +6,12 @@
 //! 3. A chain is walked by the list's length, and never for ever.
 //! 4. The key of an element is the first bytes of the raw object that its datum names, 64 at most.
 //!    Any other datum has the empty key.
+//!
+//! Proved: each call changes the list's blocks as its row says, and no other block, with exactly the row's moves
+//! (`inserted`, `deleted`, `destroyed`, `set`). Ordered insertion and search go by the comparison, for every
+//! collation (`ordered`). At most 35 lines are touched, in a destruction 24 for each block.
+//!
+//! Only tested: lists in order by bytes and by length (`tests/cases`); the orders on keys (`sdr_list_tests`).
 #![tactic(auto)]
 
 mod collation;

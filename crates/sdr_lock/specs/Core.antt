@@ -39,8 +39,11 @@ said_by works daemon = flat_map (λ w. w.said) (filter (λ w. w.daemon == daemon
 abbrev pub without_work : List Work → ℕ → List Work
 without_work works daemon = filter (λ w. not (w.daemon == daemon)) works
 
--- an event stands in no transaction where it is a request, is refused to a daemon outside a transaction or not served, is a
--- look that isn't refused within one, or a leave that closes none
+-- Whether an event stands in no transaction. It does if it is
+-- a request,
+-- an event that is refused `NotBegun` or `Suspended`,
+-- a look that tells of its ticket, or is refused `BadTicket`,
+-- or a leave that closes none.
 abbrev pub is_passed_over : Event → Answer → Bool
 is_passed_over events.Request answer = true
 is_passed_over event answers.Awarded = true

@@ -12,6 +12,11 @@
 //!    doomed the state that it keeps. After a disk fault each event is answered `Failed`.
 //! 5. A core run keeps a journal of what was said under each number; a journal is legal where each entry goes on from the
 //!    state that those before it have left. These are definitions here, for the crates above.
+//!
+//! Proved: `Lock::event`, over any ground: each event of a daemon is a step of the machine (`step`). A disk fault
+//! comes only where the disk's count rose. A crash leaves the state before the open transaction, or, in the end
+//! of an undoomed one, that or the new state. Out of memory leaves all as it was (`err`). `Nesting` and `Roll`
+//! are exactly as defined.
 #![tactic(auto)]
 
 mod came;

@@ -16,6 +16,13 @@
 //! 7. `read_frame` reads the head. `put_back_found` then checks all open batches, puts their lines
 //!    back and closes the first gate; `put_back` does both. A crash on the way leaves what is put
 //!    back to the same heap.
+//!
+//! Proved: in `write_batch`, `put_lines` and `close`, a crash at any moment leaves what is put back to the heap
+//! before, or, from `close` on, to the changed lines (`any_moment`). Recovery gives the heap that the disk gave
+//! (`back`), and `BadLog` exactly where it gives none; it may be stopped and begun again.
+//!
+//! Only tested: heads; recovery at each moment of a change of two lines, with each tear; a fault at each call of
+//! a recovery; wrong logs.
 #![tactic(auto)]
 
 mod batch;

@@ -5,6 +5,13 @@
 //!    fault.
 //! 3. Both count their faults, and their short answers: reads that gave fewer bytes than were asked
 //!    for.
+//!
+//! Proved: `MemoryMedia` gives the bytes that it tells, fails exactly at listed calls, and counts each fault and
+//! each short answer. `FolderMedia` tells no bytes: each error of the system but 'no such file' raises its count
+//! of faults (`cause`), each short answer its other count (`short`).
+//!
+//! Only tested: what a folder gives, also behind short and interrupted reads; that calls succeed with ample
+//! memory.
 #![tactic(auto)]
 
 mod counts;

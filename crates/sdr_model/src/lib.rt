@@ -5,6 +5,11 @@
 //! 2. One call is one step: a relation by cases on the call, with its refusals in a fixed order.
 //! 3. A world is whole where it is valid, its sources and extents fit each other, and its queues keep their laws.
 //! 4. The same definitions are cited by the machine in memory and by that over a heap.
+//!
+//! Proved: definitions of the world and of one step of a call (`Step`, `ByRow`), of valid and whole worlds. The
+//! pieces of a transmit, joined, are the bytes that it asks for (`pieces_told-part`, `asked-row`).
+//!
+//! Only tested: each call's answers (`tests/cases`).
 #![tactic(auto)]
 
 mod accounts;

@@ -13,6 +13,12 @@
 //! blocks that keep a row of things make a chain (`linked_rows_make_chains`), and a right chain's are such (`chains_are_linked_rows`),
 //! where each is that of what is read of it, as it is in the form of its kind (`chained_blocks_read_back`).
 //! Small heaps with one thing wrong in each: `small_heaps_are_wrong_so`.
+//!
+//! Proved: `check_owners` answers Ok exactly where all chains and the five rules are right (`owned`), and else
+//! the first wrong place (`wrong`), whatever the bytes, and takes no memory. Right chains are rows of linked
+//! blocks, and such rows are right chains (`chains_are_linked_rows`, `linked_rows_make_chains`).
+//!
+//! Only tested: which places its rules give, in numbers (`sdr_owner_tests`).
 #![tactic(auto)]
 
 mod chain;

@@ -2,6 +2,8 @@
 //!
 //! A row is what is changed in a region that is right, and the place that is told then. Its literals come from the format, and not
 //! from the code.
+//!
+//! Proved: nothing; these are tests.
 #![tactic(auto)]
 
 #[cfg(test)]

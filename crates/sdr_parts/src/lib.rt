@@ -3,6 +3,10 @@
 //!
 //! 1. Where what is in an object is bounded, each sum over it fits a word.
 //! 2. A sum that may be more than a word holds is capped at the greatest word.
+//!
+//! Proved: each function over plain data is its definition: the queue (`enqueue`, `serve`), charges, cuts,
+//! counts, and why an account refuses a charge (`refusal`). A sum too large for a word is the greatest word
+//! (`capped`).
 #![tactic(auto)]
 
 pub mod amounts;

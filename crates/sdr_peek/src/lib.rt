@@ -5,6 +5,9 @@
 //!    as recovery does it. The disk that was handed in is only read.
 //! 3. What is left is a `Still`: the heap region that opening the disk would give. It can be read, and a
 //!    write to it is refused.
+//!
+//! Proved: `peek` gives the heap that the disk gives, put back in memory (`heap`), `NotFormatted` exactly where
+//! there is none, and only reads the disk (`reads`).
 #![tactic(auto)]
 
 mod peeking;

@@ -11,6 +11,13 @@
 //! They are taken in this order, each on a region that passed those before. A region that passes all isn't wrong by any
 //! (`sound_regions_are_not_wrong`), and keeps a heap (`sound_regions_keep_heaps`); and where bytes keep one whose control words and
 //! contents are right, they pass (`kept_heaps_are_sound`).
+//!
+//! Proved: each of five steps answers Ok exactly where the bytes are right, and else the first wrong place and
+//! its check (`right`, `damaged`). A region that passes keeps a heap (`sound_regions_keep_heaps`), and a heap
+//! with right control words and contents passes (`kept_heaps_are_sound`).
+//!
+//! Only tested: what is wrong first for each rule, and for each changed byte of a small heap
+//! (`sdr_region_tests`).
 #![tactic(auto)]
 
 mod bits;

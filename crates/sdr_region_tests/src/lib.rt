@@ -5,6 +5,8 @@
 //! 2. A row's region is made anew, changed, and checked once. A test wants that each row is told as it says.
 //! 3. Here stands what no clause says: that an audit finds memory, that a small heap with lists of both pools passes it, and which
 //!    places its rules come to in numbers.
+//!
+//! Proved: nothing; these are tests.
 #![tactic(auto)]
 
 #[cfg(test)]

@@ -9,6 +9,11 @@
 //!    moment of the call a crash leaves the state after some first entries, and all that are done.
 //! 5. The answers that tell that media failed, or gave too few bytes, are at most as many as the counts
 //!    of these rose by. The media come back with the disk.
+//!
+//! Proved: `replay`: the printed answers and the journal are those of one run of the script on the heap that was
+//! opened (`ReplaysOn`). A crash at any moment of the call leaves a disk that opens to the state after some first
+//! entries, all done ones among them (`any_moment`, `LeavesJournal`). That no entry begins before the call is not
+//! proved.
 #![tactic(auto)]
 
 mod handed;

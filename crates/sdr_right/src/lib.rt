@@ -5,6 +5,9 @@
 //!    world at most (`one_world_stands`).
 //! 2. Each block has its owner; lists, hashes and names, the counts of sources, the rules of sources, extents and objects, and what
 //!    is occupied are right; and the queues keep their law (`worlds_are_right`).
+//!
+//! Proved: laws: a region that stands for a whole world tells that world (`worlds_are_told`), so it stands for no
+//! other (`one_world_stands`), and its owners, counts and queues are right (`worlds_are_right`).
 #![tactic(auto)]
 
 mod right;

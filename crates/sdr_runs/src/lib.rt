@@ -12,6 +12,10 @@
 //! 6. No call is answered as the lock and the nesting answer (`calls_answer_for_themselves`).
 //! 7. Small runs, event by event: an inner cancel dooms, a second daemon is suspended, all have stalled, transactions
 //!    are nested to depth 64, and a disk fault ends a run.
+//!
+//! Proved: laws of every run: its journal is legal (`journals_are_legal`), lock numbers rise (`numbers_rise`),
+//! each transaction goes from its begin to its close (`transactions_are_framed`), all is decided but chance
+//! (`runs_decide`), and after the leaves at the end each daemon has left (`all_leave_at_the_end`).
 #![tactic(auto)]
 
 mod decided;

@@ -5,6 +5,8 @@
 //! 2. A function plays rows, with one call of what is tested in it, and answers the first
 //!    row that got something else. A test wants that there is none.
 //! 3. Here stands what no clause says: that calls succeed with ample memory, and what a disk holds then.
+//!
+//! Proved: nothing; these are tests.
 #![tactic(auto)]
 
 #[cfg(test)]

@@ -7,6 +7,12 @@
 //!    is made. They alone read media, which tell the same behind them.
 //! 5. The status says what stopped this, if anything did; its last line says so too. A status that
 //!    stands survives a fault of the sink.
+//!
+//! Proved: `top` and `still` have one contract, `AnswersWords`. The page on the headline says in plain words what
+//! it is.
+//!
+//! Only tested: disks in memory that fail at each call in turn; each image of a crash in an end; recoveries that
+//! are stopped at any call (`sdr_script_tests`).
 #![tactic(auto)]
 
 mod commands;

@@ -11,6 +11,11 @@
 //!
 //! Where a call answers anything but `Ok`, the bytes may keep no pool: the transaction has to be
 //! cancelled.
+//!
+//! Proved: `take` and `give` follow the rules of the pool exactly (`taken`, `given`). A take touches at most 6
+//! lines, a give 20 (`room`). Both are refused only where the log has no room (`refused`).
+//!
+//! Only tested: that calls succeed, with the addresses of the rules (`tests/cases`).
 #![tactic(auto)]
 
 mod giving;

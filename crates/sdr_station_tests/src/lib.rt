@@ -5,6 +5,8 @@
 //! 2. Here stands what no clause and no script shows: that calls succeed with ample memory, what a station tells beside its
 //!    answers, and that its callback is called. Disks that fail, and the calls that a disk gets, are rows of `sdr_script_tests`,
 //!    through the program's public call.
+//!
+//! Proved: nothing; these are tests.
 #![tactic(auto)]
 
 #[cfg(test)]

@@ -3,6 +3,11 @@
 //! 1. A line is built in place and goes out in one write; a line that shows bytes goes out in pieces.
 //! 2. Nothing here takes memory.
 //! 3. Where the sink fails, a part of the text from its front was written.
+//!
+//! Proved: `write_answer` writes `line_text` of each answer, whole, or a part from the front if the sink failed
+//! (`ok`, `err`, `cause`). It takes no memory.
+//!
+//! Only tested: the text of each answer, reason and refusal (`sdr_text_tests`).
 #![tactic(auto)]
 
 mod answer;

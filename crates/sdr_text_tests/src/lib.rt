@@ -6,6 +6,8 @@
 //!    row that got something else. A test wants that there is none.
 //! 3. Here stands what no clause says: that calls succeed with ample memory, and what the definitions of
 //!    the grammar, of events and of printed lines come to in bytes and numbers.
+//!
+//! Proved: nothing; these are tests.
 #![tactic(auto)]
 
 #[cfg(test)]

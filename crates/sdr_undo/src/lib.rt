@@ -3,6 +3,9 @@
 //!
 //! 1. What is changed is noted once in a transaction, with what it was before; putting back takes as long as the changes.
 //! 2. Each block inside a thing has an owner, by which it is found.
+//!
+//! Proved: what was touched of things, catalogue and accounts is put back as it was at begin, or kept as the next
+//! begin (`put_back`, `keep`).
 #![tactic(auto)]
 
 mod catalogue;

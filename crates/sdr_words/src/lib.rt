@@ -5,6 +5,13 @@
 //!    the grammar's (`specs/VerbTable.antt`).
 //! 3. The first refused line ends the reading.
 //! 4. A step has a canonical line, which is read as that step.
+//!
+//! Proved: `read_script` is the grammar's `input_script`, or names the first refused line (`script`, `line`), for
+//! all 78 statements. The reader's table of verbs is the grammar's (`place_of`, `shapes_at`, `verb_at`). The
+//! canonical line of a step is read as that step (`canonical_lines_are_read`).
+//!
+//! Only tested: good and bad inputs, with the first refused line; the event of each statement; what a name holds
+//! (`sdr_text_tests`).
 #![tactic(auto)]
 
 mod arguments;

@@ -4,6 +4,9 @@
 //!    (`worlds_are_sound`).
 //! 2. The blocks of the world are linked into chains as their owners say, each stands in just one, and extents, sources and raw
 //!    objects name one another (`worlds_are_owned`).
+//!
+//! Proved: laws: a region of bytes that stands for a whole world passes the audit of structure
+//! (`worlds_are_sound`) and the audit of owners (`worlds_are_owned`).
 #![tactic(auto)]
 
 mod owned;

@@ -6,6 +6,10 @@
 //!    a source) is counted over the world once (`Tied`). That alone takes memory, and comes before
 //!    anything is written.
 //! 3. Where the sink fails, a part of the text from its front was written.
+//!
+//! Proved: `write_world` writes `world_text` of a world and a census, whole (`ok`), or a part from the front if
+//! the sink failed (`output`, `cause`); out of memory it has written nothing (`memory`). Two small worlds are
+//! printed as worked out by hand (`bundle_is_printed_so`, `mixed_world_is_printed_so`).
 #![tactic(auto)]
 
 mod account;

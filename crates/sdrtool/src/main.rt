@@ -8,6 +8,12 @@
 //!    `PATH=N` makes no file. `inspect` opens its file for reading alone, beside others that read it.
 //! 3. Files and bulk items are those of the current folder.
 //! 4. `--help` and `--version`, alone, are answered without a disk.
+//!
+//! Proved: `main` calls `top` as its contract wants. `--help` and `--version` are printed whole, or the output
+//! failed (`done`, `cause`).
+//!
+//! Only tested: the program on files (`tests/run`), power loss after each write of a replay (`tests/crash`), a
+//! fault at each call on media (`tests/faults`).
 #![tactic(auto)]
 
 ghost use Rattle.std.specs.Prelude.{◌≡◌, Some};

@@ -7,6 +7,12 @@
 //!    as the heap has room for.
 //! 3. A charge first uses what is left of its ticket's grant. All its checks are made before
 //!    anything changes.
+//!
+//! Proved: `charge` uses its ticket's grant first, and makes every check before it changes anything, in the order
+//! BadTicket, NotAwarded, Queue, NoSpace (`charged`, `refused`). Occupancies and maxima are told and set
+//! (`given`, `set`). At most 5 lines are touched (`works`).
+//!
+//! Only tested: occupancies and maxima (`tests/cases`); that the callback is called (`sdr_station_tests`).
 #![tactic(auto)]
 
 mod account;

@@ -7,6 +7,12 @@
 //!    extents: of a header before those that were there, of a trailer behind them. Then its own
 //!    block is given back.
 //! 3. The object's block tells of the new chain last. Its part is the whole.
+//!
+//! Proved: `bond` makes an extent of each header and trailer, and charges the account first (`bonded`). All else
+//! stays, with exactly the row's moves. Refusals come in their order; where heap or log room ends, some first
+//! moves were made (`refused`).
+//!
+//! Only tested: each call's answers (`tests/cases`).
 #![tactic(auto)]
 
 mod bonding;

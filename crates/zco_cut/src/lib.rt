@@ -6,6 +6,11 @@
 //!    a few words are set, however many there are.
 //! 4. An object whose chain begins and ends with those in the part gives that other chain back, in
 //!    order, each extent after what goes with it.
+//!
+//! Proved: `strip` cuts an object's extents to its part (`stripped`): the others go in order, each behind what
+//! goes with it; the account gets back what is charged less; all else stays, with exactly the row's moves.
+//!
+//! Only tested: each call's answers (`tests/cases`).
 #![tactic(auto)]
 
 mod chain;

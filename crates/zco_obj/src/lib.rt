@@ -10,6 +10,12 @@
 //!    comes behind the others. Of a raw object a source is made first, which takes it over.
 //! 5. An object goes after its parts, which go in the order of its chains. A source that goes with
 //!    its last extent goes before that, and before it the raw object that it has taken over.
+//!
+//! Proved: objects are made, filled, measured and destroyed as their rows say (`made`, `added`, `appended`,
+//! `discarded`, `told`, `destroyed`). All else stays, with the row's moves and bounded lines (`works`). What is
+//! occupied stays the sum of charges and grants (`OccupancyLaws`, lemmas).
+//!
+//! Only tested: each call's answers (`tests/cases`).
 #![tactic(auto)]
 
 mod adding;

@@ -7,6 +7,12 @@
 //! 3. All that may be refused is tested, and the account is charged, before a block is taken. So the
 //!    chain of extents is walked twice: for what it charges, and then for what it names.
 //! 4. The clone's own block comes first, and then its extents' in order, each behind the others.
+//!
+//! Proved: `delimit` sets the two words of an object's part (`delimited`). `clone_part` makes an object whose
+//! extents name the same sources: it takes blocks for the object and its extents alone, each source counts its
+//! extents, and the account is charged once (`cloned`). Lines are bounded (`works`).
+//!
+//! Only tested: each call's answers (`tests/cases`).
 #![tactic(auto)]
 
 mod charging;

@@ -5,6 +5,10 @@
 //!    call.
 //! 3. Objects are kept, with the queues of their accounts and with the sources that their extents
 //!    name, wherever a heap stands for such a world.
+//!
+//! Proved: `delimit` and `clone_part` are steps of the machine (`comes`), within their lines (`works`).
+//!
+//! Only tested: each call's answers (`tests/cases`).
 #![tactic(auto)]
 
 mod answering;

@@ -6,6 +6,10 @@
 //!    One that has taken over a raw object goes so without a flag, and the raw object before it.
 //! 3. A raw object that its source hasn't taken over stays with its owner, and no source names it
 //!    once that one is gone.
+//!
+//! Proved: sources are made, counted, attached, detached and destroyed as their rows say (`made`, `given`,
+//! `attached`, `detached`, `destroyed`). All other blocks stay. A source goes with its last extent, behind the
+//! raw object that it has taken over. Refusals come in their order (`refused`).
 #![tactic(auto)]
 
 mod counting;

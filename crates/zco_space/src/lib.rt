@@ -6,6 +6,12 @@
 //!    and a grant is occupied from then on. The stored callback is told of what is asked and of the
 //!    room, and its answer counts.
 //! 3. A ticket that is shredded goes, and what is left of its grant is given back.
+//!
+//! Proved: `request` puts a ticket where its priority says, and serves the queue (`requested`). An answered
+//! `serve` leaves a first waiting ticket that asks for more than the room (`served`). `shred` gives back what is
+//! left of a grant, and serves (`shredded`). Lines are bounded, 32 for each ticket granted (`works`).
+//!
+//! Only tested: each call's answers (`tests/cases`).
 #![tactic(auto)]
 
 mod finding;

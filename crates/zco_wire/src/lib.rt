@@ -6,6 +6,12 @@
 //!    that a call needs of it. Each byte is copied once, into the caller's buffer.
 //! 3. Where media have fewer bytes than they are asked for, or fail, the call says so, and the heap
 //!    and the reader are as before. A reader moves only past bytes that were given.
+//!
+//! Proved: `transmit` and the `receive_` calls give just the bytes of their stretch of the object, those of media
+//! as media tell them (`given`). `SourceShort` and `MediaFault` come only where such bytes are asked and the
+//! media's count rose (`stops`). The heap stays (`looks`).
+//!
+//! Only tested: each call's answers (`tests/cases`); that media are asked once for each extent (`tests/faults`).
 #![tactic(auto)]
 
 mod cursor;
