@@ -1,3 +1,4 @@
 pub mod Held
+pub mod HeldFeed
 pub mod Place
 pub mod Untold

@@ -1,9 +1,12 @@
 // Input that is read whole before it is used.
-ghost use Rattle.std.specs.Prelude.{◌≡◌, ◌≤◌, ◌+◌, ◌↔◌, [], true, IfOk, IsErr};
+ghost use Rattle.std.specs.Prelude.{◌≡◌, ◌≤◌, ◌+◌, ◌↔◌, [], true, IfOk, IsErr, Some, length};
+ghost use Rattle.std.specs.Io.KnownBytes.{ReadConsumes};
+ghost use Rattle.sdr_base.specs.Causes.{HasCause, counted};
 ghost use Rattle.sdr_files.specs.Held.{HoldsInput};
 
 use sdr_base::{Bytes, NoMemory, Source, SourceFault};
 use std::alloc::Global;
+use std::marker::Model;
 
 /// The most bytes that are held of an input: one more than a script may have.
 pub const MOST_HELD: usize = 1_048_577;
@@ -21,10 +24,12 @@ pub struct Held {
 impl Held {
     /// The same input as a source.
     pub fn source(&self) -> HeldSource<'_>
-        ensures rest { result.rest.now ≡ self.now.bytes }
-        ensures failed { result.failed ≡ self.now.failed }
-        ensures faults { result.faults ≡ 0 }
-        ensures reads { result.reads ≡ 0 }
+        ensures { result ≡ record {
+          left = self.now.bytes;
+          failed = self.now.failed;
+          faults = 0;
+          reads = 0;
+        } }
     {
         HeldSource {
             rest: self.bytes.as_slice(),
@@ -72,16 +77,36 @@ pub struct HeldSource<'a> {
     reads: u64,
 }
 
-impl Source for HeldSource<'_> {
-    ghost use Rattle.std.specs.Prelude.{Some};
+impl<'a> Model for HeldSource<'a> {
+    ghost use Rattle.sdr_files.specs.HeldFeed.{HeldFeed};
 
-    ghost left = { λ s. Some s.rest.now };
+    ghost Value = { HeldFeed };
+
+    ghost view = { λ s. record {
+      left = s.rest.now;
+      failed = s.failed;
+      faults = s.faults;
+      reads = s.reads;
+    } };
+}
+
+impl Source for HeldSource<'_> {
+    ghost left = { λ s. Some s.left };
 
     ghost faults = { λ s. s.faults };
 
     ghost reads = { λ s. s.reads };
 
-    fn read(&mut self, into: &mut [u8]) -> Result<u64, SourceFault> {
+    fn read(&mut self, into: &mut [u8]) -> Result<u64, SourceFault>
+        ensures bound { IfOk result (λ n. n ≤ length into.new) }
+        ensures bytes { ReadConsumes (Some self.old.left) (Some self.new.left) result into.new }
+        ensures cause { HasCause self.old.faults self.new.faults result }
+        ensures reads { self.new.reads ≡ counted self.old.reads }
+
+        // It fails behind the last byte of an input that failed, and nowhere else.
+        ensures fails { IsErr result ↔ ((self.old.failed ≡ true) × (self.old.left ≡ [])) }
+        ensures failed { self.new.failed ≡ self.old.failed }
+    {
         self.reads = self.reads.saturating_add(1);
         if self.failed && self.rest.is_empty() {
             self.faults = self.faults.saturating_add(1);
