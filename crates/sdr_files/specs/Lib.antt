@@ -1,2 +1,4 @@
+pub mod Held
+pub mod HeldFeed
 pub mod Place
 pub mod Untold

@@ -4,10 +4,22 @@ ghost use Rattle.sdr_base.specs.Causes.{HasCause, counted};
 ghost use Rattle.sdr_disk.specs.Moments.{IsAtEnd};
 
 use sdr_disk::{Disk, DiskFault};
-use std::fs::OpenFile;
+use std::fs::{Metadata, OpenFile};
 use std::io;
 use std::io::ErrorKind;
 use std::os::unix::fs::FileExt;
+
+/// What isn't a file of a fixed length is an error, which says what it is.
+pub fn check_kind(found: &Metadata) -> io::Result<()> {
+    if found.is_file() {
+        return Ok(());
+    }
+    if found.is_dir() {
+        return Err(io::Error::new(ErrorKind::IsADirectory, "is a folder"));
+    }
+    let why = "is a FIFO, a socket or a device, and no file";
+    Err(io::Error::new(ErrorKind::InvalidInput, why))
+}
 
 /// A file of a fixed length as a disk. It tells nothing of its bytes, and counts each error as a
 /// fault.
@@ -48,9 +60,7 @@ impl<F: FileExt + OpenFile> FileDisk<F> {
         ensures { IfOk result (λ disk. ⟦<FileDisk<F> as Disk>⟧.faults disk ≡ 0) }
     {
         let metadata = file.metadata()?;
-        if !metadata.is_file() {
-            return Err(io::Error::from(ErrorKind::InvalidInput));
-        }
+        check_kind(&metadata)?;
         Ok(FileDisk::new(file, metadata.len()))
     }
 

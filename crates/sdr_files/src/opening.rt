@@ -1,10 +1,11 @@
 // Files that are opened as disks.
 ghost use Rattle.std.specs.Prelude.{◌≡◌, ◌≤◌, IfOk};
 
-use crate::file_disk::FileDisk;
+use crate::file_disk::{FileDisk, check_kind};
 use sdr_base::MOST_LINES;
 use sdr_disk::Disk;
-use std::fs::{File, OpenOptions};
+use sdr_media::open_to_read;
+use std::fs::{File, OpenOptions, TryLockError};
 use std::io::ErrorKind;
 use std::os::unix::fs::FileExt;
 use std::rt::Files;
@@ -16,20 +17,30 @@ const PIECE: usize = 4096;
 /// The most bytes that a head and the regions of a heap take. Behind them nothing is ever written.
 const MOST_BYTES: u64 = 64 * (1 + 65_536 + MOST_LINES);
 
-// Whether a file is at a path. Anything else there is an error: the opening of a FIFO would wait for
-// its other end, and a device is no file of a fixed length.
+// Whether a file is at a path. Anything else there is an error: it isn't opened.
 fn is_file(rt: &impl Files<File = File>, path: &str) -> io::Result<bool> {
     match fs::metadata(rt, path) {
-        Ok(found) if found.is_file() => Ok(true),
-        Ok(_) => Err(io::Error::from(ErrorKind::InvalidInput)),
+        Ok(found) => check_kind(&found).map(|()| true),
         Err(error) if error.kind() == ErrorKind::NotFound => Ok(false),
         Err(error) => Err(error),
     }
 }
 
-// Takes the lock of a file, so that no second process has the heap open.
+// That another process has the file open.
+fn in_use(error: TryLockError) -> io::Error {
+    match error {
+        TryLockError::WouldBlock => {
+            io::Error::new(ErrorKind::WouldBlock, "is in use by another run")
+        }
+        TryLockError::Error(error) => error,
+    }
+}
+
+// Takes the lock of what was opened, so that no second process has the heap open. It may be no file, where one came
+// into its place behind the first look at the path.
 fn lock(file: &File) -> io::Result<()> {
-    Ok(file.try_lock()?)
+    check_kind(&file.metadata()?)?;
+    file.try_lock().map_err(in_use)
 }
 
 // Writes zeros from a place up to another, so that the file has all its blocks before it is a disk.
@@ -86,25 +97,22 @@ fn take_back<R: Files<File = File> + AllocGlobal>(
 pub fn open_disk(rt: &impl Files<File = File>, path: &str) -> io::Result<FileDisk<File>>
     ensures { IfOk result (λ disk. ⟦<FileDisk<File> as Disk>⟧.faults disk ≡ 0) }
 {
-    if !is_file(rt, path)? {
-        return Err(io::Error::from(ErrorKind::NotFound));
-    }
+    check_kind(&fs::metadata(rt, path)?)?;
+    // Opened to be read and written, a FIFO waits for no other end.
     let file = OpenOptions::new().read(true).write(true).open(rt, path)?;
     lock(&file)?;
     FileDisk::open(file)
 }
 
-/// Opens a file that is there for reading alone, beside others that read it: each write to the disk
-/// fails. What isn't a file is an error, and so is one that another process may be writing; nothing
-/// waits.
+/// Opens a file that is there to look at it, beside others that do: it need not be writable. What
+/// isn't a file is an error, and so is one that another process may be writing; nothing waits.
 pub fn view_disk(rt: &impl Files<File = File>, path: &str) -> io::Result<FileDisk<File>>
     ensures { IfOk result (λ disk. ⟦<FileDisk<File> as Disk>⟧.faults disk ≡ 0) }
 {
-    if !is_file(rt, path)? {
-        return Err(io::Error::from(ErrorKind::NotFound));
-    }
-    let file = File::open(rt, path)?;
-    file.try_lock_shared()?;
+    check_kind(&fs::metadata(rt, path)?)?;
+    let file = open_to_read(rt, path)?;
+    check_kind(&file.metadata()?)?;
+    file.try_lock_shared().map_err(in_use)?;
     FileDisk::view(file)
 }
 

@@ -5,9 +5,10 @@ ghost use Rattle.sdr_base.specs.Causes.{HasCause};
 ghost use Rattle.sdr_media.specs.Counts.{answered, failed};
 
 use crate::counts::Counts;
+use crate::opening::open_to_read;
 use sdr_base::{Media, MediaFault};
 use std::alloc::{AllocError, Global};
-use std::fs::File;
+use std::fs::{File, Metadata, OpenFile};
 use std::io::ErrorKind;
 use std::os::unix::fs::FileExt;
 use std::path::{Path, PathBuf};
@@ -26,7 +27,7 @@ const MOST_BYTES: u64 = i64::MAX as u64;
 /// folder in the place of a file, a file that may not be read, an error in the middle of a read, and
 /// want of memory for the whole path.
 ///
-/// Each call opens its file and closes it again.
+/// Each call opens its file, without waiting, and closes it again.
 #[derive(Drop)]
 pub struct FolderMedia<R> {
     rt: R,
@@ -57,25 +58,34 @@ fn is_missing(error: &io::Error) -> bool {
     matches!(error.kind(), ErrorKind::NotFound | ErrorKind::NotADirectory)
 }
 
-// Whether a file or a folder is at a path. What is anything else is never opened: a FIFO would make
-// the call wait for its other end, and a device has no content of its own.
-fn is_there<R: Files>(rt: &R, path: Path<'_>) -> io::Result<bool> {
-    match fs::metadata(rt, path) {
-        Ok(found) => Ok(found.is_file() || found.is_dir()),
-        Err(error) if is_missing(&error) => Ok(false),
+// What was found, where the system finds something.
+fn unless_missing<T: Drop>(found: io::Result<T>) -> io::Result<Option<T>> {
+    match found {
+        Ok(found) => Ok(Some(found)),
+        Err(error) if is_missing(&error) => Ok(None),
         Err(error) => Err(error),
     }
 }
 
-// The file at a path, where there is one.
+// Whether it is a file or a folder. A FIFO, a socket or a device has no content of its own.
+fn is_kept(found: &Metadata) -> bool {
+    found.is_file() || found.is_dir()
+}
+
+// The file at a path, where there is one. What is anything else isn't opened, and where it came there
+// only then, it isn't read.
 fn open<R: Files>(rt: &R, path: Path<'_>) -> io::Result<Option<R::File>> {
-    if !is_there(rt, path)? {
-        return Ok(None);
+    match unless_missing(fs::metadata(rt, path))? {
+        Some(found) if is_kept(&found) => {}
+        _ => return Ok(None),
     }
-    match File::open(rt, path) {
-        Ok(file) => Ok(Some(file)),
-        Err(error) if is_missing(&error) => Ok(None),
-        Err(error) => Err(error),
+    let Some(file) = unless_missing(open_to_read(rt, path))? else {
+        return Ok(None);
+    };
+    if is_kept(&file.metadata()?) {
+        Ok(Some(file))
+    } else {
+        Ok(None)
     }
 }
 

@@ -17,6 +17,8 @@
 mod counts;
 mod folder;
 mod memory;
+mod opening;
 
 pub use folder::{FolderMedia, fill};
 pub use memory::MemoryMedia;
+pub use opening::open_to_read;

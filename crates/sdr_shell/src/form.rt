@@ -1,5 +1,5 @@
 // The forms that the words of a command line have.
-ghost use Rattle.std.specs.Prelude.{◌≡◌, ◌↔◌, IfSome, IsSome, IsTrue};
+ghost use Rattle.std.specs.Prelude.{◌≡◌, IfSome};
 ghost use Rattle.std.specs.Rc.{rc_str_bytes};
 ghost use Rattle.sdr_log.specs.Frame.{IsInLimits};
 ghost use Rattle.sdr_shell.specs.Form.{frame_of, form_of, OnFormat};
@@ -40,13 +40,6 @@ fn frame_of(log: &[u8], heap: &[u8]) -> Option<Frame>
     } else {
         None
     }
-}
-
-/// Whether the words are a form.
-pub fn is_form(words: &[RcStr]) -> bool
-    ensures { IsTrue result ↔ IsSome (form_of words.now) }
-{
-    form_of(words).is_some()
 }
 
 /// The form that the words are, if they are one.

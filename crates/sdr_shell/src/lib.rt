@@ -28,7 +28,7 @@ mod status;
 mod top_call;
 
 pub use commands::still;
-pub use form::is_form;
+pub use form::{Form, form_of};
 pub use outcome::Outcome;
 pub use status::{
     DAMAGED, DISK_FAULT, DONE, INPUT_FAULT, NO_MEMORY, NOT_FORMATTED, OUTPUT_FAULT, REFUSED_LINE,

@@ -1,5 +1,5 @@
 // How bytes that a call gave are printed.
-ghost use Rattle.std.specs.Prelude.{◌≡◌, ◌≤◌, ◌++◌, OnOk, OnErr, codes, length};
+ghost use Rattle.std.specs.Prelude.{◌≡◌, ◌≤◌, ◌+◌, ◌*◌, ◌++◌, OnOk, OnErr, codes, length, take};
 ghost use Rattle.std.specs.Io.KnownBytes.{Appends};
 ghost use Rattle.std.specs.List.{list_all};
 ghost use Rattle.hex.specs.Hex.{encode_lower};
@@ -8,11 +8,18 @@ ghost use Rattle.sdr_base.specs.Written.{AppendsPart};
 ghost use Rattle.sdr_text.specs.Text.{is_text_byte, literal_text};
 
 use crate::Line;
+use crate::line::put_behind;
 use hex::encode_to_slice;
 use sdr_base::{Sink, SinkFault, write_all};
 
-/// So many bytes are put into digits at once.
+/// So many bytes are put into digits at once, where there are more than a call gives.
 const PIECE: usize = 128;
+
+/// A call gives at most so many bytes, and with these its line goes out in one write.
+const MOST: usize = 4096;
+
+/// The most bytes of a line before the digits, and of its end.
+const MOST_AROUND: usize = 1024;
 
 fn write_piece<K: Sink>(out: &mut K, piece: &[u8]) -> Result<(), SinkFault>
     requires { length piece.now ≤ 128 }
@@ -46,7 +53,43 @@ fn write_digits<K: Sink>(out: &mut K, bytes: &[u8]) -> Result<(), SinkFault>
     Ok(())
 }
 
-/// Writes the front of a line, bytes in hexadecimal digits, and the end of the line.
+// Puts the digits of bytes behind the first bytes of a buffer, so many, and gives how many there are then.
+#[tactic(auto, using(std::proofs::lemmas::Slice::overwrites))]
+fn put_digits(buffer: &mut [u8], len: usize, bytes: &[u8]) -> usize
+    requires { len + 2 * length bytes.now ≤ length buffer.old }
+    ensures end { result ≡ len + 2 * length bytes.now }
+    ensures text { take result buffer.new ≡ take len buffer.old ++ encode_lower bytes.now }
+{
+    let end = len + 2 * bytes.len();
+    encode_to_slice(bytes, &mut buffer[len..end]).unwrap();
+    end
+}
+
+// Writes the front of a line, the digits of so few bytes as a call gives, and the end of the line at once.
+fn write_at_once<K: Sink>(
+    out: &mut K,
+    front: &[u8],
+    bytes: &[u8],
+    end: &[u8],
+) -> Result<(), SinkFault>
+    requires front { length front.now ≤ 1024 }
+    requires bytes { length bytes.now ≤ 4096 }
+    requires end { length end.now ≤ 1024 }
+    ensures ok { OnOk result (Appends (K.taken out.old) (K.taken out.new)
+        (front.now ++ encode_lower bytes.now ++ end.now)) }
+    ensures err { OnErr result (AppendsPart (K.taken out.old) (K.taken out.new)
+        (front.now ++ encode_lower bytes.now ++ end.now)) }
+    ensures cause { HasCause (K.faults out.old) (K.faults out.new) result }
+{
+    let mut buffer = [0u8; 2 * MOST_AROUND + 2 * MOST];
+    let len = put_behind(&mut buffer, 0, front);
+    let len = put_digits(&mut buffer, len, bytes);
+    let len = put_behind(&mut buffer, len, end);
+    write_all(out, &buffer[..len])
+}
+
+/// Writes the front of a line, bytes in hexadecimal digits, and the end of the line: in one write where the bytes are as few as a
+/// call gives.
 #[tactic(auto, using(crate::proofs::TextLemmas::parts))]
 pub fn write_given<K: Sink>(
     out: &mut K,
@@ -60,6 +103,9 @@ pub fn write_given<K: Sink>(
         (front.now ++ encode_lower bytes.now ++ end.now)) }
     ensures cause { HasCause (K.faults out.old) (K.faults out.new) result }
 {
+    if bytes.len() <= MOST && front.len() <= MOST_AROUND && end.len() <= MOST_AROUND {
+        return write_at_once(out, front, bytes, end);
+    }
     write_all(out, front)?;
     write_digits(out, bytes)?;
     write_all(out, end)

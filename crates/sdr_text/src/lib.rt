@@ -1,6 +1,6 @@
 //! The printed texts: a line for each answer.
 //!
-//! 1. A line is built in place and goes out in one write; a line that shows bytes goes out in pieces.
+//! 1. A line is built in place and goes out in one write, one that shows the bytes of a call too.
 //! 2. Nothing here takes memory.
 //! 3. Where the sink fails, a part of the text from its front was written.
 //!

@@ -7,6 +7,18 @@ use std::marker::Model;
 /// The bytes that a line has room for.
 const ROOM: usize = 1024;
 
+/// Puts bytes behind the first of a buffer, so many, and gives how many there are then.
+#[tactic(auto, using(std::proofs::lemmas::Slice::overwrites))]
+pub fn put_behind(buffer: &mut [u8], len: usize, from: &[u8]) -> usize
+    requires { len + length from.now ≤ length buffer.old }
+    ensures end { result ≡ len + length from.now }
+    ensures text { take result buffer.new ≡ take len buffer.old ++ from.now }
+{
+    let end = len + from.len();
+    buffer[len..end].copy_from_slice(from);
+    end
+}
+
 /// The front of a line, built in place so that it goes out in one write. Contracts see the bytes.
 #[derive(Drop)]
 pub struct Line {
@@ -40,14 +52,11 @@ impl Line {
         &self.bytes[..self.len]
     }
 
-    #[tactic(auto, using(std::proofs::lemmas::Slice::overwrites))]
     pub fn push(&mut self, from: &[u8])
         requires { length self.old + length from.now ≤ 1024 }
         ensures { self.new ≡ self.old ++ from.now }
     {
-        let end = self.len + from.len();
-        self.bytes[self.len..end].copy_from_slice(from);
-        self.len = end;
+        self.len = put_behind(&mut self.bytes, self.len, from);
     }
 
     /// Adds a number in decimal digits.

@@ -20,7 +20,8 @@ puts it back after a power loss.
                                  tickets, names and things; the disk is only read
     sdrtool DISK recover         puts back what a power loss cut short, and says
                                  how many lines that were
-    sdrtool DISK dry < SCRIPT    runs the script on a machine with no disk
+    sdrtool DISK dry < SCRIPT    runs the script on a machine with no disk, and opens
+                                 none
     sdrtool --help
     sdrtool --version
 
@@ -32,7 +33,8 @@ A line has 64 bytes, and the head of a disk is one line more.
 
 Status    When                                           Last line printed
 0         all was done
-1         the disk can't be opened                       sdrtool: cannot open
+1         the disk can't be opened                       sdrtool: cannot open, on
+                                                         standard error
 2         the words are none of these forms              usage
 3         the input failed                               input fault
 4         the output failed
@@ -43,6 +45,10 @@ Status    When                                           Last line printed
 8         line N of the script is refused                line N
 9         want of memory                                 no memory
 10        the disk has HAVE bytes and NEED are needed    too small NEED HAVE
+
+Standard error says more: why a disk can't be opened, the forms where the words
+are none of them, why a file that begins as a heap gives none, and what `format`
+is about to overwrite.
 
 An example: a disk of 81984 bytes has 256 lines of log and 1024 of heap.
 
@@ -58,6 +64,17 @@ An example: a disk of 81984 bytes has 256 lines of log and 1024 of heap.
     $ sdrtool heap.disk recover
     recovered 0 lines
 ";
+
+/// The forms, as standard error tells them.
+pub const FORMS: &str = "\
+sdrtool: the words are none of these forms:
+    sdrtool DISK format L H        L is 2 to 65536, H is 32 to 262144
+    sdrtool DISK replay < SCRIPT
+    sdrtool DISK inspect
+    sdrtool DISK recover
+    sdrtool DISK dry < SCRIPT
+    sdrtool --help
+    sdrtool --version";
 
 /// Prints a text, and gives the status.
 pub fn print<K: Sink>(output: &mut K, text: &str) -> u8

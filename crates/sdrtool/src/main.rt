@@ -1,13 +1,16 @@
 //! `sdrtool` makes an empty heap of a disk (`format`), runs the script of its daemons on it (`replay`) or on a
 //! machine without one (`dry`), and puts it back after a power loss (`recover`).
 //!
-//! 1. The first word says which disk: `-` an empty one in memory, `PATH` a file, `PATH=N` a file that
-//!    is made, or lengthened with zero bytes, to N bytes. A file that can't be opened, lengthened or
-//!    locked, and what isn't a file, ends the program with status 1.
-//! 2. The other words go to the top call, whose status the program ends with. Where they are no form,
-//!    `PATH=N` makes no file. `inspect` opens its file for reading alone, beside others that read it.
-//! 3. Files and bulk items are those of the current folder.
-//! 4. `--help` and `--version`, alone, are answered without a disk.
+//! 1. The words are tried first. `--help` and `--version`, alone, are answered; words that are no form are told as
+//!    that, and no file is touched.
+//! 2. For a form the descriptors of the standard streams are taken, so that no file is one of them.
+//! 3. The first word says which disk: `-` an empty one in memory, `PATH` a file, `PATH=N` a file that
+//!    is made, or lengthened with zero bytes, to N bytes. `dry` opens none.
+//! 4. For `replay` the input is read whole, and a script that is refused opens no disk.
+//! 5. A file that can't be opened, lengthened or locked, and what isn't a file, ends the program with status 1.
+//!    `inspect` opens its file beside others that look at it.
+//! 6. The words, the disk and the input go to the top call, whose status the program ends with.
+//! 7. Files and bulk items are those of the current folder.
 //!
 //! Proved: `main` calls `top` as its contract wants. `--help` and `--version` are printed whole, or the output
 //! failed (`done`, `cause`).
@@ -16,20 +19,20 @@
 //! fault at each call on media (`tests/faults`).
 #![tactic(auto)]
 
-ghost use Rattle.std.specs.Prelude.{◌≡◌, Some};
-ghost use Rattle.sdr_replay.specs.Replaying.{IsSettled};
-ghost use Rattle.sdr_shell.specs.Form.{form_of};
-ghost use Rattle.sdr_shell.specs.declared.form.Form.{Form};
-
 mod about;
+mod answering;
+mod heads;
+mod notes;
 
 use crate::about::{HELP, VERSION, print};
-use sdr_base::{Media, NoGate, NoMemory, Sink, Source};
-use sdr_disk::{Disk, MemoryDisk};
-use sdr_files::{FileDisk, Place, StdSink, StdSource, make_disk, open_disk, place_of, view_disk};
+use crate::answering::{Asked, answer_form, answer_usage};
+use crate::notes::{note_no_text, note_unopened};
+use sdr_base::{Media, NoMemory, Sink, Source};
+use sdr_files::{StdSink, StdSource, take_streams};
 use sdr_media::FolderMedia;
-use sdr_shell::{NO_MEMORY, is_form, top};
+use sdr_shell::{NO_MEMORY, form_of};
 use std::alloc::Global;
+use std::env;
 use std::env::{Args, Env};
 use std::fs::File;
 use std::io::ErrorKind;
@@ -40,7 +43,6 @@ use std::rc::RcStr;
 use std::rt::Files;
 use std::sync::Wait;
 use std::thread::Threads;
-use std::{env, io};
 
 /// The status where the disk can't be opened.
 const CANNOT_OPEN: u8 = 1;
@@ -74,60 +76,6 @@ fn shared(alloc: Global, args: Skip<Args<Global>>) -> Result<Vec<RcStr>, NoMemor
     Ok(words)
 }
 
-// The status of the top call on a disk, with these media.
-fn answer<
-    R: Threads + Wait + Sync + AllocGlobal,
-    D: Disk + Send + Drop,
-    M: Media + Send + Drop,
-    S: Source,
-    K: Sink,
->(rt: &R, form: &[RcStr], disk: D, media: M, input: &mut S, output: &mut K) -> u8
-    requires settled { form_of form.now ≡ Some Form.Replay → IsSettled D.Disk disk }
-{
-    top(rt, rt.alloc(), form, disk, media, input, output, &NoGate).status
-}
-
-// The same on a file, where it could be opened.
-#[tactic(auto, using(sdr_files::specs::Untold::untold))]
-fn answer_on_file<
-    R: Threads + Wait + Sync + AllocGlobal + Eprint,
-    M: Media + Send + Drop,
-    S: Source,
-    K: Sink,
->(
-    rt: &R,
-    form: &[RcStr],
-    opened: io::Result<FileDisk<File>>,
-    media: M,
-    input: &mut S,
-    output: &mut K,
-) -> u8 {
-    match opened {
-        Ok(disk) => answer(rt, form, disk, media, input, output),
-        Err(_) => {
-            let _ = eprintln!(rt; "sdrtool: cannot open");
-            CANNOT_OPEN
-        }
-    }
-}
-
-// The same on an empty disk in memory.
-#[tactic(auto, using(sdr_shell::proofs::FreshLemmas::fresh_settled))]
-fn answer_in_memory<
-    R: Threads + Wait + Sync + AllocGlobal,
-    M: Media + Send + Drop,
-    S: Source,
-    K: Sink,
->(rt: &R, form: &[RcStr], media: M, input: &mut S, output: &mut K) -> u8 {
-    let disk = MemoryDisk::new(Vec::new(rt.alloc()), Vec::new(rt.alloc()));
-    answer(rt, form, disk, media, input, output)
-}
-
-// Whether the form reads the disk alone.
-fn only_reads(form: &[RcStr]) -> bool {
-    matches!(form, [word] if word.as_str() == "inspect")
-}
-
 // The status of a command line.
 fn run<
     R: Threads + Wait + Sync + AllocGlobal + Eprint + Files<File = File>,
@@ -135,37 +83,36 @@ fn run<
     S: Source,
     K: Sink,
 >(rt: &R, words: &[RcStr], media: M, input: &mut S, output: &mut K) -> u8 {
-    match words {
-        [] => answer_in_memory(rt, words, media, input, output),
-        [word] if word.as_str() == "--help" => print(output, HELP),
-        [word] if word.as_str() == "--version" => print(output, VERSION),
-        [disk, form @ ..] => match place_of(disk.as_str()) {
-            Place::Memory => answer_in_memory(rt, form, media, input, output),
-            Place::File { path } | Place::Sized { path, .. } if only_reads(form) => {
-                answer_on_file(rt, form, view_disk(rt, path), media, input, output)
-            }
-            Place::File { path } => {
-                answer_on_file(rt, form, open_disk(rt, path), media, input, output)
-            }
-            // A file is made for a form alone.
-            Place::Sized { .. } if !is_form(form) => {
-                answer_in_memory(rt, form, media, input, output)
-            }
-            Place::Sized { path, bytes } => {
-                answer_on_file(rt, form, make_disk(rt, path, bytes), media, input, output)
-            }
-        },
+    let (disk, words) = match words {
+        [] => return answer_usage(rt, words, media, input, output),
+        [word] if word.as_str() == "--help" => return print(output, HELP),
+        [word] if word.as_str() == "--version" => return print(output, VERSION),
+        [disk, words @ ..] => (disk.as_str(), words),
+    };
+    let Some(form) = form_of(words) else {
+        return answer_usage(rt, words, media, input, output);
+    };
+    match take_streams(rt) {
+        // Kept until the form is answered.
+        Ok(_streams) => answer_form(rt, Asked { disk, words, form }, media, input, output),
+        Err(error) => {
+            note_unopened(rt, ".", &error);
+            CANNOT_OPEN
+        }
     }
 }
 
 fn main(rt: HostRuntime) -> ExitCode {
     let words = match command_line(&rt) {
         Words::Given(words) => words,
-        Words::NotText => Vec::new(rt.alloc()),
+        Words::NotText => {
+            note_no_text(&rt);
+            Vec::new(rt.alloc())
+        }
         Words::NoMemory => return ExitCode::from(NO_MEMORY),
     };
-    let mut input = StdSource::new(rt.stdin());
-    let mut output = StdSink::new(rt.stdout());
+    let mut input = StdSource::new(rt.stdin(), rt);
+    let mut output = StdSink::new(rt.stdout(), rt);
     // Files and items are those of the current folder.
     let media = FolderMedia::new(rt, PathBuf::new(rt.alloc()));
     ExitCode::from(run(&rt, words.as_slice(), media, &mut input, &mut output))
